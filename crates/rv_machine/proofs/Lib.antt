@@ -24,6 +24,7 @@ pub mod InTurn
 pub mod Numbered
 pub mod Idle
 pub mod EndedLast
+pub mod SpaceLines
 pub mod HelloLines
 pub mod Staying
 pub mod HelloMoves
@@ -31,3 +32,5 @@ pub mod GoneItem
 pub mod MetReplies
 pub mod MetOne
 pub mod MetMachine
+pub mod CancelMoves
+pub mod NumberedArrivals
