@@ -72,6 +72,16 @@ having_met s moment key call met =
     let open_then : State = with_open (closed s met settles) (parked s moment key call met) in
     record { after = asked open_then key (request_after s.length call own); settles = settles; reply = own }
 
+-- nothing more is open
+pub none_more : (x : State) → with_open x [] ≡ x
+none_more x = λ i. record {
+  epoch = x.epoch;
+  moment = x.moment;
+  length = x.length;
+  open_places = append-nil x.open_places i;
+  clients = x.clients;
+}
+
 module _ (s : State) (moment : ℕ) (key : Key) (call : Call) (reply : Reply)
     (alone : opposites s call ≡ []) (leaves : stays_open call [] ≡ false)
     (told : told_alone s call ≡ Some reply) where
@@ -85,15 +95,6 @@ module _ (s : State) (moment : ℕ) (key : Key) (call : Call) (reply : Reply)
     length = s.length;
     open_places = but_none s.open_places i;
     clients = s.clients;
-  }
-
-  none_more : (x : State) → with_open x [] ≡ x
-  none_more x = λ i. record {
-    epoch = x.epoch;
-    moment = x.moment;
-    length = x.length;
-    open_places = append-nil x.open_places i;
-    clients = x.clients;
   }
 
   then_open : with_open (closed s [] []) (parked s moment key call []) ≡ s

@@ -15,3 +15,7 @@ pub mod Parking
 pub mod Concluded
 pub mod Leaving
 pub mod Lying
+pub mod GoneItem
+pub mod TakenOne
+pub mod TakenAll
+pub mod Drained

@@ -5,3 +5,4 @@ pub mod Indexed
 pub mod Machines
 pub mod Ending
 pub mod Arriving
+pub mod Taking
