@@ -1,25 +1,25 @@
 -- An arrival that drains a queue: what it makes of the state.
-use Rattle.std.proofs.Common.{◌≡◌, ◌∙◌, ◌+◌, ◌<◌, ◌≤◌, ◌++◌, ◌∷◌, ℕ, suc, List, [], Bool, true, false, Option, Some, None}
-use Rattle.std.proofs.Common.{IsSome, refl, sym, ap, subst, arith, slice_get, length, min}
+use Rattle.std.proofs.Common.{◌≡◌, ◌∙◌, ◌++◌, ◌∷◌, ℕ, suc, List, [], Option, Some, None}
+use Rattle.std.proofs.Common.{IsSome, refl, sym, ap, subst, slice_get, length, min}
 use Rattle.std.proofs.Math.Seq.{take-append_seam}
 use Rattle.std.proofs.lemmas.Bool.{false≢true}
-use Rattle.std.proofs.lemmas.List.{append-nil, take_min}
+use Rattle.std.proofs.lemmas.List.{take_min}
 use Rattle.std.specs.Prelude.{option_and_then, option_map, take}
 use Rattle.std.specs.List.{cons_option}
 use Rattle.rv_text.specs.declared.message.Key.{Key}
 use Rattle.rv_text.specs.declared.call.Call.{Call}
 use Rattle.rv_text.specs.declared.call.Call.TheVariants as call
-use Rattle.rv_text.specs.declared.call.Side.{Side}
-use Rattle.rv_text.specs.declared.call.Side.TheVariants.{Gives, Takes, Looks, Exchanges}
+use Rattle.rv_text.specs.declared.call.Side.TheVariants.{Gives, Takes}
 use Rattle.rv_text.specs.declared.answer.Reply.{Reply}
 use Rattle.rv_text.specs.declared.answer.Reply.TheVariants as reply
-use Rattle.rv_text.specs.Calls.{drains_of, item_of, side_of, wait_of}
+use Rattle.rv_text.specs.Calls.{drains_of, side_of, wait_of}
 use Rattle.rv_session.specs.declared.client.LastRequest.{LastRequest}
 use Rattle.rv_session.specs.declared.client.LastRequest.TheVariants.{Fresh, Waits, RepliedTo, CancelledUnseen}
 use Rattle.rv_session.specs.Clients.{place_waiting, with_last_number}
 use Rattle.rv_account.specs.declared.entry.Act.TheVariants.{Arrive}
 use Rattle.rv_account.specs.Account.{entry}
-use Rattle.rv_state.specs.State.{ClientState, OpenPlace, State, Waiter, call_waiting, client_at, line, place_list}
+use Rattle.rv_state.specs.State.{ClientState, OpenPlace, State, Waiter, call_waiting, client_at, line}
+use Rattle.rv_state.specs.State.{place_list}
 use Rattle.rv_state.specs.State.{same_side}
 use Rattle.rv_state.specs.After.{Following, Settled, advanced, answered, arrived, asked, closed, parked}
 use Rattle.rv_state.specs.After.{request_after, settled_all, settled_at, told_met, told_own, told_partner}
@@ -158,14 +158,16 @@ module _ (s : State) (is : IsConsistent s) (moment : ℕ) (key : Key) (queue max
 
 -- ---- its own session
 
-still_idle : (request : LastRequest) → place_waiting request ≡ None → (told : Reply) → answered told request ≡ request
+still_idle : (request : LastRequest) → place_waiting request ≡ None → (told : Reply)
+    → answered told request ≡ request
 still_idle Fresh idle told = refl
 still_idle (Waits place its) idle told = absurd (none-some place (sym idle))
 still_idle (RepliedTo its reply) idle told = refl
 still_idle CancelledUnseen idle told = refl
 
 -- a session of which nothing waits stays while others are settled
-pub session_stays : (s : State) (gone : List OpenPlace) (xs : List Settled) (client : ℕ) (session : ClientState)
+pub session_stays : (s : State) (gone : List OpenPlace) (xs : List Settled) (client : ℕ) (session :
+    ClientState)
     → client_at s client ≡ Some session → place_waiting session.request ≡ None
     → client_at (closed s gone xs) client ≡ Some session
 session_stays s gone xs client session known idle =
@@ -211,7 +213,8 @@ module _ (old mid : Machine) (key : Key) (queue most : ℕ) (items : List (List 
 
   drains_arrived : (moment max : ℕ) → IsConsistent (state_in old) → NumberIsNext (state_in old) key
       → most ≡ min max (length (line_in old.table (Gives queue)))
-      → Arrives old (counted (asked_in mid key (RepliedTo (call.Drain queue max) (reply.Drained items))) moment)
+      → Arrives old (counted (asked_in mid key (RepliedTo (call.Drain queue max) (reply.Drained items)))
+      moment)
       moment key (call.Drain queue max) (entry moment (Arrive key (call.Drain queue max)) places)
   drains_arrived moment max consistent next is =
       let s = state_in old in
@@ -221,8 +224,8 @@ module _ (old mid : Machine) (key : Key) (queue most : ℕ) (items : List (List 
       let made = drained_is s consistent moment key queue max takes.gone first in
       let there = next_there next in
       let same : asked (state_in mid) key request
-          ≡ asked (without_taken s key takes.gone) key (RepliedTo drain (reply.Drained (items_of takes.gone)))
-          = λ i. asked (takes.state i) key (RepliedTo drain (reply.Drained (takes.items_are i))) in
+      ≡ asked (without_taken s key takes.gone) key (RepliedTo drain (reply.Drained (items_of takes.gone)))
+      = λ i. asked (takes.state i) key (RepliedTo drain (reply.Drained (takes.items_are i))) in
       record {
         made_is = ap (entry moment (Arrive key drain)) (takes.places_are ∙ ap place_list (sym first));
         state = ap (λ (x : State). advanced x moment) (asked_state mid key request ∙ same
@@ -242,6 +245,7 @@ module _ (old mid : Machine) (key : Key) (queue most : ℕ) (items : List (List 
       → Arrives old (counted (asked_in mid key (RepliedTo its (reply.Drained items))) moment) moment key its
       (entry moment (Arrive key its) places)
   drains_by moment max its side drains consistent next is =
-      subst (λ (x : Call). Arrives old (counted (asked_in mid key (RepliedTo x (reply.Drained items))) moment) moment
+      subst (λ (x : Call). Arrives old (counted (asked_in mid key (RepliedTo x (reply.Drained items))) moment)
+      moment
       key x (entry moment (Arrive key x) places)) (sym (drain_is its queue max side drains))
       (drains_arrived moment max consistent next is)

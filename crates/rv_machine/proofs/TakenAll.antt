@@ -1,6 +1,7 @@
 -- A machine that took some of a queue's oldest items, one a pass.
-use Rattle.std.proofs.Common.{◌≡◌, ◌<◌, ◌≤◌, ◌++◌, ◌∷◌, ◌∙◌, ◌+◌, ℕ, List, [], Option, Some, None, IsSome, refl}
-use Rattle.std.proofs.Common.{sym, ap, subst, arith, length, append_assoc, map, cond, true, false}
+use Rattle.std.proofs.Common.{◌≡◌, ◌<◌, ◌≤◌, ◌++◌, ◌∷◌, ◌∙◌, ◌+◌, ℕ, List, [], Option, Some, None, IsSome}
+use Rattle.std.proofs.Common.{refl}
+use Rattle.std.proofs.Common.{sym, ap, subst, arith, length, append_assoc}
 use Rattle.std.proofs.lemmas.Bool.{false≢true}
 use Rattle.std.proofs.lemmas.List.{append-nil, length-append, map-append}
 use Rattle.std.proofs.lemmas.List.Elements.{filter_map-append}
@@ -10,15 +11,14 @@ use Rattle.std.specs.Global.{Vec}
 use Rattle.std.specs.List.{cons_option, filter_map}
 use Rattle.rv_text.specs.declared.message.Key.{Key}
 use Rattle.rv_text.specs.declared.version.Version.{Version}
-use Rattle.rv_text.specs.declared.answer.Reply.{Reply}
 use Rattle.rv_text.specs.declared.call.Side.TheVariants.{Gives}
-use Rattle.rv_state.specs.State.{ClientState, OpenPlace, State, client_at, place_list}
-use Rattle.rv_state.specs.After.{Settled, but, closed, receipt_of, session_version, settled_all, settled_at, tell}
-use Rattle.rv_state.specs.After.{tell_all}
+use Rattle.rv_state.specs.State.{ClientState, OpenPlace, State, client_at}
+use Rattle.rv_state.specs.After.{Settled, but, closed, receipt_of, session_version, settled_all, settled_at}
+use Rattle.rv_state.specs.After.{tell}
 use Rattle.rv_state.proofs.ToldClients.{get_tell_all, told_client}
 use Rattle.rv_machine.specs.declared.machine.Machine.{Machine}
 use Rattle.rv_machine.specs.Machines.{IsReady, keys_settled, state_in}
-use Rattle.rv_machine.specs.Opens.{line_in, waiting_in, without}
+use Rattle.rv_machine.specs.Opens.{line_in, without}
 use Rattle.rv_machine.specs.Taking.{TakesAll, TakesOne, items_of, settled_taken, told_taken, without_taken}
 use Rattle.rv_machine.proofs.Parted.{but_cons, but_none}
 
@@ -75,7 +75,8 @@ settles_same s gone more xs taker = λ i. settled_all (λ there waits.
 pub taken_twice : (s : State) (taker : Key) (gone more : List OpenPlace)
     → without_taken (without_taken s taker gone) taker more ≡ without_taken s taker (gone ++ more)
 taken_twice s taker gone more =
-    ap (closed (without_taken s taker gone) more) (settles_same s gone more (settled_taken s taker gone) taker)
+    ap (closed (without_taken s taker gone) more) (settles_same s gone more (settled_taken s taker gone)
+    taker)
     ∙ closed_twice s gone more (settled_taken s taker gone) (settled_taken s taker more)
     ∙ ap (closed s (gone ++ more)) (sym (filter_map-append (settled_at (told_taken s taker)) gone more))
 
@@ -169,8 +170,10 @@ no_longer {Y = Y} h (x ∷ xs) = by_head (h x) (no_longer h xs)
     by_head (Some y) rest = omega (arith, rest)
 
 -- there is room for one more
-pub items_left : (old now : Machine) (queue most count : ℕ) (taker : Key) (items : Vec (List ℕ)) (places : Vec ℕ)
-    → TookSoMany old now queue most count taker items places → count < most → vec_len items < vec_capacity items
+pub items_left : (old now : Machine) (queue most count : ℕ) (taker : Key) (items : Vec (List ℕ)) (places :
+    Vec ℕ)
+    → TookSoMany old now queue most count taker items places → count < most
+    → vec_len items < vec_capacity items
 items_left old now queue most count taker items places is less =
     let long : vec_len items ≡ length items.items = items.ok.0 in
     let same : length items.items ≡ length (items_of is.takes.gone) = ap length is.takes.items_are in
@@ -180,14 +183,16 @@ items_left old now queue most count taker items places is less =
 
 pub took_more : (old now new : Machine) (queue most count : ℕ) (taker : Key) (there : OpenPlace)
     (items after : Vec (List ℕ)) (places then : Vec ℕ)
-    → TookSoMany old now queue most count taker items places → TakesOne now new queue taker there → IsReady new
+    → TookSoMany old now queue most count taker items places → TakesOne now new queue taker there
+    → IsReady new
     → after.items ≡ items.items ++ unwrap_or there.item [] ∷ []
     → then.items ≡ places.items ++ there.place ∷ [] → vec_capacity after ≡ vec_capacity items
     → vec_capacity then ≡ vec_capacity places → TookSoMany old new queue most (count + 1) taker after then
 took_more old now new queue most count taker there items after places then is one ready more_items more_places
     same_items same_places = record {
       ready = ready;
-      takes = subst (λ (l : List (List ℕ)). TakesAll old new queue taker (count + 1) l then.items) (sym more_items)
+      takes = subst (λ (l : List (List ℕ)). TakesAll old new queue taker (count + 1) l then.items)
+          (sym more_items)
           (subst (λ (l : List ℕ). TakesAll old new queue taker (count + 1)
           (items.items ++ unwrap_or there.item [] ∷ []) l) (sym more_places)
           (takes_more old now new queue count taker there items.items places.items is.takes one));

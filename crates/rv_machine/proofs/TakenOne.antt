@@ -1,8 +1,9 @@
 -- A machine whose oldest item of a queue was taken.
-use Rattle.std.proofs.Common.{◌≡◌, ◌<◌, ◌≤◌, ◌++◌, ◌∷◌, ◌∙◌, ◌+◌, ℕ, List, [], Option, Some, None, IsSome, refl}
+use Rattle.std.proofs.Common.{◌≡◌, ◌<◌, ◌≤◌, ◌++◌, ◌∷◌, ◌∙◌, ◌+◌, ℕ, List, [], Option, Some, None, IsSome}
+use Rattle.std.proofs.Common.{refl}
 use Rattle.std.proofs.Common.{sym, ap, subst, arith, slice_get, nat_eq, length}
 use Rattle.std.proofs.lemmas.List.{append-nil}
-use Rattle.std.specs.Prelude.{IfNone, IfSome, option_and_then, option_map, vec_capacity, vec_len}
+use Rattle.std.specs.Prelude.{IfNone, IfSome, option_map, vec_capacity, vec_len}
 use Rattle.std.specs.FinMap.{get}
 use Rattle.std.specs.List.{cons_option}
 use Rattle.std.specs.Global.{Vec}
@@ -12,14 +13,14 @@ use Rattle.rv_text.specs.declared.call.Side.TheVariants.{Gives}
 use Rattle.rv_session.specs.OwedDuty.{OwedDuty}
 use Rattle.rv_session.specs.Clients.{ClientStates, clients_told, place_awaited, with_clients}
 use Rattle.rv_state.specs.State.{ClientState, OpenPlace, State, Waiter}
-use Rattle.rv_state.specs.After.{Settled, closed, settled_at}
+use Rattle.rv_state.specs.After.{Settled, closed}
 use Rattle.rv_state.proofs.Words.{none-some}
 use Rattle.rv_state.proofs.Filtered.{find_get}
 use Rattle.rv_machine.specs.declared.machine.Machine.{Machine}
 use Rattle.rv_machine.specs.Indexed.{Closes, ClosesFirst}
 use Rattle.rv_machine.specs.Machines.{IsConsistent, IsReady, IsWaiter, keys_settled, state_in}
-use Rattle.rv_machine.specs.Opens.{duty_at, found_at, line_in, waiting_in, without}
-use Rattle.rv_machine.specs.Taking.{TakesOne, settled_taken, told_taken, without_taken}
+use Rattle.rv_machine.specs.Opens.{duty_at, waiting_in}
+use Rattle.rv_machine.specs.Taking.{TakesOne, settled_taken, told_taken}
 use Rattle.rv_machine.proofs.EndedMachine as ended
 use Rattle.rv_machine.proofs.EndingOne.{but_one}
 use Rattle.rv_machine.proofs.GoneItem.{gone_consistent, no_more_wait}
@@ -59,7 +60,8 @@ module _ (m : Machine) (ready : IsReady m) (queue : ℕ) (taker : Key) (table : 
   s = state_in m
 
   pub has_item : IsSome there.item
-  has_item = line_item s ready.consistent queue 0 there (ap (λ (l : List OpenPlace). slice_get l 0) takes.first)
+  has_item = line_item s ready.consistent queue 0 there (ap (λ (l : List OpenPlace). slice_get l 0)
+      takes.first)
 
   pub not_more : waiting_in table ≤ waiting_in m.table
   not_more = subst (λ (l : List OpenPlace). waiting_in l ≤ waiting_in m.table) (sym takes.closes.rest)
@@ -67,7 +69,8 @@ module _ (m : Machine) (ready : IsReady m) (queue : ℕ) (taker : Key) (table : 
 
   pub its_waiter : (w : Waiter) → there.waiter ≡ Some w → IsWaiter s there w
   its_waiter w waits =
-      let stands = find_get (λ (o : OpenPlace). nat_eq o.place there.place) m.table there takes.closes.found in
+      let stands = find_get (λ (o : OpenPlace). nat_eq o.place there.place) m.table there takes.closes.found
+      in
       ready.consistent.waiters stands.0 there w stands.1 waits
 
   -- its client is known
@@ -135,7 +138,10 @@ module _ (m : Machine) (ready : IsReady m) (queue : ℕ) (taker : Key) (table : 
     settles_one : settled_taken s taker (there ∷ []) ≡ its ∷ []
     settles_one =
         ap (λ (o : Option Waiter). settled_taken s taker (record there { waiter = o } ∷ [])) waits
-        ∙ ap (λ (o : Option Reply). cons_option (option_map (λ r. let x : Settled = record { key = w.key; reply = r } in x)
+        ∙ ap (λ (o : Option Reply). cons_option (option_map (λ r. let x : Settled = record {
+          key = w.key;
+          reply = r;
+        } in x)
         o) []) told
 
     pub is_awaited : place_awaited m.clients.clients owed.client ≡ Some owed.place
@@ -157,7 +163,8 @@ module _ (m : Machine) (ready : IsReady m) (queue : ℕ) (taker : Key) (table : 
 
       pub waited_ready : vec_len settled ≡ vec_len m.settled + 1
           → vec_capacity settled ≡ vec_capacity m.settled → IsReady then
-      waited_ready = ended.still_ready m ready there.place there w owed reply table closes waits clients tells settled
+      waited_ready = ended.still_ready m ready there.place there w owed reply table closes waits clients tells
+          settled
 
       pub waited_taken : settled.items ≡ m.settled.items ++ w.key ∷ [] → TakesOne m then queue taker there
       waited_taken listed = record {

@@ -1,7 +1,6 @@
 -- What it is to take a queue's oldest items.
 use Rattle.std.specs.Prelude.{◌≡◌, ◌≤◌, ◌++◌, ◌∷◌, [], ℕ, List, Option, Some, IsSome, length, option_and_then}
 use Rattle.std.specs.Prelude.{filter_map}
-use Rattle.std.specs.Global.{Vec}
 use Rattle.rv_text.specs.declared.message.Key.{Key}
 use Rattle.rv_text.specs.declared.call.Side.TheVariants.{Gives}
 use Rattle.rv_text.specs.declared.answer.Reply.{Reply}

@@ -16,14 +16,16 @@ use Rattle.rv_machine.proofs.machine.Machine.drain.Goals as goal
 
 pub conclude-requires : goal.conclude-requires
 conclude-requires c =
-    is_known_still c.args.self.now c.take_items.new.self c.args.key c.drained_queue-queue.result c.min-most.result
+    is_known_still c.args.self.now c.take_items.new.self c.args.key c.drained_queue-queue.result
+    c.min-most.result
     c.take_items.new.items.items c.take_items.new.places.items c.take_items.ensures.takes c.requires.may.next
 
 pub record-requires-clause-ready : goal.record-requires-clause-ready
 record-requires-clause-ready c =
     concluded_ready c.take_items.new.self c.args.key (RepliedTo c.args.call (Drained c.from_vec.result))
     c.conclude.new.self c.take_items.ensures.ready
-    (next_there c.args.self.now c.take_items.new.self c.args.key c.drained_queue-queue.result c.min-most.result
+    (next_there c.args.self.now c.take_items.new.self c.args.key c.drained_queue-queue.result
+    c.min-most.result
     c.take_items.new.items.items c.take_items.new.places.items c.take_items.ensures.takes c.requires.may.next)
     refl c.conclude.ensures
 
@@ -39,11 +41,13 @@ returns-clause-arrives c =
     arrives_as c.args.self.now (counted (asked_in c.take_items.new.self c.args.key request) c.args.moment)
     c.record.new.self c.args.moment c.args.key c.args.call
     (entry c.args.moment (Arrive c.args.key c.args.call) c.take_items.new.places.items) c.record.result
-    (concluded_now c.take_items.new.self c.record.new.self c.args.moment c.args.key request c.conclude.new.self told
+    (concluded_now c.take_items.new.self c.record.new.self c.args.moment c.args.key request
+    c.conclude.new.self told
     c.record.ensures.counted)
     (copied_entry c.record.result c.args.moment c.args.key c.args.call c.in_ok-copy.copy c.from_vec-2.result
     c.take_items.new.places.items c.record.ensures.entry c.in_ok-copy.ensures.same c.from_vec-2.ensures)
     (drains_by c.args.self.now c.take_items.new.self c.args.key queue c.min-most.result
-    c.take_items.new.items.items c.take_items.new.places.items c.take_items.ensures.takes c.args.moment c.args.max
+    c.take_items.new.items.items c.take_items.new.places.items c.take_items.ensures.takes c.args.moment
+    c.args.max
     c.args.call c.drained_queue-queue.ensures.side c.requires.drains c.requires.may.ready.consistent
     c.requires.may.next most)

@@ -1,7 +1,7 @@
 -- What stood at the queue's first place is gone, and who waited there was told.
 use Rattle.std.proofs.Common.{Some, None, refl}
 use Rattle.rv_machine.proofs.TakenOne.{came_out, has_room, is_awaited, is_known, lay_ready, lay_taken}
-use Rattle.rv_machine.proofs.TakenOne.{some_first, waited_ready, waited_taken}
+use Rattle.rv_machine.proofs.TakenOne.{waited_ready, waited_taken}
 use Rattle.rv_machine.proofs.machine.Machine.take_item.Goals as goal
 
 pub receipt_to-reply-requires : goal.receipt_to-reply-requires
@@ -33,7 +33,8 @@ returns-in-Some-clause-ready c =
     c.take_front.new.self c.args.queue c.unwrap-there.ensures c.in-Some.is c.take_front.ensures.some in
     waited_ready c.args.self.now c.requires.ready c.args.queue c.args.taker c.take_front.new.self
     c.unwrap-there.result.0 (Some c.in-Some.duty) out c.in-Some.duty refl
-    c.unwrap.result c.unwrap.ensures c.receipt_to-reply.result c.receipt_to-reply.ensures c.settle.new.self c.settle.ensures
+    c.unwrap.result c.unwrap.ensures c.receipt_to-reply.result c.receipt_to-reply.ensures c.settle.new.self
+    c.settle.ensures
     c.push_reserved.new.self
     c.push_reserved.ensures.len c.push_reserved.ensures.capacity
 
@@ -43,7 +44,8 @@ returns-in-Some-clause-takes c =
     c.take_front.new.self c.args.queue c.unwrap-there.ensures c.in-Some.is c.take_front.ensures.some in
     waited_taken c.args.self.now c.requires.ready c.args.queue c.args.taker c.take_front.new.self
     c.unwrap-there.result.0 (Some c.in-Some.duty) out c.in-Some.duty refl
-    c.unwrap.result c.unwrap.ensures c.receipt_to-reply.result c.receipt_to-reply.ensures c.settle.new.self c.settle.ensures
+    c.unwrap.result c.unwrap.ensures c.receipt_to-reply.result c.receipt_to-reply.ensures c.settle.new.self
+    c.settle.ensures
     c.push_reserved.new.self
     c.push_reserved.ensures.items
 

@@ -14,7 +14,8 @@ list-requires-clause-items c =
 
 pub loop-taken-preserved : goal.loop-taken-preserved
 loop-taken-preserved c =
-    took_more c.args.self.now c.loop-taken.self c.take_item.new.self c.args.queue c.args.count c.loop-taken._taken
+    took_more c.args.self.now c.loop-taken.self c.take_item.new.self c.args.queue c.args.count
+    c.loop-taken._taken
     c.args.taker c.take_item.result c.loop-taken.items c.list.new.items c.loop-taken.places c.list.new.places
     c.loop-taken.invariant c.take_item.ensures.takes c.take_item.ensures.ready c.list.ensures.items
     c.list.ensures.places c.list.ensures.items_room c.list.ensures.places_room
