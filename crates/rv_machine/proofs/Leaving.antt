@@ -1,5 +1,5 @@
 -- An arrival that finds nobody and doesn't stay: what it makes of the state.
-use Rattle.std.proofs.Common.{◌≡◌, ◌∙◌, ◌<◌, ◌++◌, ◌∷◌, ℕ, zero, suc, List, [], Bool, true, false, cond}
+use Rattle.std.proofs.Common.{◌≡◌, ◌∙◌, ◌++◌, ◌∷◌, ℕ, List, [], Bool, true, false, cond}
 use Rattle.std.proofs.Common.{Option, Some, None, is_some, refl, sym, ap, subst, arith}
 use Rattle.std.specs.Prelude.{◌&&◌, take}
 use Rattle.std.proofs.lemmas.Bool.{true≢false}
@@ -14,17 +14,16 @@ use Rattle.rv_text.specs.declared.answer.Reply.{Reply}
 use Rattle.rv_text.specs.Calls.{side_of, wait_of}
 use Rattle.rv_session.specs.declared.client.LastRequest.TheVariants.{RepliedTo}
 use Rattle.rv_session.specs.declared.client.LastRequest.{LastRequest}
-use Rattle.rv_session.specs.Clients.{ClientStates, with_clients}
-use Rattle.rv_session.specs.Clients.{clients_asked, with_last_number}
+use Rattle.rv_session.specs.Clients.{ClientStates, clients_asked, with_clients, with_last_number}
 use Rattle.rv_account.specs.declared.entry.Entry.{Entry}
 use Rattle.rv_account.specs.declared.entry.Act.TheVariants.{Arrive}
 use Rattle.rv_account.specs.Account.{entry}
-use Rattle.rv_account.specs.Calls.{Lasts, may_name, need_by, opposite}
+use Rattle.rv_account.specs.Calls.{Lasts, may_name, opposite}
 use Rattle.rv_waiters.specs.Meeting.{StaysBy}
 use Rattle.rv_state.specs.State.{OpenPlace, State, opposites, place_list}
 use Rattle.rv_state.specs.After.{Following, Settled, advanced, arrived, asked, closed, lasts_by, met_by}
-use Rattle.rv_state.specs.After.{opened_by}
-use Rattle.rv_state.specs.After.{parked, request_after, settled_all, stays_open, told_alone, told_own}
+use Rattle.rv_state.specs.After.{opened_by, parked, request_after, settled_all, stays_open, told_alone}
+use Rattle.rv_state.specs.After.{told_own}
 use Rattle.rv_state.specs.After.{told_partner, with_open}
 use Rattle.rv_machine.specs.declared.machine.Machine.{Machine}
 use Rattle.rv_machine.specs.Arriving.{Arrives, MayArrive}
@@ -66,14 +65,6 @@ lasting_by (Some Forever) lasts = refl
 pub not_staying : (call : Call) → stays_open call [] ≡ false → ¬ StaysBy (side_of call) (wait_of call)
 not_staying call closed stays =
     true≢false (sym (λ i. stays.0 i && lasting_by (wait_of call) stays.1 i) ∙ closed)
-
--- each request needs an entry of its own
-pub need_some : (wait : Option Wait) → 0 < need_by wait
-need_some None = omega arith
-need_some (Some Now) = omega arith
-need_some (Some (Millis zero)) = omega arith
-need_some (Some (Millis (suc n))) = omega arith
-need_some (Some Forever) = omega arith
 
 -- ---- what it makes of a state
 
