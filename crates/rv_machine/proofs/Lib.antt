@@ -34,3 +34,6 @@ pub mod MetOne
 pub mod MetMachine
 pub mod CancelMoves
 pub mod NumberedArrivals
+pub mod TakenOne
+pub mod TakenAll
+pub mod Drained

@@ -10,13 +10,13 @@ use Rattle.rv_state.proofs.SideLines.{same_side_is}
 use Rattle.rv_machine.specs.Machines.{IsConsistent}
 use Rattle.rv_machine.specs.Opens.{line_in}
 
-no_giver : (queue other : ℕ) → Takes other ≡ Gives queue → ⊥
+pub no_giver : (queue other : ℕ) → Takes other ≡ Gives queue → ⊥
 no_giver queue other is = cc
 
-no_looker : (queue other : ℕ) → Looks other ≡ Gives queue → ⊥
+pub no_looker : (queue other : ℕ) → Looks other ≡ Gives queue → ⊥
 no_looker queue other is = cc
 
-no_exchanger : (queue other : ℕ) → Exchanges other ≡ Gives queue → ⊥
+pub no_exchanger : (queue other : ℕ) → Exchanges other ≡ Gives queue → ⊥
 no_exchanger queue other is = cc
 
 -- who gives hands an item over

@@ -3,6 +3,7 @@
 
 mod cancels;
 mod hellos;
+mod drains;
 mod leaves;
 mod machine;
 mod meets;
