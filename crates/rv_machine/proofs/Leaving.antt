@@ -76,6 +76,16 @@ having_met s moment key call met =
     let open_then : State = with_open (closed s met settles) (parked s moment key call met) in
     record { after = asked open_then key (request_after s.length call own); settles = settles; reply = own }
 
+-- nothing is closed
+pub closed_none : (s : State) → closed s [] [] ≡ s
+closed_none s = λ i. record {
+  epoch = s.epoch;
+  moment = s.moment;
+  length = s.length;
+  open_places = but_none s.open_places i;
+  clients = s.clients;
+}
+
 -- nothing more is open
 pub none_more : (x : State) → with_open x [] ≡ x
 none_more x = λ i. record {
@@ -92,19 +102,10 @@ module _ (s : State) (moment : ℕ) (key : Key) (call : Call) (reply : Reply)
   pub met_none : met_by s call ≡ []
   met_none = ap (take (may_name call)) alone ∙ take-nil (may_name call)
 
-  opens_stay : closed s [] [] ≡ s
-  opens_stay = λ i. record {
-    epoch = s.epoch;
-    moment = s.moment;
-    length = s.length;
-    open_places = but_none s.open_places i;
-    clients = s.clients;
-  }
-
   then_open : with_open (closed s [] []) (parked s moment key call []) ≡ s
   then_open =
       ap (λ b. with_open (closed s [] []) (cond b (opened_by s moment key call ∷ []) [])) leaves
-      ∙ none_more (closed s [] []) ∙ opens_stay
+      ∙ none_more (closed s [] []) ∙ closed_none s
 
   pub left_is : arrived s moment key call
       ≡ record { after = asked s key (RepliedTo call reply); settles = []; reply = Some reply }

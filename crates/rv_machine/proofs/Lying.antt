@@ -45,8 +45,3 @@ module _ (s : State) (is : IsConsistent s) (queue : ℕ) where
   line_item i there at =
       let was = filter_get (λ (o : OpenPlace). same_side o.side (Gives queue)) s.open_places i there at in
       open_item was.0 there was.1 (same_side_is there.side (Gives queue) was.2) there.waiter refl
-
-  -- a peek shows the first of them
-  pub first_item : (first : Option OpenPlace) (there : OpenPlace)
-      → first ≡ slice_get (line_in s.open_places (Gives queue)) 0 → first ≡ Some there → IsSome there.item
-  first_item first there is some = line_item 0 there (sym is ∙ some)

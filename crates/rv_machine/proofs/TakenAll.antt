@@ -20,6 +20,7 @@ use Rattle.rv_machine.specs.declared.machine.Machine.{Machine}
 use Rattle.rv_machine.specs.Machines.{IsReady, keys_settled, state_in}
 use Rattle.rv_machine.specs.Opens.{line_in, without}
 use Rattle.rv_machine.specs.Taking.{TakesAll, TakesOne, items_of, settled_taken, told_taken, without_taken}
+use Rattle.rv_machine.proofs.Leaving.{closed_none}
 use Rattle.rv_machine.proofs.Parted.{but_cons, but_none}
 
 -- ---- places that are closed one after another
@@ -42,15 +43,6 @@ closed_twice s gone more first then =
       open_places = opens i;
       clients = clients i;
     }
-
-pub closed_none : (s : State) → closed s [] [] ≡ s
-closed_none s = λ i. record {
-  epoch = s.epoch;
-  moment = s.moment;
-  length = s.length;
-  open_places = but_none s.open_places i;
-  clients = s.clients;
-}
 
 -- ---- who is told keeps its version
 
