@@ -2,8 +2,8 @@
 #![tactic(auto)]
 
 mod cancels;
-mod hellos;
 mod drains;
+mod hellos;
 mod leaves;
 mod machine;
 mod meets;
