@@ -1,5 +1,6 @@
 -- A client's last request, which waited, was ended: it was found by its client, who waits nowhere now.
-use Rattle.std.proofs.Common.{◌≡◌, ◌<◌, ◌≤◌, ◌∷◌, ◌∙◌, ◌+◌, ℕ, [], Option, Some, None, IsSome, refl, sym, ap, subst, arith}
+use Rattle.std.proofs.Common.{◌≡◌, ◌<◌, ◌≤◌, ◌∙◌, ◌+◌, ℕ, Option, Some, None, IsSome, refl, sym, ap, subst}
+use Rattle.std.proofs.Common.{arith}
 use Rattle.std.specs.Prelude.{option_and_then}
 use Rattle.std.specs.FinMap.{FinMap, get}
 use Rattle.std.specs.Ordering.{nat_cmp}
@@ -7,7 +8,7 @@ use Rattle.rv_text.specs.declared.call.Call.{Call}
 use Rattle.rv_text.specs.declared.answer.Reply.{Reply}
 use Rattle.rv_session.specs.declared.client.LastRequest.{LastRequest}
 use Rattle.rv_session.specs.declared.client.LastRequest.TheVariants.{Fresh, Waits, RepliedTo, CancelledUnseen}
-use Rattle.rv_session.specs.Clients.{answered, clients_told, insert_known, place_waiting, with_request}
+use Rattle.rv_session.specs.Clients.{answered, clients_told, place_waiting, with_request}
 use Rattle.rv_rules.specs.Steps.{max_entries}
 use Rattle.rv_state.specs.State.{ClientState, OpenPlace, State, Waiter, client_at, client_waits, open_at}
 use Rattle.rv_state.proofs.TableClients.{clients_after_tell}
@@ -17,9 +18,9 @@ use Rattle.rv_machine.specs.Ending.{EndsWaiting}
 use Rattle.rv_machine.specs.Entering.{IsIdle}
 use Rattle.rv_machine.specs.Indexed.{WaitsIn}
 use Rattle.rv_machine.specs.Machines.{IsConsistent, IsReady, WaitsFor, state_in}
-use Rattle.rv_machine.specs.Opens.{found_at, waiting_in}
+use Rattle.rv_machine.specs.Opens.{waiting_in}
 use Rattle.rv_machine.proofs.EndingOne.{less_waits}
-use Rattle.rv_machine.proofs.Told.{put_own, told_own}
+use Rattle.rv_machine.proofs.Told.{told_own}
 
 abbrev ClientMap : Type 0
 ClientMap = FinMap nat_cmp ClientState

@@ -1,25 +1,26 @@
 -- The moves of hellos.
-use Rattle.std.proofs.Common.{◌≡◌, ◌≢◌, ◌<◌, ◌≤◌, ◌+◌, ◌++◌, ◌∷◌, ◌∙◌, ℕ, [], List, Option, Some, None, inl, inr}
-use Rattle.std.proofs.Common.{refl, sym, ap, subst, arith}
+use Rattle.std.proofs.Common.{◌≡◌, ◌<◌, ◌≤◌, ◌+◌, ◌++◌, ◌∷◌, ◌∙◌, ℕ, [], Option, Some, None, inl, inr}
+use Rattle.std.proofs.Common.{refl, sym, ap, subst}
 use Rattle.std.proofs.lemmas.List.{append-nil}
 use Rattle.std.specs.FinMap.{get, len}
 use Rattle.rv_text.specs.declared.version.Version.{Version}
 use Rattle.rv_text.specs.declared.message.Message.TheVariants.{Hello}
 use Rattle.rv_text.specs.declared.answer.Answer.TheVariants.{Welcome}
-use Rattle.rv_text.specs.declared.answer.Refusal.TheVariants.{ClientsFull, EpochFull, NoMemory, OldIncarnation}
+use Rattle.rv_text.specs.declared.answer.Refusal.TheVariants.{ClientsFull, EpochFull, NoMemory}
+use Rattle.rv_text.specs.declared.answer.Refusal.TheVariants.{OldIncarnation}
 use Rattle.rv_text.specs.declared.answer.Refusal.TheVariants.{OtherVersion}
 use Rattle.rv_text.specs.declared.answer.Reply.TheVariants.{Cancelled}
 use Rattle.rv_account.specs.Account.{entry}
 use Rattle.rv_account.specs.declared.entry.Entry.{Entry}
 use Rattle.rv_account.specs.declared.entry.Act.TheVariants as act
 use Rattle.rv_session.specs.ClientMeanings.{HasGreaterState, HasLowerState, HasOtherState, HasState}
-use Rattle.rv_session.specs.Clients.{fresh_state, place_waiting}
-use Rattle.rv_state.specs.State.{ClientState, OpenPlace, State, Waiter, client_at, client_waits}
+use Rattle.rv_session.specs.Clients.{fresh_state}
+use Rattle.rv_state.specs.State.{ClientState, OpenPlace, State, Waiter, client_waits}
 use Rattle.rv_rules.specs.Steps.{max_clients, max_entries}
 use Rattle.std.specs.Global.{Vec}
 use Rattle.rv_text.specs.declared.message.Key.{Key}
 use Rattle.rv_account.specs.declared.entry.Act.{Act}
-use Rattle.rv_state.specs.After.{Following, Settled, advanced, closed, following, greeted, just_open, stopped}
+use Rattle.rv_state.specs.After.{advanced, closed, following, greeted, just_open, stopped}
 use Rattle.rv_state.specs.After.{with_client}
 use Rattle.rv_state.specs.Moves.{entering}
 use Rattle.rv_state.proofs.Words.{none-some, same_Some}
@@ -106,7 +107,8 @@ module _ (s : State) (client : ℕ) (session : ClientState) where
       → (greeted s client session).after
       ≡ with_client (closed s (there ∷ []) (record { key = w.key; reply = Cancelled } ∷ [])) client session
   greeted_waiting there w found waits =
-      ap (λ (o : Option OpenPlace). with_client (stopped s (just_open o) Cancelled).after client session) found
+      ap (λ (o : Option OpenPlace). with_client (stopped s (just_open o) Cancelled).after client session)
+      found
       ∙ ap (λ (t : State). with_client t client session) (stopped_one s Cancelled there w waits)
 
   one_settled : (there : OpenPlace) (w : Waiter) → client_waits s client ≡ Some there → there.waiter ≡ Some w
@@ -120,7 +122,8 @@ module _ (s : State) (client : ℕ) (session : ClientState) where
 module _ (old mid new : Machine) (moment client incarnation : ℕ) (version : Version)
     (fits : IsNewHello (state_in old) client incarnation) (space : HasSpace old 1) (made : Entry)
     (is : made ≡ entry moment (act.Hello client incarnation version) [])
-    (after : state_in new ≡ advanced (with_client (state_in mid) client (fresh_state incarnation version)) moment)
+    (after : state_in new ≡ advanced (with_client (state_in mid) client (fresh_state incarnation version))
+    moment)
     (listed : new.settled ≡ mid.settled) where
   abbrev does : Act
   does = act.Hello client incarnation version
@@ -164,9 +167,11 @@ module _ (old mid new : Machine) (moment client incarnation : ℕ) (version : Ve
   moves_waiting place ends found =
       moves_hello
       (after
-      ∙ ap (λ (t : State). advanced (with_client t client (fresh_state incarnation version)) moment) ends.state
+      ∙ ap (λ (t : State). advanced (with_client t client (fresh_state incarnation version)) moment)
+      ends.state
       ∙ ap (λ (t : State). advanced t moment)
-      (sym (greeted_waiting s client (fresh_state incarnation version) ends.there ends.waiter found ends.waits)))
+      (sym (greeted_waiting s client (fresh_state incarnation version) ends.there ends.waiter found
+      ends.waits)))
       (ap (λ (v : Vec Key). v.items) listed
       ∙ ends.listed
       ∙ ap (λ x. old.settled.items ++ keys_settled x)

@@ -1,18 +1,17 @@
 -- What ends one by one what is due ends it as a tick does.
-use Rattle.std.proofs.Common.{◌≡◌, ◌≤◌, ◌+◌, ◌++◌, ◌∷◌, ◌∙◌, ℕ, List, [], refl, sym, ap, arith, append_assoc, map}
+use Rattle.std.proofs.Common.{◌≡◌, ◌++◌, ◌∷◌, ◌∙◌, ℕ, List, [], refl, sym, ap, arith, append_assoc}
 use Rattle.std.proofs.lemmas.List.{append-nil, map-append}
 use Rattle.rv_text.specs.declared.message.Key.{Key}
 use Rattle.rv_text.specs.declared.answer.Reply.TheVariants.{TimedOut}
 use Rattle.rv_account.specs.Account.{entry}
-use Rattle.rv_account.specs.declared.entry.Entry.{Entry}
 use Rattle.rv_account.specs.declared.entry.Act.TheVariants.{Tick}
 use Rattle.rv_state.specs.State.{OpenPlace, State}
-use Rattle.rv_state.specs.After.{Settled, advanced, closed, due_at, stopped}
+use Rattle.rv_state.specs.After.{Settled, advanced, due_at, stopped}
 use Rattle.rv_state.specs.Moves.{Ticked, ticked_at, ticked_if, ticking}
 use Rattle.rv_machine.specs.declared.machine.Machine.{Machine}
 use Rattle.rv_machine.specs.Ending.{counted}
 use Rattle.rv_machine.specs.Machines.{keys_settled, state_in}
-use Rattle.rv_machine.specs.Opens.{due_in, waiting_in}
+use Rattle.rv_machine.specs.Opens.{due_in}
 use Rattle.rv_machine.specs.Ticking.{EndsFirst, EndsNext, TimesOut}
 use Rattle.rv_machine.proofs.Stopping.{settled_one, settled_twice, stopped_none, stopped_one, stopped_twice}
 

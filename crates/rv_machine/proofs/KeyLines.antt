@@ -11,14 +11,14 @@ use Rattle.rv_text.specs.declared.answer.Refusal.TheVariants.{Busy, Gap, OtherEp
 use Rattle.rv_session.specs.declared.client.LastRequest.{LastRequest}
 use Rattle.rv_session.specs.declared.client.LastRequest.TheVariants.{Fresh}
 use Rattle.rv_session.specs.Clients.{ClientStates, place_awaited, place_waiting}
-use Rattle.rv_session.specs.ClientMeanings.{AsksLast, AsksNext, AsksOldNumber, IsOfClient, IsOfState}
+use Rattle.rv_session.specs.ClientMeanings.{AsksLast, AsksNext, AsksOldNumber}
 use Rattle.rv_session.specs.ClientMeanings.{LacksState, RefusalSays}
 use Rattle.rv_state.specs.State.{ClientState, State, client_at}
 use Rattle.rv_state.specs.Moves.{EpochDiffers, IncarnationOld, NumberAbove, NumberIsLast, NumberOld}
 use Rattle.rv_state.specs.Moves.{SessionBusy, SessionLacks, StateKeyLines}
 use Rattle.rv_state.specs.Follows.{IsNewIncarnation, NumberIsNext}
 use Rattle.rv_state.proofs.Words.{none-some, same_Some}
-use Rattle.rv_machine.specs.Numbering.{AreNumbered, IsNumbered}
+use Rattle.rv_machine.specs.Numbering.{AreNumbered}
 use Rattle.rv_machine.specs.Machines.{state_in}
 use Rattle.rv_machine.specs.declared.machine.Machine.{Machine}
 
@@ -208,7 +208,8 @@ module _ (s : State) (key : Key) (refuses : Refusal → Type 0) (at_last above :
 -- ---- by what stands of the key
 
 -- where the last request of the key's client waits
-pub awaited_there : (t : ClientStates) (client : ℕ) (x : ClientState) (o : Option ℕ) → get t.clients client ≡ Some x
+pub awaited_there : (t : ClientStates) (client : ℕ) (x : ClientState) (o : Option ℕ)
+    → get t.clients client ≡ Some x
     → place_awaited t.clients client ≡ o → place_waiting x.request ≡ o
 awaited_there t client x o there waits =
     sym (ap (option_and_then (λ (c : ClientState). place_waiting c.request)) there) ∙ waits
@@ -245,7 +246,8 @@ module _ (m : Machine) (key : Key) (refuses : Refusal → Type 0) (at_last above
       (λ same. says.0 (same ∙ sym says.1)) (subst (λ n. refuses (OtherEpoch n)) says.1 r)
   key_refused NoSession says r = lacking r says
   key_refused (OldIncarnation current) says r =
-      incarnation_refused (state_in m) key refuses at_last above says.state says.of_key.epoch says.of_key.there
+      incarnation_refused (state_in m) key refuses at_last above says.state says.of_key.epoch
+      says.of_key.there
       (subst (λ n. key.incarnation < n) says.current_is says.greater)
       (subst (λ n. refuses (OldIncarnation n)) says.current_is r)
   key_refused (OldNumber last) says r = old_number last r says

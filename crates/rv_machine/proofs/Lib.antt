@@ -27,3 +27,5 @@ pub mod EndedLast
 pub mod HelloLines
 pub mod Staying
 pub mod HelloMoves
+pub mod CancelMoves
+pub mod NumberedArrivals

@@ -1,13 +1,13 @@
 -- The numbers of sessions stay as they should where one is told its reply, or put.
-use Rattle.std.proofs.Common.{◌≡◌, ◌≢◌, ◌∙◌, ◌∷◌, [], ℕ, Option, Some, None, inl, inr, refl, sym, ap, subst}
+use Rattle.std.proofs.Common.{◌≡◌, ◌∙◌, ℕ, Option, Some, None, inl, inr, refl, sym, ap, subst}
 use Rattle.std.proofs.lemmas.Bool.{cases_eq}
 use Rattle.std.specs.FinMap.{FinMap, get, insert}
 use Rattle.std.specs.Ordering.{nat_cmp}
 use Rattle.rv_text.specs.declared.answer.Reply.{Reply}
 use Rattle.rv_session.specs.declared.client.LastRequest.{LastRequest}
 use Rattle.rv_session.specs.declared.client.LastRequest.TheVariants.{Fresh, Waits, RepliedTo, CancelledUnseen}
-use Rattle.rv_session.specs.Clients.{answered, clients_told, insert_known, with_request}
-use Rattle.rv_state.specs.State.{ClientState, State, client_at}
+use Rattle.rv_session.specs.Clients.{answered, insert_known, with_request}
+use Rattle.rv_state.specs.State.{ClientState, State}
 use Rattle.rv_state.specs.After.{Settled, tell, with_client}
 use Rattle.rv_state.proofs.TableClients.{clients_after_tell}
 use Rattle.rv_state.proofs.Words.{same_Some}
@@ -17,10 +17,11 @@ use Rattle.rv_machine.specs.Machines.{state_in}
 use Rattle.rv_machine.specs.Numbering.{AreNumbered, IsNumbered}
 use Rattle.rv_machine.proofs.Told.{put_other, put_own}
 
-abbrev AllNumbered : FinMap nat_cmp ClientState → Type 0
-AllNumbered clients = (client : ℕ) (session : ClientState) → get clients client ≡ Some session → IsNumbered session
+abbrev pub AllNumbered : FinMap nat_cmp ClientState → Type 0
+AllNumbered clients = (client : ℕ) (session : ClientState) → get clients client ≡ Some session
+    → IsNumbered session
 
-put_in : (clients : FinMap nat_cmp ClientState) (client : ℕ) (session : ClientState) → AllNumbered clients
+pub put_in : (clients : FinMap nat_cmp ClientState) (client : ℕ) (session : ClientState) → AllNumbered clients
     → IsNumbered session → AllNumbered (insert clients client session)
 put_in clients client session all its other x there = elim (cases_eq other client) [
   | inl same ↦
@@ -52,7 +53,7 @@ known_in clients client reply (Some x) is all =
       zero = λ fresh. (all client x is).zero (answered_fresh reply x.request fresh);
     })
 
-tell_numbered : (clients : FinMap nat_cmp ClientState) (settled : Settled) → AllNumbered clients
+pub tell_numbered : (clients : FinMap nat_cmp ClientState) (settled : Settled) → AllNumbered clients
     → AllNumbered (tell clients settled)
 tell_numbered clients settled all =
     subst AllNumbered (sym (clients_after_tell clients settled))

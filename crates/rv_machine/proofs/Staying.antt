@@ -1,5 +1,5 @@
 -- Moves that make no entry.
-use Rattle.std.proofs.Common.{◌≡◌, ◌++◌, ◌∙◌, ℕ, [], refl, sym}
+use Rattle.std.proofs.Common.{◌≡◌, ◌∙◌, ℕ, [], refl, sym}
 use Rattle.std.proofs.lemmas.List.{append-nil}
 use Rattle.rv_text.specs.declared.answer.Answer.{Answer}
 use Rattle.rv_text.specs.declared.answer.Answer.TheVariants.{Refused}

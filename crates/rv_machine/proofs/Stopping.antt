@@ -1,14 +1,14 @@
 -- Stopping places in turn is stopping them together.
 use Rattle.std.proofs.Common.{◌≡◌, ◌++◌, ◌∷◌, ◌∙◌, ◌&&◌, ◌||◌, not, cond, List, [], Bool, true, false}
-use Rattle.std.proofs.Common.{Option, Some, None, refl, sym, ap, nat_eq}
-use Rattle.std.specs.Prelude.{filter, option_and_then, option_map}
-use Rattle.std.specs.List.{filter_map, list_any}
+use Rattle.std.proofs.Common.{Some, refl, sym, ap, nat_eq}
+use Rattle.std.specs.Prelude.{filter}
+use Rattle.std.specs.List.{list_any}
 use Rattle.std.proofs.lemmas.List.Elements.{filter_map-append}
 use Rattle.std.proofs.lemmas.List.Folds.{list_any-append}
 use Rattle.std.proofs.lemmas.List.Sums.{fold-append}
 use Rattle.rv_text.specs.declared.answer.Reply.{Reply}
 use Rattle.rv_state.specs.State.{OpenPlace, State, Waiter}
-use Rattle.rv_state.specs.After.{Settled, but, closed, settled_all, settled_at, stopped, tell}
+use Rattle.rv_state.specs.After.{Settled, but, closed, settled_at, stopped, tell}
 use Rattle.rv_machine.proofs.Parted.{but_none, filter_twice}
 
 filter_same : {X : Type 0} (p q : X → Bool) (xs : List X) → ((x : X) → p x ≡ q x) → filter p xs ≡ filter q xs
@@ -73,5 +73,6 @@ module _ (s : State) (told : Reply) where
   settled_one there w waits = rw waits refl
 
   pub stopped_one : (there : OpenPlace) (w : Waiter) → there.waiter ≡ Some w
-      → (stopped s (there ∷ []) told).after ≡ closed s (there ∷ []) (record { key = w.key; reply = told } ∷ [])
+      → (stopped s (there ∷ []) told).after ≡ closed s (there ∷ []) (record { key = w.key; reply = told }
+      ∷ [])
   stopped_one there w waits = ap (λ (x : List Settled). closed s (there ∷ []) x) (settled_one there w waits)

@@ -6,7 +6,6 @@ use Rattle.rv_state.specs.State.{OpenPlace, Waiter}
 use Rattle.rv_state.specs.After.{closed, stopped}
 use Rattle.rv_state.specs.Moves.{ticked_at}
 use Rattle.rv_machine.specs.declared.machine.Machine.{Machine}
-use Rattle.rv_machine.specs.Ending.{EndsWaiting}
 use Rattle.rv_machine.specs.Machines.{keys_settled, state_in}
 use Rattle.rv_machine.specs.Opens.{due_in, waiting_in}
 

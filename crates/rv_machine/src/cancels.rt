@@ -1,5 +1,5 @@
 //! Cancels: of a request that waits, and of one that did not come yet.
-ghost use Rattle.std.specs.Prelude.{◌≡◌, ◌≤◌, ◌<◌, ◌+◌, [], ◌∷◌, IfOk, IfErr, option_to_list};
+ghost use Rattle.std.specs.Prelude.{◌≤◌, [], ◌∷◌, IfOk, IfErr, option_to_list};
 ghost use Rattle.rv_text.specs.declared.message.Message.TheVariants.{Cancel};
 ghost use Rattle.rv_rules.specs.Steps.{max_moment};
 ghost use Rattle.rv_session.specs.ClientMeanings.{AsksNext};
@@ -14,7 +14,8 @@ use rv_session::{KeyStanding, Place};
 use rv_text::{Key, Refusal, Reply};
 
 impl Machine {
-    /// A cancel: it ends what waits, tells what has its reply, and settles what did not come yet. It takes no memory.
+    /// A cancel: it ends what waits, tells what has its reply, and settles what did not come yet. It takes
+    /// no memory.
     pub(crate) fn cancel(&mut self, moment: u64, key: Key) -> Result<Option<Entry>, Refusal>
         requires ready { IsReady self.old }
         requires numbered { AreNumbered (state_in self.old) }

@@ -1,5 +1,5 @@
 //! Hellos: the first one of a client, and those of a later incarnation.
-ghost use Rattle.std.specs.Prelude.{◌≡◌, ◌≤◌, ◌<◌, ◌+◌, [], ◌∷◌, None, IfOk, IfErr, option_to_list};
+ghost use Rattle.std.specs.Prelude.{◌≡◌, ◌≤◌, ◌<◌, ◌+◌, [], None, IfOk, IfErr, option_to_list};
 ghost use Rattle.std.specs.FinMap.{get};
 ghost use Rattle.rv_text.specs.declared.message.Message.TheVariants.{Hello};
 ghost use Rattle.rv_account.specs.Account.{entry};
@@ -20,8 +20,8 @@ use rv_session::{Greeting, Place};
 use rv_text::{Refusal, Reply, Version};
 
 impl Machine {
-    /// A hello: it opens a session of a new incarnation, and what waits of an earlier one is cancelled. A repeat makes
-    /// no entry.
+    /// A hello: it opens a session of a new incarnation, and what waits of an earlier one is cancelled. A
+    /// repeat makes no entry.
     pub(crate) fn greet(
         &mut self,
         moment: u64,
@@ -84,8 +84,8 @@ impl Machine {
         }
     }
 
-    // A hello of a later incarnation of a client, whose last request waits at a place if there is one. It takes no
-    // memory.
+    // A hello of a later incarnation of a client, whose last request waits at a place if there is one. It
+    // takes no memory.
     fn renew(
         &mut self,
         moment: u64,

@@ -11,7 +11,8 @@ use crate::machine::Machine;
 pub(crate) const MAX_ENTRIES: usize = 100_000;
 
 impl Machine {
-    /// Whether there is no space for so many entries more, beside those that the waiting requests may come to need.
+    /// Whether there is no space for so many entries more, beside those that the waiting requests may come to
+    /// need.
     pub(crate) fn is_full(&self, need: usize) -> bool
         requires ready { IsReady self.now }
         requires small { need ≤ max_entries }

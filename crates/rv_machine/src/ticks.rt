@@ -11,7 +11,8 @@ use rv_account::{Act, Entry, Partners};
 use rv_text::Reply;
 
 impl Machine {
-    /// Ends all that is due at a moment, by one tick, and gives its entry if something was due. It takes no memory.
+    /// Ends all that is due at a moment, by one tick, and gives its entry if something was due. It takes no
+    /// memory.
     pub(crate) fn time_out(&mut self, moment: u64) -> Option<Entry>
         requires ready { IsReady self.old }
         requires numbered { AreNumbered (state_in self.old) }
@@ -40,7 +41,8 @@ impl Machine {
         while self.end_next(moment) {}
     }
 
-    // Ends the wait of the request whose limit comes first, if it is due at a moment, and tells whether one was.
+    // Ends the wait of the request whose limit comes first, if it is due at a moment, and tells whether one
+    // was.
     fn end_next(&mut self, moment: u64) -> bool
         requires ready { IsReady self.old }
         requires numbered { AreNumbered (state_in self.old) }

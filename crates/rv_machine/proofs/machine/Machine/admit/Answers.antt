@@ -1,9 +1,8 @@
 -- A client that is new waits nowhere.
-use Rattle.std.proofs.Common.{◌∙◌, ap, sym, subst, refl}
+use Rattle.std.proofs.Common.{◌∙◌, ap, sym, refl}
 use Rattle.rv_session.specs.Clients.{ClientStates}
 use Rattle.rv_state.proofs.Words.{none-some}
 use Rattle.rv_machine.specs.Machines.{state_in}
-use Rattle.rv_machine.specs.declared.machine.Machine.{Machine}
 use Rattle.rv_machine.proofs.HelloMoves.{moves_idle, moves_lacking, moves_no_entry}
 use Rattle.rv_machine.proofs.Idle.{with_table}
 use Rattle.rv_machine.proofs.machine.Machine.admit.Goals as goal

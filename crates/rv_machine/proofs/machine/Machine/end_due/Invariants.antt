@@ -1,5 +1,5 @@
 -- While waits are ended one by one, those that are over are the first that were due.
-use Rattle.std.specs.Prelude.{◌≡◌, ◌≤◌, length}
+use Rattle.std.specs.Prelude.{◌≡◌, length}
 use Rattle.rv_machine.specs.Machines.{IsReady, state_in}
 use Rattle.rv_machine.specs.Numbering.{AreNumbered}
 use Rattle.rv_machine.specs.Opens.{due_in}

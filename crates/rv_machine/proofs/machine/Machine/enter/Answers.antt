@@ -1,19 +1,18 @@
 -- The client had waited nowhere.
-use Rattle.std.proofs.Common.{◌∙◌, ap, sym, subst, refl}
+use Rattle.std.proofs.Common.{sym, subst, refl}
 use Rattle.rv_session.specs.Clients.{fresh_state}
-use Rattle.rv_state.specs.After.{advanced}
-use Rattle.rv_state.specs.State.{State}
 use Rattle.rv_machine.specs.Machines.{state_in}
 use Rattle.rv_machine.specs.Numbering.{AreNumbered}
 use Rattle.rv_machine.specs.declared.machine.Machine.{Machine}
-use Rattle.rv_machine.proofs.Idle.{put_ready, put_state, with_table}
+use Rattle.rv_machine.proofs.Idle.{put_ready, put_state}
 use Rattle.rv_machine.proofs.Numbered.{put_numbered}
 use Rattle.rv_machine.proofs.machine.Machine.enter.Goals as goal
 
 pub record-requires-clause-ready : goal.record-requires-clause-ready
 record-requires-clause-ready c =
     put_ready c.args.self.now c.requires.ready c.args.client (fresh_state c.args.incarnation c.args.version)
-    c.enter.new.self c.enter.ensures.clients c.enter.ensures.epoch c.enter.ensures.most c.requires.opens.idle refl
+    c.enter.new.self c.enter.ensures.clients c.enter.ensures.epoch c.enter.ensures.most c.requires.opens.idle
+    refl
 
 pub returns-clause-numbered : goal.returns-clause-numbered
 returns-clause-numbered c =

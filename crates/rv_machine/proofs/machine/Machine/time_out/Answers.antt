@@ -1,5 +1,5 @@
 -- The tick ends all that is due.
-use Rattle.std.proofs.Common.{◌∷◌, ◌∙◌, [], ap, subst, sym, refl}
+use Rattle.std.proofs.Common.{◌∷◌, ◌∙◌, [], ap, subst, sym}
 use Rattle.rv_account.specs.Account.{entry}
 use Rattle.rv_account.specs.declared.entry.Entry.{Entry}
 use Rattle.rv_account.specs.declared.entry.Act.TheVariants.{Tick}
@@ -15,7 +15,8 @@ returns-clause-ticks c =
     let one = c.end_next.ensures.one c.if-not-end_next.false in
     let ends = ends_more old c.end_next.new.self c.end_due.new.self c.args.moment
     (ends_one old c.end_next.new.self c.args.moment one) c.end_due.ensures.ends in
-    subst (λ (m : Machine). TimesOut old m c.args.moment (c.record.result ∷ [])) (sym c.record.ensures.counted)
+    subst (λ (m : Machine). TimesOut old m c.args.moment (c.record.result ∷ []))
+    (sym c.record.ensures.counted)
     (subst (λ (e : Entry). TimesOut old (counted c.end_due.new.self c.args.moment) c.args.moment (e ∷ []))
     (sym (c.record.ensures.entry ∙ ap (entry c.args.moment Tick) c.none-partners.ensures))
     (ticked_all old c.end_due.new.self c.args.moment one.there _ one.first ends c.end_due.ensures.none_due))
