@@ -29,3 +29,4 @@ pub mod Staying
 pub mod HelloMoves
 pub mod CancelMoves
 pub mod NumberedArrivals
+pub mod RequestMoves

@@ -2,11 +2,13 @@
 #![tactic(auto)]
 
 mod cancels;
+mod drains;
 mod hellos;
 mod leaves;
 mod machine;
 mod meets;
 mod opens;
+mod requests;
 mod space;
 mod stays;
 mod table;
