@@ -9,3 +9,4 @@ pub mod Ticking
 pub mod Entering
 pub mod Arriving
 pub mod Telling
+pub mod Stepping
