@@ -30,3 +30,6 @@ pub mod HelloMoves
 pub mod CancelMoves
 pub mod NumberedArrivals
 pub mod RequestMoves
+pub mod OutcomeMoves
+pub mod OneStep
+pub mod AtFirst
