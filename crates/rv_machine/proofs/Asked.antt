@@ -71,3 +71,46 @@ asked_then_told m key place call reply session known =
         told_other (clients_asked m key (Waits place call)) key.client q reply apart
         ∙ asked_other m key q (Waits place call) apart
         ∙ sym (asked_other m key q (RepliedTo call reply) apart)
+
+-- a request that met one of another client, who was told before it
+pub met_clients : (m : FinMap nat_cmp ClientState) (key : Key) (place : ℕ) (call : Call) (partner : ℕ)
+    (its own : Reply) (session other : ClientState) → get m key.client ≡ Some session
+    → get m partner ≡ Some other → partner ≢ key.client
+    → clients_told (clients_told (clients_asked m key (Waits place call)) partner its) key.client own
+    ≡ clients_asked (clients_told m partner its) key (RepliedTo call own)
+met_clients m key place call partner its own session other known there apart =
+    same_map nat_cmp_total nat_cmp-IsAntisymmetric _ _
+    (λ q. by_client q (cases_eq q key.client) (cases_eq q partner))
+  where
+    asks : FinMap nat_cmp ClientState
+    asks = clients_asked m key (Waits place call)
+
+    tells : FinMap nat_cmp ClientState
+    tells = clients_told m partner its
+
+    by_client : (q : ℕ) → (q ≡ key.client) ⊎ (q ≢ key.client) → (q ≡ partner) ⊎ (q ≢ partner)
+        → get (clients_told (clients_told (clients_asked m key (Waits place call)) partner its) key.client own) q
+        ≡ get (clients_asked (clients_told m partner its) key (RepliedTo call own)) q
+    by_client q (inl same) second =
+        ap (get (clients_told (clients_told (clients_asked m key (Waits place call)) partner its) key.client own)) same
+        ∙ told_own_client (clients_told (clients_asked m key (Waits place call)) partner its) key.client own
+        (with_last_number session key.number (Waits place call))
+        (told_other (clients_asked m key (Waits place call)) partner key.client its (λ e. apart (sym e))
+        ∙ asked_own m key (Waits place call) session known)
+        ∙ sym (asked_own (clients_told m partner its) key (RepliedTo call own) session
+        (told_other m partner key.client its (λ e. apart (sym e)) ∙ known))
+        ∙ ap (get (clients_asked (clients_told m partner its) key (RepliedTo call own))) (sym same)
+    by_client q (inr differs) (inl same) =
+        told_other (clients_told (clients_asked m key (Waits place call)) partner its) key.client q own differs
+        ∙ ap (get (clients_told (clients_asked m key (Waits place call)) partner its)) same
+        ∙ told_own_client (clients_asked m key (Waits place call)) partner its other
+        (asked_other m key partner (Waits place call) apart ∙ there)
+        ∙ sym (told_own_client m partner its other there)
+        ∙ ap (get (clients_told m partner its)) (sym same)
+        ∙ sym (asked_other (clients_told m partner its) key q (RepliedTo call own) differs)
+    by_client q (inr differs) (inr alone) =
+        told_other (clients_told (clients_asked m key (Waits place call)) partner its) key.client q own differs
+        ∙ told_other (clients_asked m key (Waits place call)) partner q its alone
+        ∙ asked_other m key q (Waits place call) differs
+        ∙ sym (told_other m partner q its alone)
+        ∙ sym (asked_other (clients_told m partner its) key q (RepliedTo call own) differs)

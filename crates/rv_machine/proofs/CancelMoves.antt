@@ -18,10 +18,10 @@ use Rattle.rv_session.specs.declared.client.LastRequest.TheVariants.{CancelledUn
 use Rattle.rv_session.specs.ClientMeanings.{AsksLast, AsksNext, RefusalSays}
 use Rattle.rv_session.specs.Clients.{ClientStates, answered, clients_asked, insert_known, place_waiting}
 use Rattle.rv_session.specs.Clients.{with_clients, with_last_number, with_request}
-use Rattle.rv_state.specs.State.{ClientState, OpenPlace, State, client_at, client_waits, waiting_count}
+use Rattle.rv_state.specs.State.{ClientState, OpenPlace, State, client_at, client_waits}
 use Rattle.rv_state.specs.After.{advanced, cancelled, with_client, with_last}
 use Rattle.rv_state.specs.Follows.{NumberWaits}
-use Rattle.rv_state.specs.Moves.{NoEntryMore, answer_after, answer_told, entering, told_again}
+use Rattle.rv_state.specs.Moves.{answer_after, answer_told, entering, told_again}
 use Rattle.rv_state.proofs.Words.{none-some, same_Some}
 use Rattle.rv_machine.specs.declared.machine.Machine.{Machine}
 use Rattle.rv_machine.specs.declared.machine.Said.TheVariants as said
@@ -32,6 +32,7 @@ use Rattle.rv_machine.specs.Numbering.{AreNumbered, IsNumbered}
 use Rattle.rv_machine.specs.Opens.{waiting_in}
 use Rattle.rv_machine.proofs.EndedLast.{found_waiting, idle_waits, known_after}
 use Rattle.rv_machine.proofs.KeyLines.{awaited_there, key_last, key_next, key_refused}
+use Rattle.rv_machine.proofs.SpaceLines.{has_space, lacks_space}
 use Rattle.rv_machine.proofs.Staying.{moves_refused, moves_staying}
 use Rattle.rv_machine.proofs.Stopping.{settled_one, stopped_one}
 use Rattle.rv_machine.proofs.Told.{put_own}
@@ -71,7 +72,7 @@ module _ (m : Machine) (moment : ℕ) (key : Key) (numbered : AreNumbered (state
   fills_cancel says full =
       moves_refused m m moment _ refl refl EpochFull
       (key_next m key _ _ _ numbered says
-      (inl (record { refusal = _; is_due = record { full = full; is = refl }; refuses_it = refl })))
+      (lacks_space (state_in m) 1 _ _ full refl))
 
 -- ---- where the last request waits
 
@@ -165,11 +166,6 @@ module _ (old : Machine) (moment : ℕ) (key : Key) (says : AsksNext old.clients
     none_waits : client_waits t key.client ≡ None
     none_waits = idle_waits t key.client next_idle
 
-    no_more : (refusal : Refusal) → NoEntryMore t 1 refusal → ⊥
-    no_more refusal due =
-        let full : max_entries < t.length + waiting_count t + 1 = due.full in
-        omega arith
-
     known : client_at (state_in mid) key.client ≡ Some buried
     known = ap (λ (u : State). client_at u key.client) is ∙ put_own old.clients.clients key.client buried
 
@@ -180,7 +176,7 @@ module _ (old : Machine) (moment : ℕ) (key : Key) (says : AsksNext old.clients
         (said.Told key)
     buries_cancel = record {
       move = entering t moment enters (answer_after t moment key enters);
-      moves = key_next old key _ _ _ numbered says (inr (no_more, inr refl));
+      moves = key_next old key _ _ _ numbered says (has_space t 1 _ _ space (inr refl));
       makes = refl;
       says = (buried, known, answers);
       settles = kept ∙ sym (append-nil _)

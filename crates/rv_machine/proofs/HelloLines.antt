@@ -13,6 +13,7 @@ use Rattle.rv_state.specs.Moves.{VersionDiffers}
 use Rattle.rv_state.specs.State.{ClientState, State, client_at, waiting_count}
 use Rattle.rv_state.proofs.Words.{none-some, same_Some}
 use Rattle.rv_machine.specs.Entering.{IsNewHello}
+use Rattle.rv_machine.proofs.SpaceLines.{has_space, lacks_space}
 
 module _ (s : State) (client incarnation : ℕ) (version : Version) where
   -- ---- the client has a session
@@ -58,11 +59,6 @@ module _ (s : State) (client incarnation : ℕ) (version : Version) where
   fits_clients most r due =
       let less : len s.clients < max_clients = most due.is_new in
       let full : max_clients ≤ len s.clients = due.full in
-      omega arith
-
-  pub fits_space : s.length + waiting_count s + 1 ≤ max_entries → (r : Refusal) → NoEntryMore s 1 r → ⊥
-  fits_space space r due =
-      let full : max_entries < s.length + waiting_count s + 1 = due.full in
       omega arith
 
   -- ---- lines
@@ -119,12 +115,9 @@ module _ (s : State) (client incarnation : ℕ) (version : Version) where
     pub hello_no_entry : IsNewHello s client incarnation → max_entries < s.length + waiting_count s + 1
         → refuses EpochFull → StateHelloLines s client incarnation version refuses repeats enters
     hello_no_entry fits full r =
-        hello_new fits.is_new (inr (
-          fits_clients fits.most,
-          inl (record { refusal = _; is_due = record { full = full; is = refl }; refuses_it = r }),
-        ))
+        hello_new fits.is_new (inr (fits_clients fits.most, lacks_space s 1 refuses enters full r))
 
     pub hello_enters : IsNewHello s client incarnation → s.length + waiting_count s + 1 ≤ max_entries → enters
         → StateHelloLines s client incarnation version refuses repeats enters
     hello_enters fits space then =
-        hello_new fits.is_new (inr (fits_clients fits.most, inr (fits_space space, then)))
+        hello_new fits.is_new (inr (fits_clients fits.most, has_space s 1 refuses enters space then))

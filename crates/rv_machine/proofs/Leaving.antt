@@ -1,7 +1,8 @@
 -- An arrival that finds nobody and doesn't stay: what it makes of the state.
-use Rattle.std.proofs.Common.{◌≡◌, ◌∙◌, ◌<◌, ◌++◌, ◌∷◌, ℕ, zero, suc, List, [], Bool, true, false, cond}
+use Rattle.std.proofs.Common.{◌≡◌, ◌∙◌, ◌++◌, ◌∷◌, ℕ, List, [], Bool, true, false, cond}
 use Rattle.std.proofs.Common.{Option, Some, None, is_some, refl, sym, ap, subst, arith}
 use Rattle.std.specs.Prelude.{◌&&◌, take}
+use Rattle.std.proofs.lemmas.Bool.{true≢false}
 use Rattle.std.proofs.lemmas.Bool.Decides.{nat_tests}
 use Rattle.std.proofs.lemmas.List.{append-nil}
 use Rattle.std.proofs.Math.Seq.{take-nil}
@@ -13,17 +14,16 @@ use Rattle.rv_text.specs.declared.answer.Reply.{Reply}
 use Rattle.rv_text.specs.Calls.{side_of, wait_of}
 use Rattle.rv_session.specs.declared.client.LastRequest.TheVariants.{RepliedTo}
 use Rattle.rv_session.specs.declared.client.LastRequest.{LastRequest}
-use Rattle.rv_session.specs.Clients.{ClientStates, with_clients}
-use Rattle.rv_session.specs.Clients.{clients_asked, with_last_number}
+use Rattle.rv_session.specs.Clients.{ClientStates, clients_asked, with_clients, with_last_number}
 use Rattle.rv_account.specs.declared.entry.Entry.{Entry}
 use Rattle.rv_account.specs.declared.entry.Act.TheVariants.{Arrive}
 use Rattle.rv_account.specs.Account.{entry}
-use Rattle.rv_account.specs.Calls.{Lasts, may_name, need_by, opposite}
+use Rattle.rv_account.specs.Calls.{Lasts, may_name, opposite}
 use Rattle.rv_waiters.specs.Meeting.{StaysBy}
 use Rattle.rv_state.specs.State.{OpenPlace, State, opposites, place_list}
 use Rattle.rv_state.specs.After.{Following, Settled, advanced, arrived, asked, closed, lasts_by, met_by}
-use Rattle.rv_state.specs.After.{opened_by}
-use Rattle.rv_state.specs.After.{parked, request_after, settled_all, stays_open, told_alone, told_own}
+use Rattle.rv_state.specs.After.{opened_by, parked, request_after, settled_all, stays_open, told_alone}
+use Rattle.rv_state.specs.After.{told_own}
 use Rattle.rv_state.specs.After.{told_partner, with_open}
 use Rattle.rv_machine.specs.declared.machine.Machine.{Machine}
 use Rattle.rv_machine.specs.Arriving.{Arrives, MayArrive}
@@ -54,13 +54,17 @@ not_open call leaves =
     not_by (is_some (opposite (side_of call))) (lasts_by (wait_of call))
     (λ may lasts. leaves (may, lasts_both (wait_of call) lasts))
 
--- each request needs an entry of its own
-pub need_some : (wait : Option Wait) → 0 < need_by wait
-need_some None = omega arith
-need_some (Some Now) = omega arith
-need_some (Some (Millis zero)) = omega arith
-need_some (Some (Millis (suc n))) = omega arith
-need_some (Some Forever) = omega arith
+-- and a wait that lasts by the state's definitions lasts
+lasting_by : (wait : Option Wait) → Lasts wait → lasts_by wait ≡ true
+lasting_by None lasts = refl
+lasting_by (Some Now) lasts = absurd lasts
+lasting_by (Some (Millis n)) lasts = grind (arith, nat_tests)
+lasting_by (Some Forever) lasts = refl
+
+-- what isn't open where it meets nobody doesn't stay by its side and its wait
+pub not_staying : (call : Call) → stays_open call [] ≡ false → ¬ StaysBy (side_of call) (wait_of call)
+not_staying call closed stays =
+    true≢false (sym (λ i. stays.0 i && lasting_by (wait_of call) stays.1 i) ∙ closed)
 
 -- ---- what it makes of a state
 
@@ -72,34 +76,36 @@ having_met s moment key call met =
     let open_then : State = with_open (closed s met settles) (parked s moment key call met) in
     record { after = asked open_then key (request_after s.length call own); settles = settles; reply = own }
 
+-- nothing is closed
+pub closed_none : (s : State) → closed s [] [] ≡ s
+closed_none s = λ i. record {
+  epoch = s.epoch;
+  moment = s.moment;
+  length = s.length;
+  open_places = but_none s.open_places i;
+  clients = s.clients;
+}
+
+-- nothing more is open
+pub none_more : (x : State) → with_open x [] ≡ x
+none_more x = λ i. record {
+  epoch = x.epoch;
+  moment = x.moment;
+  length = x.length;
+  open_places = append-nil x.open_places i;
+  clients = x.clients;
+}
+
 module _ (s : State) (moment : ℕ) (key : Key) (call : Call) (reply : Reply)
     (alone : opposites s call ≡ []) (leaves : stays_open call [] ≡ false)
     (told : told_alone s call ≡ Some reply) where
   pub met_none : met_by s call ≡ []
   met_none = ap (take (may_name call)) alone ∙ take-nil (may_name call)
 
-  opens_stay : closed s [] [] ≡ s
-  opens_stay = λ i. record {
-    epoch = s.epoch;
-    moment = s.moment;
-    length = s.length;
-    open_places = but_none s.open_places i;
-    clients = s.clients;
-  }
-
-  none_more : (x : State) → with_open x [] ≡ x
-  none_more x = λ i. record {
-    epoch = x.epoch;
-    moment = x.moment;
-    length = x.length;
-    open_places = append-nil x.open_places i;
-    clients = x.clients;
-  }
-
   then_open : with_open (closed s [] []) (parked s moment key call []) ≡ s
   then_open =
       ap (λ b. with_open (closed s [] []) (cond b (opened_by s moment key call ∷ []) [])) leaves
-      ∙ none_more (closed s [] []) ∙ opens_stay
+      ∙ none_more (closed s [] []) ∙ closed_none s
 
   pub left_is : arrived s moment key call
       ≡ record { after = asked s key (RepliedTo call reply); settles = []; reply = Some reply }

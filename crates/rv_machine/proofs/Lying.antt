@@ -10,13 +10,13 @@ use Rattle.rv_state.proofs.SideLines.{same_side_is}
 use Rattle.rv_machine.specs.Machines.{IsConsistent}
 use Rattle.rv_machine.specs.Opens.{line_in}
 
-no_giver : (queue other : ℕ) → Takes other ≡ Gives queue → ⊥
+pub no_giver : (queue other : ℕ) → Takes other ≡ Gives queue → ⊥
 no_giver queue other is = cc
 
-no_looker : (queue other : ℕ) → Looks other ≡ Gives queue → ⊥
+pub no_looker : (queue other : ℕ) → Looks other ≡ Gives queue → ⊥
 no_looker queue other is = cc
 
-no_exchanger : (queue other : ℕ) → Exchanges other ≡ Gives queue → ⊥
+pub no_exchanger : (queue other : ℕ) → Exchanges other ≡ Gives queue → ⊥
 no_exchanger queue other is = cc
 
 -- who gives hands an item over
@@ -45,8 +45,3 @@ module _ (s : State) (is : IsConsistent s) (queue : ℕ) where
   line_item i there at =
       let was = filter_get (λ (o : OpenPlace). same_side o.side (Gives queue)) s.open_places i there at in
       open_item was.0 there was.1 (same_side_is there.side (Gives queue) was.2) there.waiter refl
-
-  -- a peek shows the first of them
-  pub first_item : (first : Option OpenPlace) (there : OpenPlace)
-      → first ≡ slice_get (line_in s.open_places (Gives queue)) 0 → first ≡ Some there → IsSome there.item
-  first_item first there is some = line_item 0 there (sym is ∙ some)

@@ -1,5 +1,5 @@
 -- The numbers of sessions stay as they should where a request arrives.
-use Rattle.std.proofs.Common.{◌≡◌, ◌≢◌, ◌∙◌, ◌∷◌, ◌+◌, [], ℕ, List, Option, Some, None, refl, sym, ap, subst, arith}
+use Rattle.std.proofs.Common.{◌≢◌, ◌∷◌, [], ℕ, List, Option, Some, None, sym, subst, arith}
 use Rattle.std.specs.FinMap.{FinMap, get}
 use Rattle.std.specs.Ordering.{nat_cmp}
 use Rattle.rv_text.specs.declared.call.Call.{Call}
@@ -9,9 +9,10 @@ use Rattle.rv_account.specs.declared.entry.Entry.{Entry}
 use Rattle.rv_account.specs.declared.entry.Act.TheVariants.{Arrive}
 use Rattle.rv_session.specs.declared.client.LastRequest.{LastRequest}
 use Rattle.rv_session.specs.declared.client.LastRequest.TheVariants.{Fresh}
-use Rattle.rv_session.specs.Clients.{clients_asked, insert_known, with_last_number}
+use Rattle.rv_session.specs.Clients.{insert_known, with_last_number}
 use Rattle.rv_state.specs.State.{ClientState, State}
-use Rattle.rv_state.specs.After.{Settled, asked, closed, following, met_by, parked, request_after, settled_all}
+use Rattle.rv_state.specs.After.{Settled, asked, closed, following, met_by, parked, request_after}
+use Rattle.rv_state.specs.After.{settled_all}
 use Rattle.rv_state.specs.After.{tell, tell_all, told_own, told_partner, with_open}
 use Rattle.rv_state.specs.Follows.{NumberIsNext}
 use Rattle.rv_state.proofs.TableClients.{clients_after_asked}
@@ -27,7 +28,8 @@ tell_all_numbered clients [] all = all
 tell_all_numbered clients (x ∷ settles) all =
     tell_all_numbered (tell clients x) settles (tell_numbered clients x all)
 
-known_asked : (clients : FinMap nat_cmp ClientState) (key : Key) (request : LastRequest) (o : Option ClientState)
+known_asked : (clients : FinMap nat_cmp ClientState) (key : Key) (request : LastRequest)
+    (o : Option ClientState)
     → key.number ≢ 0 → request ≢ Fresh → AllNumbered clients
     → AllNumbered (insert_known clients key.client (λ x. with_last_number x key.number request) o)
 known_asked clients key request None some came all = all

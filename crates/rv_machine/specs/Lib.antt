@@ -10,3 +10,4 @@ pub mod Entering
 pub mod Arriving
 pub mod Telling
 pub mod Stepping
+pub mod Taking

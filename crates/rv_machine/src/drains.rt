@@ -1,28 +1,147 @@
 //! Arrivals that drain a queue.
-ghost use Rattle.std.specs.Prelude.{◌≡◌, Some, IfOk, OnErr};
-ghost use Rattle.rv_text.specs.Calls.{drains_of};
+ghost use Rattle.std.specs.Prelude.{◌≡◌, ◌<◌, ◌≤◌, ◌++◌, ◌∷◌, [], None, Some, IfOk, IsSome, OnErr, length};
+ghost use Rattle.std.specs.Prelude.{option_and_then, option_map, unwrap_or, vec_capacity, vec_len};
+ghost use Rattle.std.specs.FinMap.{get};
+ghost use Rattle.rv_text.specs.Calls.{drains_of, side_of};
+ghost use Rattle.rv_text.specs.Limits.{FitsCall, FitsQueue};
+ghost use Rattle.rv_text.specs.declared.call.Side.TheVariants.{Gives, Takes};
+ghost use Rattle.rv_state.specs.After.{receipt_of};
 ghost use Rattle.rv_machine.specs.Arriving.{Arrives, IsAsBefore, MayArrive};
 ghost use Rattle.rv_machine.specs.Machines.{IsReady};
+ghost use Rattle.rv_machine.specs.Opens.{line_in};
+ghost use Rattle.rv_machine.specs.Taking.{TakesAll, TakesOne};
 
 use crate::machine::Machine;
-use rv_account::Entry;
-use rv_text::{Call, Key, NoMemory};
+use rv_account::{Act, Entry, Partners};
+use rv_session::{Clients, OpenPlace, Place};
+use rv_text::{Call, Item, Items, Key, NoMemory, Reply, Version};
+
+// The queue that a call drains.
+fn drained_queue(call: &Call) -> u64
+    requires drains { IsSome (drains_of call.now) }
+    requires fits { FitsCall call.now }
+    ensures side { side_of call.now ≡ Takes result }
+    ensures fits { FitsQueue result }
+{
+    match call {
+        Call::Drain { queue, .. } => *queue,
+        Call::Put { .. } => unreachable!(),
+        Call::Transfer { .. } => unreachable!(),
+        Call::Take { .. } => unreachable!(),
+        Call::Swap { .. } => unreachable!(),
+        Call::Count { .. } => unreachable!(),
+        Call::Peek { .. } => unreachable!(),
+    }
+}
+
+// What a transfer is told in a session of this version, whose item the request of this key received.
+fn receipt(version: Version, taker: Key) -> Reply
+    ensures { receipt_of version (Some taker) ≡ Some result }
+{
+    match version {
+        Version::One => Reply::Received,
+        Version::Two => Reply::ReceivedBy(taker),
+    }
+}
+
+// The same of this client's transfer.
+fn receipt_to(clients: &Clients, client: u64, taker: Key) -> Reply
+    requires { IsSome (get clients.now.clients client) }
+    ensures { option_and_then (λ version. receipt_of version (Some taker))
+        (option_map (λ session. session.version) (get clients.now.clients client)) ≡ Some result }
+{
+    receipt(clients.get(client).unwrap().version, taker)
+}
+
+// Lists what was taken, for which there is room.
+fn list(there: OpenPlace, items: &mut Vec<Item>, places: &mut Vec<Place>)
+    requires has { IsSome there.item }
+    requires items { vec_len items.old < vec_capacity items.old }
+    requires places { vec_len places.old < vec_capacity places.old }
+    ensures items { items.new.items ≡ items.old.items ++ unwrap_or there.item [] ∷ [] }
+    ensures places { places.new.items ≡ places.old.items ++ there.place ∷ [] }
+    ensures items_room { vec_capacity items.new ≡ vec_capacity items.old }
+    ensures places_room { vec_capacity places.new ≡ vec_capacity places.old }
+{
+    items.push_reserved(there.item.unwrap());
+    places.push_reserved(there.place);
+}
 
 impl Machine {
-    /// Stands in for the drain that another branch has: unproved.
+    /// Records an arrival that drains a queue of at most so many of its oldest items, and gives its entry. Fails only if
+    /// memory was refused, and then nothing changes.
     pub(crate) fn drain(
         &mut self,
         moment: u64,
         key: Key,
         call: Call,
-        _max: u64,
+        max: u64,
     ) -> Result<Entry, NoMemory>
         requires may { MayArrive self.old moment key call }
-        requires drains { drains_of call ≡ Some _max }
-        ensures ready { IsReady self.new }
+        requires drains { drains_of call ≡ Some max }
         ensures arrives { IfOk result (λ made. Arrives self.old self.new moment key call made) }
         ensures same { OnErr result (IsAsBefore self.old self.new) }
+        ensures ready { IsReady self.new }
     {
-        self.leave(moment, key, call)
+        let alloc = self.allocator();
+        let queue = drained_queue(&call);
+        let copy = call.copy(alloc)?;
+        let most = self.table.count(queue).0.min(max as usize);
+        let mut items = Vec::with_capacity(alloc, most)?;
+        let mut places = Vec::with_capacity(alloc, most)?;
+        self.take_items(queue, key, most, &mut items, &mut places);
+        let reply = Reply::Drained(Items::from_vec(items));
+        self.clients.conclude(&key, call, reply);
+        Ok(self.record(
+            moment,
+            Act::Arrive { key, call: copy },
+            Partners::from_vec(places),
+        ))
+    }
+
+    // Takes so many of a queue's oldest items for the request of this key, which there must be, one a pass, and lists them
+    // where there is room for them.
+    fn take_items(
+        &mut self,
+        queue: u64,
+        taker: Key,
+        count: usize,
+        items: &mut Vec<Item>,
+        places: &mut Vec<Place>,
+    )
+        requires ready { IsReady self.old }
+        requires fits { FitsQueue queue }
+        requires some { count ≤ length (line_in self.old.table (Gives queue)) }
+        requires no_items { items.old.items ≡ [] }
+        requires no_places { places.old.items ≡ [] }
+        requires items_room { count ≤ vec_capacity items.old }
+        requires places_room { count ≤ vec_capacity places.old }
+        ensures ready { IsReady self.new }
+        ensures takes { TakesAll self.old self.new queue taker count items.new.items places.new.items }
+    {
+        for _taken in 0..count {
+            list(self.take_item(queue, taker), items, places);
+        }
+    }
+
+    // Takes the oldest item of a queue for the request of this key, which there must be: who waited with it is told so.
+    fn take_item(&mut self, queue: u64, taker: Key) -> OpenPlace
+        requires ready { IsReady self.old }
+        requires fits { FitsQueue queue }
+        requires some { 0 < length (line_in self.old.table (Gives queue)) }
+        ensures ready { IsReady self.new }
+        ensures takes { TakesOne self.old self.new queue taker result }
+    {
+        let (there, duty) = self.table.take_front(queue).unwrap();
+        match duty {
+            Some(duty) => {
+                let key = there.waiter.unwrap().key;
+                let reply = receipt_to(&self.clients, key.client, taker);
+                self.settled.push_reserved(key);
+                self.clients.settle(duty, reply);
+                there
+            }
+            None => there,
+        }
     }
 }

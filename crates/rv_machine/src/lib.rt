@@ -5,6 +5,7 @@ mod answers;
 mod cancels;
 mod drains;
 mod hellos;
+mod drains;
 mod leaves;
 mod machine;
 mod meets;

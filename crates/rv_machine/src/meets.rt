@@ -40,6 +40,13 @@ fn met(side: Side, version: Version, other: Option<Key>, gets: Option<Item>) -> 
     }
 }
 
+// The key of who waits, if somebody does.
+fn key_of(waiter: Option<Waiter>) -> Option<Key>
+    ensures { result ≡ option_map (λ w. w.key) waiter }
+{
+    Some(waiter?.key)
+}
+
 // What an arrival is told that met one, by its wait: a put is done.
 fn arriving(
     wait: Option<Wait>,
@@ -107,7 +114,7 @@ impl Machine {
             waiter,
         } = there;
         self.tell(other, waiter, side, key, gift);
-        let taker = waiter.map(|w| w.key);
+        let taker = key_of(waiter);
         let reply = arriving(copy.wait(), copy.side(), version, taker, item);
         self.clients.settle(own, reply);
         let act = Act::Arrive { key, call: copy };

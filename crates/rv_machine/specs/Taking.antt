@@ -1,0 +1,50 @@
+-- What it is to take a queue's oldest items.
+use Rattle.std.specs.Prelude.{◌≡◌, ◌≤◌, ◌++◌, ◌∷◌, [], ℕ, List, Option, Some, IsSome, length, option_and_then}
+use Rattle.std.specs.Prelude.{filter_map}
+use Rattle.rv_text.specs.declared.message.Key.{Key}
+use Rattle.rv_text.specs.declared.call.Side.TheVariants.{Gives}
+use Rattle.rv_text.specs.declared.answer.Reply.{Reply}
+use Rattle.rv_state.specs.State.{OpenPlace, State, place_list}
+use Rattle.rv_state.specs.After.{Settled, closed, receipt_of, session_version, settled_all}
+use Rattle.rv_machine.specs.declared.machine.Machine.{Machine}
+use Rattle.rv_machine.specs.Machines.{keys_settled, state_in}
+use Rattle.rv_machine.specs.Opens.{line_in, waiting_in}
+
+-- what is told who gives what the request of this key takes, by its session's version
+abbrev pub told_taken : State → Key → OpenPlace → Key → Option Reply
+told_taken s taker there waits =
+    option_and_then (λ version. receipt_of version (Some taker)) (session_version s waits)
+
+-- whom it settles that the request of this key takes these
+abbrev pub settled_taken : State → Key → List OpenPlace → List Settled
+settled_taken s taker gone = settled_all (told_taken s taker) gone
+
+-- the state without these, which the request of this key took
+abbrev pub without_taken : State → Key → List OpenPlace → State
+without_taken s taker gone = closed s gone (settled_taken s taker gone)
+
+-- the oldest item of a queue was taken by the request of this key
+pub record TakesOne (old new : Machine) (queue : ℕ) (taker : Key) (there : OpenPlace) : Type 0 where
+  pub first : line_in old.table (Gives queue) ≡ there ∷ line_in new.table (Gives queue)
+  pub has : IsSome there.item
+  pub fewer : waiting_in new.table ≤ waiting_in old.table
+  pub state : state_in new ≡ without_taken (state_in old) taker (there ∷ [])
+  pub listed : new.settled.items
+      ≡ old.settled.items ++ keys_settled (settled_taken (state_in old) taker (there ∷ []))
+
+-- the items of some that are open
+abbrev pub items_of : List OpenPlace → List (List ℕ)
+items_of gone = filter_map (λ o. o.item) gone
+
+-- so many of a queue's oldest items were, which are these with these places
+pub record TakesAll (old new : Machine) (queue : ℕ) (taker : Key) (count : ℕ) (items : List (List ℕ))
+    (places : List ℕ) : Type 0 where
+  pub gone : List OpenPlace
+  pub number : length gone ≡ count
+  pub first : line_in old.table (Gives queue) ≡ gone ++ line_in new.table (Gives queue)
+  pub fewer : waiting_in new.table ≤ waiting_in old.table
+  pub state : state_in new ≡ without_taken (state_in old) taker gone
+  pub listed : new.settled.items
+      ≡ old.settled.items ++ keys_settled (settled_taken (state_in old) taker gone)
+  pub items_are : items ≡ items_of gone
+  pub places_are : places ≡ place_list gone
