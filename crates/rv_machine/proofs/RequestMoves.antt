@@ -28,6 +28,7 @@ use Rattle.rv_machine.specs.Machines.{MovesBy, state_in}
 use Rattle.rv_machine.specs.Numbering.{AreNumbered}
 use Rattle.rv_machine.specs.Opens.{waiting_in}
 use Rattle.rv_machine.proofs.KeyLines.{key_last, key_next, key_refused}
+use Rattle.rv_machine.proofs.SpaceLines.{call_agrees, call_differs, has_space, lacks_space}
 use Rattle.rv_machine.proofs.Staying.{moves_refused, moves_staying}
 
 -- ---- where no entry is made
@@ -39,42 +40,22 @@ module _ (m : Machine) (moment : ℕ) (key : Key) (call : Call) (numbered : AreN
       moves_refused m m moment _ refl refl refusal (key_refused m key _ _ _ numbered refusal says refl)
 
   module _ (request : LastRequest) (asked : request ≢ Fresh) (says : AsksLast m.clients key request) where
-    same_call : ((came : Call) → call_asked request ≡ Some came → came ≡ call) → (refusal : Refusal)
-        → CallDiffers (state_in m) key call refusal → ⊥
-    same_call same refusal due =
-        let is : due.session ≡ says.state = same_Some _ _ (sym due.there ∙ says.of_key.there) in
-        due.other (same due.came
-        (ap call_asked (sym says.request_is)
-        ∙ ap (λ (x : ClientState). call_asked x.request) (sym is) ∙ due.with_call))
-
     -- the last number, with no other call
     pub repeats_request : ((came : Call) → call_asked request ≡ Some came → came ≡ call)
         → MovesBy m m moment (Request key call) [] (said.Told key)
     repeats_request same =
         moves_staying m m moment _ refl refl (answer_told key (told_again says.state.request)) (said.Told key)
         (says.state, says.of_key.there, refl)
-        (key_last m key _ _ _ numbered request asked says (inr (
-          same_call same,
-          record { session = says.state; there = says.of_key.there; is = refl },
-        )))
+        (key_last m key _ _ _ numbered request asked says (call_agrees m key call _ _ request says same
+        (record { session = says.state; there = says.of_key.there; is = refl })))
 
     -- the last number, with another call
     pub other_request : (came : Call) → call_asked request ≡ Some came → came ≢ call
         → MovesBy m m moment (Request key call) [] (said.Refused OtherCall)
     other_request came is other =
         moves_refused m m moment _ refl refl OtherCall
-        (key_last m key _ _ _ numbered request asked says (inl (record {
-          refusal = _;
-          is_due = record {
-            session = says.state;
-            there = says.of_key.there;
-            came = came;
-            with_call = ap call_asked says.request_is ∙ is;
-            other = other;
-            is = refl;
-          };
-          refuses_it = refl;
-        })))
+        (key_last m key _ _ _ numbered request asked says
+        (call_differs m key call _ _ request says came is other refl))
 
     -- the last number, which came with a call that was looked at
     module _ (came : Call) (is : call_asked request ≡ Some came) (told : Result (Option Entry) Refusal) where
@@ -100,14 +81,8 @@ module _ (m : Machine) (moment : ℕ) (key : Key) (call : Call) (numbered : AreN
   fills_request says need is full =
       moves_refused m m moment _ refl refl EpochFull
       (key_next m key _ _ _ numbered says
-      (inl (record {
-        refusal = _;
-        is_due = record {
-          full = subst (λ n. max_entries < m.length + waiting_in m.table + n) is full;
-          is = refl;
-        };
-        refuses_it = refl;
-      })))
+      (lacks_space (state_in m) (need_of call) _ _
+      (subst (λ n. max_entries < m.length + waiting_in m.table + n) is full) refl))
 
 -- ---- where it may arrive
 
@@ -119,16 +94,14 @@ module _ (old new : Machine) (moment : ℕ) (key : Key) (call : Call) (numbered 
   abbrev does : Act
   does = act.Arrive key call
 
-  no_more : (refusal : Refusal) → NoEntryMore s (need_of call) refusal → ⊥
-  no_more refusal due =
-      let full : max_entries < s.length + waiting_count s + need_of call = due.full in
-      omega arith
+  enough : HasSpace old (need_of call)
+  enough = subst (λ n. HasSpace old n) is space
 
   pub arrives_request : (made : Entry) → Arrives old new moment key call made
       → MovesBy old new moment (Request key call) (made ∷ []) (said.Told key)
   arrives_request made arrives = record {
     move = entering s moment does (answer_after s moment key does);
-    moves = key_next old key _ _ _ numbered next (inr (no_more, inr refl));
+    moves = key_next old key _ _ _ numbered next (has_space s (need_of call) _ _ enough (inr refl));
     makes = ap (λ (e : Entry). e ∷ []) arrives.made_is;
     says = (arrives.session, arrives.known, ap (answer_told key) (sym arrives.told));
     settles = arrives.settles;
@@ -138,4 +111,5 @@ module _ (old new : Machine) (moment : ℕ) (key : Key) (call : Call) (numbered 
   pub lacks_request : IsAsBefore old new → MovesBy old new moment (Request key call) [] (said.Refused NoMemory)
   lacks_request before =
       moves_refused old new moment _ before.state before.settled NoMemory
-      (key_next old key _ _ _ numbered next (inr (no_more, inl refl)))
+      (key_next old key _ _ _ numbered next
+      (has_space s (need_of call) _ _ enough (inl refl)))

@@ -5,7 +5,6 @@ mod answers;
 mod cancels;
 mod drains;
 mod hellos;
-mod drains;
 mod leaves;
 mod machine;
 mod meets;

@@ -1,5 +1,5 @@
 -- The request is open from now on, and its client's last.
-use Rattle.std.proofs.Common.{◌≡◌, ◌∙◌, [], ap, subst, sym, Some}
+use Rattle.std.proofs.Common.{◌≡◌, ◌∙◌, [], ap, subst, sym, List, Some}
 use Rattle.std.specs.Prelude.{◌+◌, ◌≤◌, IfSome, vec_capacity, vec_len}
 use Rattle.rv_session.specs.Clients.{ClientStates, place_awaited}
 use Rattle.rv_account.specs.declared.entry.Entry.{Entry}

@@ -1,7 +1,9 @@
 -- The first of the line that the arrival faces left it.
 use Rattle.std.proofs.Common.{◌≡◌, ◌<◌, ◌∷◌, ◌∙◌, ap, subst, sym, refl, arith, length, List, Option, Some, IsSome, ℕ}
 use Rattle.rv_text.specs.Calls.{side_of, wait_of}
+use Rattle.rv_session.specs.OwedDuty.{OwedDuty}
 use Rattle.rv_text.specs.declared.call.Side.{Side}
+use Rattle.rv_account.specs.Calls.{opposite}
 use Rattle.rv_state.specs.State.{OpenPlace}
 use Rattle.rv_state.proofs.Words.{same_Some}
 use Rattle.rv_machine.specs.Opens.{StandBelow, found_at, line_in, opposed_in, without, without_limit}

@@ -1,5 +1,5 @@
 -- One more is open, behind all others.
-use Rattle.std.proofs.Common.{◌∙◌, ◌+◌, ◌-◌, subst, sym, List}
+use Rattle.std.proofs.Common.{◌≡◌, ◌∙◌, ◌+◌, ◌-◌, ap, subst, sym, refl, arith, List, Option}
 use Rattle.rv_text.specs.declared.call.Call.{Call}
 use Rattle.rv_text.specs.Calls.{side_of, wait_of}
 use Rattle.rv_session.specs.OwedDuty.{OwedDuty}

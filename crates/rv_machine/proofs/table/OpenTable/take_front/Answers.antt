@@ -1,5 +1,5 @@
 -- The first of the queue's givers left its line.
-use Rattle.std.proofs.Common.{◌≡◌, ◌∷◌, ◌∙◌, ap, subst, sym, refl, arith, List, Option, Some, IsSome}
+use Rattle.std.proofs.Common.{◌≡◌, ◌∷◌, ◌∙◌, [], ap, subst, sym, refl, arith, List, Option, Some, None, IsSome}
 use Rattle.rv_text.specs.declared.call.Side.TheVariants.{Gives}
 use Rattle.rv_due.proofs.Kept.{if_none}
 use Rattle.rv_state.specs.State.{OpenPlace}
