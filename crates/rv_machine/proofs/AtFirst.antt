@@ -18,7 +18,8 @@ module _ (m : Machine) (none : m.table ≡ []) (nobody : m.clients.clients ≡ e
   unknown : (client : ℕ) (session : ClientState) → client_at (state_in m) client ≡ Some session → ⊥
   unknown client session at =
       none-some session
-      (sym (get-empty nat_cmp client) ∙ ap (λ (f : FinMap nat_cmp ClientState). get f client) (sym nobody) ∙ at)
+      (sym (get-empty nat_cmp client) ∙ ap (λ (f : FinMap nat_cmp ClientState). get f client) (sym nobody)
+      ∙ at)
 
   pub first_numbered : AreNumbered (state_in m)
   first_numbered client session at = absurd (unknown client session at)

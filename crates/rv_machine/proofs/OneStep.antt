@@ -7,7 +7,7 @@ use Rattle.rv_text.specs.declared.message.Key.{Key}
 use Rattle.rv_text.specs.declared.message.Message.{Message}
 use Rattle.rv_account.specs.declared.entry.Entry.{Entry}
 use Rattle.rv_state.specs.After.{Settled}
-use Rattle.rv_state.specs.Moves.{Move, StateNextAt, Ticked, state_moment, ticked_at}
+use Rattle.rv_state.specs.Moves.{StateNextAt, Ticked, state_moment, ticked_at}
 use Rattle.rv_state.specs.State.{State}
 use Rattle.rv_machine.specs.declared.machine.Machine.{Machine}
 use Rattle.rv_machine.specs.declared.machine.Said.{Said}

@@ -9,7 +9,8 @@ use Rattle.rv_machine.specs.declared.machine.Said.{Said}
 use Rattle.rv_machine.specs.declared.machine.Said.TheVariants as said
 use Rattle.rv_machine.specs.Machines.{MovesBy}
 
-pub outcome_moves : (old new : Machine) (moment : ℕ) (m : Message) (told : Said) (made : Result (Option Entry) Refusal)
+pub outcome_moves : (old new : Machine) (moment : ℕ) (m : Message) (told : Said) (made : Result (Option Entry)
+    Refusal)
     (out : Option Entry × Said) → IfOk made (λ e. MovesBy old new moment m (option_to_list e) told)
     → IfErr made (λ r. MovesBy old new moment m [] (said.Refused r)) → IfOk made (λ e. out ≡ (e, told))
     → IfErr made (λ r. out ≡ (None, said.Refused r)) → MovesBy old new moment m (option_to_list out.0) out.1

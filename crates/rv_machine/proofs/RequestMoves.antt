@@ -1,6 +1,7 @@
 -- The moves of requests.
-use Rattle.std.proofs.Common.{◌≡◌, ◌≢◌, ◌<◌, ◌+◌, ◌∷◌, ◌∙◌, ℕ, [], Option, Some, None, inl, inr, refl, sym, ap}
-use Rattle.std.proofs.Common.{arith, subst}
+use Rattle.std.proofs.Common.{◌≡◌, ◌≢◌, ◌<◌, ◌+◌, ◌∷◌, ◌∙◌, ℕ, [], Option, Some, None, inl, inr, refl, sym}
+use Rattle.std.proofs.Common.{ap}
+use Rattle.std.proofs.Common.{subst}
 use Rattle.std.specs.Prelude.{Result, IfOk, IfErr, option_to_list}
 use Rattle.std.proofs.lemmas.Result.{IfOk-weaker, IfErr-weaker}
 use Rattle.rv_text.specs.declared.call.Call.{Call}
@@ -16,8 +17,8 @@ use Rattle.rv_rules.specs.Steps.{max_entries}
 use Rattle.rv_session.specs.declared.client.LastRequest.{LastRequest}
 use Rattle.rv_session.specs.declared.client.LastRequest.TheVariants.{Fresh}
 use Rattle.rv_session.specs.ClientMeanings.{AsksLast, AsksNext, RefusalSays}
-use Rattle.rv_state.specs.State.{ClientState, State, waiting_count}
-use Rattle.rv_state.specs.Moves.{CallDiffers, NoEntryMore, answer_after, answer_told, call_asked, entering}
+use Rattle.rv_state.specs.State.{State}
+use Rattle.rv_state.specs.Moves.{answer_after, answer_told, call_asked, entering}
 use Rattle.rv_state.specs.Moves.{told_again}
 use Rattle.rv_state.proofs.Words.{same_Some}
 use Rattle.rv_machine.specs.Arriving.{Arrives, IsAsBefore}
@@ -59,17 +60,17 @@ module _ (m : Machine) (moment : ℕ) (key : Key) (call : Call) (numbered : AreN
 
     -- the last number, which came with a call that was looked at
     module _ (came : Call) (is : call_asked request ≡ Some came) (told : Result (Option Entry) Refusal) where
-      pub told_again_ok : IfOk told (λ made. (made ≡ None) × (came ≡ call))
+      pub repeated_ok : IfOk told (λ made. (made ≡ None) × (came ≡ call))
           → IfOk told (λ made. MovesBy m m moment (Request key call) (option_to_list made) (said.Told key))
-      told_again_ok ok =
+      repeated_ok ok =
           IfOk-weaker told _ _
           (λ made same. subst (λ (o : Option Entry). MovesBy m m moment (Request key call) (option_to_list o)
           (said.Told key)) (sym same.0)
           (repeats_request (λ other came_with. same_Some _ _ (sym came_with ∙ is) ∙ same.1))) ok
 
-      pub told_again_err : IfErr told (λ refusal. (refusal ≡ OtherCall) × (came ≢ call))
+      pub repeated_err : IfErr told (λ refusal. (refusal ≡ OtherCall) × (came ≢ call))
           → IfErr told (λ refusal. MovesBy m m moment (Request key call) [] (said.Refused refusal))
-      told_again_err err =
+      repeated_err err =
           IfErr-weaker told _ _
           (λ refusal differs. subst (λ (r : Refusal). MovesBy m m moment (Request key call) []
           (said.Refused r)) (sym differs.0) (other_request came is differs.1)) err
@@ -108,7 +109,8 @@ module _ (old new : Machine) (moment : ℕ) (key : Key) (call : Call) (numbered 
     after = arrives.state;
   }
 
-  pub lacks_request : IsAsBefore old new → MovesBy old new moment (Request key call) [] (said.Refused NoMemory)
+  pub lacks_request : IsAsBefore old new
+      → MovesBy old new moment (Request key call) [] (said.Refused NoMemory)
   lacks_request before =
       moves_refused old new moment _ before.state before.settled NoMemory
       (key_next old key _ _ _ numbered next

@@ -38,7 +38,7 @@ fn stays(call: &Call) -> bool
     may_meet(call.side()) && call.wait().is_none_or(|wait| lasts(wait))
 }
 
-// What a request of the last number is told that came with this call: the same again, if its call is the same.
+// No entry for a request of the last number, which came with this call; with another it is refused.
 fn repeat(asked: &Call, call: &Call) -> Result<Option<Entry>, Refusal>
     ensures ok { IfOk result (λ made. (made ≡ None) × (asked.now ≡ call.now)) }
     ensures err { IfErr result (λ refusal. (refusal ≡ OtherCall) × (asked.now ≢ call.now)) }

@@ -73,7 +73,7 @@ impl Machine {
         Stepped { tick, entry, said }
     }
 
-    // The moment of a step that this one is handed in for.
+    // The moment of a step: the one that is handed in, at most 2^62, or the last one if that is later.
     fn moment_at(&self, now: u64) -> u64
         requires ready { IsReady self.now }
         ensures exact { result ≡ state_moment (state_in self.now) now }

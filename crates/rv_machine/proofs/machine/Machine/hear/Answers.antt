@@ -1,6 +1,6 @@
 -- A message is heard by its kind.
-use Rattle.std.proofs.Common.{[], sym, subst, ℕ}
-use Rattle.std.specs.Prelude.{IfOk, IfErr, option_to_list}
+use Rattle.std.proofs.Common.{sym, subst, ℕ}
+use Rattle.std.specs.Prelude.{IfOk, option_to_list}
 use Rattle.rv_text.specs.declared.message.Message.{Message}
 use Rattle.rv_text.specs.declared.message.Message.TheVariants.{Cancel, Hello, Request}
 use Rattle.rv_machine.specs.declared.machine.Said.TheVariants as said
