@@ -26,10 +26,10 @@ use Rattle.rv_state.proofs.Words.{none-some, same_Some}
 use Rattle.rv_machine.specs.declared.machine.Machine.{Machine}
 use Rattle.rv_machine.specs.declared.machine.Said.TheVariants as said
 use Rattle.rv_machine.specs.Ending.{EndsWaiting, counted}
-use Rattle.rv_machine.specs.Entering.{HasSpace, IsIdle, LastWaits}
-use Rattle.rv_machine.specs.Machines.{IsReady, MovesBy, keys_settled, state_in}
+use Rattle.rv_machine.specs.Entering.{HasSpaceFor, WaitsForNothing, LastWaits}
+use Rattle.rv_machine.specs.Machines.{IsWhole, MovesBy, keys_settled, state_in}
 use Rattle.rv_machine.specs.Numbering.{AreNumbered, IsNumbered}
-use Rattle.rv_machine.specs.Opens.{waiting_in}
+use Rattle.rv_machine.specs.OpenMap.{count_waiting}
 use Rattle.rv_machine.proofs.EndedLast.{found_waiting, idle_waits, known_after}
 use Rattle.rv_machine.proofs.KeyLines.{awaited_there, key_last, key_next, key_refused}
 use Rattle.rv_machine.proofs.SpaceLines.{has_space, lacks_space}
@@ -67,7 +67,7 @@ module _ (m : Machine) (moment : ℕ) (key : Key) (numbered : AreNumbered (state
       )))
 
   -- the next number finds no space
-  pub fills_cancel : AsksNext m.clients key → max_entries < m.length + waiting_in m.table + 1
+  pub fills_cancel : AsksNext m.clients key → max_entries < m.length + count_waiting m.table + 1
       → MovesBy m m moment (Cancel key) [] (said.Refused EpochFull)
   fills_cancel says full =
       moves_refused m m moment _ refl refl EpochFull
@@ -76,7 +76,7 @@ module _ (m : Machine) (moment : ℕ) (key : Key) (numbered : AreNumbered (state
 
 -- ---- where the last request waits
 
-module _ (old mid : Machine) (ready : IsReady old) (numbered : AreNumbered (state_in old)) (moment : ℕ)
+module _ (old mid : Machine) (ready : IsWhole old) (numbered : AreNumbered (state_in old)) (moment : ℕ)
     (key : Key)
     (place : ℕ) (last : LastWaits old key place) (ends : EndsWaiting old mid place Cancelled) where
   abbrev s : State
@@ -137,7 +137,7 @@ module _ (old : Machine) (moment : ℕ) (key : Key) (says : AsksNext old.clients
   abbrev pub buried : ClientState
   buried = with_last_number says.state key.number CancelledUnseen
 
-  pub next_idle : IsIdle (state_in old) key.client
+  pub next_idle : WaitsForNothing (state_in old) key.client
   next_idle x there = awaited_there old.clients key.client x None there says.idle
 
   pub buried_numbered : IsNumbered buried
@@ -154,7 +154,7 @@ module _ (old : Machine) (moment : ℕ) (key : Key) (says : AsksNext old.clients
       ∙ ap (insert_known old.clients.clients key.client (λ x. with_last_number x key.number CancelledUnseen))
       says.of_key.there
 
-  module _ (mid : Machine) (numbered : AreNumbered (state_in old)) (space : HasSpace old 1)
+  module _ (mid : Machine) (numbered : AreNumbered (state_in old)) (space : HasSpaceFor old 1)
       (is : state_in mid ≡ with_client (state_in old) key.client buried)
       (kept : mid.settled.items ≡ old.settled.items) where
     abbrev t : State

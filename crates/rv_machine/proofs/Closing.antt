@@ -12,7 +12,7 @@ use Rattle.rv_text.specs.declared.call.Side.{Side}
 use Rattle.rv_session.specs.OwedDuty.{OwedDuty}
 use Rattle.rv_state.specs.State.{OpenPlace, place_list, same_side}
 use Rattle.rv_state.proofs.Words.{none-some, same_Some}
-use Rattle.rv_machine.specs.Opens.{PlacesRise, found_at, line_in, owed_in, waiting_in, without}
+use Rattle.rv_machine.specs.OpenMap.{PlacesRise, found_at, line_in, owed_among, count_waiting, all_but}
 use Rattle.rv_machine.proofs.Kept.{filter_these}
 use Rattle.rv_machine.proofs.Parted.{PartedAt, filter_twice, parted}
 
@@ -32,7 +32,7 @@ filter_same p q (x ∷ xs) same =
 
 -- the line of a side without a place
 pub line_without : (all : List OpenPlace) (side : Side) (place : ℕ)
-    → line_in (without all place) side ≡ without (line_in all side) place
+    → line_in (all_but all place) side ≡ all_but (line_in all side) place
 line_without all side place =
     filter_twice (λ (o : OpenPlace). same_side o.side side) (λ o. not (nat_eq o.place place)) all
     ∙ filter_same (λ (o : OpenPlace). not (nat_eq o.place place) && same_side o.side side)
@@ -42,12 +42,12 @@ line_without all side place =
 
 -- the places of a list without one
 pub places_without : (all : List OpenPlace) (place : ℕ)
-    → place_list (without all place) ≡ filter (λ p. not (nat_eq p place)) (place_list all)
+    → place_list (all_but all place) ≡ filter (λ p. not (nat_eq p place)) (place_list all)
 places_without [] place = refl
 places_without (o ∷ all) place = by_head (not (nat_eq o.place place)) (places_without all place)
   where
-    by_head : (b : Bool) → place_list (without all place) ≡ filter (λ p. not (nat_eq p place)) (place_list all)
-        → place_list (cond b (o ∷ without all place) (without all place))
+    by_head : (b : Bool) → place_list (all_but all place) ≡ filter (λ p. not (nat_eq p place)) (place_list all)
+        → place_list (cond b (o ∷ all_but all place) (all_but all place))
         ≡ cond b (o.place ∷ filter (λ p. not (nat_eq p place)) (place_list all))
         (filter (λ p. not (nat_eq p place)) (place_list all))
     by_head true rest = ap (λ l. o.place ∷ l) rest
@@ -64,13 +64,13 @@ module _ (all : List OpenPlace) (place : ℕ) (there : OpenPlace) (at : PartedAt
   line_parted side = ap (λ l. line_in l side) at.whole
       ∙ filter-append (λ (o : OpenPlace). same_side o.side side) at.front (there ∷ at.behind)
 
-  line_less : (side : Side) → line_in (without all place) side ≡ line_in at.front side ++ line_in at.behind side
+  line_less : (side : Side) → line_in (all_but all place) side ≡ line_in at.front side ++ line_in at.behind side
   line_less side = ap (λ l. line_in l side) at.others
       ∙ filter-append (λ (o : OpenPlace). same_side o.side side) at.front at.behind
 
   -- the lines of other sides stay
   pub line_stays : (side : Side) → same_side there.side side ≡ false
-      → line_in (without all place) side ≡ line_in all side
+      → line_in (all_but all place) side ≡ line_in all side
   line_stays side apart =
       line_less side
       ∙ ap (λ b. line_in at.front side ++ cond b (there ∷ line_in at.behind side) (line_in at.behind side))
@@ -79,42 +79,42 @@ module _ (all : List OpenPlace) (place : ℕ) (there : OpenPlace) (at : PartedAt
 
   -- ---- how many wait
 
-  waits_parted : waiting_in all
-      ≡ waiting_in at.front + length (cond (is_some there.waiter)
+  waits_parted : count_waiting all
+      ≡ count_waiting at.front + length (cond (is_some there.waiter)
       (there ∷ filter (λ (o : OpenPlace). is_some o.waiter) at.behind)
       (filter (λ (o : OpenPlace). is_some o.waiter) at.behind))
-  waits_parted = ap waiting_in at.whole
+  waits_parted = ap count_waiting at.whole
       ∙ ap length (filter-append (λ (o : OpenPlace). is_some o.waiter) at.front (there ∷ at.behind))
       ∙ length-append _ _
 
-  waits_less : waiting_in (without all place) ≡ waiting_in at.front + waiting_in at.behind
-  waits_less = ap waiting_in at.others
+  waits_less : count_waiting (all_but all place) ≡ count_waiting at.front + count_waiting at.behind
+  waits_less = ap count_waiting at.others
       ∙ ap length (filter-append (λ (o : OpenPlace). is_some o.waiter) at.front at.behind)
       ∙ length-append _ _
 
   by_waiter : (b : Bool) → is_some there.waiter ≡ b
-      → waiting_in all ≡ waiting_in (without all place) + cond b 1 0
+      → count_waiting all ≡ count_waiting (all_but all place) + cond b 1 0
   by_waiter true is =
       waits_parted
-      ∙ ap (λ b. waiting_in at.front + length (cond b
+      ∙ ap (λ b. count_waiting at.front + length (cond b
       (there ∷ filter (λ (o : OpenPlace). is_some o.waiter) at.behind)
       (filter (λ (o : OpenPlace). is_some o.waiter) at.behind))) is
       ∙ omega (arith, waits_less)
   by_waiter false is =
       waits_parted
-      ∙ ap (λ b. waiting_in at.front + length (cond b
+      ∙ ap (λ b. count_waiting at.front + length (cond b
       (there ∷ filter (λ (o : OpenPlace). is_some o.waiter) at.behind)
       (filter (λ (o : OpenPlace). is_some o.waiter) at.behind))) is
       ∙ omega (arith, waits_less)
 
-  pub one_waits_less : waiting_in all ≡ waiting_in (without all place) + cond (is_some there.waiter) 1 0
+  pub one_waits_less : count_waiting all ≡ count_waiting (all_but all place) + cond (is_some there.waiter) 1 0
   one_waits_less = by_waiter (is_some there.waiter) refl
 
 -- ---- what is found
 
 found_by : (o : OpenPlace) (all : List OpenPlace) (place other : ℕ) → other ≢ place
-    → found_at (without all place) other ≡ found_at all other → (b : Bool) → nat_eq o.place place ≡ b
-    → found_at (cond (not b) (o ∷ without all place) (without all place)) other
+    → found_at (all_but all place) other ≡ found_at all other → (b : Bool) → nat_eq o.place place ≡ b
+    → found_at (cond (not b) (o ∷ all_but all place) (all_but all place)) other
     ≡ cond (nat_eq o.place other) (Some o) (found_at all other)
 found_by o all place other apart rest true is =
     rest ∙ ap (λ b. cond b (Some o) (found_at all other)) (sym not_other)
@@ -125,7 +125,7 @@ found_by o all place other apart rest false is = ap (λ r. cond (nat_eq o.place 
 
 -- what stands at another place is found as before
 pub found_apart : (all : List OpenPlace) (place other : ℕ) → other ≢ place
-    → found_at (without all place) other ≡ found_at all other
+    → found_at (all_but all place) other ≡ found_at all other
 found_apart [] place other apart = refl
 found_apart (o ∷ all) place other apart =
     found_by o all place other apart (found_apart all place other apart) (nat_eq o.place place) refl

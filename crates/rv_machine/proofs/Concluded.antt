@@ -14,7 +14,7 @@ use Rattle.rv_state.specs.After.{asked, with_client, with_last}
 use Rattle.rv_state.specs.Follows.{NumberIsNext}
 use Rattle.rv_state.proofs.Words.{none-some, same_Some}
 use Rattle.rv_machine.specs.declared.machine.Machine.{Machine}
-use Rattle.rv_machine.specs.Machines.{IsConsistent, IsReady, IsWaiter, WaitsFor, state_in}
+use Rattle.rv_machine.specs.Machines.{IsConsistent, IsWhole, IsWaiter, AwaitsPlace, state_in}
 use Rattle.rv_machine.proofs.Told.{put_other, put_own}
 
 -- where the request of a session waits, by the session
@@ -52,7 +52,7 @@ module _ (s : State) (client : ℕ) (session : ClientState) (is : IsConsistent s
   }
 
   still_for : (other place : ℕ) (its : ClientState) (call : Call) → (other ≡ client) ⊎ (other ≢ client)
-      → client_at now other ≡ Some its → its.request ≡ Waits place call → WaitsFor now other place
+      → client_at now other ≡ Some its → its.request ≡ Waits place call → AwaitsPlace now other place
   still_for other place its call (inl same) known waits =
       let own : session ≡ its = same_Some _ _ (sym (put_own s.clients client session)
       ∙ ap (client_at now) (sym same) ∙ known) in
@@ -137,9 +137,9 @@ pub asked_state : (m : Machine) (key : Key) (request : LastRequest)
     → state_in (asked_in m key request) ≡ asked (state_in m) key request
 asked_state m key request = sym (asked_is (state_in m) key request)
 
-pub asked_ready : (m : Machine) (key : Key) (request : LastRequest) (session : ClientState) → IsReady m
+pub asked_ready : (m : Machine) (key : Key) (request : LastRequest) (session : ClientState) → IsWhole m
     → client_at (state_in m) key.client ≡ Some session → place_waiting session.request ≡ None
-    → place_waiting request ≡ None → IsReady (asked_in m key request)
+    → place_waiting request ≡ None → IsWhole (asked_in m key request)
 asked_ready m key request session ready known idle quiet = record {
   consistent = subst (λ (x : State). IsConsistent x) (sym (asked_state m key request))
       (asked_consistent (state_in m) key request session ready.consistent known idle quiet);
@@ -159,10 +159,10 @@ with_states m clients =
     }
 
 -- ready, as the table of clients gives it
-pub concluded_ready : (m : Machine) (key : Key) (request : LastRequest) (clients : ClientStates) → IsReady m
+pub concluded_ready : (m : Machine) (key : Key) (request : LastRequest) (clients : ClientStates) → IsWhole m
     → NumberIsNext (state_in m) key → place_waiting request ≡ None
     → clients ≡ with_clients m.clients (clients_asked m.clients.clients key request)
-    → IsReady (with_states m clients)
+    → IsWhole (with_states m clients)
 concluded_ready m key request clients ready next quiet is =
-    subst (λ (t : ClientStates). IsReady (with_states m t)) (sym is)
+    subst (λ (t : ClientStates). IsWhole (with_states m t)) (sym is)
     (asked_ready m key request next.session ready next.of_session.there next.idle quiet)

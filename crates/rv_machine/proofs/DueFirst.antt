@@ -20,7 +20,7 @@ use Rattle.rv_state.specs.State.{OpenPlace}
 use Rattle.rv_state.specs.After.{deadline_of_place}
 use Rattle.rv_state.proofs.Words.{cons_option, none-some, same_Some}
 use Rattle.rv_state.proofs.Filtered.{any_get, filter_get, get_any}
-use Rattle.rv_machine.specs.Opens.{PlacesRise, due_in, found_at, limits_in, limits_map, marked, without}
+use Rattle.rv_machine.specs.OpenMap.{PlacesRise, due_in, found_at, deadlines_in, limits_map, marked, all_but}
 use Rattle.rv_machine.proofs.Closing.{found_apart}
 use Rattle.rv_machine.proofs.Limits.{any_parted, not_listed, own_test}
 use Rattle.rv_machine.proofs.Parted.{PartedAt}
@@ -101,7 +101,7 @@ abbrev until : ℕ → Deadline → Bool
 until moment d = not (nat_lt moment d.0)
 
 -- where no deadline is so early nothing is due
-pub none_due : (all : List OpenPlace) (moment : ℕ) → AllAbove (limits_in all) moment → due_in all moment ≡ []
+pub none_due : (all : List OpenPlace) (moment : ℕ) → AllAbove (deadlines_in all) moment → due_in all moment ≡ []
 none_due all moment above =
     ap (filter_map (λ (d : Deadline). found_at all d.1))
     (filter_none (until moment) (keys (limits_map all)) (λ i d at.
@@ -110,57 +110,57 @@ none_due all moment above =
 
 module _ (all : List OpenPlace) (place moment limit : ℕ) (there : OpenPlace)
     (at : PartedAt all place there) (has : there.limit ≡ Some limit)
-    (least : IsLeastUntil (limits_in all) moment (limit, place)) where
+    (least : IsLeastUntil (deadlines_in all) moment (limit, place)) where
   abbrev its : Deadline
   its = (limit, place)
 
-  with_its : limits_map all ≡ insert (limits_map (without all place)) its tt
+  with_its : limits_map all ≡ insert (limits_map (all_but all place)) its tt
   with_its = same_map by_moment_total by_moment-IsAntisymmetric _ _ (λ q. unit_same _ _
       (in_map (filter_map deadline_of_place all) q
       ∙ any_parted all place there at limit has q
       ∙ by_own q (eq_by_cmp by_moment q its)
-      ∙ ap is_some (sym (get-insert by_moment_total (limits_map (without all place)) its tt q))))
+      ∙ ap is_some (sym (get-insert by_moment_total (limits_map (all_but all place)) its tt q))))
     where
       by_own : (q : Deadline) (own : Bool)
-          → (own || list_any (eq_by_cmp by_moment q) (filter_map deadline_of_place (without all place)))
-          ≡ is_some (cond own (Some tt) (get (limits_map (without all place)) q))
+          → (own || list_any (eq_by_cmp by_moment q) (filter_map deadline_of_place (all_but all place)))
+          ≡ is_some (cond own (Some tt) (get (limits_map (all_but all place)) q))
       by_own q true = refl
-      by_own q false = sym (in_map (filter_map deadline_of_place (without all place)) q)
+      by_own q false = sym (in_map (filter_map deadline_of_place (all_but all place)) q)
 
   -- a deadline that is left is another one
-  is_other : (x : Deadline) (i : ℕ) → slice_get (keys (limits_map (without all place))) i ≡ Some x
+  is_other : (x : Deadline) (i : ℕ) → slice_get (keys (limits_map (all_but all place))) i ≡ Some x
       → x.1 ≡ place → ⊥
-  is_other x i stands same = not_listed all place x same (key_listed (without all place) x i stands)
+  is_other x i stands same = not_listed all place x same (key_listed (all_but all place) x i stands)
 
-  is_more : (x : Deadline) (i : ℕ) → slice_get (keys (limits_map (without all place))) i ≡ Some x
+  is_more : (x : Deadline) (i : ℕ) → slice_get (keys (limits_map (all_but all place))) i ≡ Some x
       → by_moment its x ≡ Less
   is_more x i stands = less_of its x (least.least x
       (contains-from_list by_moment_total (filter_map deadline_of_place all) x
       ∙ any_parted all place there at limit has x
-      ∙ or_second (eq_by_cmp by_moment x its) _ (key_listed (without all place) x i stands))
+      ∙ or_second (eq_by_cmp by_moment x its) _ (key_listed (all_but all place) x i stands))
       (λ same. is_other x i stands (ap (λ (d : Deadline). d.1) same)))
     where
       or_second : (b c : Bool) → c ≡ true → (b || c) ≡ true
       or_second true c is = refl
       or_second false c is = is
 
-  keys_first : keys (limits_map all) ≡ its ∷ keys (limits_map (without all place))
+  keys_first : keys (limits_map all) ≡ its ∷ keys (limits_map (all_but all place))
   keys_first =
       ap (λ (m : FinMap by_moment (Unit {0})). keys m) with_its
       ∙ ap (map (λ (e : Deadline × Unit {0}). e.0))
-      (entries-insert by_moment_total (limits_map (without all place)) its tt
-      ∙ put_first its (entries (limits_map (without all place))) (λ i x stands. is_more x i stands))
+      (entries-insert by_moment_total (limits_map (all_but all place)) its tt
+      ∙ put_first its (entries (limits_map (all_but all place))) (λ i x stands. is_more x i stands))
 
-  pub first_due : found_at all place ≡ Some there → due_in all moment ≡ there ∷ due_in (without all place) moment
+  pub first_due : found_at all place ≡ Some there → due_in all moment ≡ there ∷ due_in (all_but all place) moment
   first_due found =
       ap (λ ks. filter_map (λ (d : Deadline). found_at all d.1) (filter (until moment) ks)) keys_first
       ∙ ap (λ b. filter_map (λ (d : Deadline). found_at all d.1) (cond b
-      (its ∷ filter (until moment) (keys (limits_map (without all place))))
-      (filter (until moment) (keys (limits_map (without all place)))))) (ap not (le-ltb moment limit least.due))
+      (its ∷ filter (until moment) (keys (limits_map (all_but all place))))
+      (filter (until moment) (keys (limits_map (all_but all place)))))) (ap not (le-ltb moment limit least.due))
       ∙ ap (λ o. cons_option o (filter_map (λ (d : Deadline). found_at all d.1)
-      (filter (until moment) (keys (limits_map (without all place)))))) found
-      ∙ ap (λ l. there ∷ l) (sym (filter_map_these (λ (d : Deadline). found_at (without all place) d.1)
-      (λ d. found_at all d.1) (filter (until moment) (keys (limits_map (without all place))))
+      (filter (until moment) (keys (limits_map (all_but all place)))))) found
+      ∙ ap (λ l. there ∷ l) (sym (filter_map_these (λ (d : Deadline). found_at (all_but all place) d.1)
+      (λ d. found_at all d.1) (filter (until moment) (keys (limits_map (all_but all place))))
       (λ i x stands.
-      let was = filter_get (until moment) (keys (limits_map (without all place))) i x stands in
+      let was = filter_get (until moment) (keys (limits_map (all_but all place))) i x stands in
       found_apart all place x.1 (is_other x was.0 was.1))))

@@ -15,10 +15,10 @@ use Rattle.rv_state.proofs.TableClients.{clients_after_tell}
 use Rattle.rv_state.proofs.Words.{none-some, same_Some}
 use Rattle.rv_machine.specs.declared.machine.Machine.{Machine}
 use Rattle.rv_machine.specs.Ending.{EndsWaiting}
-use Rattle.rv_machine.specs.Entering.{IsIdle}
+use Rattle.rv_machine.specs.Entering.{WaitsForNothing}
 use Rattle.rv_machine.specs.Indexed.{WaitsIn}
-use Rattle.rv_machine.specs.Machines.{IsConsistent, IsReady, WaitsFor, state_in}
-use Rattle.rv_machine.specs.Opens.{waiting_in}
+use Rattle.rv_machine.specs.Machines.{IsConsistent, IsWhole, AwaitsPlace, state_in}
+use Rattle.rv_machine.specs.OpenMap.{count_waiting}
 use Rattle.rv_machine.proofs.EndingOne.{less_waits}
 use Rattle.rv_machine.proofs.Told.{told_own}
 
@@ -49,25 +49,25 @@ idle_by s client None idle = refl
 idle_by s client (Some x) idle = ap (option_and_then (open_at s)) (idle x refl)
 
 -- nothing waits of a client that waits nowhere
-pub idle_waits : (s : State) (client : ℕ) → IsIdle s client → client_waits s client ≡ None
+pub idle_waits : (s : State) (client : ℕ) → WaitsForNothing s client → client_waits s client ≡ None
 idle_waits s client idle = idle_by s client (client_at s client) idle
 
 pub waits_for : (s : State) → IsConsistent s → (client place : ℕ) (x : ClientState)
-    → client_at s client ≡ Some x → place_waiting x.request ≡ Some place → WaitsFor s client place
+    → client_at s client ≡ Some x → place_waiting x.request ≡ Some place → AwaitsPlace s client place
 waits_for s is client place x known waits =
     let at = waits_of x.request place waits in is.clients client x place at.0 known at.1
 
-pub waits_in : (s : State) (client place : ℕ) → WaitsFor s client place → WaitsIn s.open_places place
+pub waits_in : (s : State) (client place : ℕ) → AwaitsPlace s client place → WaitsIn s.open_places place
 waits_in s client place waits = record {
   there = waits.there;
   found = waits.found;
   waits = subst (λ (o : Option Waiter). IsSome o) (sym waits.waits) refl;
 }
 
-module _ (old new : Machine) (ready : IsReady old) (client place : ℕ) (reply : Reply) (x : ClientState)
+module _ (old new : Machine) (ready : IsWhole old) (client place : ℕ) (reply : Reply) (x : ClientState)
     (known : client_at (state_in old) client ≡ Some x) (waits : place_waiting x.request ≡ Some place)
     (ends : EndsWaiting old new place reply) where
-  its : WaitsFor (state_in old) client place
+  its : AwaitsPlace (state_in old) client place
   its = waits_for (state_in old) ready.consistent client place x known waits
 
   pub client_is : ends.waiter.key.client ≡ client
@@ -92,19 +92,19 @@ module _ (old new : Machine) (ready : IsReady old) (client place : ℕ) (reply :
       ∙ ap (λ n. get (clients_told old.clients.clients n reply) client) client_is
       ∙ told_own old.clients.clients client reply x known
 
-  pub idle_after : IsIdle (state_in new) client
+  pub idle_after : WaitsForNothing (state_in new) client
   idle_after y there =
       ap (λ (z : ClientState). place_waiting z.request) (same_Some _ _ (sym there ∙ known_after))
       ∙ answered_idle reply x.request
 
 -- ---- space
 
-pub space_after : (old new : Machine) (ready : IsReady old) (place : ℕ) (reply : Reply)
-    → EndsWaiting old new place reply → new.length + waiting_in new.table < max_entries
+pub space_after : (old new : Machine) (ready : IsWhole old) (place : ℕ) (reply : Reply)
+    → EndsWaiting old new place reply → new.length + count_waiting new.table < max_entries
 space_after old new ready place reply ends =
     let less = less_waits (state_in old) ready.consistent place ends.there ends.waiter reply ends.found
     ends.waits in
-    let opens = ap (λ (s : State). waiting_in s.open_places) ends.state in
+    let opens = ap (λ (s : State). count_waiting s.open_places) ends.state in
     let length = ap (λ (s : State). s.length) ends.state in
-    let most : old.length + waiting_in old.table ≤ max_entries = ready.consistent.space in
+    let most : old.length + count_waiting old.table ≤ max_entries = ready.consistent.space in
     omega (arith, less, opens, length, most)

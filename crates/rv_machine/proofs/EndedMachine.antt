@@ -12,9 +12,9 @@ use Rattle.rv_state.specs.After.{Settled, closed}
 use Rattle.rv_state.proofs.Words.{none-some, same_Some}
 use Rattle.rv_machine.specs.declared.machine.Machine.{Machine}
 use Rattle.rv_machine.specs.Ending.{EndsWaiting}
-use Rattle.rv_machine.specs.Indexed.{Closes}
-use Rattle.rv_machine.specs.Machines.{IsConsistent, IsReady, state_in}
-use Rattle.rv_machine.specs.Opens.{duty_at, found_at, waiting_in, without}
+use Rattle.rv_machine.specs.Indexed.{ClosesPlace}
+use Rattle.rv_machine.specs.Machines.{IsConsistent, IsWhole, state_in}
+use Rattle.rv_machine.specs.OpenMap.{duty_at, found_at, count_waiting, all_but}
 use Rattle.rv_machine.proofs.EndingOne.{awaited, clients_are, ended_consistent, less_waits, opens_are}
 
 -- the duty of who waits is that of its place and client
@@ -24,8 +24,8 @@ duty_is there w duty waits owed =
     same_Some _ _ (sym owed ∙ ap (λ (o : Option Waiter). option_map
     (λ x. record { place = there.place; client = x.key.client }) o) waits)
 
-module _ (m : Machine) (ready : IsReady m) (place : ℕ) (there : OpenPlace) (w : Waiter) (duty : OwedDuty)
-    (reply : Reply) (table : List OpenPlace) (closes : Closes m.table table place there (Some duty))
+module _ (m : Machine) (ready : IsWhole m) (place : ℕ) (there : OpenPlace) (w : Waiter) (duty : OwedDuty)
+    (reply : Reply) (table : List OpenPlace) (closes : ClosesPlace m.table table place there (Some duty))
     (waits : there.waiter ≡ Some w) where
   abbrev s : State
   s = state_in m
@@ -40,8 +40,8 @@ module _ (m : Machine) (ready : IsReady m) (place : ℕ) (there : OpenPlace) (w 
   is_awaited = subst (λ (d : OwedDuty). place_awaited m.clients.clients d.client ≡ Some d.place) (sym its)
       (awaited s ready.consistent place there w reply closes.found waits)
 
-  pub one_listed : waiting_in table + 1 ≡ waiting_in m.table
-  one_listed = ap (λ l. waiting_in l + 1) (closes.rest ∙ sym (opens_are s ready.consistent place there w reply
+  pub one_listed : count_waiting table + 1 ≡ count_waiting m.table
+  one_listed = ap (λ l. count_waiting l + 1) (closes.rest ∙ sym (opens_are s ready.consistent place there w reply
       closes.found waits)) ∙ less_waits s ready.consistent place there w reply closes.found waits
 
   pub has_room : vec_len m.settled < vec_capacity m.settled
@@ -70,7 +70,7 @@ module _ (m : Machine) (ready : IsReady m) (place : ℕ) (there : OpenPlace) (w 
         }
 
     pub still_ready : vec_len settled ≡ vec_len m.settled + 1 → vec_capacity settled ≡ vec_capacity m.settled
-        → IsReady new
+        → IsWhole new
     still_ready longer same = record {
       consistent = subst (λ (x : State). IsConsistent x) (sym state_is)
           (ended_consistent s ready.consistent place there w reply closes.found waits);

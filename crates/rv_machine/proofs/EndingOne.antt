@@ -18,8 +18,8 @@ use Rattle.rv_state.specs.After.{Settled, answered, but, closed, tell, with_requ
 use Rattle.rv_state.proofs.TableClients.{clients_after_tell}
 use Rattle.rv_state.proofs.Words.{none-some, same_Some}
 use Rattle.rv_state.proofs.Filtered.{filter_get, find_get, rises_left}
-use Rattle.rv_machine.specs.Opens.{PlacesRise, duty_at, found_at, waiting_in, without}
-use Rattle.rv_machine.specs.Machines.{IsConsistent, IsWaiter, WaitsFor}
+use Rattle.rv_machine.specs.OpenMap.{PlacesRise, duty_at, found_at, count_waiting, all_but}
+use Rattle.rv_machine.specs.Machines.{IsConsistent, IsWaiter, AwaitsPlace}
 use Rattle.rv_machine.proofs.Closing.{found_apart}
 use Rattle.rv_machine.proofs.Indexing.{one_less}
 use Rattle.rv_machine.proofs.Limits.{left_apart}
@@ -27,8 +27,8 @@ use Rattle.rv_machine.proofs.Parted.{but_cons, but_none}
 use Rattle.rv_machine.proofs.Told.{told_other, told_own}
 
 -- the one place that is closed
-pub but_one : (all : List OpenPlace) (there : OpenPlace) → but all (there ∷ []) ≡ without all there.place
-but_one all there = but_cons all [] there ∙ but_none (without all there.place)
+pub but_one : (all : List OpenPlace) (there : OpenPlace) → but all (there ∷ []) ≡ all_but all there.place
+but_one all there = but_cons all [] there ∙ but_none (all_but all there.place)
 
 same_client_or : (a b : ℕ) → (a ≡ b) ⊎ (a ≢ b)
 same_client_or a b = cases_eq a b
@@ -53,8 +53,8 @@ module _ (s : State) (is : IsConsistent s) (place : ℕ) (there : OpenPlace) (w 
   pub own : IsWaiter s there w
   own = is.waiters stands.0 there w stands.1 waits
 
-  pub opens_are : gone.open_places ≡ without all place
-  opens_are = but_one all there ∙ ap (without all) at_place
+  pub opens_are : gone.open_places ≡ all_but all place
+  opens_are = but_one all there ∙ ap (all_but all) at_place
 
   pub clients_are : gone.clients ≡ clients_told s.clients w.key.client reply
   clients_are = clients_after_tell s.clients (record { key = w.key; reply = reply })
@@ -95,7 +95,7 @@ module _ (s : State) (is : IsConsistent s) (place : ℕ) (there : OpenPlace) (w 
       (was.0, was.1, λ same. left_apart all place i o there_at same)
 
   waits_still : (client : ℕ) (session : ClientState) (p : ℕ) (call : Call) → (client ≡ w.key.client) ⊎ (client ≢ w.key.client)
-      → client_at gone client ≡ Some session → session.request ≡ Waits p call → WaitsFor gone client p
+      → client_at gone client ≡ Some session → session.request ≡ Waits p call → AwaitsPlace gone client p
   waits_still client session p call (inl same) known asked =
       absurd (no_more (own.session.request) own.waits (ap (λ (x : ClientState). x.request) (same_Some _ _
       (sym its_client ∙ ap (client_at gone) (sym same) ∙ known)) ∙ asked))
@@ -119,11 +119,11 @@ module _ (s : State) (is : IsConsistent s) (place : ℕ) (there : OpenPlace) (w 
         client_is = was.client_is;
       }
 
-  pub less_waits : waiting_in gone.open_places + 1 ≡ waiting_in all
+  pub less_waits : count_waiting gone.open_places + 1 ≡ count_waiting all
   less_waits =
-      ap (λ l. waiting_in l + 1) opens_are
+      ap (λ l. count_waiting l + 1) opens_are
       ∙ sym (one_less all place there is.rise found
-      ∙ ap (λ (o : Option Waiter). waiting_in (without all place) + cond (is_some o) 1 0) waits)
+      ∙ ap (λ (o : Option Waiter). count_waiting (all_but all place) + cond (is_some o) 1 0) waits)
 
   pub ended_consistent : IsConsistent gone
   ended_consistent = record {

@@ -12,9 +12,9 @@ use Rattle.rv_state.proofs.Filtered.{filter_get, rises_left}
 use Rattle.rv_state.proofs.SideLines.{same_side_is}
 use Rattle.rv_waiters.specs.Parked.{AreParked}
 use Rattle.rv_waiters.specs.Views.{Waiters, waiting_on}
-use Rattle.rv_machine.specs.Opens.{PlacesRise, duty_at, facing, found_at, line_in, owed_in, waiting_in, without}
-use Rattle.rv_machine.specs.Opens.{without_limit}
-use Rattle.rv_machine.specs.Indexed.{AreIndexed, Closes, ClosesFirst}
+use Rattle.rv_machine.specs.OpenMap.{PlacesRise, duty_at, facing, found_at, line_in, owed_among, count_waiting, all_but}
+use Rattle.rv_machine.specs.OpenMap.{without_limit}
+use Rattle.rv_machine.specs.Indexed.{AreIndexed, ClosesPlace, ClosesFirst}
 use Rattle.rv_machine.proofs.Closing.{line_without}
 use Rattle.rv_machine.proofs.Fronts.{line_found}
 use Rattle.rv_machine.proofs.Indexing.{LeftLine, closed_all, one_less}
@@ -26,7 +26,7 @@ pub record FirstLeft (all : List OpenPlace) (old new : Waiters) (side : Side) (p
   pub found : found_at all place ≡ Some there
   pub at_place : there.place ≡ place
   pub left : LeftLine all old new there
-  pub line : line_in all side ≡ there ∷ line_in (without all place) side
+  pub line : line_in all side ≡ there ∷ line_in (all_but all place) side
 
 same_head : (x p : ℕ) (xs ps : List ℕ) → x ∷ xs ≡ p ∷ ps → x ≡ p
 same_head x p xs ps is = cc
@@ -43,15 +43,15 @@ no_places [] is = refl
 no_places (x ∷ line) is = absurd (no_first x.place (place_list line) (sym is))
 
 -- without the first of a rising list the rest is left
-rest_of : (x : OpenPlace) (xs : List OpenPlace) → PlacesRise (x ∷ xs) → without (x ∷ xs) x.place ≡ xs
+rest_of : (x : OpenPlace) (xs : List OpenPlace) → PlacesRise (x ∷ xs) → all_but (x ∷ xs) x.place ≡ xs
 rest_of x xs rise =
-    ap (λ b. cond (not b) (x ∷ without xs x.place) (without xs x.place)) (eq-eqb x.place x.place refl)
+    ap (λ b. cond (not b) (x ∷ all_but xs x.place) (all_but xs x.place)) (eq-eqb x.place x.place refl)
     ∙ others_pass x xs rise
 
 module _ (all : List OpenPlace) (old new : Waiters) (waiting : ℕ) (due : Deadlines) (side : Side) (place : ℕ)
     (is : AreIndexed all old waiting due) (first : waiting_on old side ≡ place ∷ waiting_on new side)
     (others : (third : Side) → third ≢ side → waiting_on new third ≡ waiting_on old third)
-    (parked : AreParked (owed_in all) new) where
+    (parked : AreParked (owed_among all) new) where
   by_line : (line : List OpenPlace) → line_in all side ≡ line → FirstLeft all old new side place
   by_line [] none = absurd (no_first place (waiting_on new side)
       (ap place_list (sym none) ∙ sym (is.lines side) ∙ first))
@@ -64,8 +64,8 @@ module _ (all : List OpenPlace) (old new : Waiters) (waiting : ℕ) (due : Deadl
       let its : x.side ≡ side = same_side_is x.side side was.2 in
       let rise : PlacesRise (x ∷ xs) = subst PlacesRise line
       (rises_left (λ (o : OpenPlace). same_side o.side side) (λ (o : OpenPlace). o.place) all is.rise) in
-      let left : without (line_in all side) x.place ≡ xs =
-      ap (λ l. without l x.place) line ∙ rest_of x xs rise in
+      let left : all_but (line_in all side) x.place ≡ xs =
+      ap (λ l. all_but l x.place) line ∙ rest_of x xs rise in
       record {
         there = x;
         found = ap (found_at all) (sym at) ∙ line_found all side is.rise 0 x on;
@@ -74,12 +74,12 @@ module _ (all : List OpenPlace) (old new : Waiters) (waiting : ℕ) (due : Deadl
           places = ap (waiting_on new) its
               ∙ sym (same_tail x.place place (place_list xs) (waiting_on new side) places)
               ∙ ap place_list (sym left)
-              ∙ ap (λ s. place_list (without (line_in all s) x.place)) (sym its);
+              ∙ ap (λ s. place_list (all_but (line_in all s) x.place)) (sym its);
           others = λ third apart. others third (λ same. apart (same ∙ sym its));
           parked = parked;
         };
         line = line ∙ ap (λ l. x ∷ l) (sym left
-            ∙ ap (without (line_in all side)) at
+            ∙ ap (all_but (line_in all side)) at
             ∙ sym (line_without all side place));
       }
 
@@ -98,19 +98,19 @@ count_owed there duty owed = ap (λ (o : Option OwedDuty). is_some o) (sym owed)
     by_waiter (Some w) = refl
 
 pub owed_there : (all : List OpenPlace) (place : ℕ) (there : OpenPlace) (duty : Option OwedDuty)
-    → found_at all place ≡ Some there → duty ≡ owed_in all place → duty_at there ≡ duty
+    → found_at all place ≡ Some there → duty ≡ owed_among all place → duty_at there ≡ duty
 owed_there all place there duty found is = sym (is ∙ ap (option_and_then duty_at) found)
 
 pub closes_first : (all new : List OpenPlace) (side : Side) (place : ℕ) (there : OpenPlace)
     (duty : Option OwedDuty) → found_at all place ≡ Some there → there.place ≡ place
-    → line_in all side ≡ there ∷ line_in (without all place) side → duty_at there ≡ duty
-    → new ≡ without all place → ClosesFirst all new (Some side) there duty
+    → line_in all side ≡ there ∷ line_in (all_but all place) side → duty_at there ≡ duty
+    → new ≡ all_but all place → ClosesFirst all new (Some side) there duty
 closes_first all new side place there duty found at line owed rest =
     record {
       closes = record {
         found = ap (found_at all) at ∙ found;
         owed = owed;
-        rest = rest ∙ ap (without all) (sym at);
+        rest = rest ∙ ap (all_but all) (sym at);
       };
       first = line ∙ ap (λ (l : List OpenPlace). there ∷ line_in l side) (sym rest);
     }
@@ -119,16 +119,16 @@ closes_first all new side place there duty found at line owed rest =
 pub count_first : (all : List OpenPlace) (waiters : Waiters) (waiting : ℕ) (due : Deadlines) (place : ℕ)
     (there : OpenPlace) (duty : Option OwedDuty) → AreIndexed all waiters waiting due
     → found_at all place ≡ Some there → duty_at there ≡ duty
-    → waiting ≡ waiting_in (without all place) + cond (is_some duty) 1 0
+    → waiting ≡ count_waiting (all_but all place) + cond (is_some duty) 1 0
 count_first all waiters waiting due place there duty is found owed =
     is.counted ∙ one_less all place there is.rise found
-    ∙ ap (λ b. waiting_in (without all place) + cond b 1 0) (sym (count_owed there duty owed))
+    ∙ ap (λ b. count_waiting (all_but all place) + cond b 1 0) (sym (count_owed there duty owed))
 
 -- what is closed leaves the tables of all others
 pub closed_first : (all rest : List OpenPlace) (old new : Waiters) (waiting left count : ℕ) (due after : Deadlines)
     (place : ℕ) (there : OpenPlace) (duty : Option OwedDuty) → AreIndexed all old waiting due
     → found_at all place ≡ Some there → duty_at there ≡ duty → count ≡ cond (is_some duty) 1 0
-    → rest ≡ without all place → LeftLine all old new there → left ≡ waiting - count
+    → rest ≡ all_but all place → LeftLine all old new there → left ≡ waiting - count
     → after ≡ without_limit there.limit place due → AreIndexed rest new left after
 closed_first all rest old new waiting left count due after place there duty is found owed number rest_is gone
     less after_is =

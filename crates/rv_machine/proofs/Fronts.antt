@@ -18,8 +18,8 @@ use Rattle.rv_state.specs.After.{deadline_of_place}
 use Rattle.rv_state.proofs.Filtered.{filter_get, find_get, get_map}
 use Rattle.rv_waiters.specs.Meeting.{opposed_by}
 use Rattle.rv_waiters.specs.Views.{Waiters, waiting_on}
-use Rattle.rv_machine.specs.Opens.{PlacesRise, due_in, duty_at, facing, found_at, limits_in, line_in, without}
-use Rattle.rv_machine.specs.Opens.{without_limit}
+use Rattle.rv_machine.specs.OpenMap.{PlacesRise, due_in, duty_at, facing, found_at, deadlines_in, line_in, all_but}
+use Rattle.rv_machine.specs.OpenMap.{without_limit}
 use Rattle.rv_machine.specs.Indexed.{AreIndexed, ClosesDue}
 use Rattle.rv_machine.proofs.DueFirst.{first_due, none_due}
 use Rattle.rv_machine.proofs.Indexing.{stands_found}
@@ -50,7 +50,7 @@ due_there all waiters waiting moment due d is least =
 
 pub due_first : (all : List OpenPlace) (waiters : Waiters) (waiting moment : ℕ) (due : Deadlines) (d : Deadline)
     → AreIndexed all waiters waiting due → IsLeastUntil due moment d → (at : DueThere all d)
-    → due_in all moment ≡ at.there ∷ due_in (without all d.1) moment
+    → due_in all moment ≡ at.there ∷ due_in (all_but all d.1) moment
 due_first all waiters waiting moment due d is least at =
     first_due all d.1 moment d.0 at.there (parted all d.1 at.there is.rise at.found) at.has
     (subst (λ (s : Deadlines). IsLeastUntil s moment d) is.limits least) at.found
@@ -104,7 +104,7 @@ pub record DueOut (all : List OpenPlace) (moment : ℕ) (d : Deadline) (there : 
   pub has : there.limit ≡ Some d.0
   pub waits : IsSome there.waiter
   pub at_place : there.place ≡ d.1
-  pub first : due_in all moment ≡ there ∷ due_in (without all d.1) moment
+  pub first : due_in all moment ≡ there ∷ due_in (all_but all d.1) moment
 
 pub due_out : (all : List OpenPlace) (waiters : Waiters) (waiting moment : ℕ) (due : Deadlines) (d : Deadline)
     (there : OpenPlace) → AreIndexed all waiters waiting due → IsLeastUntil due moment d
@@ -118,7 +118,7 @@ due_out all waiters waiting moment due d there is least found =
       waits = subst (λ (o : OpenPlace). IsSome o.waiter) same at.waits;
       at_place = eqb-true there.place d.1 stands.2;
       first = due_first all waiters waiting moment due d is least at
-          ∙ ap (λ (o : OpenPlace). o ∷ due_in (without all d.1) moment) same;
+          ∙ ap (λ (o : OpenPlace). o ∷ due_in (all_but all d.1) moment) same;
     }
 
 pub nothing_due : (all : List OpenPlace) (waiters : Waiters) (waiting moment : ℕ) (due : Deadlines)
@@ -133,13 +133,13 @@ without_its due d o has = ap (λ (l : Option ℕ). without_limit l d.1 due) (sym
 
 pub closes_due : (all new : List OpenPlace) (moment : ℕ) (d : Deadline) (there : OpenPlace) (duty : OwedDuty)
     → DueOut all moment d there → found_at all d.1 ≡ Some there → duty_at there ≡ Some duty
-    → new ≡ without all d.1 → ClosesDue all new moment there duty
+    → new ≡ all_but all d.1 → ClosesDue all new moment there duty
 closes_due all new moment d there duty out found owed rest =
     record {
       closes = record {
         found = ap (found_at all) out.at_place ∙ found;
         owed = owed;
-        rest = rest ∙ ap (without all) (sym out.at_place);
+        rest = rest ∙ ap (all_but all) (sym out.at_place);
       };
       first = out.first ∙ ap (λ (l : List OpenPlace). there ∷ due_in l moment) (sym rest);
     }

@@ -7,8 +7,8 @@ use Rattle.rv_state.specs.State.{ClientState, OpenPlace, State, Waiter, client_a
 use Rattle.rv_state.specs.After.{closed}
 use Rattle.rv_state.proofs.Words.{none-some, same_Some}
 use Rattle.rv_state.proofs.Filtered.{filter_get, rises_left}
-use Rattle.rv_machine.specs.Opens.{PlacesRise, found_at, waiting_in, without}
-use Rattle.rv_machine.specs.Machines.{IsConsistent, IsWaiter, WaitsFor}
+use Rattle.rv_machine.specs.OpenMap.{PlacesRise, found_at, count_waiting, all_but}
+use Rattle.rv_machine.specs.Machines.{IsConsistent, IsWaiter, AwaitsPlace}
 use Rattle.rv_machine.proofs.Closing.{found_apart}
 use Rattle.rv_machine.proofs.EndingOne.{but_one}
 use Rattle.rv_machine.proofs.Indexing.{one_less}
@@ -16,7 +16,7 @@ use Rattle.rv_machine.proofs.Limits.{left_apart}
 
 -- how many wait where one place less is open
 pub no_more_wait : (all : List OpenPlace) (there : OpenPlace) → PlacesRise all
-    → found_at all there.place ≡ Some there → waiting_in (without all there.place) ≤ waiting_in all
+    → found_at all there.place ≡ Some there → count_waiting (all_but all there.place) ≤ count_waiting all
 no_more_wait all there rise found =
     let one = one_less all there.place there rise found in omega (arith, one)
 
@@ -28,11 +28,11 @@ module _ (s : State) (is : IsConsistent s) (there : OpenPlace)
   abbrev gone : State
   gone = closed s (there ∷ []) []
 
-  opens_are : gone.open_places ≡ without all there.place
+  opens_are : gone.open_places ≡ all_but all there.place
   opens_are = but_one all there
 
-  as_many : waiting_in gone.open_places ≤ waiting_in all
-  as_many = subst (λ (l : List OpenPlace). waiting_in l ≤ waiting_in all) (sym opens_are)
+  as_many : count_waiting gone.open_places ≤ count_waiting all
+  as_many = subst (λ (l : List OpenPlace). count_waiting l ≤ count_waiting all) (sym opens_are)
       (no_more_wait all there is.rise found)
 
   left : (i : ℕ) (o : OpenPlace) → slice_get gone.open_places i ≡ Some o
@@ -54,7 +54,7 @@ module _ (s : State) (is : IsConsistent s) (there : OpenPlace)
     lasts = own.lasts;
   }
 
-  still_for : (client place : ℕ) → WaitsFor s client place → WaitsFor gone client place
+  still_for : (client place : ℕ) → AwaitsPlace s client place → AwaitsPlace gone client place
   still_for client place was =
       let apart : place ≢ there.place = λ same.
       let its : was.there ≡ there = same_Some _ _ (sym was.found ∙ ap (found_at all) same ∙ found) in

@@ -27,9 +27,9 @@ use Rattle.rv_state.proofs.Words.{none-some, same_Some}
 use Rattle.rv_machine.specs.declared.machine.Machine.{Machine}
 use Rattle.rv_machine.specs.declared.machine.Said.TheVariants as said
 use Rattle.rv_machine.specs.Ending.{EndsWaiting}
-use Rattle.rv_machine.specs.Entering.{HasSpace, IsIdle, IsNewHello}
+use Rattle.rv_machine.specs.Entering.{HasSpaceFor, WaitsForNothing, IsNewHello}
 use Rattle.rv_machine.specs.Machines.{MovesBy, keys_settled, state_in}
-use Rattle.rv_machine.specs.Opens.{waiting_in}
+use Rattle.rv_machine.specs.OpenMap.{count_waiting}
 use Rattle.rv_machine.proofs.EndedLast.{idle_waits}
 use Rattle.rv_machine.proofs.HelloLines.{hello_again, hello_enters, hello_no_client, hello_no_entry}
 use Rattle.rv_machine.proofs.HelloLines.{hello_older, hello_other}
@@ -74,7 +74,7 @@ module _ (m : Machine) (moment client incarnation : ℕ) (version : Version) whe
       (subst (λ n. n ≤ len m.clients.clients) most full) refl)
 
   pub moves_no_entry : IsNewHello (state_in m) client incarnation
-      → max_entries < m.length + waiting_in m.table + 1
+      → max_entries < m.length + count_waiting m.table + 1
       → MovesBy m m moment (Hello client incarnation version) [] (said.Refused EpochFull)
   moves_no_entry fits full =
       moves_refused m m moment _ refl refl EpochFull
@@ -92,13 +92,13 @@ lower_new m client incarnation waiting has = record {
 -- ---- what a hello makes of a state
 
 module _ (s : State) (client : ℕ) (session : ClientState) where
-  greeted_idle : IsIdle s client → (greeted s client session).after ≡ with_client s client session
+  greeted_idle : WaitsForNothing s client → (greeted s client session).after ≡ with_client s client session
   greeted_idle idle =
       ap (λ (o : Option OpenPlace). with_client (stopped s (just_open o) Cancelled).after client session)
       (idle_waits s client idle)
       ∙ ap (λ (t : State). with_client t client session) (stopped_none s Cancelled)
 
-  none_settled : IsIdle s client → (greeted s client session).settles ≡ []
+  none_settled : WaitsForNothing s client → (greeted s client session).settles ≡ []
   none_settled idle =
       ap (λ (o : Option OpenPlace). (stopped s (just_open o) Cancelled).settles) (idle_waits s client idle)
 
@@ -120,7 +120,7 @@ module _ (s : State) (client : ℕ) (session : ClientState) where
 -- ---- where it enters
 
 module _ (old mid new : Machine) (moment client incarnation : ℕ) (version : Version)
-    (fits : IsNewHello (state_in old) client incarnation) (space : HasSpace old 1) (made : Entry)
+    (fits : IsNewHello (state_in old) client incarnation) (space : HasSpaceFor old 1) (made : Entry)
     (is : made ≡ entry moment (act.Hello client incarnation version) [])
     (after : state_in new ≡ advanced (with_client (state_in mid) client (fresh_state incarnation version))
     moment)
@@ -145,7 +145,7 @@ module _ (old mid new : Machine) (moment client incarnation : ℕ) (version : Ve
   }
 
   -- where nothing waited
-  pub moves_idle : IsIdle s client → state_in mid ≡ s → mid.settled ≡ old.settled
+  pub moves_idle : WaitsForNothing s client → state_in mid ≡ s → mid.settled ≡ old.settled
       → MovesBy old new moment (Hello client incarnation version) (made ∷ [])
       (said.Welcome old.clients.epoch client incarnation version)
   moves_idle idle same kept =
@@ -179,7 +179,7 @@ module _ (old mid new : Machine) (moment client incarnation : ℕ) (version : Ve
 
 -- where a growth was refused
 pub moves_lacking : (old new : Machine) (moment client incarnation : ℕ) (version : Version)
-    → IsNewHello (state_in old) client incarnation → HasSpace old 1 → state_in new ≡ state_in old
+    → IsNewHello (state_in old) client incarnation → HasSpaceFor old 1 → state_in new ≡ state_in old
     → new.settled.items ≡ old.settled.items
     → MovesBy old new moment (Hello client incarnation version) [] (said.Refused NoMemory)
 moves_lacking old new moment client incarnation version fits space same kept =

@@ -9,11 +9,11 @@ use Rattle.rv_state.specs.State.{ClientState, OpenPlace, State, Waiter, client_a
 use Rattle.rv_state.specs.After.{with_client}
 use Rattle.rv_state.proofs.Words.{none-some, same_Some}
 use Rattle.rv_machine.specs.declared.machine.Machine.{Machine}
-use Rattle.rv_machine.specs.Entering.{IsIdle}
-use Rattle.rv_machine.specs.Machines.{IsConsistent, IsReady, IsWaiter, WaitsFor, state_in}
+use Rattle.rv_machine.specs.Entering.{WaitsForNothing}
+use Rattle.rv_machine.specs.Machines.{IsConsistent, IsWhole, IsWaiter, AwaitsPlace, state_in}
 use Rattle.rv_machine.proofs.Told.{put_other, put_own}
 
-module _ (s : State) (is : IsConsistent s) (client : ℕ) (idle : IsIdle s client) (session : ClientState)
+module _ (s : State) (is : IsConsistent s) (client : ℕ) (idle : WaitsForNothing s client) (session : ClientState)
     (quiet : place_waiting session.request ≡ None) where
   abbrev t : State
   t = with_client s client session
@@ -38,7 +38,7 @@ module _ (s : State) (is : IsConsistent s) (client : ℕ) (idle : IsIdle s clien
     lasts = own.lasts;
   }
 
-  kept_wait : (other place : ℕ) → WaitsFor s other place → WaitsFor t other place
+  kept_wait : (other place : ℕ) → AwaitsPlace s other place → AwaitsPlace t other place
   kept_wait other place waits = record {
     there = waits.there;
     found = waits.found;
@@ -52,7 +52,7 @@ module _ (s : State) (is : IsConsistent s) (client : ℕ) (idle : IsIdle s clien
       same_Some _ _ (sym (put_own s.clients client session) ∙ ap (client_at t) (sym same) ∙ known)
 
   still_waits : (other : ℕ) (x : ClientState) (place : ℕ) (call : Call) → client_at t other ≡ Some x
-      → x.request ≡ Waits place call → WaitsFor t other place
+      → x.request ≡ Waits place call → AwaitsPlace t other place
   still_waits other x place call known waits = elim (cases_eq other client) [
     | inl same ↦ absurd (none-some place
         (sym quiet ∙ ap (λ (y : ClientState). place_waiting y.request) (its_session other x same known)
@@ -77,7 +77,7 @@ abbrev pub with_table : Machine → ClientStates → Machine
 with_table m clients =
     record { moment = m.moment; length = m.length; table = m.table; clients = clients; settled = m.settled }
 
-module _ (m : Machine) (ready : IsReady m) (client : ℕ) (session : ClientState) (clients : ClientStates)
+module _ (m : Machine) (ready : IsWhole m) (client : ℕ) (session : ClientState) (clients : ClientStates)
     (put : clients.clients ≡ insert m.clients.clients client session)
     (epoch : clients.epoch ≡ m.clients.epoch) where
   pub put_state : state_in (with_table m clients) ≡ with_client (state_in m) client session
@@ -89,8 +89,8 @@ module _ (m : Machine) (ready : IsReady m) (client : ℕ) (session : ClientState
     clients = put i;
   }
 
-  pub put_ready : clients.most ≡ m.clients.most → IsIdle (state_in m) client
-      → place_waiting session.request ≡ None → IsReady (with_table m clients)
+  pub put_ready : clients.most ≡ m.clients.most → WaitsForNothing (state_in m) client
+      → place_waiting session.request ≡ None → IsWhole (with_table m clients)
   put_ready most idle quiet = record {
     consistent = subst IsConsistent (sym put_state)
         (put_consistent (state_in m) ready.consistent client idle session quiet);

@@ -19,8 +19,8 @@ use Rattle.rv_state.proofs.SideLines.{same_side_is, same_side_itself}
 use Rattle.rv_waiters.specs.Parked.{AreParked}
 use Rattle.rv_waiters.specs.Views.{Waiters, place_of_duty, waiting_on}
 use Rattle.rv_waiters.specs.Meeting.{LeavesSide, StandsOn, Withdrew}
-use Rattle.rv_machine.specs.Opens.{PlacesRise, duty_at, found_at, limits_in, line_in, owed_in, waiting_in}
-use Rattle.rv_machine.specs.Opens.{without, without_limit}
+use Rattle.rv_machine.specs.OpenMap.{PlacesRise, duty_at, found_at, deadlines_in, line_in, owed_among, count_waiting}
+use Rattle.rv_machine.specs.OpenMap.{all_but, without_limit}
 use Rattle.rv_machine.specs.Indexed.{AreIndexed, WaitsIn}
 use Rattle.rv_machine.proofs.Closing.{found_apart, line_stays, line_without, one_waits_less, places_without}
 use Rattle.rv_machine.proofs.Limits.{left_apart, limits_less}
@@ -92,15 +92,15 @@ on_line all side i r at =
 
 -- it left its line, and all else of those who wait stays
 pub record LeftLine (all : List OpenPlace) (old new : Waiters) (there : OpenPlace) : Type 0 where
-  pub places : waiting_on new there.side ≡ place_list (without (line_in all there.side) there.place)
+  pub places : waiting_on new there.side ≡ place_list (all_but (line_in all there.side) there.place)
   pub others : (third : Side) → third ≢ there.side → waiting_on new third ≡ waiting_on old third
-  pub parked : AreParked (owed_in all) new
+  pub parked : AreParked (owed_among all) new
 
 module _ (all : List OpenPlace) (old new : Waiters) (waiting : ℕ) (due : Deadlines)
     (is : AreIndexed all old waiting due) (place : ℕ) (there : OpenPlace) (at : PartedAt all place there)
     (left : LeftLine all old new there) where
   abbrev rest : List OpenPlace
-  rest = without all place
+  rest = all_but all place
 
   still : (i : ℕ) (o : OpenPlace) → slice_get rest i ≡ Some o
       → (j : ℕ) × (slice_get all j ≡ Some o) × (not (nat_eq o.place place) ≡ true)
@@ -111,7 +111,7 @@ module _ (all : List OpenPlace) (old new : Waiters) (waiting : ℕ) (due : Deadl
   line_left side (inl own) =
       ap (waiting_on new) (sym own)
       ∙ left.places
-      ∙ ap (λ (p : ℕ). place_list (without (line_in all there.side) p)) at.at_place
+      ∙ ap (λ (p : ℕ). place_list (all_but (line_in all there.side) p)) at.at_place
       ∙ ap place_list (sym (line_without all there.side place))
       ∙ ap (λ s. place_list (line_in rest s)) own
   line_left side (inr apart) =
@@ -122,13 +122,13 @@ module _ (all : List OpenPlace) (old new : Waiters) (waiting : ℕ) (due : Deadl
   lines_left : (side : Side) → waiting_on new side ≡ place_list (line_in rest side)
   lines_left side = line_left side (side_or_not there.side side)
 
-  pub closed_index : AreIndexed rest new (waiting_in rest) (without_limit there.limit place due)
+  pub closed_index : AreIndexed rest new (count_waiting rest) (without_limit there.limit place due)
   closed_index = record {
     rise = rises_left (λ (x : OpenPlace). not (nat_eq x.place place)) (λ (o : OpenPlace). o.place) all is.rise;
     fit = λ i one stands. let was = still i one stands in is.fit was.0 one was.1;
     limited = λ i one stands. let was = still i one stands in is.limited was.0 one was.1;
     lines = lines_left;
-    parked = parked_on (owed_in all) (owed_in rest) new
+    parked = parked_on (owed_among all) (owed_among rest) new
         (λ side i r on.
         let found = on_line rest side i r (sym (ap (λ l. slice_get l i) (lines_left side)) ∙ on) in
         ap (option_and_then duty_at)
@@ -147,34 +147,34 @@ fits_found all waiters waiting due place there is found =
     let at = find_get (λ (o : OpenPlace). nat_eq o.place place) all there found in is.fit at.0 there at.1
 
 pub one_less : (all : List OpenPlace) (place : ℕ) (there : OpenPlace) → PlacesRise all
-    → found_at all place ≡ Some there → waiting_in all ≡ waiting_in (without all place)
+    → found_at all place ≡ Some there → count_waiting all ≡ count_waiting (all_but all place)
     + cond (is_some there.waiter) 1 0
 one_less all place there rise found = one_waits_less all place there (parted all place there rise found)
 
 pub closed_all : (all rest : List OpenPlace) (old new : Waiters) (waiting left : ℕ) (due after : Deadlines)
     (place : ℕ) (there : OpenPlace) → AreIndexed all old waiting due → found_at all place ≡ Some there
-    → rest ≡ without all place → LeftLine all old new there
+    → rest ≡ all_but all place → LeftLine all old new there
     → waiting ≡ left + cond (is_some there.waiter) 1 0
     → after ≡ without_limit there.limit place due → AreIndexed rest new left after
 closed_all all rest old new waiting left due after place there is found rest_is gone count after_is =
     let at = parted all place there is.rise found in
     let closed = closed_index all old new waiting due is place there at gone in
     let less = one_waits_less all place there at in
-    let counted : waiting_in (without all place) ≡ left = omega (arith, is.counted, less, count) in
+    let counted : count_waiting (all_but all place) ≡ left = omega (arith, is.counted, less, count) in
     by_parts closed counted
   where
-    by_parts : AreIndexed (without all place) new (waiting_in (without all place)) (without_limit there.limit place due)
-        → waiting_in (without all place) ≡ left → AreIndexed rest new left after
+    by_parts : AreIndexed (all_but all place) new (count_waiting (all_but all place)) (without_limit there.limit place due)
+        → count_waiting (all_but all place) ≡ left → AreIndexed rest new left after
     by_parts closed counted =
         subst (λ (l : List OpenPlace). AreIndexed l new left after) (sym rest_is)
-        (subst (λ (n : ℕ). AreIndexed (without all place) new n after) counted
-        (subst (λ (d : Deadlines). AreIndexed (without all place) new (waiting_in (without all place)) d)
+        (subst (λ (n : ℕ). AreIndexed (all_but all place) new n after) counted
+        (subst (λ (d : Deadlines). AreIndexed (all_but all place) new (count_waiting (all_but all place)) d)
         (sym after_is) closed))
 
 -- ---- who waited at a place left it
 
 same_owed : (all : List OpenPlace) (place : ℕ) (there : OpenPlace) (duty : OwedDuty)
-    → found_at all place ≡ Some there → duty_at there ≡ Some duty → owed_in all place ≡ Some duty
+    → found_at all place ≡ Some there → duty_at there ≡ Some duty → owed_among all place ≡ Some duty
 same_owed all place there duty found owed = ap (option_and_then duty_at) found ∙ owed
 
 -- it stands on its side, and on no other
@@ -208,7 +208,7 @@ left_by_withdrawal all old new waiting due place there duty result is found owed
           ∙ ap (λ l. filter (λ r. not (r == there.place)) l) (is.lines there.side)
           ∙ sym (places_without (line_in all there.side) there.place);
       others = left.others;
-      parked = left.parked (owed_in all) is.parked;
+      parked = left.parked (owed_among all) is.parked;
     }
   where
     duty_place : (w : Option Waiter) → option_map (λ x. record { place = there.place; client = x.key.client }) w
@@ -239,7 +239,7 @@ pub withdrawn : (all : List OpenPlace) (old new : Waiters) (waiting : ℕ) (due 
     → Withdrawn all old new there result
 withdrawn all old new waiting due place there result is found waits withdrew =
     let has = has_duty there waits in
-    let leaves = withdrew (owed_in all) has.0 is.parked (stands_on all old waiting due place there is found)
+    let leaves = withdrew (owed_among all) has.0 is.parked (stands_on all old waiting due place there is found)
     (same_owed all place there has.0 found has.1) in
     record {
       duty = has.0;
@@ -255,14 +255,14 @@ waits_there all place there waits found =
 
 pub one_waits : (all : List OpenPlace) (old : Waiters) (waiting : ℕ) (due : Deadlines) (place : ℕ)
     (there : OpenPlace) → AreIndexed all old waiting due → found_at all place ≡ Some there
-    → IsSome there.waiter → waiting ≡ waiting_in (without all place) + 1
+    → IsSome there.waiter → waiting ≡ count_waiting (all_but all place) + 1
 one_waits all old waiting due place there is found waits =
     is.counted ∙ one_less all place there is.rise found
-    ∙ ap (λ b. waiting_in (without all place) + cond b 1 0) waits
+    ∙ ap (λ b. count_waiting (all_but all place) + cond b 1 0) waits
 
 pub closed_waiting : (all rest : List OpenPlace) (old new : Waiters) (waiting left : ℕ) (due after : Deadlines)
     (place : ℕ) (there : OpenPlace) → AreIndexed all old waiting due → found_at all place ≡ Some there
-    → IsSome there.waiter → rest ≡ without all place → LeftLine all old new there → left ≡ waiting - 1
+    → IsSome there.waiter → rest ≡ all_but all place → LeftLine all old new there → left ≡ waiting - 1
     → after ≡ without_limit there.limit place due → AreIndexed rest new left after
 closed_waiting all rest old new waiting left due after place there is found waits rest_is gone count after_is =
     let one = one_waits all old waiting due place there is found waits in

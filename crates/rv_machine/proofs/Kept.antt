@@ -16,7 +16,7 @@ use Rattle.std.proofs.Common.{inl, inr}
 use Rattle.std.proofs.lemmas.List.{map-append}
 use Rattle.rv_state.proofs.Words.{none-some, same_Some}
 use Rattle.rv_state.proofs.Filtered.{append_get, get_map, map_get, rises_left}
-use Rattle.rv_machine.specs.Opens.{AreOpens, PlacesRise, StandBelow, StandUnderPlaces, found_at, without}
+use Rattle.rv_machine.specs.OpenMap.{AreOpens, PlacesRise, StandBelow, StandUnderPlaces, found_at, all_but}
 
 abbrev Entries : Type 0
 Entries = List (ℕ × OpenPlace)
@@ -70,7 +70,7 @@ pub apart_from : (place k : ℕ) → k < place → not (nat_eq place k) ≡ true
 apart_from place k less = grind (arith, nat_tests)
 
 others_stay : (e : ℕ × OpenPlace) (es : Entries) (k : ℕ) → PlacesRise (values_of (e ∷ es)) → e.1.place ≡ k
-    → without (values_of es) k ≡ values_of es
+    → all_but (values_of es) k ≡ values_of es
 others_stay e es k rise at_place =
     filter_these (λ (o : OpenPlace). not (nat_eq o.place k)) (values_of es) (λ i o at.
     let less : e.1.place < o.place = rise 0 (suc i) e.1 o (omega arith) refl at in
@@ -81,14 +81,14 @@ same_nat a b is = grind (arith, nat_tests)
 
 removed_head : (e : ℕ × OpenPlace) (es : Entries) (k : ℕ) (found : Bool) → PlacesRise (values_of (e ∷ es))
     → nat_eq e.1.place k ≡ found
-    → values_of (remove_entry (is_at (nat_cmp k)) es) ≡ without (values_of es) k
+    → values_of (remove_entry (is_at (nat_cmp k)) es) ≡ all_but (values_of es) k
     → values_of (cond found es (e ∷ remove_entry (is_at (nat_cmp k)) es))
-    ≡ cond (not found) (e.1 ∷ without (values_of es) k) (without (values_of es) k)
+    ≡ cond (not found) (e.1 ∷ all_but (values_of es) k) (all_but (values_of es) k)
 removed_head e es k true rise is rest = sym (others_stay e es k rise (same_nat e.1.place k is))
 removed_head e es k false rise is rest = ap (λ l. e.1 ∷ l) rest
 
 pub removed : (es : Entries) (k : ℕ) → StandUnderPlaces es → PlacesRise (values_of es)
-    → values_of (remove_entry (is_at (nat_cmp k)) es) ≡ without (values_of es) k
+    → values_of (remove_entry (is_at (nat_cmp k)) es) ≡ all_but (values_of es) k
 removed [] k under rise = refl
 removed (e ∷ es) k under rise =
     let rest = removed es k (λ i x at. under (suc i) x at)

@@ -29,7 +29,7 @@ use Rattle.rv_machine.specs.declared.machine.Machine.{Machine}
 use Rattle.rv_machine.specs.Arriving.{Arrives, MayArrive}
 use Rattle.rv_machine.specs.Ending.{counted}
 use Rattle.rv_machine.specs.Machines.{keys_settled, state_in}
-use Rattle.rv_machine.specs.Opens.{opposed_in}
+use Rattle.rv_machine.specs.OpenMap.{opposed_in}
 use Rattle.rv_machine.proofs.Concluded.{asked_in, asked_state, with_states}
 use Rattle.rv_machine.proofs.Parted.{but_none}
 use Rattle.rv_machine.proofs.Told.{asked_own}

@@ -25,7 +25,7 @@ use Rattle.rv_state.proofs.Filtered.{any_get, filter_get, filter_map_get, get_an
 use Rattle.rv_state.proofs.Filtered.{mapped_there}
 use Rattle.std.proofs.lemmas.Bool.{eq-eqb}
 use Rattle.rv_state.proofs.Words.{cons_option}
-use Rattle.rv_machine.specs.Opens.{PlacesRise, limits_in, with_limit, without, without_limit}
+use Rattle.rv_machine.specs.OpenMap.{PlacesRise, deadlines_in, with_limit, all_but, without_limit}
 use Rattle.rv_machine.proofs.Parted.{PartedAt}
 
 -- ---- sets of deadlines
@@ -49,7 +49,7 @@ or_true false c is apart = is
 -- ---- one more
 
 pub limits_more : (all : List OpenPlace) (o : OpenPlace)
-    → limits_in (all ++ o ∷ []) ≡ with_limit o.limit o.place (limits_in all)
+    → deadlines_in (all ++ o ∷ []) ≡ with_limit o.limit o.place (deadlines_in all)
 limits_more all o =
     ap (λ (ds : List Deadline). from_list {R = by_moment} ds) (filter_map-append deadline_of_place all (o ∷ []))
     ∙ by_limit o.limit
@@ -57,7 +57,7 @@ limits_more all o =
     by_limit : (limit : Option ℕ)
         → from_list {R = by_moment} (filter_map deadline_of_place all ++ filter_map
         (λ (x : Option ℕ). option_map (λ l. (l, o.place)) x) (limit ∷ []))
-        ≡ with_limit limit o.place (limits_in all)
+        ≡ with_limit limit o.place (deadlines_in all)
     by_limit None = ap (λ (ds : List Deadline). from_list {R = by_moment} ds) (append-nil _)
     by_limit (Some limit) =
         from_list_push by_moment_total by_moment-IsAntisymmetric (filter_map deadline_of_place all)
@@ -101,16 +101,16 @@ place_listed all i o d at place limit =
     (own_test d)
 
 pub left_apart : (all : List OpenPlace) (place i : ℕ) (o : OpenPlace)
-    → slice_get (without all place) i ≡ Some o → o.place ≡ place → ⊥
+    → slice_get (all_but all place) i ≡ Some o → o.place ≡ place → ⊥
 left_apart all place i o at same =
     let was = filter_get (λ (x : OpenPlace). not (nat_eq x.place place)) all i o at in
     true≢false (sym was.2 ∙ ap not (eq-eqb o.place place same))
 
 -- a deadline at the place that is left out is of none that is left
 pub not_listed : (all : List OpenPlace) (place : ℕ) (d : Deadline) → d.1 ≡ place
-    → list_any (eq_by_cmp by_moment d) (filter_map deadline_of_place (without all place)) ≡ true → ⊥
+    → list_any (eq_by_cmp by_moment d) (filter_map deadline_of_place (all_but all place)) ≡ true → ⊥
 not_listed all place d at any =
-    let found = listed_place (without all place) d any in
+    let found = listed_place (all_but all place) d any in
     left_apart all place found.0 found.1 found.2 (found.3 ∙ at)
 
 none_of : (b : Bool) → (b ≡ true → ⊥) → b ≡ false
@@ -125,7 +125,7 @@ module _ (all : List OpenPlace) (place : ℕ) (there : OpenPlace) (at : PartedAt
   is_behind q = list_any (eq_by_cmp by_moment q) (filter_map deadline_of_place at.behind)
 
   any_left : (q : Deadline)
-      → list_any (eq_by_cmp by_moment q) (filter_map deadline_of_place (without all place))
+      → list_any (eq_by_cmp by_moment q) (filter_map deadline_of_place (all_but all place))
       ≡ (in_front q || is_behind q)
   any_left q =
       ap (λ l. list_any (eq_by_cmp by_moment q) (filter_map deadline_of_place l)) at.others
@@ -141,7 +141,7 @@ module _ (all : List OpenPlace) (place : ℕ) (there : OpenPlace) (at : PartedAt
 
   -- where it has no limit the deadlines stay
   unlimited : there.limit ≡ None → filter_map deadline_of_place all
-      ≡ filter_map deadline_of_place (without all place)
+      ≡ filter_map deadline_of_place (all_but all place)
   unlimited none =
       listed
       ∙ ap (λ (l : Option ℕ). filter_map deadline_of_place at.front
@@ -171,7 +171,7 @@ module _ (all : List OpenPlace) (place : ℕ) (there : OpenPlace) (at : PartedAt
     pub any_parted : (q : Deadline)
         → list_any (eq_by_cmp by_moment q) (filter_map deadline_of_place all)
         ≡ (eq_by_cmp by_moment q its
-        || list_any (eq_by_cmp by_moment q) (filter_map deadline_of_place (without all place)))
+        || list_any (eq_by_cmp by_moment q) (filter_map deadline_of_place (all_but all place)))
     any_parted q =
         ap (list_any (eq_by_cmp by_moment q)) listed_its
         ∙ any_append (eq_by_cmp by_moment q) (filter_map deadline_of_place at.front)
@@ -180,25 +180,25 @@ module _ (all : List OpenPlace) (place : ℕ) (there : OpenPlace) (at : PartedAt
         ∙ ap (λ b. eq_by_cmp by_moment q its || b) (sym (any_left q))
 
     by_own : (q : Deadline) (own : Bool) → eq_by_cmp by_moment q its ≡ own → (left : Bool)
-        → list_any (eq_by_cmp by_moment q) (filter_map deadline_of_place (without all place)) ≡ left
+        → list_any (eq_by_cmp by_moment q) (filter_map deadline_of_place (all_but all place)) ≡ left
         → (not own && (own || left)) ≡ left
     by_own q true is left any =
         sym (none_of left (λ yes. not_listed all place q (ap (λ (x : Deadline). x.1)
         (same_deadline q its is)) (any ∙ yes)))
     by_own q false is left any = refl
 
-    removed_its : remove (limits_in all) its ≡ limits_in (without all place)
+    removed_its : remove (deadlines_in all) its ≡ deadlines_in (all_but all place)
     removed_its = same_set by_moment_total by_moment-IsAntisymmetric _ _ (λ q.
-        contains-remove by_moment_total (limits_in all) its q
+        contains-remove by_moment_total (deadlines_in all) its q
         ∙ ap (λ b. not (eq_by_cmp by_moment q its) && b)
         (contains-from_list by_moment_total (filter_map deadline_of_place all) q ∙ any_parted q)
         ∙ by_own q (eq_by_cmp by_moment q its) refl _ refl
-        ∙ sym (contains-from_list by_moment_total (filter_map deadline_of_place (without all place)) q))
+        ∙ sym (contains-from_list by_moment_total (filter_map deadline_of_place (all_but all place)) q))
 
   less_by : (o : Option ℕ) → there.limit ≡ o
-      → without_limit o place (limits_in all) ≡ limits_in (without all place)
+      → without_limit o place (deadlines_in all) ≡ deadlines_in (all_but all place)
   less_by None none = ap (λ (ds : List Deadline). from_list {R = by_moment} ds) (unlimited none)
   less_by (Some limit) has = removed_its limit has
 
-  pub limits_less : without_limit there.limit place (limits_in all) ≡ limits_in (without all place)
+  pub limits_less : without_limit there.limit place (deadlines_in all) ≡ deadlines_in (all_but all place)
   limits_less = less_by there.limit refl

@@ -17,8 +17,8 @@ use Rattle.rv_waiters.specs.Parked.{AreParked}
 use Rattle.rv_waiters.specs.Meeting.{ArrivedOn, FindsNobody, HasRoomOn, MeetsOrWaits, OwnDuty, ParksOn}
 use Rattle.rv_waiters.specs.Meeting.{PartnersDuty}
 use Rattle.rv_waiters.specs.Views.{AreBelow, Waiters, waiting_on}
-use Rattle.rv_machine.specs.Opens.{StandBelow, duty_at, facing, found_at, line_in, opposed_in, owed_in}
-use Rattle.rv_machine.specs.Opens.{without}
+use Rattle.rv_machine.specs.OpenMap.{StandBelow, duty_at, facing, found_at, line_in, opposed_in, owed_among}
+use Rattle.rv_machine.specs.OpenMap.{all_but}
 use Rattle.rv_machine.specs.Indexed.{AreIndexed, ClosesFirst}
 use Rattle.rv_machine.proofs.Firsts.{FirstLeft, first_left, no_places}
 use Rattle.rv_machine.proofs.Indexing.{on_line, parked_on, side_or_not}
@@ -65,7 +65,7 @@ pub record MetFirst (all : List OpenPlace) (old new : Waiters) (side : Side) (du
   pub other : Side
   pub opposes : opposite side ≡ Some other
   pub own : result.own ≡ Some duty
-  pub owed : result.other ≡ owed_in all partner
+  pub owed : result.other ≡ owed_among all partner
   pub left : FirstLeft all old new other partner
 
 module _ (all : List OpenPlace) (old new : Waiters) (waiting : ℕ) (due : Deadlines) (side : Side)
@@ -79,16 +79,16 @@ module _ (all : List OpenPlace) (old new : Waiters) (waiting : ℕ) (due : Deadl
 
   -- what is owed with the arrival's own duty
   abbrev with_own : ℕ → Option OwedDuty
-  with_own r = cond (nat_eq r duty.place) (option_and_then (λ w. Some duty) wait) (owed_in all r)
+  with_own r = cond (nat_eq r duty.place) (option_and_then (λ w. Some duty) wait) (owed_among all r)
 
-  apart : (r : ℕ) → r < duty.place → with_own r ≡ owed_in all r
-  apart r less = ap (λ b. cond b (option_and_then (λ w. Some duty) wait) (owed_in all r)) not_own
+  apart : (r : ℕ) → r < duty.place → with_own r ≡ owed_among all r
+  apart r less = ap (λ b. cond b (option_and_then (λ w. Some duty) wait) (owed_among all r)) not_own
     where
       not_own : nat_eq r duty.place ≡ false
       not_own = grind (arith, nat_tests)
 
   owned : with_own duty.place ≡ option_and_then (λ w. Some duty) wait
-  owned = ap (λ b. cond b (option_and_then (λ w. Some duty) wait) (owed_in all duty.place))
+  owned = ap (λ b. cond b (option_and_then (λ w. Some duty) wait) (owed_among all duty.place))
       (eq-eqb duty.place duty.place refl)
 
   all_below : AreBelow old duty.place
@@ -105,10 +105,10 @@ module _ (all : List OpenPlace) (old new : Waiters) (waiting : ℕ) (due : Deadl
         (ap (λ l. slice_get l i) (sym (others third (λ same. false≢true (sym differs
         ∙ ap (λ s. same_side s other) same ∙ same_side_itself other)))) ∙ on)
 
-    left_parked : AreParked (owed_in all) new
-    left_parked = parked_on with_own (owed_in all) new
+    left_parked : AreParked (owed_among all) new
+    left_parked = parked_on with_own (owed_among all) new
         (λ third i r on. sym (apart r (stood third i r (side_or_not third other) on)))
-        (arrived.parked with_own (parked_on (owed_in all) with_own old
+        (arrived.parked with_own (parked_on (owed_among all) with_own old
         (λ third i r on. apart r (all_below third i r on)) is.parked) owned)
 
     met_first : result.partner ≡ Some partner → MetFirst all old new side duty result
@@ -118,14 +118,14 @@ module _ (all : List OpenPlace) (old new : Waiters) (waiting : ℕ) (due : Deadl
       other = other;
       opposes = opposes;
       own = own_back partner partner_is result.own refl arrived.own;
-      owed = partners_duty result.partner partner_is (arrived.other (owed_in all) is.parked);
+      owed = partners_duty result.partner partner_is (arrived.other (owed_among all) is.parked);
       left = first_left all old new waiting due other partner is first others left_parked;
     }
       where
-        partners_duty : (o : Option ℕ) → o ≡ Some partner → PartnersDuty (owed_in all) o result.other
-            → result.other ≡ owed_in all partner
+        partners_duty : (o : Option ℕ) → o ≡ Some partner → PartnersDuty (owed_among all) o result.other
+            → result.other ≡ owed_among all partner
         partners_duty None is says = absurd (none-some partner is)
-        partners_duty (Some p) is says = says ∙ ap (owed_in all) (same_Some _ _ is)
+        partners_duty (Some p) is says = says ∙ ap (owed_among all) (same_Some _ _ is)
 
   by_partner : (o : Option ℕ) → result.partner ≡ o → MeetsOrWaits old new side wait duty.place o
       → MetFirst all old new side duty result

@@ -27,8 +27,8 @@ use Rattle.rv_machine.specs.declared.machine.Machine.{Machine}
 use Rattle.rv_machine.specs.Arriving.{Arrives, MayArrive}
 use Rattle.rv_machine.specs.Ending.{counted}
 use Rattle.rv_machine.specs.Indexed.{ClosesFirst}
-use Rattle.rv_machine.specs.Machines.{IsConsistent, IsReady, keys_settled, state_in}
-use Rattle.rv_machine.specs.Opens.{facing, opposed_in, waiting_in, without}
+use Rattle.rv_machine.specs.Machines.{IsConsistent, IsWhole, keys_settled, state_in}
+use Rattle.rv_machine.specs.OpenMap.{facing, opposed_in, count_waiting, all_but}
 use Rattle.rv_machine.proofs.Asked.{arrived_by, asked_as, with_clients_of}
 use Rattle.rv_machine.proofs.Concluded.{asked_consistent, asked_is}
 use Rattle.rv_machine.proofs.EndingOne.{but_one}
@@ -98,20 +98,20 @@ module _ (m : Machine) (moment : ℕ) (key : Key) (call : Call) (may : MayArrive
     clients = clients_are i;
   }) ∙ sym (asked_as gone key (RepliedTo call own))
 
-  before_ready : IsReady before
+  before_ready : IsWhole before
   before_ready = record {
     consistent = subst (λ (x : State). IsConsistent x) (sym before_is)
         (asked_consistent gone key (RepliedTo call own) may.next.session both.consistent both.known may.next.idle
         refl);
     most = ap (λ (t : ClientStates). t.most) are ∙ both.most ∙ may.ready.most;
-    room = subst (λ (l : List OpenPlace). waiting_in l + vec_len now.settled ≤ vec_capacity now.settled)
+    room = subst (λ (l : List OpenPlace). count_waiting l + vec_len now.settled ≤ vec_capacity now.settled)
         (sym both.table_is) both.room;
   }
 
-  pub new_ready : IsReady new
+  pub new_ready : IsWhole new
   new_ready =
-      let fewer : waiting_in now.table ≤ waiting_in m.table =
-      subst (λ (l : List OpenPlace). waiting_in l ≤ waiting_in m.table) (sym (both.table_is ∙ met.closes.rest))
+      let fewer : count_waiting now.table ≤ count_waiting m.table =
+      subst (λ (l : List OpenPlace). count_waiting l ≤ count_waiting m.table) (sym (both.table_is ∙ met.closes.rest))
       (no_more_wait m.table there may.ready.consistent.rise met.closes.found) in
       let need = at_least_one (wait_of call) in
       recorded_ready before moment before_ready may.time (omega (arith, may.space, fewer, need, both.length_is))

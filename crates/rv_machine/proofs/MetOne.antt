@@ -27,10 +27,10 @@ use Rattle.rv_state.proofs.TableClients.{clients_after_tell}
 use Rattle.rv_state.proofs.Words.{none-some, same_Some}
 use Rattle.rv_machine.specs.declared.machine.Machine.{Machine}
 use Rattle.rv_machine.specs.Arriving.{MayArrive}
-use Rattle.rv_machine.specs.Indexed.{Closes, ClosesFirst}
-use Rattle.rv_machine.specs.Machines.{IsConsistent, IsReady, IsWaiter, keys_settled, state_in}
-use Rattle.rv_machine.specs.Opens.{duty_at, facing, found_at, line_in, waiting_in, without}
-use Rattle.rv_machine.specs.Telling.{CanTell, TellsOne, TellsWaiter, WasTold, machine_told, told_by}
+use Rattle.rv_machine.specs.Indexed.{ClosesPlace, ClosesFirst}
+use Rattle.rv_machine.specs.Machines.{IsConsistent, IsWhole, IsWaiter, keys_settled, state_in}
+use Rattle.rv_machine.specs.OpenMap.{duty_at, facing, found_at, line_in, count_waiting, all_but}
+use Rattle.rv_machine.specs.Telling.{MayTell, TellsOne, TellsWaiter, WasTold, machine_told, told_on_side}
 use Rattle.rv_machine.proofs.Asked.{asked_then_told, met_clients}
 use Rattle.rv_machine.proofs.EndedMachine.{duty_is}
 use Rattle.rv_machine.proofs.EndingOne.{awaited, but_one, ended_consistent, less_waits, own}
@@ -95,16 +95,16 @@ module _ (m : Machine) (moment : ℕ) (key : Key) (call : Call) (may : MayArrive
   found_there : found_at m.table there.place ≡ Some there
   found_there = met.closes.found
 
-  one_less_waits : (w : Waiter) → there.waiter ≡ Some w → waiting_in table + 1 ≡ waiting_in m.table
+  one_less_waits : (w : Waiter) → there.waiter ≡ Some w → count_waiting table + 1 ≡ count_waiting m.table
   one_less_waits w waits =
-      ap (λ l. waiting_in l + 1) (met.closes.rest ∙ sym (but_one m.table there))
+      ap (λ l. count_waiting l + 1) (met.closes.rest ∙ sym (but_one m.table there))
       ∙ less_waits s is there.place there w reply.Cancelled found_there waits
 
   can_tell : (w : Waiter) → there.waiter ≡ Some w
-      → CanTell begun (record { place = there.place; client = w.key.client }) there.waiter there.side key (item_of call)
+      → MayTell begun (record { place = there.place; client = w.key.client }) there.waiter there.side key (item_of call)
   can_tell w waits =
       let one = its w waits in
-      let r = some_of (told_by there.side one.session.version (Some key) (item_of call))
+      let r = some_of (told_on_side there.side one.session.version (Some key) (item_of call))
       (partner_told call there.side one.session.version key opposes) in
       record {
         who = w;
@@ -146,7 +146,7 @@ module _ (m : Machine) (moment : ℕ) (key : Key) (call : Call) (may : MayArrive
     pub epoch : now.clients.epoch ≡ m.clients.epoch
     pub most : now.clients.most ≡ m.clients.most
     pub listed : now.settled.items ≡ m.settled.items ++ keys_settled settles
-    pub room : waiting_in table + vec_len now.settled ≤ vec_capacity now.settled
+    pub room : count_waiting table + vec_len now.settled ≤ vec_capacity now.settled
     pub its_awaited : place_awaited now.clients.clients key.client ≡ Some m.length
     pub tells : (own : Reply) → clients_told now.clients.clients key.client own
         ≡ clients_asked (closed s (there ∷ []) settles).clients key (RepliedTo call own)
@@ -164,8 +164,8 @@ module _ (m : Machine) (moment : ℕ) (key : Key) (call : Call) (may : MayArrive
       let no_one = settles_nobody s is there.place there found_there key call none in
       let P : List Settled → Type 0 = λ l. IsConsistent (closed s (there ∷ []) l) in
       let fewer = no_more_wait m.table there is.rise found_there in
-      let at_most : waiting_in table ≤ waiting_in m.table =
-      subst (λ (l : List OpenPlace). waiting_in l ≤ waiting_in m.table) (sym met.closes.rest) fewer in
+      let at_most : count_waiting table ≤ count_waiting m.table =
+      subst (λ (l : List OpenPlace). count_waiting l ≤ count_waiting m.table) (sym met.closes.rest) fewer in
       record {
         consistent = subst P (sym no_one) (gone_consistent s is there found_there none);
         known = ap (λ (l : List Settled). client_at (closed s (there ∷ []) l) key.client) no_one
@@ -177,7 +177,7 @@ module _ (m : Machine) (moment : ℕ) (key : Key) (call : Call) (may : MayArrive
         most = ap (λ (x : Machine). x.clients.most) same;
         listed = ap (λ (x : Machine). x.settled.items) same ∙ sym (append-nil m.settled.items)
             ∙ ap (λ (l : List Settled). m.settled.items ++ keys_settled l) (sym no_one);
-        room = subst (λ (x : Machine). waiting_in table + vec_len x.settled ≤ vec_capacity x.settled) (sym same)
+        room = subst (λ (x : Machine). count_waiting table + vec_len x.settled ≤ vec_capacity x.settled) (sym same)
             (omega (arith, at_most, may.ready.room));
         its_awaited = ap (λ (x : Machine). place_awaited x.clients.clients key.client) same
             ∙ own_awaited begun.clients.clients refl;
@@ -197,7 +197,7 @@ module _ (m : Machine) (moment : ℕ) (key : Key) (call : Call) (may : MayArrive
       ∙ one.known in
       let session_is : was.session ≡ one.session = same_Some _ _
       (sym was.known ∙ ap (λ (v : Waiter). get begun.clients.clients v.key.client) same_who ∙ session_known) in
-      let told = ap (λ (x : ClientState). told_by there.side x.version (Some key) (item_of call)) (sym session_is)
+      let told = ap (λ (x : ClientState). told_on_side there.side x.version (Some key) (item_of call)) (sym session_is)
       ∙ was.told in
       let settled_is : settles ≡ record { key = w.key; reply = was.reply } ∷ [] =
       settles_one s is there.place there found_there key call w was.reply waits one told in

@@ -22,9 +22,9 @@ use Rattle.rv_state.specs.After.{Settled, key_of_waiter, receipt_of, session_ver
 use Rattle.rv_state.specs.After.{told_own, told_partner}
 use Rattle.rv_state.proofs.Filtered.{find_get}
 use Rattle.rv_state.proofs.Words.{cons_option, none-some, same_Some}
-use Rattle.rv_machine.specs.Opens.{found_at}
+use Rattle.rv_machine.specs.OpenMap.{found_at}
 use Rattle.rv_machine.specs.Machines.{IsConsistent, IsWaiter, WaitsLong}
-use Rattle.rv_machine.specs.Telling.{told_arriving, told_by}
+use Rattle.rv_machine.specs.Telling.{told_arriving, told_on_side}
 use Rattle.rv_machine.proofs.Lying.{gives_item}
 
 no_side : (side : Side) → None ≡ Some side → ⊥
@@ -43,7 +43,7 @@ exchange_item (call.Drain q max) e is = let no : ⊥ = cc in absurd no
 -- one that waits long is told by its side and its session's version
 pub met_by_side : (s : State) (key : Key) (its : Call) (other : Option Key) (gets : Option (List ℕ))
     (version : Version) → WaitsLong its → session_version s key ≡ Some version
-    → told_met s key its other gets ≡ told_by (side_of its) version other gets
+    → told_met s key its other gets ≡ told_on_side (side_of its) version other gets
 met_by_side s key (call.Put q item) other gets version long is = absurd (false≢true long.0)
 met_by_side s key (call.Transfer q item wait) other gets version long is =
     ap (option_and_then (λ v. receipt_of v other)) is
@@ -78,20 +78,20 @@ some_receipt Two (Some key) some = refl
 
 -- what comes to the side that a call faces
 pub partner_told : (its : Call) (other : Side) (version : Version) (key : Key)
-    → opposite (side_of its) ≡ Some other → IsSome (told_by other version (Some key) (item_of its))
+    → opposite (side_of its) ≡ Some other → IsSome (told_on_side other version (Some key) (item_of its))
 partner_told its other version key opposes = by_side (side_of its) refl
   where
-    by_side : (side : Side) → side_of its ≡ side → IsSome (told_by other version (Some key) (item_of its))
+    by_side : (side : Side) → side_of its ≡ side → IsSome (told_on_side other version (Some key) (item_of its))
     by_side (Gives q) is =
-        subst (λ (x : Side). IsSome (told_by x version (Some key) (item_of its)))
+        subst (λ (x : Side). IsSome (told_on_side x version (Some key) (item_of its)))
         (same_Some _ _ (sym (ap opposite is) ∙ opposes))
         (some_item (λ item. reply.Item item) (item_of its) (gives_item its q is))
     by_side (Takes q) is =
-        subst (λ (x : Side). IsSome (told_by x version (Some key) (item_of its)))
+        subst (λ (x : Side). IsSome (told_on_side x version (Some key) (item_of its)))
         (same_Some _ _ (sym (ap opposite is) ∙ opposes)) (some_receipt version (Some key) refl)
     by_side (Looks q) is = absurd (no_side other (sym (ap opposite is) ∙ opposes))
     by_side (Exchanges e) is =
-        subst (λ (x : Side). IsSome (told_by x version (Some key) (item_of its)))
+        subst (λ (x : Side). IsSome (told_on_side x version (Some key) (item_of its)))
         (same_Some _ _ (sym (ap opposite is) ∙ opposes))
         (some_item (λ item. reply.Swapped item) (item_of its) (exchange_item its e is))
 
@@ -142,7 +142,7 @@ module _ (s : State) (is : IsConsistent s) (place : ℕ) (there : OpenPlace)
   arrival_told its version opposes = by_wait (wait_of its)
     where
       by_side : (side : Side) → opposite side ≡ Some there.side
-          → IsSome (told_by side version (key_of_waiter there) there.item)
+          → IsSome (told_on_side side version (key_of_waiter there) there.item)
       by_side (Gives q) faces =
           let at : Takes q ≡ there.side = same_Some _ _ faces in
           some_receipt version (key_of_waiter there)
@@ -164,7 +164,7 @@ module _ (s : State) (is : IsConsistent s) (place : ℕ) (there : OpenPlace)
 
   -- who waits there is settled so by an arrival
   pub settles_one : (key : Key) (its : Call) (w : Waiter) (reply : Reply) → there.waiter ≡ Some w
-      → (own : IsWaiter s there w) → told_by there.side own.session.version (Some key) (item_of its) ≡ Some reply
+      → (own : IsWaiter s there w) → told_on_side there.side own.session.version (Some key) (item_of its) ≡ Some reply
       → settled_all (told_partner s key its) (there ∷ []) ≡ record { key = w.key; reply = reply } ∷ []
   settles_one key its w reply waits own told =
       let version : session_version s w.key ≡ Some own.session.version =
@@ -175,7 +175,7 @@ module _ (s : State) (is : IsConsistent s) (place : ℕ) (there : OpenPlace)
       let is_told : told_partner s key its there w.key ≡ Some reply =
       ap (option_and_then (λ c. told_met s w.key c (Some key) (item_of its))) asked
       ∙ met_by_side s w.key own.call (Some key) (item_of its) own.session.version own.lasts version
-      ∙ ap (λ (side : Side). told_by side own.session.version (Some key) (item_of its)) (sym own.side)
+      ∙ ap (λ (side : Side). told_on_side side own.session.version (Some key) (item_of its)) (sym own.side)
       ∙ told in
       ap (λ (o : Option Waiter). cons_option (option_and_then (λ x. option_map
       (λ r. let one : Settled = record { key = x.key; reply = r } in one) (told_partner s key its there x.key)) o) [])

@@ -26,8 +26,8 @@ use Rattle.rv_waiters.specs.Meeting.{ArrivedOn, FindsNobody, MeetsFirst, MeetsOr
 use Rattle.rv_waiters.specs.Meeting.{StartsToWait, StaysBy}
 use Rattle.rv_waiters.specs.Views.{AreBelow, SameWaiters, Waiters, waiting_on}
 use Rattle.rv_waiters.proofs.Tabled.{same_parked, same_waiting}
-use Rattle.rv_machine.specs.Opens.{StandBelow, duty_at, facing, found_at, limits_in, line_in, opposed_in, owed_in}
-use Rattle.rv_machine.specs.Opens.{waiting_in, with_limit, without}
+use Rattle.rv_machine.specs.OpenMap.{StandBelow, duty_at, facing, found_at, deadlines_in, line_in, opposed_in, owed_among}
+use Rattle.rv_machine.specs.OpenMap.{count_waiting, with_limit, all_but}
 use Rattle.rv_machine.specs.Indexed.{AreIndexed, MayPark, own_duty}
 use Rattle.rv_machine.proofs.Firsts.{count_owed}
 use Rattle.rv_machine.proofs.Indexing.{on_line, other_side, parked_on, side_or_not, stands_found}
@@ -44,14 +44,14 @@ same_index all old new waiting due is same = record {
   fit = is.fit;
   limited = is.limited;
   lines = λ side. same_waiting old new same side ∙ is.lines side;
-  parked = same_parked (owed_in all) old new same is.parked;
+  parked = same_parked (owed_among all) old new same is.parked;
   counted = is.counted;
   limits = is.limits;
 }
 
 -- what was opened last is taken out again
 pub taken_back : (all : List OpenPlace) (o : OpenPlace) → StandBelow all o.place
-    → without (all ++ o ∷ []) o.place ≡ all
+    → all_but (all ++ o ∷ []) o.place ≡ all
 taken_back all o below =
     filter-append (λ (x : OpenPlace). not (nat_eq x.place o.place)) all (o ∷ [])
     ∙ (λ i. filter_these (λ (x : OpenPlace). not (nat_eq x.place o.place)) all
@@ -103,7 +103,7 @@ module _ (all : List OpenPlace) (old new : Waiters) (waiting : ℕ) (due : Deadl
   stands_last [] = refl
   stands_last (x ∷ xs) = stands_last xs
 
-  its : owed_in more o.place ≡ option_map (λ w. duty) (wait_of call)
+  its : owed_among more o.place ≡ option_map (λ w. duty) (wait_of call)
   its = ap (option_and_then duty_at) (stands_found more (length all) o more_rise (stands_last all)) ∙ may.waiter
 
   as_some : (wait : Option Wait) → option_map (λ w. duty) wait ≡ option_and_then (λ w. Some duty) wait
@@ -116,12 +116,12 @@ module _ (all : List OpenPlace) (old new : Waiters) (waiting : ℕ) (due : Deadl
   not_met : FindsNobody old (side_of call)
   not_met other opposes = is.lines other ∙ ap place_list (sym (ap (facing all) opposes) ∙ may.alone)
 
-  pub counted_more : waiting_in more ≡ waiting_in all + cond (is_some o.waiter) 1 0
+  pub counted_more : count_waiting more ≡ count_waiting all + cond (is_some o.waiter) 1 0
   counted_more =
       ap length (filter-append (λ (x : OpenPlace). is_some x.waiter) all (o ∷ []))
       ∙ length-append (filter (λ (x : OpenPlace). is_some x.waiter) all)
       (filter (λ (x : OpenPlace). is_some x.waiter) (o ∷ []))
-      ∙ ap (λ n. waiting_in all + n) (by_waiter (is_some o.waiter))
+      ∙ ap (λ n. count_waiting all + n) (by_waiter (is_some o.waiter))
     where
       by_waiter : (b : Bool) → length (cond b (o ∷ []) []) ≡ cond b 1 0
       by_waiter true = refl
@@ -167,7 +167,7 @@ module _ (all : List OpenPlace) (old new : Waiters) (waiting : ℕ) (due : Deadl
         (sym (ap (λ s. same_side s side) may.side ∙ apart))
         ∙ ap place_list (sym (line_more side))
 
-    pub parked_index : (count : ℕ) (after : Deadlines) → count ≡ waiting_in more
+    pub parked_index : (count : ℕ) (after : Deadlines) → count ≡ count_waiting more
         → after ≡ with_limit o.limit o.place due → AreIndexed more new count after
     parked_index count after count_is after_is = record {
       rise = more_rise;
@@ -182,8 +182,8 @@ module _ (all : List OpenPlace) (old new : Waiters) (waiting : ℕ) (due : Deadl
             (may.limited (subst (λ (y : OpenPlace). IsSome y.limit) (sym last) has))
       ];
       lines = λ side. lines_more side (side_or_not (side_of call) side);
-      parked = arrived.parked (owed_in more)
-          (parked_on (owed_in all) (owed_in more) old
+      parked = arrived.parked (owed_among more)
+          (parked_on (owed_among all) (owed_among more) old
           (λ side i r on. ap (option_and_then duty_at) (found_more all r
           (λ same. let less : r < o.place = all_below side i r on in absurd (omega (arith, same, less)))))
           is.parked)
@@ -207,12 +207,12 @@ module _ (all : List OpenPlace) (old new : Waiters) (waiting : ℕ) (due : Deadl
 
     -- and no other is owed
     pub nobody_owed : result.other ≡ None
-    nobody_owed = subst (λ p. PartnersDuty (owed_in all) p result.other)
-        (no_partner result.partner arrived.meets) (arrived.other (owed_in all) is.parked)
+    nobody_owed = subst (λ p. PartnersDuty (owed_among all) p result.other)
+        (no_partner result.partner arrived.meets) (arrived.other (owed_among all) is.parked)
 
   -- how many wait with it
   pub counted_back : (own : Option OwedDuty) (count : ℕ) → own ≡ own_duty (wait_of call) duty
-      → count ≡ cond (is_some own) 1 0 → waiting + (1 - count) ≡ waiting_in more
+      → count ≡ cond (is_some own) 1 0 → waiting + (1 - count) ≡ count_waiting more
   counted_back own count own_is count_is =
       by_wait (wait_of call) own own_is count_is refl by_waiter
     where
@@ -222,14 +222,14 @@ module _ (all : List OpenPlace) (old new : Waiters) (waiting : ℕ) (due : Deadl
       by_wait : (wait : Option Wait) (own : Option OwedDuty) → own ≡ own_duty wait duty
           → count ≡ cond (is_some own) 1 0 → is_some {T = Waiter} o.waiter ≡ is_some {T = Waiter} o.waiter
           → is_some {T = OwedDuty} (option_map (λ w. duty) wait) ≡ is_some {T = Waiter} o.waiter
-          → waiting + (1 - count) ≡ waiting_in more
+          → waiting + (1 - count) ≡ count_waiting more
       by_wait None own own_is count_is same waits =
           let one : count ≡ 1 = count_is ∙ ap (λ (d : Option OwedDuty). cond (is_some d) 1 0) own_is in
-          let none : waiting_in more ≡ waiting_in all + 0 = counted_more
-          ∙ ap (λ b. waiting_in all + cond b 1 0) (sym waits) in
+          let none : count_waiting more ≡ count_waiting all + 0 = counted_more
+          ∙ ap (λ b. count_waiting all + cond b 1 0) (sym waits) in
           omega (arith, one, none, is.counted)
       by_wait (Some w) own own_is count_is same waits =
           let no : count ≡ 0 = count_is ∙ ap (λ (d : Option OwedDuty). cond (is_some d) 1 0) own_is in
-          let more_wait : waiting_in more ≡ waiting_in all + 1 = counted_more
-          ∙ ap (λ b. waiting_in all + cond b 1 0) (sym waits) in
+          let more_wait : count_waiting more ≡ count_waiting all + 1 = counted_more
+          ∙ ap (λ b. count_waiting all + cond b 1 0) (sym waits) in
           omega (arith, no, more_wait, is.counted)

@@ -8,7 +8,7 @@ use Rattle.std.proofs.lemmas.Bool.Decides.{nat_tests}
 use Rattle.rv_state.specs.State.{OpenPlace}
 use Rattle.rv_state.specs.After.{but}
 use Rattle.rv_state.proofs.Words.{none-some, same_Some}
-use Rattle.rv_machine.specs.Opens.{PlacesRise, found_at, without}
+use Rattle.rv_machine.specs.OpenMap.{PlacesRise, found_at, all_but}
 use Rattle.rv_machine.proofs.Kept.{apart_from, filter_these, same_nat}
 
 -- the one at a place, those before it and those behind it
@@ -16,14 +16,14 @@ pub record PartedAt (all : List OpenPlace) (place : ℕ) (there : OpenPlace) : T
   pub front : List OpenPlace
   pub behind : List OpenPlace
   pub whole : all ≡ front ++ there ∷ behind
-  pub others : without all place ≡ front ++ behind
+  pub others : all_but all place ≡ front ++ behind
   pub at_place : there.place ≡ place
 
 pub rise_behind : (x : OpenPlace) (all : List OpenPlace) → PlacesRise (x ∷ all) → PlacesRise all
 rise_behind x all rise i j one other less at there = rise (suc i) (suc j) one other (omega arith) at there
 
 pub others_pass : (x : OpenPlace) (all : List OpenPlace) → PlacesRise (x ∷ all)
-    → without all x.place ≡ all
+    → all_but all x.place ≡ all
 others_pass x all rise =
     filter_these (λ (o : OpenPlace). not (nat_eq o.place x.place)) all (λ i o at.
     let less : x.place < o.place = rise 0 (suc i) x o (omega arith) refl at in apart_from o.place x.place less)
@@ -38,8 +38,8 @@ parted_by x all place there rise rest true is found =
       front = [];
       behind = all;
       whole = ap (λ o. o ∷ all) same;
-      others = ap (λ b. cond (not b) (x ∷ without all place) (without all place)) is
-          ∙ ap (without all) (sym at) ∙ others_pass x all rise;
+      others = ap (λ b. cond (not b) (x ∷ all_but all place) (all_but all place)) is
+          ∙ ap (all_but all) (sym at) ∙ others_pass x all rise;
       at_place = ap (λ (o : OpenPlace). o.place) (sym same) ∙ at;
     }
 parted_by x all place there rise rest false is found =
@@ -48,7 +48,7 @@ parted_by x all place there rise rest false is found =
       front = x ∷ parted.front;
       behind = parted.behind;
       whole = ap (λ l. x ∷ l) parted.whole;
-      others = ap (λ b. cond (not b) (x ∷ without all place) (without all place)) is
+      others = ap (λ b. cond (not b) (x ∷ all_but all place) (all_but all place)) is
           ∙ ap (λ l. x ∷ l) parted.others;
       at_place = parted.at_place;
     }
@@ -87,7 +87,7 @@ both_tests false c = refl
 turned : (a b : ℕ) → nat_eq a b ≡ nat_eq b a
 turned a b = grind (arith, nat_tests)
 
-pub but_cons : (all gone : List OpenPlace) (o : OpenPlace) → but all (o ∷ gone) ≡ but (without all o.place) gone
+pub but_cons : (all gone : List OpenPlace) (o : OpenPlace) → but all (o ∷ gone) ≡ but (all_but all o.place) gone
 but_cons all gone o =
     filter_same (λ (x : OpenPlace). not (list_any (λ other. nat_eq other.place x.place) (o ∷ gone)))
     (λ x. not (nat_eq x.place o.place) && not (list_any (λ other. nat_eq other.place x.place) gone)) all

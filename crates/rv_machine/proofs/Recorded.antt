@@ -3,11 +3,11 @@ use Rattle.std.proofs.Common.{◌≡◌, ◌<◌, ◌≤◌, ◌+◌, ℕ, arith
 use Rattle.rv_rules.specs.Steps.{max_entries, max_moment}
 use Rattle.rv_machine.specs.declared.machine.Machine.{Machine}
 use Rattle.rv_machine.specs.Ending.{counted}
-use Rattle.rv_machine.specs.Machines.{IsConsistent, IsReady, IsWaiter, state_in}
-use Rattle.rv_machine.specs.Opens.{waiting_in}
+use Rattle.rv_machine.specs.Machines.{IsConsistent, IsWhole, IsWaiter, state_in}
+use Rattle.rv_machine.specs.OpenMap.{count_waiting}
 
-pub recorded_ready : (m : Machine) (moment : ℕ) → IsReady m → moment ≤ max_moment
-    → m.length + waiting_in m.table < max_entries → IsReady (counted m moment)
+pub recorded_ready : (m : Machine) (moment : ℕ) → IsWhole m → moment ≤ max_moment
+    → m.length + count_waiting m.table < max_entries → IsWhole (counted m moment)
 recorded_ready m moment ready time space =
     let is = ready.consistent in
     record {

@@ -32,8 +32,8 @@ use Rattle.rv_state.specs.Follows.{NumberIsNext}
 use Rattle.rv_state.proofs.Filtered.{append_get}
 use Rattle.rv_state.proofs.Words.{none-some, same_Some}
 use Rattle.rv_waiters.specs.Meeting.{StaysBy}
-use Rattle.rv_machine.specs.Opens.{PlacesRise, StandBelow, found_at, opposed_in, waiting_in}
-use Rattle.rv_machine.specs.Machines.{IsConsistent, IsWaiter, LiesThere, WaitsFor, last_key}
+use Rattle.rv_machine.specs.OpenMap.{PlacesRise, StandBelow, found_at, opposed_in, count_waiting}
+use Rattle.rv_machine.specs.Machines.{IsConsistent, IsWaiter, LiesThere, AwaitsPlace, last_key_in}
 use Rattle.rv_machine.proofs.Asked.{arrived_by, asked_as, with_clients_of}
 use Rattle.rv_machine.proofs.Indexing.{stands_found}
 use Rattle.rv_machine.proofs.Kept.{rise_more, in_end}
@@ -147,12 +147,12 @@ one_or_none true o = refl
 one_or_none false o = refl
 
 pub waits_more : (all : List OpenPlace) (o : OpenPlace)
-    → waiting_in (all ++ o ∷ []) ≡ waiting_in all + cond (is_some o.waiter) 1 0
+    → count_waiting (all ++ o ∷ []) ≡ count_waiting all + cond (is_some o.waiter) 1 0
 waits_more all o =
     ap length (filter-append (λ (x : OpenPlace). is_some x.waiter) all (o ∷ []))
     ∙ length-append (filter (λ (x : OpenPlace). is_some x.waiter) all)
     (filter (λ (x : OpenPlace). is_some x.waiter) (o ∷ []))
-    ∙ ap (λ n. waiting_in all + n) (one_or_none (is_some o.waiter) o)
+    ∙ ap (λ n. count_waiting all + n) (one_or_none (is_some o.waiter) o)
 
 -- ---- the state is consistent
 
@@ -191,7 +191,7 @@ its_waiter key moment (Some wait) w is = (same_Some _ _ is, refl)
 
 module _ (s : State) (is : IsConsistent s) (moment : ℕ) (key : Key) (call : Call) (next : NumberIsNext s key)
     (it : StaysBy (side_of call) (wait_of call)) (time : moment ≤ max_moment)
-    (space : s.length + waiting_in s.open_places + need_of call ≤ max_entries) where
+    (space : s.length + count_waiting s.open_places + need_of call ≤ max_entries) where
   abbrev its_request : LastRequest
   its_request = request_after s.length call (told_alone s call)
 
@@ -241,7 +241,7 @@ module _ (s : State) (is : IsConsistent s) (moment : ℕ) (key : Key) (call : Ca
     lasts = was.lasts;
   }
 
-  key_own : key ≡ last_key t key.client own
+  key_own : key ≡ last_key_in t key.client own
   key_own =
       let epoch = next.of_session.epoch in
       let incarnation = next.of_session.incarnation in
@@ -274,7 +274,7 @@ module _ (s : State) (is : IsConsistent s) (moment : ℕ) (key : Key) (call : Ca
 
   waits_for : (client : ℕ) (session : ClientState) (place : ℕ) (other : Call)
       → (client ≡ key.client) ⊎ (client ≢ key.client) → client_at t client ≡ Some session
-      → session.request ≡ Waits place other → WaitsFor t client place
+      → session.request ≡ Waits place other → AwaitsPlace t client place
   waits_for client session place other (inl same) its asked =
       let session_is : own ≡ session = same_Some _ _ (sym known ∙ ap (client_at t) (sym same) ∙ its) in
       let waits : its_request ≡ Waits place other = ap (λ (c : ClientState). c.request) session_is ∙ asked in

@@ -28,8 +28,8 @@ use Rattle.rv_machine.specs.declared.machine.Machine.{Machine}
 use Rattle.rv_machine.specs.Arriving.{Arrives, MayArrive, after_put}
 use Rattle.rv_machine.specs.Ending.{counted}
 use Rattle.rv_machine.specs.Indexed.{own_duty}
-use Rattle.rv_machine.specs.Machines.{IsConsistent, IsReady, keys_settled, state_in}
-use Rattle.rv_machine.specs.Opens.{opposed_in, waiting_in}
+use Rattle.rv_machine.specs.Machines.{IsConsistent, IsWhole, keys_settled, state_in}
+use Rattle.rv_machine.specs.OpenMap.{opposed_in, count_waiting}
 use Rattle.rv_machine.proofs.Asked.{asked_then_told}
 use Rattle.rv_machine.proofs.Stayed.{follows_as, known_after, none_met, put_or_waits, stayed, stayed_consistent}
 use Rattle.rv_machine.proofs.Stayed.{waits_more}
@@ -106,7 +106,7 @@ module _ (m : Machine) (moment : ℕ) (key : Key) (call : Call) (may : MayArrive
     }
 
     pub stay_ready : vec_len settled ≡ vec_len m.settled
-        → vec_len settled + (waiting_in m.table + 1) ≤ vec_capacity settled → IsReady new
+        → vec_len settled + (count_waiting m.table + 1) ≤ vec_capacity settled → IsWhole new
     stay_ready longer room = record {
       consistent = subst (λ (x : State). IsConsistent x) (sym state_now)
           (stayed_consistent s may.ready.consistent moment key call may.next it may.time may.space);
@@ -114,7 +114,7 @@ module _ (m : Machine) (moment : ℕ) (key : Key) (call : Call) (may : MayArrive
       room = omega (
         arith,
         room,
-        ap (λ (l : List OpenPlace). waiting_in l) opens,
+        ap (λ (l : List OpenPlace). count_waiting l) opens,
         waits_more m.table o,
         at_most_one (is_some o.waiter),
       );

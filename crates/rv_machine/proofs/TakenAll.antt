@@ -17,8 +17,8 @@ use Rattle.rv_state.specs.After.{Settled, but, closed, receipt_of, session_versi
 use Rattle.rv_state.specs.After.{tell}
 use Rattle.rv_state.proofs.ToldClients.{get_tell_all, told_client}
 use Rattle.rv_machine.specs.declared.machine.Machine.{Machine}
-use Rattle.rv_machine.specs.Machines.{IsReady, keys_settled, state_in}
-use Rattle.rv_machine.specs.Opens.{line_in, without}
+use Rattle.rv_machine.specs.Machines.{IsWhole, keys_settled, state_in}
+use Rattle.rv_machine.specs.OpenMap.{line_in, all_but}
 use Rattle.rv_machine.specs.Taking.{TakesAll, TakesOne, items_of, settled_taken, told_taken, without_taken}
 use Rattle.rv_machine.proofs.Leaving.{closed_none}
 use Rattle.rv_machine.proofs.Parted.{but_cons, but_none}
@@ -28,7 +28,7 @@ use Rattle.rv_machine.proofs.Parted.{but_cons, but_none}
 pub but_append : (all gone more : List OpenPlace) → but all (gone ++ more) ≡ but (but all gone) more
 but_append all [] more = ap (λ (l : List OpenPlace). but l more) (sym (but_none all))
 but_append all (o ∷ gone) more =
-    but_cons all (gone ++ more) o ∙ but_append (without all o.place) gone more
+    but_cons all (gone ++ more) o ∙ but_append (all_but all o.place) gone more
     ∙ ap (λ (l : List OpenPlace). but l more) (sym (but_cons all gone o))
 
 pub closed_twice : (s : State) (gone more : List OpenPlace) (first then : List Settled)
@@ -137,13 +137,13 @@ module _ (old now new : Machine) (queue count : ℕ) (taker : Key) (there : Open
 -- so many were taken so far, of the most for which there is room
 pub record TookSoMany (old now : Machine) (queue most count : ℕ) (taker : Key) (items : Vec (List ℕ))
     (places : Vec ℕ) : Type 0 where
-  pub ready : IsReady now
+  pub ready : IsWhole now
   pub takes : TakesAll old now queue taker count items.items places.items
   pub items_room : most ≤ vec_capacity items
   pub places_room : most ≤ vec_capacity places
 
 pub took_nothing : (m : Machine) (queue most : ℕ) (taker : Key) (items : Vec (List ℕ)) (places : Vec ℕ)
-    → IsReady m → items.items ≡ [] → places.items ≡ [] → most ≤ vec_capacity items
+    → IsWhole m → items.items ≡ [] → places.items ≡ [] → most ≤ vec_capacity items
     → most ≤ vec_capacity places → TookSoMany m m queue most 0 taker items places
 took_nothing m queue most taker items places ready no_items no_places items_room places_room = record {
   ready = ready;
@@ -176,7 +176,7 @@ items_left old now queue most count taker items places is less =
 pub took_more : (old now new : Machine) (queue most count : ℕ) (taker : Key) (there : OpenPlace)
     (items after : Vec (List ℕ)) (places then : Vec ℕ)
     → TookSoMany old now queue most count taker items places → TakesOne now new queue taker there
-    → IsReady new
+    → IsWhole new
     → after.items ≡ items.items ++ unwrap_or there.item [] ∷ []
     → then.items ≡ places.items ++ there.place ∷ [] → vec_capacity after ≡ vec_capacity items
     → vec_capacity then ≡ vec_capacity places → TookSoMany old new queue most (count + 1) taker after then

@@ -17,9 +17,9 @@ use Rattle.rv_state.specs.After.{Settled, closed}
 use Rattle.rv_state.proofs.Words.{none-some}
 use Rattle.rv_state.proofs.Filtered.{find_get}
 use Rattle.rv_machine.specs.declared.machine.Machine.{Machine}
-use Rattle.rv_machine.specs.Indexed.{Closes, ClosesFirst}
-use Rattle.rv_machine.specs.Machines.{IsConsistent, IsReady, IsWaiter, keys_settled, state_in}
-use Rattle.rv_machine.specs.Opens.{duty_at, waiting_in}
+use Rattle.rv_machine.specs.Indexed.{ClosesPlace, ClosesFirst}
+use Rattle.rv_machine.specs.Machines.{IsConsistent, IsWhole, IsWaiter, keys_settled, state_in}
+use Rattle.rv_machine.specs.OpenMap.{duty_at, count_waiting}
 use Rattle.rv_machine.specs.Taking.{TakesOne, settled_taken, told_taken}
 use Rattle.rv_machine.proofs.EndedMachine as ended
 use Rattle.rv_machine.proofs.EndingOne.{but_one}
@@ -53,7 +53,7 @@ no_waiter there (Some w) is none =
 settles_by : State → Key → OpenPlace → Option Waiter → List Settled
 settles_by s taker there w = settled_taken s taker (record there { waiter = w } ∷ [])
 
-module _ (m : Machine) (ready : IsReady m) (queue : ℕ) (taker : Key) (table : List OpenPlace)
+module _ (m : Machine) (ready : IsWhole m) (queue : ℕ) (taker : Key) (table : List OpenPlace)
     (there : OpenPlace) (duty : Option OwedDuty)
     (takes : ClosesFirst m.table table (Some (Gives queue)) there duty) where
   abbrev s : State
@@ -63,8 +63,8 @@ module _ (m : Machine) (ready : IsReady m) (queue : ℕ) (taker : Key) (table : 
   has_item = line_item s ready.consistent queue 0 there (ap (λ (l : List OpenPlace). slice_get l 0)
       takes.first)
 
-  pub not_more : waiting_in table ≤ waiting_in m.table
-  not_more = subst (λ (l : List OpenPlace). waiting_in l ≤ waiting_in m.table) (sym takes.closes.rest)
+  pub not_more : count_waiting table ≤ count_waiting m.table
+  not_more = subst (λ (l : List OpenPlace). count_waiting l ≤ count_waiting m.table) (sym takes.closes.rest)
       (no_more_wait m.table there ready.consistent.rise takes.closes.found)
 
   pub its_waiter : (w : Waiter) → there.waiter ≡ Some w → IsWaiter s there w
@@ -107,7 +107,7 @@ module _ (m : Machine) (ready : IsReady m) (queue : ℕ) (taker : Key) (table : 
           clients = s.clients;
         }
 
-    pub lay_ready : IsReady now
+    pub lay_ready : IsWhole now
     lay_ready = record {
       consistent = subst (λ (x : State). IsConsistent x) (sym state_lay)
           (gone_consistent s ready.consistent there takes.closes.found lies);
@@ -129,8 +129,8 @@ module _ (m : Machine) (ready : IsReady m) (queue : ℕ) (taker : Key) (table : 
 
   module _ (owed : OwedDuty) (some : duty ≡ Some owed) (w : Waiter) (waits : there.waiter ≡ Some w)
       (reply : Reply) (told : told_taken s taker there w.key ≡ Some reply) where
-    closes : Closes m.table table there.place there (Some owed)
-    closes = subst (λ d. Closes m.table table there.place there d) some takes.closes
+    closes : ClosesPlace m.table table there.place there (Some owed)
+    closes = subst (λ d. ClosesPlace m.table table there.place there d) some takes.closes
 
     abbrev its : Settled
     its = record { key = w.key; reply = reply }
@@ -162,7 +162,7 @@ module _ (m : Machine) (ready : IsReady m) (queue : ℕ) (taker : Key) (table : 
       }
 
       pub waited_ready : vec_len settled ≡ vec_len m.settled + 1
-          → vec_capacity settled ≡ vec_capacity m.settled → IsReady then
+          → vec_capacity settled ≡ vec_capacity m.settled → IsWhole then
       waited_ready = ended.still_ready m ready there.place there w owed reply table closes waits clients tells
           settled
 

@@ -16,17 +16,17 @@ use Rattle.rv_state.specs.After.{following}
 use Rattle.rv_state.specs.Follows.{NumberIsNext, partners_of}
 use Rattle.rv_state.specs.Moves.{told_again}
 use Rattle.rv_machine.specs.declared.machine.Machine.{Machine}
-use Rattle.rv_machine.specs.Machines.{IsReady, keys_settled, state_in}
-use Rattle.rv_machine.specs.Opens.{waiting_in}
+use Rattle.rv_machine.specs.Machines.{IsWhole, keys_settled, state_in}
+use Rattle.rv_machine.specs.OpenMap.{count_waiting}
 
 -- a request of this key with this call is its session's next, and there is room for its entries
 pub record MayArrive (m : Machine) (moment : ℕ) (key : Key) (call : Call) : Type 0 where
-  pub ready : IsReady m
+  pub ready : IsWhole m
   pub later : m.moment ≤ moment
   pub time : moment ≤ max_moment
   pub fits : FitsCall call
   pub next : NumberIsNext (state_in m) key
-  pub space : m.length + waiting_in m.table + need_of call ≤ max_entries
+  pub space : m.length + count_waiting m.table + need_of call ≤ max_entries
 
 -- it arrived: the state is what its entry makes of the one before, whom that settles is listed, and its
 -- session has what the entry's own reply is

@@ -11,20 +11,20 @@ use Rattle.rv_state.specs.Follows.{IsNewIncarnation}
 use Rattle.rv_state.specs.State.{ClientState, State, client_at}
 use Rattle.rv_machine.specs.declared.machine.Machine.{Machine}
 use Rattle.rv_machine.specs.Machines.{state_in}
-use Rattle.rv_machine.specs.Opens.{waiting_in}
+use Rattle.rv_machine.specs.OpenMap.{count_waiting}
 
 -- so many entries more can be made, beside those that end what waits
-abbrev pub HasSpace : Machine → ℕ → Type 0
-HasSpace m need = m.length + waiting_in m.table + need ≤ max_entries
+abbrev pub HasSpaceFor : Machine → ℕ → Type 0
+HasSpaceFor m need = m.length + count_waiting m.table + need ≤ max_entries
 
 -- no request of the client waits
-abbrev pub IsIdle : State → ℕ → Type 0
-IsIdle s client = (session : ClientState) → client_at s client ≡ Some session
+abbrev pub WaitsForNothing : State → ℕ → Type 0
+WaitsForNothing s client = (session : ClientState) → client_at s client ≡ Some session
     → place_waiting session.request ≡ None
 
 -- no request of the client waits, which is known, or can be entered without memory
 pub record CanOpen (m : Machine) (client : ℕ) : Type 0 where
-  pub idle : IsIdle (state_in m) client
+  pub idle : WaitsForNothing (state_in m) client
   pub most : client_at (state_in m) client ≡ None → len m.clients.clients < m.clients.most
   pub room : client_at (state_in m) client ≡ None → 0 < m.clients.room
 

@@ -16,8 +16,8 @@ use Rattle.rv_due.specs.Deadlines.{Deadlines}
 use Rattle.rv_state.specs.State.{OpenPlace, place_list}
 use Rattle.rv_waiters.specs.Parked.{AreParked}
 use Rattle.rv_waiters.specs.Views.{Waiters, waiting_on}
-use Rattle.rv_machine.specs.Opens.{PlacesRise, due_in, duty_at, facing, found_at, limits_in, line_in}
-use Rattle.rv_machine.specs.Opens.{StandBelow, opposed_in, owed_in, waiting_in, without}
+use Rattle.rv_machine.specs.OpenMap.{PlacesRise, due_in, duty_at, facing, found_at, deadlines_in, line_in}
+use Rattle.rv_machine.specs.OpenMap.{StandBelow, opposed_in, owed_among, count_waiting, all_but}
 
 -- the places rise, each is of a side that there is, and whoever has a limit waits; the tables have just these
 pub record AreIndexed (all : List OpenPlace) (waiters : Waiters) (waiting : ℕ) (due : Deadlines) : Type 0
@@ -26,9 +26,9 @@ pub record AreIndexed (all : List OpenPlace) (waiters : Waiters) (waiting : ℕ)
     pub fit : (i : ℕ) (one : OpenPlace) → slice_get all i ≡ Some one → FitsSide one.side
     pub limited : (i : ℕ) (one : OpenPlace) → slice_get all i ≡ Some one → IsSome one.limit → IsSome one.waiter
     pub lines : (side : Side) → waiting_on waiters side ≡ place_list (line_in all side)
-    pub parked : AreParked (owed_in all) waiters
-    pub counted : waiting ≡ waiting_in all
-    pub limits : due ≡ limits_in all
+    pub parked : AreParked (owed_among all) waiters
+    pub counted : waiting ≡ count_waiting all
+    pub limits : due ≡ deadlines_in all
 
 -- a request waits at the place
 pub record WaitsIn (all : List OpenPlace) (place : ℕ) : Type 0 where
@@ -37,22 +37,22 @@ pub record WaitsIn (all : List OpenPlace) (place : ℕ) : Type 0 where
   pub waits : IsSome there.waiter
 
 -- what stood at a place is closed: it comes out, with the duty to settle who waited there, and all else stays
-pub record Closes (old new : List OpenPlace) (place : ℕ) (there : OpenPlace) (duty : Option OwedDuty) : Type 0
+pub record ClosesPlace (old new : List OpenPlace) (place : ℕ) (there : OpenPlace) (duty : Option OwedDuty) : Type 0
   where
     pub found : found_at old place ≡ Some there
     pub owed : duty_at there ≡ duty
-    pub rest : new ≡ without old place
+    pub rest : new ≡ all_but old place
 
 -- the first that is due at a moment is closed, of all that are due there, by limit and then place
 pub record ClosesDue (old new : List OpenPlace) (moment : ℕ) (there : OpenPlace) (duty : OwedDuty) : Type 0
   where
-    pub closes : Closes old new there.place there (Some duty)
+    pub closes : ClosesPlace old new there.place there (Some duty)
     pub first : due_in old moment ≡ there ∷ due_in new moment
 
 -- the first of a line is closed
 pub record ClosesFirst (old new : List OpenPlace) (line : Option Side) (there : OpenPlace)
     (duty : Option OwedDuty) : Type 0 where
-  pub closes : Closes old new there.place there duty
+  pub closes : ClosesPlace old new there.place there duty
   pub first : facing old line ≡ there ∷ facing new line
 
 -- ---- who arrives and stays
@@ -72,10 +72,10 @@ pub record MayPark (all : List OpenPlace) (opened : OpenPlace) (key : Key) (call
   pub waiter : duty_at opened
       ≡ option_map (λ w. record { place = opened.place; client = key.client }) (wait_of call)
   pub limited : IsSome opened.limit → IsSome opened.waiter
-  pub few : waiting_in all < max_entries
+  pub few : count_waiting all < max_entries
 
 -- it stays from now on: its request is its client's last, and waits unless it is a put's
-pub record Parks (old new : List OpenPlace) (was now : ClientStates) (opened : OpenPlace) (key : Key)
+pub record ParksPlace (old new : List OpenPlace) (was now : ClientStates) (opened : OpenPlace) (key : Key)
     (call : Call) (own : Option OwedDuty) : Type 0 where
   pub opens : new ≡ old ++ opened ∷ []
   pub begins : now ≡ with_clients was (clients_asked was.clients key (Waits opened.place call))

@@ -1,5 +1,5 @@
 -- What the machine's tables say of what is open.
-pub mod Opens
+pub mod OpenMap
 pub mod Indexed
 -- The state that a machine holds, and what a step of it tells.
 pub mod Machines

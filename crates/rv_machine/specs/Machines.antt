@@ -18,7 +18,7 @@ use Rattle.rv_state.specs.Moves.{Move, StateNextAt, answer_told, told_again}
 use Rattle.rv_machine.specs.declared.machine.Machine.{Machine}
 use Rattle.rv_machine.specs.declared.machine.Said.{Said}
 use Rattle.rv_machine.specs.declared.machine.Said.TheVariants as said
-use Rattle.rv_machine.specs.Opens.{PlacesRise, StandBelow, found_at, waiting_in}
+use Rattle.rv_machine.specs.OpenMap.{PlacesRise, StandBelow, found_at, count_waiting}
 
 -- ---- what a machine holds
 
@@ -36,8 +36,8 @@ state_in m =
 -- ---- what holds of such a state
 
 -- the key of a session's last number
-abbrev pub last_key : State → ℕ → ClientState → Key
-last_key s client session =
+abbrev pub last_key_in : State → ℕ → ClientState → Key
+last_key_in s client session =
     record {
       epoch = s.epoch;
       client = client;
@@ -53,7 +53,7 @@ WaitsLong call = IsSome (wait_of call) × Lasts (wait_of call)
 pub record IsWaiter (s : State) (there : OpenPlace) (w : Waiter) : Type 0 where
   pub session : ClientState
   pub known : client_at s w.key.client ≡ Some session
-  pub key_is : w.key ≡ last_key s w.key.client session
+  pub key_is : w.key ≡ last_key_in s w.key.client session
   pub call : Call
   pub waits : session.request ≡ Waits there.place call
   pub side : there.side ≡ side_of call
@@ -61,7 +61,7 @@ pub record IsWaiter (s : State) (there : OpenPlace) (w : Waiter) : Type 0 where
   pub lasts : WaitsLong call
 
 -- a request of the client waits at the open place
-pub record WaitsFor (s : State) (client place : ℕ) : Type 0 where
+pub record AwaitsPlace (s : State) (client place : ℕ) : Type 0 where
   pub there : OpenPlace
   pub found : found_at s.open_places place ≡ Some there
   pub waiter : Waiter
@@ -85,15 +85,15 @@ pub record IsConsistent (s : State) : Type 0 where
   pub lie : (i : ℕ) (there : OpenPlace) → slice_get s.open_places i ≡ Some there → there.waiter ≡ None
       → LiesThere there
   pub clients : (client : ℕ) (session : ClientState) (place : ℕ) (call : Call)
-      → client_at s client ≡ Some session → session.request ≡ Waits place call → WaitsFor s client place
+      → client_at s client ≡ Some session → session.request ≡ Waits place call → AwaitsPlace s client place
   pub time : s.moment ≤ max_moment
-  pub space : s.length + waiting_in s.open_places ≤ max_entries
+  pub space : s.length + count_waiting s.open_places ≤ max_entries
 
 -- and the machine has room to list whoever waits among those that a step settles
-pub record IsReady (m : Machine) : Type 0 where
+pub record IsWhole (m : Machine) : Type 0 where
   pub consistent : IsConsistent (state_in m)
   pub most : m.clients.most ≡ max_clients
-  pub room : waiting_in m.table + vec_len m.settled ≤ vec_capacity m.settled
+  pub room : count_waiting m.table + vec_len m.settled ≤ vec_capacity m.settled
 
 -- ---- what a step tells
 

@@ -8,7 +8,7 @@ use Rattle.rv_state.specs.State.{OpenPlace, State, place_list}
 use Rattle.rv_state.specs.After.{Settled, closed, receipt_of, session_version, settled_all}
 use Rattle.rv_machine.specs.declared.machine.Machine.{Machine}
 use Rattle.rv_machine.specs.Machines.{keys_settled, state_in}
-use Rattle.rv_machine.specs.Opens.{line_in, waiting_in}
+use Rattle.rv_machine.specs.OpenMap.{line_in, count_waiting}
 
 -- what is told who gives what the request of this key takes, by its session's version
 abbrev pub told_taken : State → Key → OpenPlace → Key → Option Reply
@@ -27,7 +27,7 @@ without_taken s taker gone = closed s gone (settled_taken s taker gone)
 pub record TakesOne (old new : Machine) (queue : ℕ) (taker : Key) (there : OpenPlace) : Type 0 where
   pub first : line_in old.table (Gives queue) ≡ there ∷ line_in new.table (Gives queue)
   pub has : IsSome there.item
-  pub fewer : waiting_in new.table ≤ waiting_in old.table
+  pub fewer : count_waiting new.table ≤ count_waiting old.table
   pub state : state_in new ≡ without_taken (state_in old) taker (there ∷ [])
   pub listed : new.settled.items
       ≡ old.settled.items ++ keys_settled (settled_taken (state_in old) taker (there ∷ []))
@@ -42,7 +42,7 @@ pub record TakesAll (old new : Machine) (queue : ℕ) (taker : Key) (count : ℕ
   pub gone : List OpenPlace
   pub number : length gone ≡ count
   pub first : line_in old.table (Gives queue) ≡ gone ++ line_in new.table (Gives queue)
-  pub fewer : waiting_in new.table ≤ waiting_in old.table
+  pub fewer : count_waiting new.table ≤ count_waiting old.table
   pub state : state_in new ≡ without_taken (state_in old) taker gone
   pub listed : new.settled.items
       ≡ old.settled.items ++ keys_settled (settled_taken (state_in old) taker gone)

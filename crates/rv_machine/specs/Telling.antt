@@ -18,19 +18,19 @@ use Rattle.rv_machine.specs.declared.machine.Machine.{Machine}
 
 -- what a request that waits, or that doesn't wait long, is told of the one that it meets, which has this key and
 -- item: a giver who took its item, by its session's version, a taker the item, and who swaps the other's
-abbrev pub told_by : Side → Version → Option Key → Option (List ℕ) → Option Reply
-told_by (Gives queue) version other gets = receipt_of version other
-told_by (Takes queue) version other gets = option_map (λ item. reply.Item item) gets
-told_by (Exchanges exchanger) version other gets = option_map (λ item. reply.Swapped item) gets
-told_by (Looks queue) version other gets = None
+abbrev pub told_on_side : Side → Version → Option Key → Option (List ℕ) → Option Reply
+told_on_side (Gives queue) version other gets = receipt_of version other
+told_on_side (Takes queue) version other gets = option_map (λ item. reply.Item item) gets
+told_on_side (Exchanges exchanger) version other gets = option_map (λ item. reply.Swapped item) gets
+told_on_side (Looks queue) version other gets = None
 
 -- an arrival with this wait is told so too; a put is done
 abbrev pub told_arriving : Option Wait → Side → Version → Option Key → Option (List ℕ) → Option Reply
 told_arriving None side version other gets = Some reply.Done
-told_arriving (Some wait) side version other gets = told_by side version other gets
+told_arriving (Some wait) side version other gets = told_on_side side version other gets
 
 -- who waits with a duty has its session, its reply by that session's version, and room in the list
-pub record CanTell (m : Machine) (duty : OwedDuty) (waiter : Option Waiter) (side : Side) (key : Key)
+pub record MayTell (m : Machine) (duty : OwedDuty) (waiter : Option Waiter) (side : Side) (key : Key)
     (gift : Option (List ℕ)) : Type 0 where
   pub who : Waiter
   pub is : waiter ≡ Some who
@@ -39,12 +39,12 @@ pub record CanTell (m : Machine) (duty : OwedDuty) (waiter : Option Waiter) (sid
   pub session : ClientState
   pub known : get m.clients.clients who.key.client ≡ Some session
   pub reply : Reply
-  pub told : told_by side session.version (Some key) gift ≡ Some reply
+  pub told : told_on_side side session.version (Some key) gift ≡ Some reply
   pub room : vec_len m.settled < vec_capacity m.settled
 
 abbrev pub TellsWaiter : Machine → Option OwedDuty → Option Waiter → Side → Key → Option (List ℕ) → Type 0
 TellsWaiter m None waiter side key gift = Unit {0}
-TellsWaiter m (Some duty) waiter side key gift = CanTell m duty waiter side key gift
+TellsWaiter m (Some duty) waiter side key gift = MayTell m duty waiter side key gift
 
 -- the machine where one who waited was told a reply
 abbrev pub machine_told : Machine → Waiter → Reply → Vec Key → Machine
@@ -65,7 +65,7 @@ pub record WasTold (old new : Machine) (waiter : Option Waiter) (side : Side) (k
   pub session : ClientState
   pub known : get old.clients.clients who.key.client ≡ Some session
   pub reply : Reply
-  pub told : told_by side session.version (Some key) gift ≡ Some reply
+  pub told : told_on_side side session.version (Some key) gift ≡ Some reply
   pub machine : new ≡ machine_told old who reply new.settled
   pub listed : new.settled.items ≡ old.settled.items ++ who.key ∷ []
   pub longer : vec_len new.settled ≡ vec_len old.settled + 1

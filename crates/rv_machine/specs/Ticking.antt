@@ -7,7 +7,7 @@ use Rattle.rv_state.specs.After.{closed, stopped}
 use Rattle.rv_state.specs.Moves.{ticked_at}
 use Rattle.rv_machine.specs.declared.machine.Machine.{Machine}
 use Rattle.rv_machine.specs.Machines.{keys_settled, state_in}
-use Rattle.rv_machine.specs.Opens.{due_in, waiting_in}
+use Rattle.rv_machine.specs.OpenMap.{due_in, count_waiting}
 
 -- the first wait that is due at a moment is over, by a time-out
 pub record EndsNext (old new : Machine) (moment : ℕ) : Type 0 where
@@ -18,7 +18,7 @@ pub record EndsNext (old new : Machine) (moment : ℕ) : Type 0 where
   pub state : state_in new
       ≡ closed (state_in old) (there ∷ []) (record { key = waiter.key; reply = TimedOut } ∷ [])
   pub listed : new.settled.items ≡ old.settled.items ++ waiter.key ∷ []
-  pub fewer : waiting_in new.table + 1 ≡ waiting_in old.table
+  pub fewer : count_waiting new.table + 1 ≡ count_waiting old.table
 
 -- the waits of the first that are due at a moment are over, by time-outs
 pub record EndsFirst (old new : Machine) (moment : ℕ) : Type 0 where
@@ -27,7 +27,7 @@ pub record EndsFirst (old new : Machine) (moment : ℕ) : Type 0 where
   pub state : state_in new ≡ (stopped (state_in old) gone TimedOut).after
   pub listed : new.settled.items
       ≡ old.settled.items ++ keys_settled (stopped (state_in old) gone TimedOut).settles
-  pub fewer : waiting_in new.table ≤ waiting_in old.table
+  pub fewer : count_waiting new.table ≤ count_waiting old.table
 
 -- the time-outs of a step at a moment, which made these entries: nothing is due any longer
 pub record TimesOut (old new : Machine) (moment : ℕ) (entries : List Entry) : Type 0 where

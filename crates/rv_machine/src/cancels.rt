@@ -5,7 +5,7 @@ ghost use Rattle.rv_rules.specs.Steps.{max_moment};
 ghost use Rattle.rv_session.specs.ClientMeanings.{AsksNext};
 ghost use Rattle.rv_machine.specs.declared.machine.Said.TheVariants as said;
 ghost use Rattle.rv_machine.specs.Entering.{LastWaits};
-ghost use Rattle.rv_machine.specs.Machines.{IsReady, MovesBy, state_in};
+ghost use Rattle.rv_machine.specs.Machines.{IsWhole, MovesBy, state_in};
 ghost use Rattle.rv_machine.specs.Numbering.{AreNumbered};
 
 use crate::machine::Machine;
@@ -17,10 +17,10 @@ impl Machine {
     /// A cancel: it ends what waits, tells what has its reply, and settles what did not come yet. It takes
     /// no memory.
     pub(crate) fn cancel(&mut self, moment: u64, key: Key) -> Result<Option<Entry>, Refusal>
-        requires ready { IsReady self.old }
+        requires ready { IsWhole self.old }
         requires numbered { AreNumbered (state_in self.old) }
         requires time { moment ≤ max_moment }
-        ensures ready { IsReady self.new }
+        ensures ready { IsWhole self.new }
         ensures numbered { AreNumbered (state_in self.new) }
         ensures ok { IfOk result (λ made. MovesBy self.old self.new moment (Cancel key) (option_to_list made)
             (said.Told key)) }
@@ -38,11 +38,11 @@ impl Machine {
 
     // Cancels the request that waits at a place. There is always space for that.
     fn end_wait(&mut self, moment: u64, key: Key, place: Place) -> Entry
-        requires ready { IsReady self.old }
+        requires ready { IsWhole self.old }
         requires numbered { AreNumbered (state_in self.old) }
         requires time { moment ≤ max_moment }
         requires waits { LastWaits self.old key place }
-        ensures ready { IsReady self.new }
+        ensures ready { IsWhole self.new }
         ensures numbered { AreNumbered (state_in self.new) }
         ensures moves { MovesBy self.old self.new moment (Cancel key) (result ∷ []) (said.Told key) }
     {
@@ -53,11 +53,11 @@ impl Machine {
 
     // Cancels a request before it comes: its session's next number is the last, and cancelled.
     fn bury(&mut self, moment: u64, key: Key) -> Result<Option<Entry>, Refusal>
-        requires ready { IsReady self.old }
+        requires ready { IsWhole self.old }
         requires numbered { AreNumbered (state_in self.old) }
         requires time { moment ≤ max_moment }
         requires next { AsksNext self.old.clients key }
-        ensures ready { IsReady self.new }
+        ensures ready { IsWhole self.new }
         ensures numbered { AreNumbered (state_in self.new) }
         ensures ok { IfOk result (λ made. MovesBy self.old self.new moment (Cancel key) (option_to_list made)
             (said.Told key)) }

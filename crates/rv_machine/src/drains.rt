@@ -7,8 +7,8 @@ ghost use Rattle.rv_text.specs.Limits.{FitsCall, FitsQueue};
 ghost use Rattle.rv_text.specs.declared.call.Side.TheVariants.{Gives, Takes};
 ghost use Rattle.rv_state.specs.After.{receipt_of};
 ghost use Rattle.rv_machine.specs.Arriving.{Arrives, IsAsBefore, MayArrive};
-ghost use Rattle.rv_machine.specs.Machines.{IsReady};
-ghost use Rattle.rv_machine.specs.Opens.{line_in};
+ghost use Rattle.rv_machine.specs.Machines.{IsWhole};
+ghost use Rattle.rv_machine.specs.OpenMap.{line_in};
 ghost use Rattle.rv_machine.specs.Taking.{TakesAll, TakesOne};
 
 use crate::machine::Machine;
@@ -81,7 +81,7 @@ impl Machine {
         requires drains { drains_of call ≡ Some max }
         ensures arrives { IfOk result (λ made. Arrives self.old self.new moment key call made) }
         ensures same { OnErr result (IsAsBefore self.old self.new) }
-        ensures ready { IsReady self.new }
+        ensures ready { IsWhole self.new }
     {
         let alloc = self.allocator();
         let queue = drained_queue(&call);
@@ -109,14 +109,14 @@ impl Machine {
         items: &mut Vec<Item>,
         places: &mut Vec<Place>,
     )
-        requires ready { IsReady self.old }
+        requires ready { IsWhole self.old }
         requires fits { FitsQueue queue }
         requires some { count ≤ length (line_in self.old.table (Gives queue)) }
         requires no_items { items.old.items ≡ [] }
         requires no_places { places.old.items ≡ [] }
         requires items_room { count ≤ vec_capacity items.old }
         requires places_room { count ≤ vec_capacity places.old }
-        ensures ready { IsReady self.new }
+        ensures ready { IsWhole self.new }
         ensures takes { TakesAll self.old self.new queue taker count items.new.items places.new.items }
     {
         for _taken in 0..count {
@@ -126,10 +126,10 @@ impl Machine {
 
     // Takes the oldest item of a queue for the request of this key, which there must be: who waited with it is told so.
     fn take_item(&mut self, queue: u64, taker: Key) -> OpenPlace
-        requires ready { IsReady self.old }
+        requires ready { IsWhole self.old }
         requires fits { FitsQueue queue }
         requires some { 0 < length (line_in self.old.table (Gives queue)) }
-        ensures ready { IsReady self.new }
+        ensures ready { IsWhole self.new }
         ensures takes { TakesOne self.old self.new queue taker result }
     {
         let (there, duty) = self.table.take_front(queue).unwrap();

@@ -10,9 +10,9 @@ ghost use Rattle.rv_session.specs.Clients.{fresh_state};
 ghost use Rattle.rv_state.specs.After.{advanced, with_client};
 ghost use Rattle.rv_machine.specs.declared.machine.Said.TheVariants as said;
 ghost use Rattle.rv_machine.specs.Entering.{CanOpen, IsNewHello};
-ghost use Rattle.rv_machine.specs.Machines.{IsReady, MovesBy, state_in};
+ghost use Rattle.rv_machine.specs.Machines.{IsWhole, MovesBy, state_in};
 ghost use Rattle.rv_machine.specs.Numbering.{AreNumbered};
-ghost use Rattle.rv_machine.specs.Opens.{waiting_in};
+ghost use Rattle.rv_machine.specs.OpenMap.{count_waiting};
 
 use crate::machine::Machine;
 use rv_account::{Act, Entry, Partners};
@@ -29,10 +29,10 @@ impl Machine {
         incarnation: u64,
         version: Version,
     ) -> Result<Option<Entry>, Refusal>
-        requires ready { IsReady self.old }
+        requires ready { IsWhole self.old }
         requires numbered { AreNumbered (state_in self.old) }
         requires time { moment ≤ max_moment }
-        ensures ready { IsReady self.new }
+        ensures ready { IsWhole self.new }
         ensures numbered { AreNumbered (state_in self.new) }
         ensures ok { IfOk result (λ made. MovesBy self.old self.new moment (Hello client incarnation version)
             (option_to_list made) (said.Welcome self.old.clients.epoch client incarnation version)) }
@@ -63,12 +63,12 @@ impl Machine {
         incarnation: u64,
         version: Version,
     ) -> Result<Option<Entry>, Refusal>
-        requires ready { IsReady self.old }
+        requires ready { IsWhole self.old }
         requires numbered { AreNumbered (state_in self.old) }
         requires time { moment ≤ max_moment }
         requires unknown { get self.old.clients.clients client ≡ None }
         requires is_new { IsNewHello (state_in self.old) client incarnation }
-        ensures ready { IsReady self.new }
+        ensures ready { IsWhole self.new }
         ensures numbered { AreNumbered (state_in self.new) }
         ensures ok { IfOk result (λ made. MovesBy self.old self.new moment (Hello client incarnation version)
             (option_to_list made) (said.Welcome self.old.clients.epoch client incarnation version)) }
@@ -94,11 +94,11 @@ impl Machine {
         version: Version,
         waiting: Option<Place>,
     ) -> Result<Option<Entry>, Refusal>
-        requires ready { IsReady self.old }
+        requires ready { IsWhole self.old }
         requires numbered { AreNumbered (state_in self.old) }
         requires time { moment ≤ max_moment }
         requires lower { HasLowerState self.old.clients client incarnation waiting }
-        ensures ready { IsReady self.new }
+        ensures ready { IsWhole self.new }
         ensures numbered { AreNumbered (state_in self.new) }
         ensures ok { IfOk result (λ made. MovesBy self.old self.new moment (Hello client incarnation version)
             (option_to_list made) (said.Welcome self.old.clients.epoch client incarnation version)) }
@@ -119,12 +119,12 @@ impl Machine {
 
     // Opens a session in which nothing was asked yet, and counts its entry. It takes no memory.
     fn enter(&mut self, moment: u64, client: u64, incarnation: u64, version: Version) -> Entry
-        requires ready { IsReady self.old }
+        requires ready { IsWhole self.old }
         requires numbered { AreNumbered (state_in self.old) }
         requires time { moment ≤ max_moment }
         requires opens { CanOpen self.old client }
-        requires space { self.old.length + waiting_in self.old.table < max_entries }
-        ensures ready { IsReady self.new }
+        requires space { self.old.length + count_waiting self.old.table < max_entries }
+        ensures ready { IsWhole self.new }
         ensures numbered { AreNumbered (state_in self.new) }
         ensures entry { result ≡ entry moment (act.Hello client incarnation version) [] }
         ensures after { state_in self.new ≡ advanced (with_client (state_in self.old) client

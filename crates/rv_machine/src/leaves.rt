@@ -11,8 +11,8 @@ ghost use Rattle.rv_state.specs.State.{line};
 ghost use Rattle.rv_text.specs.Limits.{FitsQueue};
 ghost use Rattle.rv_text.specs.declared.call.Side.TheVariants.{Gives};
 ghost use Rattle.rv_machine.specs.Arriving.{Arrives, IsAsBefore, MayArrive};
-ghost use Rattle.rv_machine.specs.Machines.{IsReady, state_in};
-ghost use Rattle.rv_machine.specs.Opens.{opposed_in};
+ghost use Rattle.rv_machine.specs.Machines.{IsWhole, state_in};
+ghost use Rattle.rv_machine.specs.OpenMap.{opposed_in};
 
 use crate::machine::Machine;
 use rv_account::{Act, Entry, Partners};
@@ -49,7 +49,7 @@ impl Machine {
         requires leaves { ¬ StaysBy (side_of call) (wait_of call) }
         ensures arrives { IfOk result (λ made. Arrives self.old self.new moment key call made) }
         ensures same { OnErr result (IsAsBefore self.old self.new) }
-        ensures ready { IsReady self.new }
+        ensures ready { IsWhole self.new }
     {
         let alloc = self.allocator();
         let copy = call.copy(alloc)?;
@@ -64,7 +64,7 @@ impl Machine {
 
     // What a request is told that finds nobody and doesn't stay.
     fn reply_alone(&self, call: &Call, alloc: Global) -> Result<Reply, NoMemory>
-        requires ready { IsReady self.now }
+        requires ready { IsWhole self.now }
         requires fits { FitsCall call.now }
         requires leaves { ¬ StaysBy (side_of call.now) (wait_of call.now) }
         ensures { IfOk result (λ told. told_alone (state_in self.now) call.now ≡ Some told) }
@@ -94,7 +94,7 @@ impl Machine {
 
     // What a peek at a queue is told.
     fn peek(&self, queue: u64, alloc: Global) -> Result<Reply, NoMemory>
-        requires ready { IsReady self.now }
+        requires ready { IsWhole self.now }
         requires fits { FitsQueue queue }
         ensures { IfOk result (λ told. told_front (line (state_in self.now) (Gives queue)) ≡ Some told) }
     {

@@ -1,12 +1,12 @@
 //! The machine of a book: the state of an account in tables, and what changes them together.
 ghost use Rattle.std.specs.Prelude.{◌≡◌, ◌++◌, ◌∷◌, []};
 ghost use Rattle.rv_machine.specs.Indexed.{WaitsIn};
-ghost use Rattle.rv_machine.specs.Machines.{IsReady, state_in};
+ghost use Rattle.rv_machine.specs.Machines.{IsWhole, state_in};
 ghost use Rattle.rv_machine.specs.Ending.{EndsWaiting, counted};
 ghost use Rattle.std.specs.Prelude.{◌<◌, ◌≤◌, ◌+◌};
 ghost use Rattle.rv_account.specs.Account.{entry};
 ghost use Rattle.rv_rules.specs.Steps.{max_entries, max_moment};
-ghost use Rattle.rv_machine.specs.Opens.{waiting_in};
+ghost use Rattle.rv_machine.specs.OpenMap.{count_waiting};
 
 use crate::table::OpenTable;
 use rv_account::{Act, Entry, Partners};
@@ -40,9 +40,9 @@ pub struct Machine {
 impl Machine {
     /// Ends the wait of the request at a place, which has this reply now, and lists its key.
     pub(crate) fn end(&mut self, place: Place, reply: Reply)
-        requires ready { IsReady self.old }
+        requires ready { IsWhole self.old }
         requires waits { WaitsIn self.old.table place }
-        ensures ready { IsReady self.new }
+        ensures ready { IsWhole self.new }
         ensures ends { EndsWaiting self.old self.new place reply }
     {
         let (there, duty) = self.table.close(place);
@@ -52,11 +52,11 @@ impl Machine {
 
     /// Counts one entry more, of a moment, and gives it. There must be room for it among the entries.
     pub(crate) fn record(&mut self, moment: u64, act: Act, partners: Partners) -> Entry
-        requires ready { IsReady self.old }
+        requires ready { IsWhole self.old }
         requires time { moment ≤ max_moment }
-        requires space { self.old.length + waiting_in self.old.table < max_entries }
+        requires space { self.old.length + count_waiting self.old.table < max_entries }
         ensures entry { result ≡ entry moment act partners }
-        ensures ready { IsReady self.new }
+        ensures ready { IsWhole self.new }
         ensures counted { self.new ≡ counted self.old moment }
     {
         self.length += 1;

@@ -4,14 +4,14 @@ ghost use Rattle.std.specs.Prelude.{vec_capacity};
 ghost use Rattle.std.specs.FinMap.{get};
 ghost use Rattle.rv_text.specs.Calls.{drains_of, item_of, side_of};
 ghost use Rattle.rv_machine.specs.Arriving.{Arrives, IsAsBefore, MayArrive};
-ghost use Rattle.rv_machine.specs.Machines.{IsReady};
-ghost use Rattle.rv_machine.specs.Opens.{opposed_in};
+ghost use Rattle.rv_machine.specs.Machines.{IsWhole};
+ghost use Rattle.rv_machine.specs.OpenMap.{opposed_in};
 ghost use Rattle.rv_state.specs.After.{receipt_of};
-ghost use Rattle.rv_machine.specs.Telling.{TellsOne, TellsWaiter, told_arriving, told_by};
+ghost use Rattle.rv_machine.specs.Telling.{TellsOne, TellsWaiter, told_arriving, told_on_side};
 
 use crate::machine::Machine;
 use crate::stays::copy_item;
-use crate::table::Met;
+use crate::table::MetPlace;
 use rv_account::{Act, Entry, Partners};
 use rv_session::{Duty, OpenPlace, Place, Waiter};
 use rv_text::{Call, Item, Key, NoMemory, Reply, Side, Version, Wait};
@@ -29,8 +29,8 @@ fn receipt(version: Version, taker: Option<Key>) -> Reply
 
 // What one who meets is told, by its side and its session's version.
 fn met(side: Side, version: Version, other: Option<Key>, gets: Option<Item>) -> Reply
-    requires gives { IsSome (told_by side version other gets) }
-    ensures { told_by side version other gets ≡ Some result }
+    requires gives { IsSome (told_on_side side version other gets) }
+    ensures { told_on_side side version other gets ≡ Some result }
 {
     match side {
         Side::Gives(_) => receipt(version, other),
@@ -71,7 +71,7 @@ impl Machine {
         requires may { MayArrive self.old moment key call }
         requires some { 0 < length (opposed_in self.old.table (side_of call)) }
         requires one { drains_of call ≡ None }
-        ensures ready { IsReady self.new }
+        ensures ready { IsWhole self.new }
         ensures ok { IfOk result (Arrives self.old self.new moment key call) }
         ensures err { OnErr result (IsAsBefore self.old self.new) }
     {
@@ -99,12 +99,12 @@ impl Machine {
         requires gift { gift ≡ item_of call }
         requires none { places.items ≡ [] }
         requires room { 0 < vec_capacity places }
-        ensures ready { IsReady self.new }
+        ensures ready { IsWhole self.new }
         ensures arrives { Arrives self.old self.new moment key call result }
     {
         let version = self.version_of(key.client);
         let duty = self.clients.begin(&key, self.length, call);
-        let Met { there, own, other } = self.table.meet(&copy, duty);
+        let MetPlace { there, own, other } = self.table.meet(&copy, duty);
         places.push_reserved(there.place);
         let OpenPlace {
             place: _,

@@ -1,6 +1,6 @@
 //! What is open, by its place.
 ghost use Rattle.std.specs.Prelude.{◌≡◌, [], ◌∷◌, ◌++◌, OnOk, OnErr, option_map, length};
-ghost use Rattle.rv_machine.specs.Opens.{StandBelow, found_at, without};
+ghost use Rattle.rv_machine.specs.OpenMap.{StandBelow, found_at, all_but};
 
 use rv_session::{OpenPlace, Place};
 use rv_text::NoMemory;
@@ -12,15 +12,15 @@ use std::marker::Model;
 ///
 /// Each call takes time logarithmic in their number, and `len` constant time.
 #[derive(Drop)]
-pub(crate) struct Opens {
+pub(crate) struct OpenMap {
     places: BTreeMap<Place, OpenPlace>,
 }
 
-impl Model for Opens {
+impl Model for OpenMap {
     ghost use Rattle.std.specs.Prelude.{List};
     ghost use Rattle.std.specs.Map.{values_of};
     ghost use Rattle.rv_state.specs.State.{OpenPlace};
-    ghost use Rattle.rv_machine.specs.Opens.{AreOpens};
+    ghost use Rattle.rv_machine.specs.OpenMap.{AreOpens};
 
     ghost Value = { List OpenPlace };
 
@@ -29,12 +29,12 @@ impl Model for Opens {
     ghost invariant = { λ o. AreOpens o.places.entries };
 }
 
-impl Opens {
+impl OpenMap {
     /// Nothing is open. It takes no memory yet.
-    pub(crate) fn new(alloc: Global) -> Opens
+    pub(crate) fn new(alloc: Global) -> OpenMap
         ensures { result ≡ [] }
     {
-        Opens {
+        OpenMap {
             places: BTreeMap::new(alloc),
         }
     }
@@ -52,7 +52,7 @@ impl Opens {
     /// Takes out what is open at a place, if something is. All else stays.
     pub(crate) fn take(&mut self, place: Place) -> Option<OpenPlace>
         ensures found { result ≡ found_at self.old place }
-        ensures rest { self.new ≡ without self.old place }
+        ensures rest { self.new ≡ all_but self.old place }
     {
         self.places.remove(&place)
     }

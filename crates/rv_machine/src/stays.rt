@@ -10,8 +10,8 @@ ghost use Rattle.rv_text.specs.Limits.{FitsCall};
 ghost use Rattle.rv_waiters.specs.Meeting.{StaysBy};
 ghost use Rattle.rv_machine.specs.Arriving.{Arrives, IsAsBefore, MayArrive, after_put};
 ghost use Rattle.rv_machine.specs.Ending.{counted};
-ghost use Rattle.rv_machine.specs.Machines.{IsReady, state_in};
-ghost use Rattle.rv_machine.specs.Opens.{opposed_in};
+ghost use Rattle.rv_machine.specs.Machines.{IsWhole, state_in};
+ghost use Rattle.rv_machine.specs.OpenMap.{opposed_in};
 
 use crate::machine::Machine;
 use rv_account::{Act, Entry, Partners, deadline_after};
@@ -81,7 +81,7 @@ impl Machine {
         requires may { MayArrive self.old moment key call }
         requires alone { opposed_in self.old.table (side_of call) ≡ [] }
         requires stays { StaysBy (side_of call) (wait_of call) }
-        ensures ready { IsReady self.new }
+        ensures ready { IsWhole self.new }
         ensures ok { IfOk result (Arrives self.old self.new moment key call) }
         ensures err { OnErr result (IsAsBefore self.old self.new) }
     {

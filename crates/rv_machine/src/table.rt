@@ -7,11 +7,11 @@ ghost use Rattle.rv_account.specs.Calls.{opposite};
 ghost use Rattle.rv_text.specs.Calls.{side_of, wait_of};
 ghost use Rattle.rv_text.specs.Limits.{FitsQueue, FitsSide};
 ghost use Rattle.rv_text.specs.declared.call.Side.TheVariants.{Gives, Takes};
-ghost use Rattle.rv_machine.specs.Opens.{StandBelow, due_in, found_at, line_in, opposed_in, waiting_in};
-ghost use Rattle.rv_machine.specs.Opens.{with_limit, without, without_limit};
-ghost use Rattle.rv_machine.specs.Indexed.{Closes, ClosesDue, ClosesFirst, MayPark, Parks, WaitsIn};
+ghost use Rattle.rv_machine.specs.OpenMap.{StandBelow, due_in, found_at, line_in, opposed_in, count_waiting};
+ghost use Rattle.rv_machine.specs.OpenMap.{with_limit, all_but, without_limit};
+ghost use Rattle.rv_machine.specs.Indexed.{ClosesPlace, ClosesDue, ClosesFirst, MayPark, ParksPlace, WaitsIn};
 
-use crate::opens::Opens;
+use crate::opens::OpenMap;
 use rv_due::Due;
 use rv_session::{Clients, Duty, OpenPlace, Place};
 use rv_text::{Call, Key, NoMemory, Side};
@@ -22,7 +22,7 @@ use std::marker::Model;
 /// What is open, which contracts see as the list of open places, the oldest first.
 #[derive(Drop)]
 pub(crate) struct OpenTable {
-    opens: Opens,
+    opens: OpenMap,
     waiters: Waiters,
     // How many requests wait.
     waiting: usize,
@@ -31,7 +31,7 @@ pub(crate) struct OpenTable {
 }
 
 /// What became of an arrival that met somebody.
-pub(crate) struct Met {
+pub(crate) struct MetPlace {
     /// What stood at the place that it met.
     pub(crate) there: OpenPlace,
     /// Its own duty.
@@ -62,7 +62,7 @@ fn forget(due: &mut Due, limit: Option<u64>, place: Place)
 }
 
 // Lays an open place into the map and its limit among the deadlines. Fails only if memory was refused, and then both stay.
-fn lay(opens: &mut Opens, due: &mut Due, opened: OpenPlace) -> Result<(), NoMemory>
+fn lay(opens: &mut OpenMap, due: &mut Due, opened: OpenPlace) -> Result<(), NoMemory>
     requires { StandBelow opens.old opened.place }
     ensures opened { OnOk result (opens.new ≡ opens.old ++ opened ∷ []) }
     ensures limit { OnOk result (due.new ≡ with_limit opened.limit opened.place due.old) }
@@ -78,10 +78,10 @@ fn lay(opens: &mut Opens, due: &mut Due, opened: OpenPlace) -> Result<(), NoMemo
 }
 
 // Lays the limit of the place that was opened last among the deadlines, or else takes that place out again.
-fn lay_limit(opens: &mut Opens, due: &mut Due, limit: u64, place: Place) -> Result<(), NoMemory>
+fn lay_limit(opens: &mut OpenMap, due: &mut Due, limit: u64, place: Place) -> Result<(), NoMemory>
     ensures opened { OnOk result (opens.new ≡ opens.old) }
     ensures limit { OnOk result (due.new ≡ with_limit (Some limit) place due.old) }
-    ensures opens { OnErr result (opens.new ≡ without opens.old place) }
+    ensures opens { OnErr result (opens.new ≡ all_but opens.old place) }
     ensures due { OnErr result (due.new ≡ due.old) }
 {
     match due.add(limit, place) {
@@ -122,7 +122,7 @@ impl OpenTable {
         ensures { IfOk result (λ table. table ≡ []) }
     {
         Ok(OpenTable {
-            opens: Opens::new(alloc),
+            opens: OpenMap::new(alloc),
             waiters: Waiters::empty(alloc)?,
             waiting: 0,
             due: Due::new(alloc),
@@ -131,7 +131,7 @@ impl OpenTable {
 
     /// How many requests wait.
     pub(crate) fn waiting(&self) -> usize
-        ensures { result ≡ waiting_in self.now }
+        ensures { result ≡ count_waiting self.now }
     {
         self.waiting
     }
@@ -146,7 +146,7 @@ impl OpenTable {
     /// Closes the place of a request that waits, and gives what stood there and the duty to settle it.
     pub(crate) fn close(&mut self, place: Place) -> (OpenPlace, Duty)
         requires { WaitsIn self.old place }
-        ensures { Closes self.old self.new place result.0 (Some result.1) }
+        ensures { ClosesPlace self.old self.new place result.0 (Some result.1) }
     {
         let there = self.opens.take(place).unwrap();
         let duty = self.waiters.withdraw(there.side, place).unwrap();
@@ -211,7 +211,7 @@ impl OpenTable {
 
     /// An arrival with a call meets the oldest that it can meet, which there must be. Its place must be above all that
     /// are open.
-    pub(crate) fn meet(&mut self, call: &Call, duty: Duty) -> Met
+    pub(crate) fn meet(&mut self, call: &Call, duty: Duty) -> MetPlace
         requires fits { FitsSide (side_of call.now) }
         requires some { 0 < length (opposed_in self.old (side_of call.now)) }
         requires above { StandBelow self.old duty.place }
@@ -226,7 +226,7 @@ impl OpenTable {
         let there = self.opens.take(partner.unwrap()).unwrap();
         forget(&mut self.due, there.limit, there.place);
         self.waiting -= owing(&other);
-        Met {
+        MetPlace {
             there,
             own: own.unwrap(),
             other,
@@ -246,7 +246,7 @@ impl OpenTable {
         requires copy { copy.now ≡ call }
         requires known { IsSome (get clients.old.clients key.now.client) }
         requires may { MayPark self.old opened key.now call }
-        ensures ok { IfOk result (λ own. Parks self.old self.new clients.old clients.new opened key.now call own) }
+        ensures ok { IfOk result (λ own. ParksPlace self.old self.new clients.old clients.new opened key.now call own) }
         ensures same { OnErr result (self.new ≡ self.old) }
         ensures clients { OnErr result (clients.new ≡ clients.old) }
     {

@@ -1,9 +1,9 @@
 //! Time-outs: all that is due is ended, by one tick.
 ghost use Rattle.std.specs.Prelude.{◌≡◌, ◌≤◌, [], true, false, option_to_list};
 ghost use Rattle.rv_rules.specs.Steps.{max_moment};
-ghost use Rattle.rv_machine.specs.Machines.{IsReady, state_in};
+ghost use Rattle.rv_machine.specs.Machines.{IsWhole, state_in};
 ghost use Rattle.rv_machine.specs.Numbering.{AreNumbered};
-ghost use Rattle.rv_machine.specs.Opens.{due_in};
+ghost use Rattle.rv_machine.specs.OpenMap.{due_in};
 ghost use Rattle.rv_machine.specs.Ticking.{EndsFirst, EndsNext, TimesOut};
 
 use crate::machine::Machine;
@@ -14,10 +14,10 @@ impl Machine {
     /// Ends all that is due at a moment, by one tick, and gives its entry if something was due. It takes no
     /// memory.
     pub(crate) fn time_out(&mut self, moment: u64) -> Option<Entry>
-        requires ready { IsReady self.old }
+        requires ready { IsWhole self.old }
         requires numbered { AreNumbered (state_in self.old) }
         requires time { moment ≤ max_moment }
-        ensures ready { IsReady self.new }
+        ensures ready { IsWhole self.new }
         ensures numbered { AreNumbered (state_in self.new) }
         ensures ticks { TimesOut self.old self.new moment (option_to_list result) }
     {
@@ -31,9 +31,9 @@ impl Machine {
 
     // Ends all that is due at a moment, one a pass, the least limit first.
     fn end_due(&mut self, moment: u64)
-        requires ready { IsReady self.old }
+        requires ready { IsWhole self.old }
         requires numbered { AreNumbered (state_in self.old) }
-        ensures ready { IsReady self.new }
+        ensures ready { IsWhole self.new }
         ensures numbered { AreNumbered (state_in self.new) }
         ensures ends { EndsFirst self.old self.new moment }
         ensures none_due { due_in self.new.table moment ≡ [] }
@@ -44,9 +44,9 @@ impl Machine {
     // Ends the wait of the request whose limit comes first, if it is due at a moment, and tells whether one
     // was.
     fn end_next(&mut self, moment: u64) -> bool
-        requires ready { IsReady self.old }
+        requires ready { IsWhole self.old }
         requires numbered { AreNumbered (state_in self.old) }
-        ensures ready { IsReady self.new }
+        ensures ready { IsWhole self.new }
         ensures numbered { AreNumbered (state_in self.new) }
         ensures one { result ≡ true → EndsNext self.old self.new moment }
         ensures none { result ≡ false → due_in self.old.table moment ≡ [] }

@@ -3,7 +3,7 @@ use Rattle.std.proofs.Common.{◌≡◌, ◌∙◌, ℕ, List, ap, arith, length
 use Rattle.rv_session.specs.declared.client.LastRequest.{LastRequest}
 use Rattle.rv_session.specs.Clients.{clients_asked, with_clients}
 use Rattle.rv_text.specs.declared.call.Side.TheVariants.{Gives}
-use Rattle.rv_machine.specs.Opens.{line_in}
+use Rattle.rv_machine.specs.OpenMap.{line_in}
 use Rattle.rv_session.specs.declared.client.LastRequest.TheVariants.{RepliedTo}
 use Rattle.rv_text.specs.declared.answer.Reply.TheVariants.{Drained}
 use Rattle.rv_account.specs.declared.entry.Act.TheVariants.{Arrive}

@@ -1,14 +1,14 @@
 -- While waits are ended one by one, those that are over are the first that were due.
 use Rattle.std.specs.Prelude.{◌≡◌, length}
-use Rattle.rv_machine.specs.Machines.{IsReady, state_in}
+use Rattle.rv_machine.specs.Machines.{IsWhole, state_in}
 use Rattle.rv_machine.specs.Numbering.{AreNumbered}
-use Rattle.rv_machine.specs.Opens.{due_in}
+use Rattle.rv_machine.specs.OpenMap.{due_in}
 use Rattle.rv_machine.specs.Ticking.{EndsFirst}
 use Rattle.rv_machine.proofs.machine.Machine.end_due.Given as goal
 
 abbrev pub invariant-loop : goal.invariant-loop
 invariant-loop l = record {
-  ready : IsReady l.self;
+  ready : IsWhole l.self;
   numbered : AreNumbered (state_in l.self);
   moment : l.moment ≡ l.initial.moment;
   ends : EndsFirst l.initial.self l.self l.moment;

@@ -17,7 +17,7 @@ use Rattle.rv_state.specs.After.{key_of_waiter, told_own}
 use Rattle.rv_machine.specs.declared.machine.Machine.{Machine}
 use Rattle.rv_machine.specs.Arriving.{Arrives}
 use Rattle.rv_machine.specs.Indexed.{ClosesFirst}
-use Rattle.rv_machine.specs.Machines.{IsReady, state_in}
+use Rattle.rv_machine.specs.Machines.{IsWhole, state_in}
 use Rattle.rv_machine.specs.Telling.{TellsOne, TellsWaiter, told_arriving}
 use Rattle.rv_machine.proofs.MetMachine.{new_arrives, new_ready, new_small}
 use Rattle.rv_machine.proofs.MetOne.{begun, begun_with, opposes, tells_both, tells_waiter}
@@ -97,7 +97,7 @@ returns-clause-ready c =
     let clients = c.settle.ensures ∙ ap (λ (d : OwedDuty). with_clients c.tell.new.self.clients
     (clients_told c.tell.new.self.clients.clients d.client c.arriving-reply.result))
     (c.meet-there.ensures.own ∙ c.begin-duty.ensures.duty) in
-    subst (λ (m : Machine). IsReady m) (sym c.push.ensures.counted)
+    subst (λ (m : Machine). IsWhole m) (sym c.push.ensures.counted)
     (new_ready c.args.self.now c.args.moment c.args.key c.args.call c.requires.may c.meet-there.new.self
     c.meet-there.result.there c.meet-there.result.other met c.requires.one c.tell.new.self both
     c.arriving-reply.result own c.settle.new.self clients)

@@ -8,14 +8,14 @@ use Rattle.rv_account.specs.Account.{entry}
 use Rattle.rv_state.specs.State.{OpenPlace}
 use Rattle.rv_machine.specs.declared.machine.Machine.{Machine}
 use Rattle.rv_machine.specs.Arriving.{Arrives, after_put}
-use Rattle.rv_machine.specs.Indexed.{Parks}
-use Rattle.rv_machine.specs.Machines.{IsReady}
+use Rattle.rv_machine.specs.Indexed.{ParksPlace}
+use Rattle.rv_machine.specs.Machines.{IsWhole}
 use Rattle.rv_machine.proofs.StayedMachine.{put_awaits, stay_arrives, stay_ready}
 use Rattle.rv_machine.proofs.machine.Machine.stay.Goals as goal
 
 pub settle_put-requires : goal.settle_put-requires
 settle_put-requires c =
-    let parks = subst (λ (o : OpenPlace). Parks c.args.self.now.table c.park.new.self c.args.self.now.clients
+    let parks = subst (λ (o : OpenPlace). ParksPlace c.args.self.now.table c.park.new.self c.args.self.now.clients
     c.park.new.clients o c.args.key c.args.call c.in_ok-put.put) c.in_ok-opened.ensures c.in_ok-put.ensures.ok in
     subst (λ (t : ClientStates). IfSome c.in_ok-put.put (λ d. place_awaited t.clients d.client ≡ Some d.place))
     (sym parks.begins)
@@ -24,9 +24,9 @@ settle_put-requires c =
 
 pub returns-clause-ready : goal.returns-clause-ready
 returns-clause-ready c =
-    let parks = subst (λ (o : OpenPlace). Parks c.args.self.now.table c.park.new.self c.args.self.now.clients
+    let parks = subst (λ (o : OpenPlace). ParksPlace c.args.self.now.table c.park.new.self c.args.self.now.clients
     c.park.new.clients o c.args.key c.args.call c.in_ok-put.put) c.in_ok-opened.ensures c.in_ok-put.ensures.ok in
-    subst (λ (m : Machine). IsReady m) (sym c.push.ensures.counted)
+    subst (λ (m : Machine). IsWhole m) (sym c.push.ensures.counted)
     (stay_ready c.args.self.now c.args.moment c.args.key c.args.call c.requires.may c.requires.alone
     c.requires.stays c.in_ok-copy.copy c.in_ok-copy.ensures.same c.park.new.self parks.opens
     c.settle_put.new.clients c.in_ok-put.put parks.own_is
@@ -37,7 +37,7 @@ returns-clause-ready c =
 
 pub returns-clause-ok : goal.returns-clause-ok
 returns-clause-ok c =
-    let parks = subst (λ (o : OpenPlace). Parks c.args.self.now.table c.park.new.self c.args.self.now.clients
+    let parks = subst (λ (o : OpenPlace). ParksPlace c.args.self.now.table c.park.new.self c.args.self.now.clients
     c.park.new.clients o c.args.key c.args.call c.in_ok-put.put) c.in_ok-opened.ensures c.in_ok-put.ensures.ok in
     subst (λ (e : Entry). Arrives c.args.self.now c.push.new.self c.args.moment c.args.key c.args.call e)
     (sym (c.push.ensures.entry ∙ ap (entry c.args.moment (Arrive c.args.key c.in_ok-copy.copy)) c.none.ensures))

@@ -2,7 +2,7 @@
 use Rattle.std.proofs.Common.{◌≡◌, ◌∙◌, ap, subst, sym, refl, arith, List, Option, Some, IsSome}
 use Rattle.rv_session.specs.OwedDuty.{OwedDuty}
 use Rattle.rv_state.specs.State.{OpenPlace}
-use Rattle.rv_machine.specs.Opens.{found_at, without}
+use Rattle.rv_machine.specs.OpenMap.{found_at, all_but}
 use Rattle.rv_machine.specs.Indexed.{WaitsIn}
 use Rattle.rv_machine.proofs.Indexing.{Withdrawn, closed_waiting, fits_found, one_waits, waits_there, withdrawn}
 use Rattle.rv_machine.proofs.table.OpenTable.close.Goals as goal
@@ -54,5 +54,5 @@ returns c =
     record {
       found = ap (λ (all : List OpenPlace). found_at all c.args.place) (sym c.self.view_is) ∙ found;
       owed = out.owed ∙ sym out.is ∙ c.unwrap-duty.ensures;
-      rest = c.take.ensures.rest ∙ ap (λ (all : List OpenPlace). without all c.args.place) c.self.view_is;
+      rest = c.take.ensures.rest ∙ ap (λ (all : List OpenPlace). all_but all c.args.place) c.self.view_is;
     }

@@ -4,7 +4,7 @@ use Rattle.rv_session.specs.OwedDuty.{OwedDuty}
 use Rattle.rv_due.specs.Deadlines.{Deadline}
 use Rattle.rv_due.proofs.Kept.{if_none}
 use Rattle.rv_state.specs.State.{OpenPlace}
-use Rattle.rv_machine.specs.Opens.{due_in, found_at, without}
+use Rattle.rv_machine.specs.OpenMap.{due_in, found_at, all_but}
 use Rattle.rv_machine.specs.Indexed.{ClosesDue}
 use Rattle.rv_machine.proofs.Fronts.{closes_due, due_out, due_there, nothing_due, without_its}
 use Rattle.rv_machine.proofs.Indexing.{Withdrawn, closed_waiting, fits_found, one_waits, withdrawn}

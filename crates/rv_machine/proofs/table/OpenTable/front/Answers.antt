@@ -3,7 +3,7 @@ use Rattle.std.proofs.Common.{◌∙◌, ap, sym, List}
 use Rattle.std.specs.Prelude.{slice_get}
 use Rattle.rv_text.specs.declared.call.Side.TheVariants.{Gives}
 use Rattle.rv_state.specs.State.{OpenPlace}
-use Rattle.rv_machine.specs.Opens.{line_in}
+use Rattle.rv_machine.specs.OpenMap.{line_in}
 use Rattle.rv_machine.proofs.Fronts.{first_found}
 use Rattle.rv_machine.proofs.table.OpenTable.front.Goals as goal
 

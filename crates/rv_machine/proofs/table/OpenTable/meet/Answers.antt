@@ -6,7 +6,7 @@ use Rattle.rv_text.specs.declared.call.Side.{Side}
 use Rattle.rv_account.specs.Calls.{opposite}
 use Rattle.rv_state.specs.State.{OpenPlace}
 use Rattle.rv_state.proofs.Words.{same_Some}
-use Rattle.rv_machine.specs.Opens.{StandBelow, found_at, line_in, opposed_in, without, without_limit}
+use Rattle.rv_machine.specs.OpenMap.{StandBelow, found_at, line_in, opposed_in, all_but, without_limit}
 use Rattle.rv_machine.specs.Indexed.{ClosesFirst}
 use Rattle.rv_machine.proofs.Firsts.{closed_first, closes_first, count_first, owed_there}
 use Rattle.rv_machine.proofs.Indexing.{LeftLine}
@@ -65,7 +65,7 @@ overflow_sub-self c =
     let same : m.left.there ≡ c.unwrap-there.result = same_Some _ _ (sym m.left.found ∙ here) in
     let owed = owed_there c.self.inside.opens m.partner c.unwrap-there.result c.arrive-partner.result.other here
     m.owed in
-    let rest = c.take.ensures.rest ∙ ap (without c.self.inside.opens) (sym at) in
+    let rest = c.take.ensures.rest ∙ ap (all_but c.self.inside.opens) (sym at) in
     let counted = count_first c.self.inside.opens c.self.inside.waiters c.self.inside.waiting c.self.inside.due
     m.partner c.unwrap-there.result c.arrive-partner.result.other c.self.invariant here owed in
     omega (arith, counted, c.owing.ensures)
@@ -85,7 +85,7 @@ invariant_of-self c =
     let same : m.left.there ≡ c.unwrap-there.result = same_Some _ _ (sym m.left.found ∙ here) in
     let owed = owed_there c.self.inside.opens m.partner c.unwrap-there.result c.arrive-partner.result.other here
     m.owed in
-    let rest = c.take.ensures.rest ∙ ap (without c.self.inside.opens) (sym at) in
+    let rest = c.take.ensures.rest ∙ ap (all_but c.self.inside.opens) (sym at) in
     closed_first c.self.inside.opens _ c.self.inside.waiters c.arrive-partner.new.self c.self.inside.waiting _
     c.owing.result c.self.inside.due _ m.partner c.unwrap-there.result c.arrive-partner.result.other
     c.self.invariant here owed c.owing.ensures rest
@@ -109,12 +109,12 @@ returns-clause-met c =
     let same : m.left.there ≡ c.unwrap-there.result = same_Some _ _ (sym m.left.found ∙ here) in
     let owed = owed_there c.self.inside.opens m.partner c.unwrap-there.result c.arrive-partner.result.other here
     m.owed in
-    let rest = c.take.ensures.rest ∙ ap (without c.self.inside.opens) (sym at) in
+    let rest = c.take.ensures.rest ∙ ap (all_but c.self.inside.opens) (sym at) in
     subst (λ (o : Option Side). ClosesFirst c.args.self.now c.take.new.self o c.unwrap-there.result
     c.arrive-partner.result.other) (sym m.opposes)
     (subst (λ (all : List OpenPlace). ClosesFirst all c.take.new.self (Some m.other) c.unwrap-there.result
     c.arrive-partner.result.other) c.self.view_is
     (closes_first c.self.inside.opens c.take.new.self m.other m.partner c.unwrap-there.result
     c.arrive-partner.result.other here (ap (λ (o : OpenPlace). o.place) (sym same) ∙ m.left.at_place)
-    (m.left.line ∙ ap (λ (o : OpenPlace). o ∷ line_in (without c.self.inside.opens m.partner) m.other) same)
+    (m.left.line ∙ ap (λ (o : OpenPlace). o ∷ line_in (all_but c.self.inside.opens m.partner) m.other) same)
     owed rest))

@@ -5,7 +5,7 @@ use Rattle.rv_text.specs.Calls.{side_of, wait_of}
 use Rattle.rv_session.specs.OwedDuty.{OwedDuty}
 use Rattle.rv_state.specs.State.{OpenPlace}
 use Rattle.rv_waiters.specs.Meeting.{ArrivedOn}
-use Rattle.rv_machine.specs.Opens.{StandBelow}
+use Rattle.rv_machine.specs.OpenMap.{StandBelow}
 use Rattle.rv_machine.specs.Indexed.{AreIndexed, MayPark}
 use Rattle.rv_machine.proofs.Meetings.{are_below}
 use Rattle.rv_machine.proofs.Parking.{counted_back, nobody_owed, own_back, parked_index, same_index}

@@ -1,9 +1,9 @@
 -- An insertion behind all others adds to the list's end.
 use Rattle.std.proofs.Common.{◌++◌, ◌∷◌, ◌∙◌, [], ap, subst, sym, List}
 use Rattle.rv_state.specs.State.{OpenPlace}
-use Rattle.rv_machine.specs.Opens.{StandBelow}
+use Rattle.rv_machine.specs.OpenMap.{StandBelow}
 use Rattle.rv_machine.proofs.Kept.{more_open, more_values}
-use Rattle.rv_machine.proofs.opens.Opens.push.Goals as goal
+use Rattle.rv_machine.proofs.opens.OpenMap.push.Goals as goal
 
 pub invariant_of-self-2 : goal.invariant_of-self-2
 invariant_of-self-2 c =

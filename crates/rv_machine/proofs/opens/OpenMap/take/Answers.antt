@@ -1,9 +1,9 @@
 -- A removal leaves the others in the list.
 use Rattle.std.proofs.Common.{◌∙◌, ap, List}
 use Rattle.rv_state.specs.State.{OpenPlace}
-use Rattle.rv_machine.specs.Opens.{found_at, without}
+use Rattle.rv_machine.specs.OpenMap.{found_at, all_but}
 use Rattle.rv_machine.proofs.Kept.{less_open, looked_up, removed, values_is}
-use Rattle.rv_machine.proofs.opens.Opens.take.Goals as goal
+use Rattle.rv_machine.proofs.opens.OpenMap.take.Goals as goal
 
 pub invariant_of-self : goal.invariant_of-self
 invariant_of-self c =
@@ -18,4 +18,4 @@ pub returns-clause-rest : goal.returns-clause-rest
 returns-clause-rest c =
     values_is c.remove.ensures.entries
     ∙ removed c.self.inside.places.entries c.args.place c.self.invariant.under c.self.invariant.rise
-    ∙ ap (λ (all : List OpenPlace). without all c.args.place) c.self.view_is
+    ∙ ap (λ (all : List OpenPlace). all_but all c.args.place) c.self.view_is

@@ -1,9 +1,9 @@
 -- A look-up by a place finds what is open there.
 use Rattle.std.proofs.Common.{◌∙◌, ap, List}
 use Rattle.rv_state.specs.State.{OpenPlace}
-use Rattle.rv_machine.specs.Opens.{found_at}
+use Rattle.rv_machine.specs.OpenMap.{found_at}
 use Rattle.rv_machine.proofs.Kept.{looked_up}
-use Rattle.rv_machine.proofs.opens.Opens.get.Goals as goal
+use Rattle.rv_machine.proofs.opens.OpenMap.get.Goals as goal
 
 pub returns : goal.returns
 returns c =

@@ -26,8 +26,8 @@ abbrev pub found_at : List OpenPlace → ℕ → Option OpenPlace
 found_at all place = find (λ o. nat_eq o.place place) all
 
 -- all but the one at a place
-abbrev pub without : List OpenPlace → ℕ → List OpenPlace
-without all place = filter (λ o. not (nat_eq o.place place)) all
+abbrev pub all_but : List OpenPlace → ℕ → List OpenPlace
+all_but all place = filter (λ o. not (nat_eq o.place place)) all
 
 -- those of a side
 abbrev pub line_in : List OpenPlace → Side → List OpenPlace
@@ -43,20 +43,20 @@ abbrev pub opposed_in : List OpenPlace → Side → List OpenPlace
 opposed_in all side = facing all (opposite side)
 
 -- how many requests wait
-abbrev pub waiting_in : List OpenPlace → ℕ
-waiting_in all = length (filter (λ o. is_some o.waiter) all)
+abbrev pub count_waiting : List OpenPlace → ℕ
+count_waiting all = length (filter (λ o. is_some o.waiter) all)
 
 -- the duty that is owed to who waits at an open place
 abbrev pub duty_at : OpenPlace → Option OwedDuty
 duty_at there = option_map (λ w. record { place = there.place; client = w.key.client }) there.waiter
 
 -- the duty that is owed at a place
-abbrev pub owed_in : List OpenPlace → ℕ → Option OwedDuty
-owed_in all place = option_and_then duty_at (found_at all place)
+abbrev pub owed_among : List OpenPlace → ℕ → Option OwedDuty
+owed_among all place = option_and_then duty_at (found_at all place)
 
 -- the deadlines of what is open
-abbrev pub limits_in : List OpenPlace → Deadlines
-limits_in all = from_list (filter_map deadline_of_place all)
+abbrev pub deadlines_in : List OpenPlace → Deadlines
+deadlines_in all = from_list (filter_map deadline_of_place all)
 
 -- with nothing at each
 abbrev pub marked : List Deadline → List (Deadline × Unit {0})
