@@ -34,6 +34,10 @@ pub mod MetOne
 pub mod MetMachine
 pub mod CancelMoves
 pub mod NumberedArrivals
+pub mod RequestMoves
+pub mod OutcomeMoves
+pub mod OneStep
+pub mod AtFirst
 pub mod TakenOne
 pub mod TakenAll
 pub mod Drained

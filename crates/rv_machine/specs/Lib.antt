@@ -9,4 +9,5 @@ pub mod Ticking
 pub mod Entering
 pub mod Arriving
 pub mod Telling
+pub mod Stepping
 pub mod Taking

@@ -1,6 +1,7 @@
 //! The machine of a book: its tables are the state of an account, and its steps are those of the state.
 #![tactic(auto)]
 
+mod answers;
 mod cancels;
 mod drains;
 mod hellos;
@@ -8,9 +9,12 @@ mod leaves;
 mod machine;
 mod meets;
 mod opens;
+mod requests;
 mod space;
 mod stays;
+mod steps;
 mod table;
 mod ticks;
 
 pub use machine::{Machine, Said};
+pub use steps::Stepped;
