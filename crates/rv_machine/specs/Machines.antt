@@ -1,5 +1,6 @@
 -- The state that a machine holds, what always holds of it, and what a step tells.
-use Rattle.std.specs.Prelude.{◌≡◌, ◌+◌, ◌≤◌, ◌++◌, ℕ, List, map, Some, None, IsSome, slice_get}
+use Rattle.std.specs.Prelude.{◌≡◌, ◌+◌, ◌≤◌, ◌++◌, [], ℕ, List, map, Option, Some, None, IsSome}
+use Rattle.std.specs.Prelude.{option_to_list, slice_get}
 use Rattle.std.specs.Prelude.{vec_capacity, vec_len}
 use Rattle.rv_text.specs.declared.message.Key.{Key}
 use Rattle.rv_text.specs.declared.message.Message.{Message}
@@ -120,3 +121,11 @@ pub record MovesBy (old new : Machine) (moment : ℕ) (m : Message) (entries : L
     pub says : Says (state_in new) told move.answer
     pub settles : new.settled.items ≡ old.settled.items ++ keys_settled move.settles
     pub after : state_in new ≡ move.after
+
+-- a message was heard: this is said, and this entry was made if there is one
+abbrev pub Hears : Machine → Machine → ℕ → Message → Said → Option Entry → Type 0
+Hears old new moment m told made = MovesBy old new moment m (option_to_list made) told
+
+-- a message was refused, and made no entry
+abbrev pub Refuses : Machine → Machine → ℕ → Message → Refusal → Type 0
+Refuses old new moment m refusal = MovesBy old new moment m [] (said.Refused refusal)

@@ -7,50 +7,9 @@ ghost use Rattle.rv_machine.specs.Machines.{Says, state_in};
 ghost use Rattle.rv_machine.specs.Stepping.{CanSay};
 
 use crate::machine::{Machine, Said};
-use rv_session::LastRequest;
-use rv_text::{Answer, Key, NoMemory, Reply};
+use rv_state::answer_again;
+use rv_text::{Answer, Key, NoMemory};
 use std::alloc::Global;
-
-// A copy of a reply. Fails only if memory for its items was refused.
-fn copy_reply(alloc: Global, reply: &Reply) -> Result<Reply, NoMemory>
-    ensures { IfOk result (λ copy. copy ≡ reply.now) }
-{
-    match reply {
-        Reply::Done => Ok(Reply::Done),
-        Reply::Received => Ok(Reply::Received),
-        Reply::ReceivedBy(taker) => Ok(Reply::ReceivedBy(*taker)),
-        Reply::Nobody => Ok(Reply::Nobody),
-        Reply::Item(item) => Ok(Reply::Item(item.copy(alloc)?)),
-        Reply::Empty => Ok(Reply::Empty),
-        Reply::Swapped(item) => Ok(Reply::Swapped(item.copy(alloc)?)),
-        Reply::Cancelled => Ok(Reply::Cancelled),
-        Reply::TimedOut => Ok(Reply::TimedOut),
-        Reply::Counted { items, consumers } => Ok(Reply::Counted {
-            items: *items,
-            consumers: *consumers,
-        }),
-        Reply::Peeked(item) => Ok(Reply::Peeked(item.copy(alloc)?)),
-        Reply::Drained(items) => Ok(Reply::Drained(items.copy(alloc)?)),
-    }
-}
-
-// The answer to the request of a key, of which this became.
-fn answer_last(alloc: Global, key: Key, last: &LastRequest) -> Result<Answer, NoMemory>
-    ensures { IfOk result (λ got. got ≡ answer_told key (told_again last.now)) }
-{
-    match last {
-        LastRequest::Fresh => Ok(Answer::Waiting { key }),
-        LastRequest::Waits { .. } => Ok(Answer::Waiting { key }),
-        LastRequest::RepliedTo { call: _, reply } => {
-            let reply = copy_reply(alloc, reply)?;
-            Ok(Answer::Replied { key, reply })
-        }
-        LastRequest::CancelledUnseen => {
-            let reply = Reply::Cancelled;
-            Ok(Answer::Replied { key, reply })
-        }
-    }
-}
 
 impl Machine {
     /// The answer that is said of a step. Fails only if memory was refused.
@@ -76,6 +35,6 @@ impl Machine {
         ensures { IfOk result (λ got. option_map (λ c. answer_told key (told_again c.request))
             (get self.now.clients.clients key.client) ≡ Some got) }
     {
-        answer_last(alloc, key, &self.clients.get(key.client).unwrap().request)
+        answer_again(alloc, key, &self.clients.get(key.client).unwrap().request)
     }
 }

@@ -1,14 +1,13 @@
 //! Arrivals that find nobody and don't stay.
 ghost use Rattle.std.specs.Prelude.{◌≡◌, [], None, Some, IfOk, IsSome, OnErr, option_map};
 ghost use Rattle.rv_text.specs.Calls.{side_of, wait_of};
-ghost use Rattle.rv_text.specs.Limits.{FitsCall};
+ghost use Rattle.rv_text.specs.Limits.{FitsCall, FitsQueue};
 ghost use Rattle.rv_text.specs.declared.answer.Reply.TheVariants as reply;
 ghost use Rattle.rv_text.specs.declared.call.Call.TheVariants as call;
 ghost use Rattle.rv_account.specs.Calls.{Lasts};
 ghost use Rattle.rv_waiters.specs.Meeting.{StaysBy};
 ghost use Rattle.rv_state.specs.After.{told_alone, told_front, told_unmet};
 ghost use Rattle.rv_state.specs.State.{line};
-ghost use Rattle.rv_text.specs.Limits.{FitsQueue};
 ghost use Rattle.rv_text.specs.declared.call.Side.TheVariants.{Gives};
 ghost use Rattle.rv_machine.specs.Arriving.{Arrives, IsAsBefore, MayArrive};
 ghost use Rattle.rv_machine.specs.Machines.{IsWhole, state_in};

@@ -1,9 +1,8 @@
 //! The machine of a book: the state of an account in tables, and what changes them together.
-ghost use Rattle.std.specs.Prelude.{◌≡◌, ◌++◌, ◌∷◌, []};
+ghost use Rattle.std.specs.Prelude.{◌≡◌, ◌++◌, ◌∷◌, ◌+◌, ◌<◌, ◌≤◌, []};
 ghost use Rattle.rv_machine.specs.Indexed.{WaitsIn};
 ghost use Rattle.rv_machine.specs.Machines.{IsWhole, state_in};
 ghost use Rattle.rv_machine.specs.Ending.{EndsWaiting, counted};
-ghost use Rattle.std.specs.Prelude.{◌<◌, ◌≤◌, ◌+◌};
 ghost use Rattle.rv_account.specs.Account.{entry};
 ghost use Rattle.rv_rules.specs.Steps.{max_entries, max_moment};
 ghost use Rattle.rv_machine.specs.OpenMap.{count_waiting};

@@ -11,7 +11,7 @@ ghost use Rattle.rv_session.specs.ClientMeanings.{AsksNext};
 ghost use Rattle.rv_waiters.specs.Meeting.{StaysBy};
 ghost use Rattle.rv_machine.specs.Arriving.{Arrives, IsAsBefore, MayArrive};
 ghost use Rattle.rv_machine.specs.declared.machine.Said.TheVariants as said;
-ghost use Rattle.rv_machine.specs.Machines.{IsWhole, MovesBy, state_in};
+ghost use Rattle.rv_machine.specs.Machines.{Hears, IsWhole, Refuses, state_in};
 ghost use Rattle.rv_machine.specs.Numbering.{AreNumbered};
 
 use crate::machine::Machine;
@@ -64,10 +64,8 @@ impl Machine {
         requires fits { FitsCall call }
         ensures ready { IsWhole self.new }
         ensures numbered { AreNumbered (state_in self.new) }
-        ensures ok { IfOk result (λ made. MovesBy self.old self.new moment (Request key call)
-            (option_to_list made) (said.Told key)) }
-        ensures err { IfErr result (λ refusal. MovesBy self.old self.new moment (Request key call) []
-            (said.Refused refusal)) }
+        ensures ok { IfOk result (Hears self.old self.new moment (Request key call) (said.Told key)) }
+        ensures err { IfErr result (Refuses self.old self.new moment (Request key call)) }
     {
         match self.clients.look(&key) {
             KeyStanding::Refused(refusal) => Err(refusal),
@@ -88,10 +86,8 @@ impl Machine {
         requires next { AsksNext self.old.clients key }
         ensures ready { IsWhole self.new }
         ensures numbered { AreNumbered (state_in self.new) }
-        ensures ok { IfOk result (λ made. MovesBy self.old self.new moment (Request key call)
-            (option_to_list made) (said.Told key)) }
-        ensures err { IfErr result (λ refusal. MovesBy self.old self.new moment (Request key call) []
-            (said.Refused refusal)) }
+        ensures ok { IfOk result (Hears self.old self.new moment (Request key call) (said.Told key)) }
+        ensures err { IfErr result (Refuses self.old self.new moment (Request key call)) }
     {
         if self.is_full(need_of(&call)) {
             return Err(Refusal::EpochFull);
