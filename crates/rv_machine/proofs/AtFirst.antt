@@ -7,9 +7,9 @@ use Rattle.rv_rules.specs.Steps.{max_clients, max_moment}
 use Rattle.rv_state.specs.State.{ClientState, OpenPlace, client_at}
 use Rattle.rv_state.proofs.Words.{none-some}
 use Rattle.rv_machine.specs.declared.machine.Machine.{Machine}
-use Rattle.rv_machine.specs.Machines.{IsReady, state_in}
+use Rattle.rv_machine.specs.Machines.{IsWhole, state_in}
 use Rattle.rv_machine.specs.Numbering.{AreNumbered}
-use Rattle.rv_machine.specs.Opens.{waiting_in}
+use Rattle.rv_machine.specs.OpenMap.{count_waiting}
 
 module _ (m : Machine) (none : m.table ≡ []) (nobody : m.clients.clients ≡ empty) where
   nothing : (i : ℕ) (one : OpenPlace) → slice_get m.table i ≡ Some one → ⊥
@@ -24,11 +24,11 @@ module _ (m : Machine) (none : m.table ≡ []) (nobody : m.clients.clients ≡ e
   pub first_numbered : AreNumbered (state_in m)
   first_numbered client session at = absurd (unknown client session at)
 
-  none_waits : waiting_in m.table ≡ 0
-  none_waits = ap waiting_in none
+  none_waits : count_waiting m.table ≡ 0
+  none_waits = ap count_waiting none
 
   pub first_ready : m.moment ≤ max_moment → m.length ≡ 0 → m.clients.most ≡ max_clients
-      → vec_len m.settled ≡ 0 → IsReady m
+      → vec_len m.settled ≡ 0 → IsWhole m
   first_ready time first most listed = record {
     consistent = record {
       rise = λ i j one other less at there. absurd (nothing i one at);

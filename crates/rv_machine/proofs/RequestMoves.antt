@@ -24,10 +24,10 @@ use Rattle.rv_state.proofs.Words.{same_Some}
 use Rattle.rv_machine.specs.Arriving.{Arrives, IsAsBefore}
 use Rattle.rv_machine.specs.declared.machine.Machine.{Machine}
 use Rattle.rv_machine.specs.declared.machine.Said.TheVariants as said
-use Rattle.rv_machine.specs.Entering.{HasSpace}
+use Rattle.rv_machine.specs.Entering.{HasSpaceFor}
 use Rattle.rv_machine.specs.Machines.{MovesBy, state_in}
 use Rattle.rv_machine.specs.Numbering.{AreNumbered}
-use Rattle.rv_machine.specs.Opens.{waiting_in}
+use Rattle.rv_machine.specs.OpenMap.{count_waiting}
 use Rattle.rv_machine.proofs.KeyLines.{key_last, key_next, key_refused}
 use Rattle.rv_machine.proofs.SpaceLines.{call_agrees, call_differs, has_space, lacks_space}
 use Rattle.rv_machine.proofs.Staying.{moves_refused, moves_staying}
@@ -77,26 +77,26 @@ module _ (m : Machine) (moment : ℕ) (key : Key) (call : Call) (numbered : AreN
 
   -- the next number finds no space
   pub fills_request : AsksNext m.clients key → (need : ℕ) → need ≡ need_of call
-      → max_entries < m.length + waiting_in m.table + need
+      → max_entries < m.length + count_waiting m.table + need
       → MovesBy m m moment (Request key call) [] (said.Refused EpochFull)
   fills_request says need is full =
       moves_refused m m moment _ refl refl EpochFull
       (key_next m key _ _ _ numbered says
       (lacks_space (state_in m) (need_of call) _ _
-      (subst (λ n. max_entries < m.length + waiting_in m.table + n) is full) refl))
+      (subst (λ n. max_entries < m.length + count_waiting m.table + n) is full) refl))
 
 -- ---- where it may arrive
 
 module _ (old new : Machine) (moment : ℕ) (key : Key) (call : Call) (numbered : AreNumbered (state_in old))
-    (next : AsksNext old.clients key) (need : ℕ) (is : need ≡ need_of call) (space : HasSpace old need) where
+    (next : AsksNext old.clients key) (need : ℕ) (is : need ≡ need_of call) (space : HasSpaceFor old need) where
   abbrev s : State
   s = state_in old
 
   abbrev does : Act
   does = act.Arrive key call
 
-  enough : HasSpace old (need_of call)
-  enough = subst (λ n. HasSpace old n) is space
+  enough : HasSpaceFor old (need_of call)
+  enough = subst (λ n. HasSpaceFor old n) is space
 
   pub arrives_request : (made : Entry) → Arrives old new moment key call made
       → MovesBy old new moment (Request key call) (made ∷ []) (said.Told key)

@@ -11,7 +11,7 @@ ghost use Rattle.rv_session.specs.ClientMeanings.{AsksNext};
 ghost use Rattle.rv_waiters.specs.Meeting.{StaysBy};
 ghost use Rattle.rv_machine.specs.Arriving.{Arrives, IsAsBefore, MayArrive};
 ghost use Rattle.rv_machine.specs.declared.machine.Said.TheVariants as said;
-ghost use Rattle.rv_machine.specs.Machines.{IsReady, MovesBy, state_in};
+ghost use Rattle.rv_machine.specs.Machines.{IsWhole, MovesBy, state_in};
 ghost use Rattle.rv_machine.specs.Numbering.{AreNumbered};
 
 use crate::machine::Machine;
@@ -57,12 +57,12 @@ impl Machine {
         key: Key,
         call: Call,
     ) -> Result<Option<Entry>, Refusal>
-        requires ready { IsReady self.old }
+        requires ready { IsWhole self.old }
         requires numbered { AreNumbered (state_in self.old) }
         requires later { self.old.moment ≤ moment }
         requires time { moment ≤ max_moment }
         requires fits { FitsCall call }
-        ensures ready { IsReady self.new }
+        ensures ready { IsWhole self.new }
         ensures numbered { AreNumbered (state_in self.new) }
         ensures ok { IfOk result (λ made. MovesBy self.old self.new moment (Request key call)
             (option_to_list made) (said.Told key)) }
@@ -80,13 +80,13 @@ impl Machine {
 
     // A request of its session's next number arrives, if there is space for its entries.
     fn arrive(&mut self, moment: u64, key: Key, call: Call) -> Result<Option<Entry>, Refusal>
-        requires ready { IsReady self.old }
+        requires ready { IsWhole self.old }
         requires numbered { AreNumbered (state_in self.old) }
         requires later { self.old.moment ≤ moment }
         requires time { moment ≤ max_moment }
         requires fits { FitsCall call }
         requires next { AsksNext self.old.clients key }
-        ensures ready { IsReady self.new }
+        ensures ready { IsWhole self.new }
         ensures numbered { AreNumbered (state_in self.new) }
         ensures ok { IfOk result (λ made. MovesBy self.old self.new moment (Request key call)
             (option_to_list made) (said.Told key)) }
@@ -106,7 +106,7 @@ impl Machine {
     // refused, and then the state stays.
     fn join(&mut self, moment: u64, key: Key, call: Call) -> Result<Entry, NoMemory>
         requires may { MayArrive self.old moment key call }
-        ensures ready { IsReady self.new }
+        ensures ready { IsWhole self.new }
         ensures ok { IfOk result (Arrives self.old self.new moment key call) }
         ensures err { OnErr result (IsAsBefore self.old self.new) }
     {

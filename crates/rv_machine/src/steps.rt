@@ -5,9 +5,9 @@ ghost use Rattle.rv_rules.specs.Steps.{capped_moment, max_moment};
 ghost use Rattle.rv_state.specs.State.{opening};
 ghost use Rattle.rv_state.specs.Moves.{state_moment};
 ghost use Rattle.rv_machine.specs.declared.machine.Said.TheVariants.{Refused};
-ghost use Rattle.rv_machine.specs.Machines.{IsReady, MovesBy, state_in};
+ghost use Rattle.rv_machine.specs.Machines.{IsWhole, MovesBy, state_in};
 ghost use Rattle.rv_machine.specs.Numbering.{AreNumbered};
-ghost use Rattle.rv_machine.specs.Stepping.{StepsBy};
+ghost use Rattle.rv_machine.specs.Stepping.{IsMachineStep};
 
 use crate::machine::{Machine, Said};
 use crate::table::OpenTable;
@@ -45,7 +45,7 @@ impl Machine {
     /// The machine of an empty account. Fails only if memory was refused.
     pub fn open(alloc: Global, epoch: u64, now: u64) -> Result<Machine, NoMemory>
         ensures state { IfOk result (λ m. state_in m ≡ opening epoch (capped_moment now)) }
-        ensures ready { IfOk result IsReady }
+        ensures ready { IfOk result IsWhole }
         ensures numbered { IfOk result (λ m. AreNumbered (state_in m)) }
     {
         Ok(Machine {
@@ -59,12 +59,12 @@ impl Machine {
 
     /// One step: all that is due at the moment is ended, then the message is heard.
     pub fn step(&mut self, now: u64, message: Message) -> Stepped
-        requires ready { IsReady self.old }
+        requires ready { IsWhole self.old }
         requires numbered { AreNumbered (state_in self.old) }
         requires fits { FitsMessage message }
-        ensures ready { IsReady self.new }
+        ensures ready { IsWhole self.new }
         ensures numbered { AreNumbered (state_in self.new) }
-        ensures steps { StepsBy self.old self.new now message result }
+        ensures steps { IsMachineStep self.old self.new now message result }
     {
         let moment = self.moment_at(now);
         self.settled.clear();
@@ -75,7 +75,7 @@ impl Machine {
 
     // The moment of a step: the one that is handed in, at most 2^62, or the last one if that is later.
     fn moment_at(&self, now: u64) -> u64
-        requires ready { IsReady self.now }
+        requires ready { IsWhole self.now }
         ensures exact { result ≡ state_moment (state_in self.now) now }
         ensures later { self.now.moment ≤ result }
         ensures fits { result ≤ max_moment }
@@ -85,12 +85,12 @@ impl Machine {
 
     // Hears a message at a moment, and gives its entry, if it made one, and what is said.
     fn hear(&mut self, moment: u64, message: Message) -> (Option<Entry>, Said)
-        requires ready { IsReady self.old }
+        requires ready { IsWhole self.old }
         requires numbered { AreNumbered (state_in self.old) }
         requires later { self.old.moment ≤ moment }
         requires time { moment ≤ max_moment }
         requires fits { FitsMessage message }
-        ensures ready { IsReady self.new }
+        ensures ready { IsWhole self.new }
         ensures numbered { AreNumbered (state_in self.new) }
         ensures moves { MovesBy self.old self.new moment message (option_to_list result.0) result.1 }
     {
