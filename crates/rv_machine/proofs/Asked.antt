@@ -1,6 +1,6 @@
 -- A state whose client was asked its next number: all but its clients stays.
-use Rattle.std.proofs.Common.{◌≡◌, ◌≢◌, ◌⊎◌, ◌∙◌, ◌++◌, ◌∷◌, ◌+◌, ℕ, List, [], Bool, true, false, cond, Option}
-use Rattle.std.proofs.Common.{Some, None, refl, sym, ap, subst, inl, inr}
+use Rattle.std.proofs.Common.{◌≡◌, ◌≢◌, ◌⊎◌, ◌∙◌, ℕ, List, Option}
+use Rattle.std.proofs.Common.{Some, None, refl, sym, ap, inl, inr}
 use Rattle.std.specs.Cmp.{nat_cmp_total}
 use Rattle.std.specs.FinMap.{FinMap, get, nat_cmp-IsAntisymmetric, same_map}
 use Rattle.std.specs.Ordering.{nat_cmp}
@@ -13,7 +13,7 @@ use Rattle.rv_session.specs.declared.client.LastRequest.{LastRequest}
 use Rattle.rv_session.specs.declared.client.LastRequest.TheVariants.{RepliedTo, Waits}
 use Rattle.rv_session.specs.Clients.{clients_asked, clients_told, insert_known, with_last_number}
 use Rattle.rv_state.specs.State.{OpenPlace, State, client_at}
-use Rattle.rv_state.specs.After.{Following, Settled, advanced, arrived, asked, closed, met_by, parked, request_after}
+use Rattle.rv_state.specs.After.{Following, Settled, arrived, asked, closed, met_by, parked, request_after}
 use Rattle.rv_state.specs.After.{settled_all, told_own, told_partner, with_last, with_open}
 use Rattle.rv_machine.proofs.Told.{asked_other, asked_own, told_other, told_own as told_own_client}
 
@@ -30,7 +30,8 @@ with_clients_of s clients =
 
 last_as : (s : State) (key : Key) (request : LastRequest) (o : Option ClientState)
     → with_last s key request o
-    ≡ with_clients_of s (insert_known s.clients key.client (λ state. with_last_number state key.number request) o)
+    ≡ with_clients_of s (insert_known s.clients key.client (λ state. with_last_number state key.number
+    request) o)
 last_as s key request None = refl
 last_as s key request (Some session) = refl
 
@@ -46,7 +47,8 @@ arrived_with s moment key call met =
     let open_then : State = with_open (closed s met settles) (parked s moment key call met) in
     record { after = asked open_then key (request_after s.length call own); settles = settles; reply = own }
 
-pub arrived_by : (s : State) (moment : ℕ) (key : Key) (call : Call) (met : List OpenPlace) → met_by s call ≡ met
+pub arrived_by : (s : State) (moment : ℕ) (key : Key) (call : Call) (met : List OpenPlace)
+    → met_by s call ≡ met
     → arrived s moment key call ≡ arrived_with s moment key call met
 arrived_by s moment key call met is = ap (arrived_with s moment key call) is
 
@@ -64,7 +66,8 @@ asked_then_told m key place call reply session known =
     by_client q (inl own) =
         ap (get (clients_told (clients_asked m key (Waits place call)) key.client reply)) own
         ∙ told_own_client (clients_asked m key (Waits place call)) key.client reply
-        (with_last_number session key.number (Waits place call)) (asked_own m key (Waits place call) session known)
+        (with_last_number session key.number (Waits place call)) (asked_own m key (Waits place call) session
+        known)
         ∙ sym (asked_own m key (RepliedTo call reply) session known)
         ∙ ap (get (clients_asked m key (RepliedTo call reply))) (sym own)
     by_client q (inr apart) =
@@ -89,10 +92,12 @@ met_clients m key place call partner its own session other known there apart =
     tells = clients_told m partner its
 
     by_client : (q : ℕ) → (q ≡ key.client) ⊎ (q ≢ key.client) → (q ≡ partner) ⊎ (q ≢ partner)
-        → get (clients_told (clients_told (clients_asked m key (Waits place call)) partner its) key.client own) q
+        → get (clients_told (clients_told (clients_asked m key (Waits place call)) partner its) key.client
+        own) q
         ≡ get (clients_asked (clients_told m partner its) key (RepliedTo call own)) q
     by_client q (inl same) second =
-        ap (get (clients_told (clients_told (clients_asked m key (Waits place call)) partner its) key.client own)) same
+        ap (get (clients_told (clients_told (clients_asked m key (Waits place call)) partner its) key.client
+        own)) same
         ∙ told_own_client (clients_told (clients_asked m key (Waits place call)) partner its) key.client own
         (with_last_number session key.number (Waits place call))
         (told_other (clients_asked m key (Waits place call)) partner key.client its (λ e. apart (sym e))
@@ -101,7 +106,8 @@ met_clients m key place call partner its own session other known there apart =
         (told_other m partner key.client its (λ e. apart (sym e)) ∙ known))
         ∙ ap (get (clients_asked (clients_told m partner its) key (RepliedTo call own))) (sym same)
     by_client q (inr differs) (inl same) =
-        told_other (clients_told (clients_asked m key (Waits place call)) partner its) key.client q own differs
+        told_other (clients_told (clients_asked m key (Waits place call)) partner its) key.client q own
+        differs
         ∙ ap (get (clients_told (clients_asked m key (Waits place call)) partner its)) same
         ∙ told_own_client (clients_asked m key (Waits place call)) partner its other
         (asked_other m key partner (Waits place call) apart ∙ there)
@@ -109,7 +115,8 @@ met_clients m key place call partner its own session other known there apart =
         ∙ ap (get (clients_told m partner its)) (sym same)
         ∙ sym (asked_other (clients_told m partner its) key q (RepliedTo call own) differs)
     by_client q (inr differs) (inr alone) =
-        told_other (clients_told (clients_asked m key (Waits place call)) partner its) key.client q own differs
+        told_other (clients_told (clients_asked m key (Waits place call)) partner its) key.client q own
+        differs
         ∙ told_other (clients_asked m key (Waits place call)) partner q its alone
         ∙ asked_other m key q (Waits place call) differs
         ∙ sym (told_other m partner q its alone)

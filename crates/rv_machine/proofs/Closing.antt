@@ -1,20 +1,16 @@
 -- What is read off a list of open places where one of them is closed: lines, duties, how many wait, and
 -- limits.
-use Rattle.std.proofs.Common.{◌≡◌, ◌≢◌, ◌<◌, ◌++◌, ◌∷◌, ◌∙◌, ◌+◌, ◌||◌, ◌&&◌, ℕ, zero, suc, List, []}
-use Rattle.std.proofs.Common.{Bool, true, false, cond, not, map, length, Option, Some, None, is_some}
-use Rattle.std.proofs.Common.{refl, sym, ap, subst, arith, slice_get, nat_eq}
-use Rattle.std.specs.Prelude.{filter, find, option_and_then, option_map}
-use Rattle.std.specs.List.{filter_map}
+use Rattle.std.proofs.Common.{◌≡◌, ◌≢◌, ◌++◌, ◌∷◌, ◌∙◌, ◌+◌, ◌&&◌, ℕ, List, []}
+use Rattle.std.proofs.Common.{Bool, true, false, cond, not, length, Some, is_some}
+use Rattle.std.proofs.Common.{refl, sym, ap, arith, nat_eq}
+use Rattle.std.specs.Prelude.{filter}
 use Rattle.std.proofs.lemmas.Bool.Decides.{nat_tests}
-use Rattle.std.proofs.lemmas.List.{length-append, map-append}
+use Rattle.std.proofs.lemmas.List.{length-append}
 use Rattle.std.proofs.lemmas.List.Elements.{filter-append}
 use Rattle.rv_text.specs.declared.call.Side.{Side}
-use Rattle.rv_session.specs.OwedDuty.{OwedDuty}
 use Rattle.rv_state.specs.State.{OpenPlace, place_list, same_side}
-use Rattle.rv_state.proofs.Words.{none-some, same_Some}
-use Rattle.rv_machine.specs.OpenMap.{PlacesRise, found_at, line_in, owed_among, count_waiting, all_but}
-use Rattle.rv_machine.proofs.Kept.{filter_these}
-use Rattle.rv_machine.proofs.Parted.{PartedAt, filter_twice, parted}
+use Rattle.rv_machine.specs.OpenMap.{found_at, line_in, count_waiting, all_but}
+use Rattle.rv_machine.proofs.Parted.{PartedAt, filter_twice}
 
 -- ---- lines
 
@@ -46,7 +42,8 @@ pub places_without : (all : List OpenPlace) (place : ℕ)
 places_without [] place = refl
 places_without (o ∷ all) place = by_head (not (nat_eq o.place place)) (places_without all place)
   where
-    by_head : (b : Bool) → place_list (all_but all place) ≡ filter (λ p. not (nat_eq p place)) (place_list all)
+    by_head : (b : Bool) → place_list (all_but all place) ≡ filter (λ p. not (nat_eq p place))
+        (place_list all)
         → place_list (cond b (o ∷ all_but all place) (all_but all place))
         ≡ cond b (o.place ∷ filter (λ p. not (nat_eq p place)) (place_list all))
         (filter (λ p. not (nat_eq p place)) (place_list all))
@@ -64,7 +61,8 @@ module _ (all : List OpenPlace) (place : ℕ) (there : OpenPlace) (at : PartedAt
   line_parted side = ap (λ l. line_in l side) at.whole
       ∙ filter-append (λ (o : OpenPlace). same_side o.side side) at.front (there ∷ at.behind)
 
-  line_less : (side : Side) → line_in (all_but all place) side ≡ line_in at.front side ++ line_in at.behind side
+  line_less : (side : Side) → line_in (all_but all place) side ≡ line_in at.front side ++ line_in at.behind
+      side
   line_less side = ap (λ l. line_in l side) at.others
       ∙ filter-append (λ (o : OpenPlace). same_side o.side side) at.front at.behind
 

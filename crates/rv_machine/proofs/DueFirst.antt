@@ -1,26 +1,25 @@
 -- What is due, one by one: the least deadline's place comes first, and the rest is what is due without it.
-use Rattle.std.proofs.Common.{◌≡◌, ◌≢◌, ◌<◌, ◌≤◌, ◌++◌, ◌∷◌, ◌∙◌, ◌||◌, ◌⊎◌, ℕ, zero, suc, List, [], Bool}
-use Rattle.std.proofs.Common.{true, false, cond, not, map, Option, Some, None, is_some, refl, sym, ap, subst}
-use Rattle.std.proofs.Common.{arith, slice_get, nat_eq, inl, inr}
+use Rattle.std.proofs.Common.{◌≡◌, ◌<◌, ◌∷◌, ◌∙◌, ◌||◌, ℕ, suc, List, [], Bool}
+use Rattle.std.proofs.Common.{true, false, cond, not, map, Option, Some, None, is_some, refl, sym, ap}
+use Rattle.std.proofs.Common.{arith, slice_get, inl, inr}
 use Rattle.std.specs.Prelude.{filter, filter_map, nat_lt}
 use Rattle.std.specs.List.{list_any}
 use Rattle.std.specs.FinSet.{contains-from_list}
-use Rattle.std.specs.FinMap.{FinMap, contains_key, contains_key-keys, entries, entries-insert, from_entries, get}
+use Rattle.std.specs.FinMap.{FinMap, contains_key-keys, entries, entries-insert, from_entries, get}
 use Rattle.std.specs.FinMap.{get-from_entries, get-insert, insert, keys, same_map}
 use Rattle.std.specs.FinMap.Entries.{by_order, is_some-find, put}
-use Rattle.std.specs.Cmp.{Equal-is, ranked}
+use Rattle.std.specs.Cmp.{ranked}
 use Rattle.std.specs.Ordering.{eq_by_cmp, nat_cmp, ordering_then}
 use Rattle.std.specs.declared.cmp.Ordering.{Ordering}
 use Rattle.std.specs.declared.cmp.Ordering.TheVariants.{Less, Equal, Greater}
 use Rattle.std.proofs.lemmas.Bool.{false≢true, true≢false, le-ltb, lt-ltb}
-use Rattle.std.proofs.lemmas.Cmp.{eq_by_cmp_equiv}
 use Rattle.rv_due.specs.Deadlines.{AllAbove, Deadline, IsLeastUntil, Precedes, by_moment}
-use Rattle.rv_due.proofs.Order.{by_moment_total, by_moment-IsAntisymmetric, precedes}
+use Rattle.rv_due.proofs.Order.{by_moment_total, by_moment-IsAntisymmetric}
 use Rattle.rv_state.specs.State.{OpenPlace}
 use Rattle.rv_state.specs.After.{deadline_of_place}
-use Rattle.rv_state.proofs.Words.{cons_option, none-some, same_Some}
-use Rattle.rv_state.proofs.Filtered.{any_get, filter_get, get_any}
-use Rattle.rv_machine.specs.OpenMap.{PlacesRise, due_in, found_at, deadlines_in, limits_map, marked, all_but}
+use Rattle.rv_state.proofs.Words.{cons_option}
+use Rattle.rv_state.proofs.Filtered.{filter_get, get_any}
+use Rattle.rv_machine.specs.OpenMap.{due_in, found_at, deadlines_in, limits_map, marked, all_but}
 use Rattle.rv_machine.proofs.Closing.{found_apart}
 use Rattle.rv_machine.proofs.Limits.{any_parted, not_listed, own_test}
 use Rattle.rv_machine.proofs.Parted.{PartedAt}
@@ -101,7 +100,8 @@ abbrev until : ℕ → Deadline → Bool
 until moment d = not (nat_lt moment d.0)
 
 -- where no deadline is so early nothing is due
-pub none_due : (all : List OpenPlace) (moment : ℕ) → AllAbove (deadlines_in all) moment → due_in all moment ≡ []
+pub none_due : (all : List OpenPlace) (moment : ℕ) → AllAbove (deadlines_in all) moment
+    → due_in all moment ≡ []
 none_due all moment above =
     ap (filter_map (λ (d : Deadline). found_at all d.1))
     (filter_none (until moment) (keys (limits_map all)) (λ i d at.
@@ -151,12 +151,14 @@ module _ (all : List OpenPlace) (place moment limit : ℕ) (there : OpenPlace)
       (entries-insert by_moment_total (limits_map (all_but all place)) its tt
       ∙ put_first its (entries (limits_map (all_but all place))) (λ i x stands. is_more x i stands))
 
-  pub first_due : found_at all place ≡ Some there → due_in all moment ≡ there ∷ due_in (all_but all place) moment
+  pub first_due : found_at all place ≡ Some there
+      → due_in all moment ≡ there ∷ due_in (all_but all place) moment
   first_due found =
       ap (λ ks. filter_map (λ (d : Deadline). found_at all d.1) (filter (until moment) ks)) keys_first
       ∙ ap (λ b. filter_map (λ (d : Deadline). found_at all d.1) (cond b
       (its ∷ filter (until moment) (keys (limits_map (all_but all place))))
-      (filter (until moment) (keys (limits_map (all_but all place)))))) (ap not (le-ltb moment limit least.due))
+      (filter (until moment) (keys (limits_map (all_but all place))))))
+      (ap not (le-ltb moment limit least.due))
       ∙ ap (λ o. cons_option o (filter_map (λ (d : Deadline). found_at all d.1)
       (filter (until moment) (keys (limits_map (all_but all place)))))) found
       ∙ ap (λ l. there ∷ l) (sym (filter_map_these (λ (d : Deadline). found_at (all_but all place) d.1)

@@ -1,6 +1,6 @@
 -- A machine in which one wait was ended.
-use Rattle.std.proofs.Common.{◌≡◌, ◌<◌, ◌≤◌, ◌++◌, ◌∷◌, ◌∙◌, ◌+◌, ℕ, List, [], Option, Some, None, refl, sym, ap}
-use Rattle.std.proofs.Common.{subst, arith, length}
+use Rattle.std.proofs.Common.{◌≡◌, ◌<◌, ◌++◌, ◌∷◌, ◌∙◌, ◌+◌, ℕ, List, [], Option, Some, sym, ap}
+use Rattle.std.proofs.Common.{subst, arith}
 use Rattle.std.specs.Prelude.{option_map, vec_capacity, vec_len}
 use Rattle.std.specs.Global.{Vec}
 use Rattle.rv_text.specs.declared.message.Key.{Key}
@@ -8,13 +8,13 @@ use Rattle.rv_text.specs.declared.answer.Reply.{Reply}
 use Rattle.rv_session.specs.OwedDuty.{OwedDuty}
 use Rattle.rv_session.specs.Clients.{ClientStates, clients_told, place_awaited, with_clients}
 use Rattle.rv_state.specs.State.{OpenPlace, State, Waiter}
-use Rattle.rv_state.specs.After.{Settled, closed}
-use Rattle.rv_state.proofs.Words.{none-some, same_Some}
+use Rattle.rv_state.specs.After.{closed}
+use Rattle.rv_state.proofs.Words.{same_Some}
 use Rattle.rv_machine.specs.declared.machine.Machine.{Machine}
 use Rattle.rv_machine.specs.Ending.{EndsWaiting}
 use Rattle.rv_machine.specs.Indexed.{ClosesPlace}
 use Rattle.rv_machine.specs.Machines.{IsConsistent, IsWhole, state_in}
-use Rattle.rv_machine.specs.OpenMap.{duty_at, found_at, count_waiting, all_but}
+use Rattle.rv_machine.specs.OpenMap.{duty_at, count_waiting}
 use Rattle.rv_machine.proofs.EndingOne.{awaited, clients_are, ended_consistent, less_waits, opens_are}
 
 -- the duty of who waits is that of its place and client
@@ -41,7 +41,8 @@ module _ (m : Machine) (ready : IsWhole m) (place : ℕ) (there : OpenPlace) (w 
       (awaited s ready.consistent place there w reply closes.found waits)
 
   pub one_listed : count_waiting table + 1 ≡ count_waiting m.table
-  one_listed = ap (λ l. count_waiting l + 1) (closes.rest ∙ sym (opens_are s ready.consistent place there w reply
+  one_listed = ap (λ l. count_waiting l + 1) (closes.rest ∙ sym (opens_are s ready.consistent place there w
+      reply
       closes.found waits)) ∙ less_waits s ready.consistent place there w reply closes.found waits
 
   pub has_room : vec_len m.settled < vec_capacity m.settled

@@ -1,24 +1,22 @@
 -- A state in which one wait was ended.
-use Rattle.std.proofs.Common.{◌≡◌, ◌≢◌, ◌⊎◌, ◌<◌, ◌≤◌, ◌∷◌, ◌∙◌, ◌+◌, ℕ, List, [], Bool, true, false, cond, not}
-use Rattle.std.proofs.Common.{Option, Some, None, IsSome, is_some, refl, sym, ap, subst, arith, slice_get, nat_eq}
+use Rattle.std.proofs.Common.{◌≡◌, ◌≢◌, ◌⊎◌, ◌∷◌, ◌∙◌, ◌+◌, ℕ, List, [], true, cond, not}
+use Rattle.std.proofs.Common.{Option, Some, is_some, sym, ap, subst, arith, slice_get, nat_eq}
 use Rattle.std.proofs.Common.{inl, inr}
-use Rattle.std.specs.Prelude.{option_and_then, option_map}
+use Rattle.std.specs.Prelude.{option_and_then}
 use Rattle.std.specs.FinMap.{FinMap, get}
 use Rattle.std.specs.Ordering.{nat_cmp}
 use Rattle.std.proofs.lemmas.Bool.{cases_eq, eqb-true}
 use Rattle.rv_text.specs.declared.call.Call.{Call}
 use Rattle.rv_text.specs.declared.answer.Reply.{Reply}
-use Rattle.rv_session.specs.OwedDuty.{OwedDuty}
 use Rattle.rv_session.specs.declared.client.LastRequest.{LastRequest}
 use Rattle.rv_session.specs.declared.client.LastRequest.TheVariants.{RepliedTo, Waits}
 use Rattle.rv_session.specs.Clients.{clients_told, place_awaited, place_waiting}
-use Rattle.rv_rules.specs.Steps.{max_entries}
 use Rattle.rv_state.specs.State.{ClientState, OpenPlace, State, Waiter, client_at}
-use Rattle.rv_state.specs.After.{Settled, answered, but, closed, tell, with_request}
+use Rattle.rv_state.specs.After.{answered, but, closed, with_request}
 use Rattle.rv_state.proofs.TableClients.{clients_after_tell}
-use Rattle.rv_state.proofs.Words.{none-some, same_Some}
+use Rattle.rv_state.proofs.Words.{same_Some}
 use Rattle.rv_state.proofs.Filtered.{filter_get, find_get, rises_left}
-use Rattle.rv_machine.specs.OpenMap.{PlacesRise, duty_at, found_at, count_waiting, all_but}
+use Rattle.rv_machine.specs.OpenMap.{PlacesRise, found_at, count_waiting, all_but}
 use Rattle.rv_machine.specs.Machines.{IsConsistent, IsWaiter, AwaitsPlace}
 use Rattle.rv_machine.proofs.Closing.{found_apart}
 use Rattle.rv_machine.proofs.Indexing.{one_less}
@@ -63,7 +61,8 @@ module _ (s : State) (is : IsConsistent s) (place : ℕ) (there : OpenPlace) (w 
   other_client client apart = ap (λ (m : FinMap nat_cmp ClientState). get m client) clients_are
       ∙ told_other s.clients w.key.client client reply apart
 
-  its_client : client_at gone w.key.client ≡ Some (with_request own.session (answered reply own.session.request))
+  its_client : client_at gone w.key.client ≡ Some (with_request own.session
+      (answered reply own.session.request))
   its_client = ap (λ (m : FinMap nat_cmp ClientState). get m w.key.client) clients_are
       ∙ told_own s.clients w.key.client reply own.session own.known
 
@@ -94,7 +93,8 @@ module _ (s : State) (is : IsConsistent s) (place : ℕ) (there : OpenPlace) (w 
       let was = filter_get (λ (x : OpenPlace). not (nat_eq x.place place)) all i o there_at in
       (was.0, was.1, λ same. left_apart all place i o there_at same)
 
-  waits_still : (client : ℕ) (session : ClientState) (p : ℕ) (call : Call) → (client ≡ w.key.client) ⊎ (client ≢ w.key.client)
+  waits_still : (client : ℕ) (session : ClientState) (p : ℕ) (call : Call)
+      → (client ≡ w.key.client) ⊎ (client ≢ w.key.client)
       → client_at gone client ≡ Some session → session.request ≡ Waits p call → AwaitsPlace gone client p
   waits_still client session p call (inl same) known asked =
       absurd (no_more (own.session.request) own.waits (ap (λ (x : ClientState). x.request) (same_Some _ _
@@ -143,6 +143,8 @@ module _ (s : State) (is : IsConsistent s) (place : ℕ) (there : OpenPlace) (w 
   pub awaited : place_awaited s.clients w.key.client ≡ Some there.place
   awaited = by_session (client_at s w.key.client) own.known
     where
-      by_session : (o : Option ClientState) → o ≡ Some own.session → option_and_then (λ (c : ClientState). place_waiting c.request) o
+      by_session : (o : Option ClientState) → o ≡ Some own.session
+          → option_and_then (λ (c : ClientState). place_waiting c.request) o
           ≡ Some there.place
-      by_session o is = ap (option_and_then (λ (c : ClientState). place_waiting c.request)) is ∙ ap place_waiting own.waits
+      by_session o is = ap (option_and_then (λ (c : ClientState). place_waiting c.request)) is
+          ∙ ap place_waiting own.waits

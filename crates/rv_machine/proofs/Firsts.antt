@@ -1,20 +1,20 @@
 -- The first of a line is closed.
-use Rattle.std.proofs.Common.{◌≡◌, ◌≢◌, ◌∷◌, ◌∙◌, ◌+◌, ◌-◌, ℕ, zero, suc, List, [], Bool, true, false, cond, not}
-use Rattle.std.proofs.Common.{Option, Some, None, IsSome, is_some, refl, sym, ap, subst, arith, slice_get, nat_eq}
+use Rattle.std.proofs.Common.{◌≡◌, ◌≢◌, ◌∷◌, ◌∙◌, ◌+◌, ◌-◌, ℕ, List, [], cond, not}
+use Rattle.std.proofs.Common.{Option, Some, None, is_some, refl, sym, ap, subst, arith, slice_get}
 use Rattle.std.specs.Prelude.{option_and_then, option_map}
-use Rattle.std.proofs.lemmas.Bool.{eq-eqb, eqb-true, false≢true}
+use Rattle.std.proofs.lemmas.Bool.{eq-eqb}
 use Rattle.rv_text.specs.declared.call.Side.{Side}
 use Rattle.rv_session.specs.OwedDuty.{OwedDuty}
 use Rattle.rv_due.specs.Deadlines.{Deadlines}
 use Rattle.rv_state.specs.State.{OpenPlace, Waiter, place_list, same_side}
-use Rattle.rv_state.proofs.Words.{none-some, same_Some}
 use Rattle.rv_state.proofs.Filtered.{filter_get, rises_left}
 use Rattle.rv_state.proofs.SideLines.{same_side_is}
 use Rattle.rv_waiters.specs.Parked.{AreParked}
 use Rattle.rv_waiters.specs.Views.{Waiters, waiting_on}
-use Rattle.rv_machine.specs.OpenMap.{PlacesRise, duty_at, facing, found_at, line_in, owed_among, count_waiting, all_but}
+use Rattle.rv_machine.specs.OpenMap.{PlacesRise, duty_at, found_at, line_in, owed_among, count_waiting}
+use Rattle.rv_machine.specs.OpenMap.{all_but}
 use Rattle.rv_machine.specs.OpenMap.{without_limit}
-use Rattle.rv_machine.specs.Indexed.{AreIndexed, ClosesPlace, ClosesFirst}
+use Rattle.rv_machine.specs.Indexed.{AreIndexed, ClosesFirst}
 use Rattle.rv_machine.proofs.Closing.{line_without}
 use Rattle.rv_machine.proofs.Fronts.{line_found}
 use Rattle.rv_machine.proofs.Indexing.{LeftLine, closed_all, one_less}
@@ -125,7 +125,8 @@ count_first all waiters waiting due place there duty is found owed =
     ∙ ap (λ b. count_waiting (all_but all place) + cond b 1 0) (sym (count_owed there duty owed))
 
 -- what is closed leaves the tables of all others
-pub closed_first : (all rest : List OpenPlace) (old new : Waiters) (waiting left count : ℕ) (due after : Deadlines)
+pub closed_first : (all rest : List OpenPlace) (old new : Waiters) (waiting left count : ℕ) (due after :
+    Deadlines)
     (place : ℕ) (there : OpenPlace) (duty : Option OwedDuty) → AreIndexed all old waiting due
     → found_at all place ≡ Some there → duty_at there ≡ duty → count ≡ cond (is_some duty) 1 0
     → rest ≡ all_but all place → LeftLine all old new there → left ≡ waiting - count

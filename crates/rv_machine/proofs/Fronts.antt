@@ -1,24 +1,21 @@
 -- What stands first: of what is due, and on a line.
-use Rattle.std.proofs.Common.{◌≡◌, ◌<◌, ◌∷◌, ◌∙◌, ◌+◌, ◌-◌, ℕ, List, [], true, Option, Some, None, IsSome}
-use Rattle.std.proofs.Common.{length, map, refl, sym, ap, subst, arith, slice_get, nat_eq}
-use Rattle.std.specs.Prelude.{option_map}
+use Rattle.std.proofs.Common.{◌≡◌, ◌∷◌, ◌∙◌, ℕ, List, [], Option, Some, None, IsSome}
+use Rattle.std.proofs.Common.{length, refl, sym, ap, subst, slice_get, nat_eq}
 use Rattle.std.specs.FinSet.{contains, contains-from_list, remove}
-use Rattle.std.specs.List.{list_any}
-use Rattle.std.specs.Ordering.{eq_by_cmp}
 use Rattle.std.specs.Prelude.{filter_map}
 use Rattle.std.proofs.lemmas.List.{length-map}
-use Rattle.std.proofs.lemmas.Bool.{eqb-true, false≢true}
+use Rattle.std.proofs.lemmas.Bool.{eqb-true}
 use Rattle.rv_text.specs.declared.call.Side.{Side}
 use Rattle.rv_session.specs.OwedDuty.{OwedDuty}
-use Rattle.rv_due.specs.Deadlines.{AllAbove, Deadline, Deadlines, IsLeastUntil, by_moment}
+use Rattle.rv_due.specs.Deadlines.{AllAbove, Deadline, Deadlines, IsLeastUntil}
 use Rattle.rv_due.proofs.Order.{by_moment_total}
 use Rattle.rv_state.specs.State.{OpenPlace, place_list, same_side}
 use Rattle.rv_state.proofs.Words.{none-some, same_Some}
 use Rattle.rv_state.specs.After.{deadline_of_place}
-use Rattle.rv_state.proofs.Filtered.{filter_get, find_get, get_map}
+use Rattle.rv_state.proofs.Filtered.{filter_get, find_get}
 use Rattle.rv_waiters.specs.Meeting.{opposed_by}
 use Rattle.rv_waiters.specs.Views.{Waiters, waiting_on}
-use Rattle.rv_machine.specs.OpenMap.{PlacesRise, due_in, duty_at, facing, found_at, deadlines_in, line_in, all_but}
+use Rattle.rv_machine.specs.OpenMap.{PlacesRise, due_in, duty_at, facing, found_at, line_in, all_but}
 use Rattle.rv_machine.specs.OpenMap.{without_limit}
 use Rattle.rv_machine.specs.Indexed.{AreIndexed, ClosesDue}
 use Rattle.rv_machine.proofs.DueFirst.{first_due, none_due}
@@ -35,10 +32,12 @@ pub record DueThere (all : List OpenPlace) (d : Deadline) : Type 0 where
   pub has : there.limit ≡ Some d.0
   pub waits : IsSome there.waiter
 
-pub due_there : (all : List OpenPlace) (waiters : Waiters) (waiting moment : ℕ) (due : Deadlines) (d : Deadline)
+pub due_there : (all : List OpenPlace) (waiters : Waiters) (waiting moment : ℕ) (due : Deadlines)
+    (d : Deadline)
     → AreIndexed all waiters waiting due → IsLeastUntil due moment d → DueThere all d
 due_there all waiters waiting moment due d is least =
-    let listed = listed_place all d (sym (contains-from_list by_moment_total (filter_map deadline_of_place all) d)
+    let listed = listed_place all d (sym (contains-from_list by_moment_total (filter_map deadline_of_place
+    all) d)
     ∙ ap (λ (s : Deadlines). contains s d) (sym is.limits) ∙ least.there) in
     record {
       there = listed.1;
@@ -48,7 +47,8 @@ due_there all waiters waiting moment due d is least =
           (subst (λ (o : Option ℕ). IsSome o) (sym listed.4) refl);
     }
 
-pub due_first : (all : List OpenPlace) (waiters : Waiters) (waiting moment : ℕ) (due : Deadlines) (d : Deadline)
+pub due_first : (all : List OpenPlace) (waiters : Waiters) (waiting moment : ℕ) (due : Deadlines)
+    (d : Deadline)
     → AreIndexed all waiters waiting due → IsLeastUntil due moment d → (at : DueThere all d)
     → due_in all moment ≡ at.there ∷ due_in (all_but all d.1) moment
 due_first all waiters waiting moment due d is least at =
@@ -82,7 +82,8 @@ line_found all side rise i o at =
     let was = filter_get (λ (x : OpenPlace). same_side x.side side) all i o at in
     stands_found all was.0 o rise was.1
 
-pub first_found : (all : List OpenPlace) (waiters : Waiters) (waiting place : ℕ) (due : Deadlines) (side : Side)
+pub first_found : (all : List OpenPlace) (waiters : Waiters) (waiting place : ℕ) (due : Deadlines) (side :
+    Side)
     → AreIndexed all waiters waiting due → slice_get (waiting_on waiters side) 0 ≡ Some place
     → found_at all place ≡ slice_get (line_in all side) 0
 first_found all waiters waiting place due side is first =

@@ -1,9 +1,7 @@
 -- A state without an item that lay there.
-use Rattle.std.proofs.Common.{◌≡◌, ◌≢◌, ◌≤◌, ◌∷◌, ◌∙◌, ◌+◌, ℕ, List, [], cond, not, Option, Some, None, is_some}
+use Rattle.std.proofs.Common.{◌≡◌, ◌≢◌, ◌≤◌, ◌∷◌, ◌∙◌, ℕ, List, [], not, Some, None}
 use Rattle.std.proofs.Common.{sym, ap, subst, arith, slice_get, nat_eq}
-use Rattle.rv_text.specs.declared.call.Call.{Call}
-use Rattle.rv_session.specs.declared.client.LastRequest.TheVariants.{Waits}
-use Rattle.rv_state.specs.State.{ClientState, OpenPlace, State, Waiter, client_at}
+use Rattle.rv_state.specs.State.{OpenPlace, State, Waiter}
 use Rattle.rv_state.specs.After.{closed}
 use Rattle.rv_state.proofs.Words.{none-some, same_Some}
 use Rattle.rv_state.proofs.Filtered.{filter_get, rises_left}
@@ -12,7 +10,6 @@ use Rattle.rv_machine.specs.Machines.{IsConsistent, IsWaiter, AwaitsPlace}
 use Rattle.rv_machine.proofs.Closing.{found_apart}
 use Rattle.rv_machine.proofs.EndingOne.{but_one}
 use Rattle.rv_machine.proofs.Indexing.{one_less}
-use Rattle.rv_machine.proofs.Limits.{left_apart}
 
 -- how many wait where one place less is open
 pub no_more_wait : (all : List OpenPlace) (there : OpenPlace) → PlacesRise all

@@ -13,7 +13,8 @@ use Rattle.rv_machine.specs.Entering.{WaitsForNothing}
 use Rattle.rv_machine.specs.Machines.{IsConsistent, IsWhole, IsWaiter, AwaitsPlace, state_in}
 use Rattle.rv_machine.proofs.Told.{put_other, put_own}
 
-module _ (s : State) (is : IsConsistent s) (client : ℕ) (idle : WaitsForNothing s client) (session : ClientState)
+module _ (s : State) (is : IsConsistent s) (client : ℕ) (idle : WaitsForNothing s client) (session :
+    ClientState)
     (quiet : place_waiting session.request ≡ None) where
   abbrev t : State
   t = with_client s client session

@@ -1,13 +1,13 @@
 -- The tables of what is open, where one place is closed.
-use Rattle.std.proofs.Common.{◌≡◌, ◌≢◌, ◌⊎◌, ◌<◌, ◌++◌, ◌∷◌, ◌∙◌, ◌+◌, ◌-◌, ◌==◌, ℕ, zero, suc, List, [], Bool}
-use Rattle.std.proofs.Common.{true, false, cond, not, map, Option, Some, None, IsSome, is_some, refl, sym, ap}
+use Rattle.std.proofs.Common.{◌≡◌, ◌≢◌, ◌⊎◌, ◌<◌, ◌∙◌, ◌+◌, ◌-◌, ◌==◌, ℕ, List, Bool}
+use Rattle.std.proofs.Common.{true, false, cond, not, Option, Some, None, IsSome, is_some, refl, sym, ap}
 use Rattle.std.proofs.Common.{subst, arith, slice_get, nat_eq, inl, inr}
 use Rattle.std.specs.Prelude.{filter, option_and_then, option_map}
 use Rattle.std.proofs.lemmas.Bool.{eq-eqb, eqb-true, false≢true, true≢false}
 use Rattle.std.proofs.lemmas.Bool.{cases_lt}
 use Rattle.std.proofs.lemmas.Option.{slice_get-map}
 use Rattle.rv_text.specs.declared.call.Side.{Side}
-use Rattle.rv_text.specs.declared.call.Side.TheVariants.{Gives, Takes, Looks, Exchanges}
+use Rattle.rv_text.specs.declared.call.Side.TheVariants.{Gives, Takes, Exchanges}
 use Rattle.rv_text.specs.Limits.{FitsSide}
 use Rattle.rv_session.specs.OwedDuty.{OwedDuty}
 use Rattle.rv_dual.specs.Offers.{place_of}
@@ -19,7 +19,7 @@ use Rattle.rv_state.proofs.SideLines.{same_side_is, same_side_itself}
 use Rattle.rv_waiters.specs.Parked.{AreParked}
 use Rattle.rv_waiters.specs.Views.{Waiters, place_of_duty, waiting_on}
 use Rattle.rv_waiters.specs.Meeting.{LeavesSide, StandsOn, Withdrew}
-use Rattle.rv_machine.specs.OpenMap.{PlacesRise, duty_at, found_at, deadlines_in, line_in, owed_among, count_waiting}
+use Rattle.rv_machine.specs.OpenMap.{PlacesRise, duty_at, found_at, line_in, owed_among, count_waiting}
 use Rattle.rv_machine.specs.OpenMap.{all_but, without_limit}
 use Rattle.rv_machine.specs.Indexed.{AreIndexed, WaitsIn}
 use Rattle.rv_machine.proofs.Closing.{found_apart, line_stays, line_without, one_waits_less, places_without}
@@ -63,7 +63,8 @@ same_place all i j x y rise at there same =
 pub stands_found : (all : List OpenPlace) (i : ℕ) (x : OpenPlace) → PlacesRise all
     → slice_get all i ≡ Some x → found_at all x.place ≡ Some x
 stands_found all i x rise at =
-    let found = get_find (λ (o : OpenPlace). nat_eq o.place x.place) all i x at (eq-eqb x.place x.place refl) in
+    let found = get_find (λ (o : OpenPlace). nat_eq o.place x.place) all i x at (eq-eqb x.place x.place refl)
+    in
     let is = find_get (λ (o : OpenPlace). nat_eq o.place x.place) all found.0 found.1 in
     found.1 ∙ ap Some (same_place all is.0 i found.0 x rise is.1 at (eqb-true found.0.place x.place is.2))
 
@@ -81,7 +82,8 @@ other_side side other apart same =
     true≢false (sym (same_side_itself side) ∙ ap (same_side side) (sym same) ∙ apart)
 
 -- a place on a line is that of one that is open
-pub on_line : (all : List OpenPlace) (side : Side) (i r : ℕ) → slice_get (place_list (line_in all side)) i ≡ Some r
+pub on_line : (all : List OpenPlace) (side : Side) (i r : ℕ)
+    → slice_get (place_list (line_in all side)) i ≡ Some r
     → (j : ℕ) × (o : OpenPlace) × (slice_get all j ≡ Some o) × (o.place ≡ r) × (o.side ≡ side)
 on_line all side i r at =
     let found = map_get (λ (o : OpenPlace). o.place) (line_in all side) i r at in
@@ -124,7 +126,8 @@ module _ (all : List OpenPlace) (old new : Waiters) (waiting : ℕ) (due : Deadl
 
   pub closed_index : AreIndexed rest new (count_waiting rest) (without_limit there.limit place due)
   closed_index = record {
-    rise = rises_left (λ (x : OpenPlace). not (nat_eq x.place place)) (λ (o : OpenPlace). o.place) all is.rise;
+    rise = rises_left (λ (x : OpenPlace). not (nat_eq x.place place)) (λ (o : OpenPlace). o.place) all
+        is.rise;
     fit = λ i one stands. let was = still i one stands in is.fit was.0 one was.1;
     limited = λ i one stands. let was = still i one stands in is.limited was.0 one was.1;
     lines = lines_left;
@@ -163,7 +166,8 @@ closed_all all rest old new waiting left due after place there is found rest_is 
     let counted : count_waiting (all_but all place) ≡ left = omega (arith, is.counted, less, count) in
     by_parts closed counted
   where
-    by_parts : AreIndexed (all_but all place) new (count_waiting (all_but all place)) (without_limit there.limit place due)
+    by_parts : AreIndexed (all_but all place) new (count_waiting (all_but all place))
+        (without_limit there.limit place due)
         → count_waiting (all_but all place) ≡ left → AreIndexed rest new left after
     by_parts closed counted =
         subst (λ (l : List OpenPlace). AreIndexed l new left after) (sym rest_is)
@@ -189,14 +193,16 @@ stands_on all waiters waiting due place there is found =
     record {
       i = listed.0;
       there = ap (λ l. slice_get l listed.0) (is.lines there.side)
-          ∙ get_map (λ (o : OpenPlace). o.place) (line_in all there.side) listed.0 there listed.1 ∙ ap Some is_at;
+          ∙ get_map (λ (o : OpenPlace). o.place) (line_in all there.side) listed.0 there listed.1
+          ∙ ap Some is_at;
       only = λ other j on.
           let found = on_line all other j place (sym (ap (λ l. slice_get l j) (is.lines other)) ∙ on) in
           let same = same_place all found.0 at.0 found.1 there is.rise found.2 at.1 (found.3 ∙ sym is_at) in
           sym found.4 ∙ ap (λ (o : OpenPlace). o.side) same;
     }
 
-pub left_by_withdrawal : (all : List OpenPlace) (old new : Waiters) (waiting : ℕ) (due : Deadlines) (place : ℕ)
+pub left_by_withdrawal : (all : List OpenPlace) (old new : Waiters) (waiting : ℕ) (due : Deadlines) (place :
+    ℕ)
     (there : OpenPlace) (duty : OwedDuty) (result : Option OwedDuty) → AreIndexed all old waiting due
     → found_at all place ≡ Some there → duty_at there ≡ Some duty
     → LeavesSide old new there.side duty result → LeftLine all old new there
@@ -211,7 +217,8 @@ left_by_withdrawal all old new waiting due place there duty result is found owed
       parked = left.parked (owed_among all) is.parked;
     }
   where
-    duty_place : (w : Option Waiter) → option_map (λ x. record { place = there.place; client = x.key.client }) w
+    duty_place : (w : Option Waiter) → option_map (λ x. record { place = there.place; client = x.key.client })
+        w
         ≡ Some duty → duty.place ≡ there.place
     duty_place None is = absurd (none-some duty is)
     duty_place (Some w) is = sym (ap (λ (d : OwedDuty). d.place) (same_Some _ _ is))
@@ -221,12 +228,14 @@ pub has_duty : (there : OpenPlace) → IsSome there.waiter → (duty : OwedDuty)
 has_duty there waits = by_waiter there.waiter waits
   where
     by_waiter : (w : Option Waiter) → IsSome w
-        → (duty : OwedDuty) × (option_map (λ x. record { place = there.place; client = x.key.client }) w ≡ Some duty)
+        → (duty : OwedDuty) × (option_map (λ x. record { place = there.place; client = x.key.client }) w ≡
+        Some duty)
     by_waiter None some = absurd (false≢true some)
     by_waiter (Some w) some = (record { place = there.place; client = w.key.client }, refl)
 
 -- who waited left, and the duty came back
-pub record Withdrawn (all : List OpenPlace) (old new : Waiters) (there : OpenPlace) (result : Option OwedDuty) :
+pub record Withdrawn (all : List OpenPlace) (old new : Waiters) (there : OpenPlace) (result :
+    Option OwedDuty) :
     Type 0 where
   pub duty : OwedDuty
   pub owed : duty_at there ≡ Some duty
@@ -239,7 +248,8 @@ pub withdrawn : (all : List OpenPlace) (old new : Waiters) (waiting : ℕ) (due 
     → Withdrawn all old new there result
 withdrawn all old new waiting due place there result is found waits withdrew =
     let has = has_duty there waits in
-    let leaves = withdrew (owed_among all) has.0 is.parked (stands_on all old waiting due place there is found)
+    let leaves = withdrew (owed_among all) has.0 is.parked (stands_on all old waiting due place there is
+    found)
     (same_owed all place there has.0 found has.1) in
     record {
       duty = has.0;
@@ -260,11 +270,13 @@ one_waits all old waiting due place there is found waits =
     is.counted ∙ one_less all place there is.rise found
     ∙ ap (λ b. count_waiting (all_but all place) + cond b 1 0) waits
 
-pub closed_waiting : (all rest : List OpenPlace) (old new : Waiters) (waiting left : ℕ) (due after : Deadlines)
+pub closed_waiting : (all rest : List OpenPlace) (old new : Waiters) (waiting left : ℕ) (due after :
+    Deadlines)
     (place : ℕ) (there : OpenPlace) → AreIndexed all old waiting due → found_at all place ≡ Some there
     → IsSome there.waiter → rest ≡ all_but all place → LeftLine all old new there → left ≡ waiting - 1
     → after ≡ without_limit there.limit place due → AreIndexed rest new left after
-closed_waiting all rest old new waiting left due after place there is found waits rest_is gone count after_is =
+closed_waiting all rest old new waiting left due after place there is found waits rest_is gone count
+    after_is =
     let one = one_waits all old waiting due place there is found waits in
     closed_all all rest old new waiting left due after place there is found rest_is gone
     (omega (arith, one, count) ∙ ap (λ b. left + cond b 1 0) (sym waits)) after_is

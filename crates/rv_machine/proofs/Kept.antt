@@ -1,21 +1,20 @@
 -- The map in which what is open is kept: what an insertion behind all others, a look-up and a removal are in
 -- the list of its values.
 use Rattle.std.proofs.Common.{◌≡◌, ◌<◌, ◌++◌, ◌∷◌, ◌∙◌, ◌==◌, ℕ, zero, suc, List, [], Bool, true, false, cond}
-use Rattle.std.proofs.Common.{not, map, Option, Some, None, refl, sym, ap, subst, arith, slice_get, nat_eq}
-use Rattle.std.specs.Prelude.{filter, find}
+use Rattle.std.proofs.Common.{not, Some, refl, sym, ap, subst, arith, slice_get, nat_eq}
+use Rattle.std.specs.Prelude.{filter}
 use Rattle.std.specs.BTreeMap.{insert_entry, is_at}
-use Rattle.std.specs.Map.{keys_of, lookup, remove_entry, values_of}
+use Rattle.std.specs.Map.{lookup, remove_entry, values_of}
 use Rattle.std.specs.Cmp.{ranked, unsigned_tied}
 use Rattle.std.specs.Ordering.{is_eq, match_ordering, nat_cmp}
 use Rattle.std.specs.declared.cmp.Ordering.{Ordering}
 use Rattle.std.specs.declared.cmp.Ordering.TheVariants.{Less, Equal, Greater}
-use Rattle.std.proofs.lemmas.Bool.{false≢true, true≢false}
 use Rattle.std.proofs.lemmas.Bool.Decides.{nat_tests}
 use Rattle.rv_state.specs.State.{OpenPlace}
 use Rattle.std.proofs.Common.{inl, inr}
 use Rattle.std.proofs.lemmas.List.{map-append}
 use Rattle.rv_state.proofs.Words.{none-some, same_Some}
-use Rattle.rv_state.proofs.Filtered.{append_get, get_map, map_get, rises_left}
+use Rattle.rv_state.proofs.Filtered.{append_get, rises_left}
 use Rattle.rv_machine.specs.OpenMap.{AreOpens, PlacesRise, StandBelow, StandUnderPlaces, found_at, all_but}
 
 abbrev Entries : Type 0
@@ -136,7 +135,8 @@ rise_more (x ∷ all) v rise below i zero one other less at there = absurd (omeg
 rise_more (x ∷ all) v rise below zero (suc j) one other less at there = elim (append_get all (v ∷ []) j other
     there) [
       | inl before ↦ rise 0 (suc before.0) one other (omega arith) at before.1
-      | inr last ↦ subst (λ (o : OpenPlace). one.place < o.place) (in_end v other last.0 last.1) (below 0 one at)
+      | inr last ↦ subst (λ (o : OpenPlace). one.place < o.place) (in_end v other last.0 last.1)
+          (below 0 one at)
     ]
 rise_more (x ∷ all) v rise below (suc i) (suc j) one other less at there =
     rise_more all v (λ k l a b under first second. rise (suc k) (suc l) a b (omega arith) first second)
@@ -153,7 +153,8 @@ more_under es v under i e at = elim (append_get es ((v.place, v) ∷ []) i e at)
   | inr last ↦ in_last e v last.0 last.1
 ]
 
-pub values_more : (es : Entries) (v : OpenPlace) → values_of (es ++ (v.place, v) ∷ []) ≡ values_of es ++ v ∷ []
+pub values_more : (es : Entries) (v : OpenPlace)
+    → values_of (es ++ (v.place, v) ∷ []) ≡ values_of es ++ v ∷ []
 values_more es v = map-append (λ (e : ℕ × OpenPlace). e.1) es ((v.place, v) ∷ [])
 
 pub more_open : (es new : Entries) (v : OpenPlace) → AreOpens es → StandBelow (values_of es) v.place

@@ -1,31 +1,26 @@
 -- The deadlines of what is open: what they become where a place is opened or closed, and which is the least.
-use Rattle.std.proofs.Common.{◌≡◌, ◌≢◌, ◌<◌, ◌≤◌, ◌++◌, ◌∷◌, ◌∙◌, ◌||◌, ◌&&◌, ℕ, zero, suc, List, [], Bool}
-use Rattle.std.proofs.Common.{true, false, cond, not, map, Option, Some, None, is_some, refl, sym, ap, subst}
-use Rattle.std.proofs.Common.{arith, slice_get, nat_eq, inl, inr}
-use Rattle.std.specs.Prelude.{filter, find, filter_map, option_and_then, option_map, nat_lt}
+use Rattle.std.proofs.Common.{◌≡◌, ◌++◌, ◌∷◌, ◌∙◌, ◌||◌, ◌&&◌, ℕ, List, [], Bool}
+use Rattle.std.proofs.Common.{true, false, not, Option, Some, None, refl, sym, ap}
+use Rattle.std.proofs.Common.{slice_get, nat_eq}
+use Rattle.std.specs.Prelude.{filter_map, option_map}
 use Rattle.std.specs.List.{list_any}
-use Rattle.std.specs.FinSet.{contains, contains-from_list, contains-insert, contains-remove, from_list, insert}
+use Rattle.std.specs.FinSet.{contains-from_list, contains-remove, from_list}
 use Rattle.std.specs.FinSet.{from_list_push, remove, same_set}
-use Rattle.std.specs.FinMap.{FinMap, entries, entries-insert, entries_sorted, from_entries, get}
-use Rattle.std.specs.FinMap.{get-from_entries, get-insert, keys, same_map}
-use Rattle.std.specs.FinMap as map_of
-use Rattle.std.specs.FinMap.Entries.{is_some-find, put}
 use Rattle.std.specs.Cmp.{Equal-is}
 use Rattle.std.specs.Ordering.{eq_by_cmp}
-use Rattle.std.proofs.lemmas.Bool.{false≢true, true≢false}
+use Rattle.std.proofs.lemmas.Bool.{true≢false}
 use Rattle.std.proofs.lemmas.Cmp.{eq_by_cmp_equiv}
 use Rattle.std.proofs.lemmas.List.{append-nil}
 use Rattle.std.proofs.lemmas.List.Elements.{filter_map-append}
-use Rattle.rv_due.specs.Deadlines.{Deadline, Deadlines, by_moment}
+use Rattle.rv_due.specs.Deadlines.{Deadline, by_moment}
 use Rattle.rv_due.proofs.Order.{by_moment_total, by_moment-IsAntisymmetric}
 use Rattle.rv_state.specs.State.{OpenPlace}
 use Rattle.rv_state.specs.After.{deadline_of_place}
-use Rattle.rv_state.proofs.Words.{none-some, same_Some}
 use Rattle.rv_state.proofs.Filtered.{any_get, filter_get, filter_map_get, get_any, get_filter_map}
 use Rattle.rv_state.proofs.Filtered.{mapped_there}
 use Rattle.std.proofs.lemmas.Bool.{eq-eqb}
 use Rattle.rv_state.proofs.Words.{cons_option}
-use Rattle.rv_machine.specs.OpenMap.{PlacesRise, deadlines_in, with_limit, all_but, without_limit}
+use Rattle.rv_machine.specs.OpenMap.{deadlines_in, with_limit, all_but, without_limit}
 use Rattle.rv_machine.proofs.Parted.{PartedAt}
 
 -- ---- sets of deadlines
@@ -51,7 +46,8 @@ or_true false c is apart = is
 pub limits_more : (all : List OpenPlace) (o : OpenPlace)
     → deadlines_in (all ++ o ∷ []) ≡ with_limit o.limit o.place (deadlines_in all)
 limits_more all o =
-    ap (λ (ds : List Deadline). from_list {R = by_moment} ds) (filter_map-append deadline_of_place all (o ∷ []))
+    ap (λ (ds : List Deadline). from_list {R = by_moment} ds) (filter_map-append deadline_of_place all
+    (o ∷ []))
     ∙ by_limit o.limit
   where
     by_limit : (limit : Option ℕ)
@@ -65,9 +61,11 @@ limits_more all o =
 
 -- ---- one less
 
-any_append : {X : Type 0} (p : X → Bool) (xs ys : List X) → list_any p (xs ++ ys) ≡ (list_any p xs || list_any p ys)
+any_append : {X : Type 0} (p : X → Bool) (xs ys : List X)
+    → list_any p (xs ++ ys) ≡ (list_any p xs || list_any p ys)
 any_append p [] ys = refl
-any_append p (x ∷ xs) ys = ap (λ b. p x || b) (any_append p xs ys) ∙ or_three (p x) (list_any p xs) (list_any p ys)
+any_append p (x ∷ xs) ys = ap (λ b. p x || b) (any_append p xs ys) ∙ or_three (p x) (list_any p xs)
+    (list_any p ys)
   where
     or_three : (a b c : Bool) → (a || (b || c)) ≡ ((a || b) || c)
     or_three true b c = refl

@@ -1,25 +1,24 @@
 -- An arrival meets the first of the line that it faces.
-use Rattle.std.proofs.Common.{◌≡◌, ◌≢◌, ◌⊎◌, ◌<◌, ◌++◌, ◌∷◌, ◌∙◌, ◌+◌, ◌-◌, ℕ, zero, suc, List, [], Bool}
-use Rattle.std.proofs.Common.{true, false, cond, not, Option, Some, None, IsSome, is_some, length, refl, sym, ap}
+use Rattle.std.proofs.Common.{◌≡◌, ◌≢◌, ◌⊎◌, ◌<◌, ◌∷◌, ◌∙◌, ℕ, suc, List, []}
+use Rattle.std.proofs.Common.{false, cond, Option, Some, None, length, refl, sym, ap}
 use Rattle.std.proofs.Common.{subst, arith, slice_get, nat_eq, inl, inr}
-use Rattle.std.specs.Prelude.{option_and_then, option_map}
-use Rattle.std.proofs.lemmas.Bool.{eq-eqb, eqb-true, false≢true}
+use Rattle.std.specs.Prelude.{option_and_then}
+use Rattle.std.proofs.lemmas.Bool.{eq-eqb, false≢true}
 use Rattle.std.proofs.lemmas.Bool.Decides.{nat_tests}
 use Rattle.rv_text.specs.declared.call.Side.{Side}
 use Rattle.rv_text.specs.declared.call.Wait.{Wait}
 use Rattle.rv_session.specs.OwedDuty.{OwedDuty}
 use Rattle.rv_due.specs.Deadlines.{Deadlines}
 use Rattle.rv_account.specs.Calls.{opposite}
-use Rattle.rv_state.specs.State.{OpenPlace, place_list, same_side}
+use Rattle.rv_state.specs.State.{OpenPlace, same_side}
 use Rattle.rv_state.proofs.Words.{none-some, same_Some}
 use Rattle.rv_waiters.specs.declared.outcome.Arrived.{Arrived}
 use Rattle.rv_waiters.specs.Parked.{AreParked}
-use Rattle.rv_waiters.specs.Meeting.{ArrivedOn, FindsNobody, HasRoomOn, MeetsOrWaits, OwnDuty, ParksOn}
+use Rattle.rv_waiters.specs.Meeting.{ArrivedOn, FindsNobody, HasRoomOn, MeetsOrWaits, OwnDuty}
 use Rattle.rv_waiters.specs.Meeting.{PartnersDuty}
 use Rattle.rv_waiters.specs.Views.{AreBelow, Waiters, waiting_on}
-use Rattle.rv_machine.specs.OpenMap.{StandBelow, duty_at, facing, found_at, line_in, opposed_in, owed_among}
-use Rattle.rv_machine.specs.OpenMap.{all_but}
-use Rattle.rv_machine.specs.Indexed.{AreIndexed, ClosesFirst}
+use Rattle.rv_machine.specs.OpenMap.{StandBelow, facing, line_in, opposed_in, owed_among}
+use Rattle.rv_machine.specs.Indexed.{AreIndexed}
 use Rattle.rv_machine.proofs.Firsts.{FirstLeft, first_left, no_places}
 use Rattle.rv_machine.proofs.Indexing.{on_line, parked_on, side_or_not}
 use Rattle.rv_state.proofs.SideLines.{same_side_itself}

@@ -1,6 +1,7 @@
 -- A machine in which a request met one.
-use Rattle.std.proofs.Common.{◌≡◌, ◌<◌, ◌≤◌, ◌∙◌, ◌++◌, ◌∷◌, ◌+◌, ℕ, zero, suc, List, [], Option, Some, None, refl, sym, ap}
-use Rattle.std.proofs.Common.{subst, arith, cond}
+use Rattle.std.proofs.Common.{◌≡◌, ◌<◌, ◌≤◌, ◌∙◌, ◌++◌, ◌∷◌, ◌+◌, ℕ, zero, suc, List, [], Option, Some, None}
+use Rattle.std.proofs.Common.{refl, sym, ap}
+use Rattle.std.proofs.Common.{subst, arith}
 use Rattle.std.specs.Prelude.{take, unwrap_or, vec_capacity, vec_len}
 use Rattle.std.specs.FinMap.{get}
 use Rattle.std.proofs.lemmas.List.{append-nil}
@@ -12,25 +13,24 @@ use Rattle.rv_rules.specs.Steps.{max_entries}
 use Rattle.rv_text.specs.declared.answer.Reply.{Reply}
 use Rattle.rv_text.specs.Calls.{drains_of, side_of, wait_of}
 use Rattle.rv_session.specs.OwedDuty.{OwedDuty}
-use Rattle.rv_session.specs.declared.client.ClientState.{ClientState}
 use Rattle.rv_session.specs.declared.client.LastRequest.TheVariants.{RepliedTo}
-use Rattle.rv_session.specs.Clients.{ClientStates, clients_asked, clients_told, with_clients, with_last_number}
-use Rattle.rv_account.specs.declared.entry.Entry.{Entry}
+use Rattle.rv_session.specs.Clients.{ClientStates, clients_asked, clients_told, with_clients}
+use Rattle.rv_session.specs.Clients.{with_last_number}
 use Rattle.rv_account.specs.declared.entry.Act.TheVariants.{Arrive}
 use Rattle.rv_account.specs.Account.{entry}
 use Rattle.rv_account.specs.Calls.{may_name, need_by, opposite}
-use Rattle.rv_state.specs.State.{OpenPlace, State, client_at, place_list}
-use Rattle.rv_state.specs.After.{Following, Settled, advanced, asked, closed, following, met_by, parked, request_after}
+use Rattle.rv_state.specs.State.{OpenPlace, State, place_list}
+use Rattle.rv_state.specs.After.{Following, Settled, advanced, asked, closed, following, met_by, parked}
+use Rattle.rv_state.specs.After.{request_after}
 use Rattle.rv_state.specs.After.{settled_all, told_own, told_partner, with_open}
-use Rattle.rv_state.specs.Moves.{told_again}
 use Rattle.rv_machine.specs.declared.machine.Machine.{Machine}
 use Rattle.rv_machine.specs.Arriving.{Arrives, MayArrive}
 use Rattle.rv_machine.specs.Ending.{counted}
 use Rattle.rv_machine.specs.Indexed.{ClosesFirst}
 use Rattle.rv_machine.specs.Machines.{IsConsistent, IsWhole, keys_settled, state_in}
-use Rattle.rv_machine.specs.OpenMap.{facing, opposed_in, count_waiting, all_but}
-use Rattle.rv_machine.proofs.Asked.{arrived_by, asked_as, with_clients_of}
-use Rattle.rv_machine.proofs.Concluded.{asked_consistent, asked_is}
+use Rattle.rv_machine.specs.OpenMap.{facing, count_waiting}
+use Rattle.rv_machine.proofs.Asked.{arrived_by, asked_as}
+use Rattle.rv_machine.proofs.Concluded.{asked_consistent}
 use Rattle.rv_machine.proofs.EndingOne.{but_one}
 use Rattle.rv_machine.proofs.GoneItem.{no_more_wait}
 use Rattle.rv_machine.proofs.MetOne.{TellsBoth}
@@ -64,7 +64,8 @@ module _ (m : Machine) (moment : ℕ) (key : Key) (call : Call) (may : MayArrive
 
   pub one_met : met_by s call ≡ there ∷ []
   one_met = ap (take (may_name call)) met.first
-      ∙ one_taken (may_name call) there (facing table (opposite (side_of call))) (ap (λ (o : Option ℕ). unwrap_or o 1) one)
+      ∙ one_taken (may_name call) there (facing table (opposite (side_of call)))
+      (ap (λ (o : Option ℕ). unwrap_or o 1) one)
 
   -- before its entry is counted
   abbrev before : Machine
@@ -101,7 +102,8 @@ module _ (m : Machine) (moment : ℕ) (key : Key) (call : Call) (may : MayArrive
   before_ready : IsWhole before
   before_ready = record {
     consistent = subst (λ (x : State). IsConsistent x) (sym before_is)
-        (asked_consistent gone key (RepliedTo call own) may.next.session both.consistent both.known may.next.idle
+        (asked_consistent gone key (RepliedTo call own) may.next.session both.consistent both.known
+        may.next.idle
         refl);
     most = ap (λ (t : ClientStates). t.most) are ∙ both.most ∙ may.ready.most;
     room = subst (λ (l : List OpenPlace). count_waiting l + vec_len now.settled ≤ vec_capacity now.settled)
@@ -111,10 +113,12 @@ module _ (m : Machine) (moment : ℕ) (key : Key) (call : Call) (may : MayArrive
   pub new_ready : IsWhole new
   new_ready =
       let fewer : count_waiting now.table ≤ count_waiting m.table =
-      subst (λ (l : List OpenPlace). count_waiting l ≤ count_waiting m.table) (sym (both.table_is ∙ met.closes.rest))
+      subst (λ (l : List OpenPlace). count_waiting l ≤ count_waiting m.table)
+      (sym (both.table_is ∙ met.closes.rest))
       (no_more_wait m.table there may.ready.consistent.rise met.closes.found) in
       let need = at_least_one (wait_of call) in
-      recorded_ready before moment before_ready may.time (omega (arith, may.space, fewer, need, both.length_is))
+      recorded_ready before moment before_ready may.time
+      (omega (arith, may.space, fewer, need, both.length_is))
 
   pub new_small : now.length < max_entries
   new_small =
@@ -140,7 +144,8 @@ module _ (m : Machine) (moment : ℕ) (key : Key) (call : Call) (may : MayArrive
       (sym (asked_as (with_open gone (parked s moment key call (there ∷ []))) key (RepliedTo call own)))
       ∙ ap (λ (o : Option Reply). advanced (asked (with_open gone (parked s moment key call (there ∷ []))) key
       (request_after s.length call o)) moment) (sym told)
-      ∙ ap (λ (f : Following). advanced f.after moment) (sym (arrived_by s moment key call (there ∷ []) one_met))
+      ∙ ap (λ (f : Following). advanced f.after moment) (sym (arrived_by s moment key call (there ∷ [])
+      one_met))
 
   pub new_arrives : (copy : Call) (places : List ℕ) → copy ≡ call → places ≡ there.place ∷ []
       → Arrives m new moment key call (entry moment (Arrive key copy) places)
@@ -152,5 +157,6 @@ module _ (m : Machine) (moment : ℕ) (key : Key) (call : Call) (may : MayArrive
     session = with_last_number may.next.session key.number (RepliedTo call own);
     known = ap (λ m. get m key.client) clients_are
         ∙ asked_own gone.clients key (RepliedTo call own) may.next.session both.known;
-    told = sym told ∙ ap (λ (f : Following). f.reply) (sym (arrived_by s moment key call (there ∷ []) one_met));
+    told = sym told ∙ ap (λ (f : Following). f.reply) (sym (arrived_by s moment key call (there ∷ [])
+        one_met));
   }

@@ -1,6 +1,6 @@
 -- A machine in which a request met one: before its entry is counted.
-use Rattle.std.proofs.Common.{◌≡◌, ◌≢◌, ◌⊎◌, ◌<◌, ◌≤◌, ◌∙◌, ◌++◌, ◌∷◌, ◌+◌, ℕ, List, [], Bool, true, false}
-use Rattle.std.proofs.Common.{Option, Some, None, IsSome, is_some, length, refl, sym, ap, subst, arith, inl, inr}
+use Rattle.std.proofs.Common.{◌≡◌, ◌≢◌, ◌≤◌, ◌∙◌, ◌++◌, ◌∷◌, ◌+◌, ℕ, List, [], true}
+use Rattle.std.proofs.Common.{Option, Some, None, IsSome, refl, sym, ap, subst, arith}
 use Rattle.std.proofs.Common.{slice_get, nat_eq}
 use Rattle.std.specs.Prelude.{option_and_then, option_map, vec_capacity, vec_len}
 use Rattle.std.specs.FinMap.{FinMap, get}
@@ -12,7 +12,7 @@ use Rattle.rv_text.specs.declared.call.Call.{Call}
 use Rattle.rv_text.specs.declared.call.Side.{Side}
 use Rattle.rv_text.specs.declared.answer.Reply.{Reply}
 use Rattle.rv_text.specs.declared.answer.Reply.TheVariants as reply
-use Rattle.rv_text.specs.Calls.{drains_of, item_of, side_of, wait_of}
+use Rattle.rv_text.specs.Calls.{item_of, side_of}
 use Rattle.rv_session.specs.OwedDuty.{OwedDuty}
 use Rattle.rv_session.specs.declared.client.ClientState.{ClientState}
 use Rattle.rv_session.specs.declared.client.LastRequest.TheVariants.{RepliedTo, Waits}
@@ -20,20 +20,19 @@ use Rattle.rv_session.specs.Clients.{ClientStates, clients_asked, clients_told, 
 use Rattle.rv_session.specs.Clients.{with_clients, with_last_number}
 use Rattle.rv_account.specs.Calls.{opposite}
 use Rattle.rv_state.specs.State.{OpenPlace, State, Waiter, client_at, same_side}
-use Rattle.rv_state.specs.After.{Settled, closed, settled_all, tell_all, told_partner}
+use Rattle.rv_state.specs.After.{Settled, closed, settled_all, told_partner}
 use Rattle.rv_state.proofs.Filtered.{filter_get, find_get}
 use Rattle.rv_state.proofs.SideLines.{same_side_is}
 use Rattle.rv_state.proofs.TableClients.{clients_after_tell}
 use Rattle.rv_state.proofs.Words.{none-some, same_Some}
 use Rattle.rv_machine.specs.declared.machine.Machine.{Machine}
 use Rattle.rv_machine.specs.Arriving.{MayArrive}
-use Rattle.rv_machine.specs.Indexed.{ClosesPlace, ClosesFirst}
-use Rattle.rv_machine.specs.Machines.{IsConsistent, IsWhole, IsWaiter, keys_settled, state_in}
-use Rattle.rv_machine.specs.OpenMap.{duty_at, facing, found_at, line_in, count_waiting, all_but}
+use Rattle.rv_machine.specs.Indexed.{ClosesFirst}
+use Rattle.rv_machine.specs.Machines.{IsConsistent, IsWaiter, keys_settled, state_in}
+use Rattle.rv_machine.specs.OpenMap.{facing, found_at, line_in, count_waiting}
 use Rattle.rv_machine.specs.Telling.{MayTell, TellsOne, TellsWaiter, WasTold, machine_told, told_on_side}
 use Rattle.rv_machine.proofs.Asked.{asked_then_told, met_clients}
-use Rattle.rv_machine.proofs.EndedMachine.{duty_is}
-use Rattle.rv_machine.proofs.EndingOne.{awaited, but_one, ended_consistent, less_waits, own}
+use Rattle.rv_machine.proofs.EndingOne.{awaited, but_one, ended_consistent, less_waits}
 use Rattle.rv_machine.proofs.GoneItem.{gone_consistent, no_more_wait}
 use Rattle.rv_machine.proofs.MetReplies.{partner_told, settles_nobody, settles_one}
 use Rattle.rv_machine.proofs.Told.{asked_other, asked_own, told_other}
@@ -76,7 +75,8 @@ module _ (m : Machine) (moment : ℕ) (key : Key) (call : Call) (may : MayArrive
 
   -- with its own request begun
   abbrev pub begun : Machine
-  begun = begun_with m table (with_clients m.clients (clients_asked m.clients.clients key (Waits m.length call)))
+  begun = begun_with m table (with_clients m.clients (clients_asked m.clients.clients key
+      (Waits m.length call)))
 
   stands : (i : ℕ) × (slice_get m.table i ≡ Some there) × (nat_eq there.place there.place ≡ true)
   stands = find_get (λ (o : OpenPlace). nat_eq o.place there.place) m.table there met.closes.found
@@ -88,7 +88,8 @@ module _ (m : Machine) (moment : ℕ) (key : Key) (call : Call) (may : MayArrive
   apart : (w : Waiter) → there.waiter ≡ Some w → w.key.client ≢ key.client
   apart w waits same =
       let one = its w waits in
-      let session_is = same_Some _ _ (sym may.next.of_session.there ∙ ap (client_at s) (sym same) ∙ one.known) in
+      let session_is = same_Some _ _ (sym may.next.of_session.there ∙ ap (client_at s) (sym same) ∙ one.known)
+      in
       none-some there.place (sym may.next.idle ∙ ap (λ (c : ClientState). place_waiting c.request) session_is
       ∙ ap place_waiting one.waits)
 
@@ -101,7 +102,8 @@ module _ (m : Machine) (moment : ℕ) (key : Key) (call : Call) (may : MayArrive
       ∙ less_waits s is there.place there w reply.Cancelled found_there waits
 
   can_tell : (w : Waiter) → there.waiter ≡ Some w
-      → MayTell begun (record { place = there.place; client = w.key.client }) there.waiter there.side key (item_of call)
+      → MayTell begun (record { place = there.place; client = w.key.client }) there.waiter there.side key
+      (item_of call)
   can_tell w waits =
       let one = its w waits in
       let r = some_of (told_on_side there.side one.session.version (Some key) (item_of call))
@@ -114,7 +116,8 @@ module _ (m : Machine) (moment : ℕ) (key : Key) (call : Call) (may : MayArrive
             (asked_other m.clients.clients key w.key.client (Waits m.length call) (apart w waits))
             ∙ awaited s is there.place there w reply.Cancelled found_there waits;
         session = one.session;
-        known = asked_other m.clients.clients key w.key.client (Waits m.length call) (apart w waits) ∙ one.known;
+        known = asked_other m.clients.clients key w.key.client (Waits m.length call) (apart w waits)
+            ∙ one.known;
         reply = r.0;
         told = r.1;
         room = omega (arith, one_less_waits w waits, may.ready.room);
@@ -125,7 +128,8 @@ module _ (m : Machine) (moment : ℕ) (key : Key) (call : Call) (may : MayArrive
       some_of (Some r) some = (r, refl)
 
   pub tells_waiter : TellsWaiter begun other there.waiter there.side key (item_of call)
-  tells_waiter = subst (λ (o : Option OwedDuty). TellsWaiter begun o there.waiter there.side key (item_of call))
+  tells_waiter = subst (λ (o : Option OwedDuty). TellsWaiter begun o there.waiter there.side key
+      (item_of call))
       met.closes.owed (by_waiter there.waiter refl)
     where
       by_waiter : (w : Option Waiter) → there.waiter ≡ w
@@ -155,9 +159,11 @@ module _ (m : Machine) (moment : ℕ) (key : Key) (call : Call) (may : MayArrive
       (Waits m.length call))
   begins = asked_own m.clients.clients key (Waits m.length call) may.next.session may.next.of_session.there
 
-  own_awaited : (clients : FinMap nat_cmp ClientState) → get clients key.client ≡ get begun.clients.clients key.client
+  own_awaited : (clients : FinMap nat_cmp ClientState)
+      → get clients key.client ≡ get begun.clients.clients key.client
       → place_awaited clients key.client ≡ Some m.length
-  own_awaited clients same = ap (option_and_then (λ (c : ClientState). place_waiting c.request)) (same ∙ begins)
+  own_awaited clients same = ap (option_and_then (λ (c : ClientState). place_waiting c.request))
+      (same ∙ begins)
 
   nobody : (now : Machine) → there.waiter ≡ None → now ≡ begun → TellsBoth now
   nobody now none same =
@@ -177,14 +183,17 @@ module _ (m : Machine) (moment : ℕ) (key : Key) (call : Call) (may : MayArrive
         most = ap (λ (x : Machine). x.clients.most) same;
         listed = ap (λ (x : Machine). x.settled.items) same ∙ sym (append-nil m.settled.items)
             ∙ ap (λ (l : List Settled). m.settled.items ++ keys_settled l) (sym no_one);
-        room = subst (λ (x : Machine). count_waiting table + vec_len x.settled ≤ vec_capacity x.settled) (sym same)
+        room = subst (λ (x : Machine). count_waiting table + vec_len x.settled ≤ vec_capacity x.settled)
+            (sym same)
             (omega (arith, at_most, may.ready.room));
         its_awaited = ap (λ (x : Machine). place_awaited x.clients.clients key.client) same
             ∙ own_awaited begun.clients.clients refl;
         tells = λ own_reply.
             ap (λ (x : Machine). clients_told x.clients.clients key.client own_reply) same
-            ∙ asked_then_told m.clients.clients key m.length call own_reply may.next.session may.next.of_session.there
-            ∙ ap (λ (l : List Settled). clients_asked (closed s (there ∷ []) l).clients key (RepliedTo call own_reply))
+            ∙ asked_then_told m.clients.clients key m.length call own_reply may.next.session
+            may.next.of_session.there
+            ∙ ap (λ (l : List Settled). clients_asked (closed s (there ∷ []) l).clients key
+            (RepliedTo call own_reply))
             (sym no_one);
       }
 
@@ -196,8 +205,10 @@ module _ (m : Machine) (moment : ℕ) (key : Key) (call : Call) (may : MayArrive
       let session_known = asked_other m.clients.clients key w.key.client (Waits m.length call) (apart w waits)
       ∙ one.known in
       let session_is : was.session ≡ one.session = same_Some _ _
-      (sym was.known ∙ ap (λ (v : Waiter). get begun.clients.clients v.key.client) same_who ∙ session_known) in
-      let told = ap (λ (x : ClientState). told_on_side there.side x.version (Some key) (item_of call)) (sym session_is)
+      (sym was.known ∙ ap (λ (v : Waiter). get begun.clients.clients v.key.client) same_who ∙ session_known)
+      in
+      let told = ap (λ (x : ClientState). told_on_side there.side x.version (Some key) (item_of call))
+      (sym session_is)
       ∙ was.told in
       let settled_is : settles ≡ record { key = w.key; reply = was.reply } ∷ [] =
       settles_one s is there.place there found_there key call w was.reply waits one told in
@@ -226,10 +237,13 @@ module _ (m : Machine) (moment : ℕ) (key : Key) (call : Call) (may : MayArrive
             (told_other begun.clients.clients w.key.client key.client was.reply (λ e. apart w waits (sym e)));
         tells = λ own_reply.
             ap (λ (x : Machine). clients_told x.clients.clients key.client own_reply) same
-            ∙ met_clients m.clients.clients key m.length call w.key.client was.reply own_reply may.next.session
+            ∙ met_clients m.clients.clients key m.length call w.key.client was.reply own_reply
+            may.next.session
             one.session may.next.of_session.there one.known (apart w waits)
-            ∙ ap (λ (c : FinMap nat_cmp ClientState). clients_asked c key (RepliedTo call own_reply)) (sym tells_is)
-            ∙ ap (λ (l : List Settled). clients_asked (closed s (there ∷ []) l).clients key (RepliedTo call own_reply))
+            ∙ ap (λ (c : FinMap nat_cmp ClientState). clients_asked c key (RepliedTo call own_reply))
+            (sym tells_is)
+            ∙ ap (λ (l : List Settled). clients_asked (closed s (there ∷ []) l).clients key
+            (RepliedTo call own_reply))
             (sym settled_is);
       }
 
@@ -242,7 +256,8 @@ module _ (m : Machine) (moment : ℕ) (key : Key) (call : Call) (may : MayArrive
       told_as o same = subst (λ x. TellsOne begun now x there.waiter there.side key (item_of call)) same tells
 
       by_waiter : (w : Option Waiter) → there.waiter ≡ w → TellsBoth now
-      by_waiter None none = nobody now none (told_as None (sym met.closes.owed ∙ ap (λ (x : Option Waiter). option_map
+      by_waiter None none = nobody now none (told_as None (sym met.closes.owed
+          ∙ ap (λ (x : Option Waiter). option_map
           (λ v. record { place = there.place; client = v.key.client }) x) none))
       by_waiter (Some w) waits = somebody now w waits (told_as
           (Some (record { place = there.place; client = w.key.client })) (sym met.closes.owed

@@ -1,6 +1,6 @@
 -- What an arrival and the one that it meets are told.
-use Rattle.std.proofs.Common.{◌≡◌, ◌≢◌, ◌⊎◌, ◌∙◌, ◌∷◌, ℕ, List, [], Bool, true, false, Option, Some, None, IsSome}
-use Rattle.std.proofs.Common.{is_some, refl, sym, ap, subst, slice_get, nat_eq}
+use Rattle.std.proofs.Common.{◌≡◌, ◌∙◌, ◌∷◌, ℕ, List, [], true, Option, Some, None, IsSome}
+use Rattle.std.proofs.Common.{refl, sym, ap, subst, slice_get, nat_eq}
 use Rattle.std.specs.Prelude.{option_and_then, option_map}
 use Rattle.std.proofs.lemmas.Bool.{false≢true}
 use Rattle.rv_text.specs.declared.message.Key.{Key}
@@ -15,7 +15,6 @@ use Rattle.rv_text.specs.declared.answer.Reply.{Reply}
 use Rattle.rv_text.specs.declared.answer.Reply.TheVariants as reply
 use Rattle.rv_text.specs.Calls.{drains_of, item_of, side_of, wait_of}
 use Rattle.rv_session.specs.declared.client.ClientState.{ClientState}
-use Rattle.rv_session.specs.declared.client.LastRequest.{LastRequest}
 use Rattle.rv_account.specs.Calls.{opposite}
 use Rattle.rv_state.specs.State.{OpenPlace, State, Waiter, call_waiting, client_at}
 use Rattle.rv_state.specs.After.{Settled, key_of_waiter, receipt_of, session_version, settled_all, told_met}
@@ -81,7 +80,8 @@ pub partner_told : (its : Call) (other : Side) (version : Version) (key : Key)
     → opposite (side_of its) ≡ Some other → IsSome (told_on_side other version (Some key) (item_of its))
 partner_told its other version key opposes = by_side (side_of its) refl
   where
-    by_side : (side : Side) → side_of its ≡ side → IsSome (told_on_side other version (Some key) (item_of its))
+    by_side : (side : Side) → side_of its ≡ side
+        → IsSome (told_on_side other version (Some key) (item_of its))
     by_side (Gives q) is =
         subst (λ (x : Side). IsSome (told_on_side x version (Some key) (item_of its)))
         (same_Some _ _ (sym (ap opposite is) ∙ opposes))
@@ -164,21 +164,24 @@ module _ (s : State) (is : IsConsistent s) (place : ℕ) (there : OpenPlace)
 
   -- who waits there is settled so by an arrival
   pub settles_one : (key : Key) (its : Call) (w : Waiter) (reply : Reply) → there.waiter ≡ Some w
-      → (own : IsWaiter s there w) → told_on_side there.side own.session.version (Some key) (item_of its) ≡ Some reply
+      → (own : IsWaiter s there w) → told_on_side there.side own.session.version (Some key) (item_of its) ≡
+      Some reply
       → settled_all (told_partner s key its) (there ∷ []) ≡ record { key = w.key; reply = reply } ∷ []
   settles_one key its w reply waits own told =
       let version : session_version s w.key ≡ Some own.session.version =
       ap (option_map (λ (c : ClientState). c.version)) own.known in
       let asked : option_and_then (λ (c : ClientState). call_waiting c.request) (client_at s w.key.client)
       ≡ Some own.call =
-      ap (option_and_then (λ (c : ClientState). call_waiting c.request)) own.known ∙ ap call_waiting own.waits in
+      ap (option_and_then (λ (c : ClientState). call_waiting c.request)) own.known ∙ ap call_waiting own.waits
+      in
       let is_told : told_partner s key its there w.key ≡ Some reply =
       ap (option_and_then (λ c. told_met s w.key c (Some key) (item_of its))) asked
       ∙ met_by_side s w.key own.call (Some key) (item_of its) own.session.version own.lasts version
       ∙ ap (λ (side : Side). told_on_side side own.session.version (Some key) (item_of its)) (sym own.side)
       ∙ told in
       ap (λ (o : Option Waiter). cons_option (option_and_then (λ x. option_map
-      (λ r. let one : Settled = record { key = x.key; reply = r } in one) (told_partner s key its there x.key)) o) [])
+      (λ r. let one : Settled = record { key = x.key; reply = r } in one) (told_partner s key its there
+      x.key)) o) [])
       waits
       ∙ ap (λ (o : Option Reply). cons_option (option_map
       (λ r. let one : Settled = record { key = w.key; reply = r } in one) o) []) is_told
@@ -187,7 +190,8 @@ module _ (s : State) (is : IsConsistent s) (place : ℕ) (there : OpenPlace)
       → settled_all (told_partner s key its) (there ∷ []) ≡ []
   settles_nobody key its none =
       ap (λ (o : Option Waiter). cons_option (option_and_then (λ x. option_map
-      (λ r. let one : Settled = record { key = x.key; reply = r } in one) (told_partner s key its there x.key)) o) [])
+      (λ r. let one : Settled = record { key = x.key; reply = r } in one) (told_partner s key its there
+      x.key)) o) [])
       none
 
 -- what an arrival is told, as the machine reads its call

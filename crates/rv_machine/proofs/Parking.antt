@@ -1,9 +1,10 @@
 -- The tables of what is open, where one more is.
-use Rattle.std.proofs.Common.{◌≡◌, ◌≢◌, ◌⊎◌, ◌<◌, ◌++◌, ◌∷◌, ◌∙◌, ◌+◌, ◌-◌, ℕ, zero, suc, List, [], Bool, true, false}
-use Rattle.std.proofs.Common.{cond, not, Option, Some, None, IsSome, is_some, length, refl, sym, ap, subst, arith}
+use Rattle.std.proofs.Common.{◌≡◌, ◌≢◌, ◌⊎◌, ◌<◌, ◌++◌, ◌∷◌, ◌∙◌, ◌+◌, ◌-◌, ℕ, List, [], Bool, true, false}
+use Rattle.std.proofs.Common.{cond, not, Option, Some, None, IsSome, is_some, length, refl, sym, ap, subst}
+use Rattle.std.proofs.Common.{arith}
 use Rattle.std.proofs.Common.{slice_get, nat_eq, inl, inr}
 use Rattle.std.specs.Prelude.{Err, Ok, OnErr, Result, filter, option_and_then, option_map}
-use Rattle.std.proofs.lemmas.Bool.{eq-eqb, eqb-true, false≢true}
+use Rattle.std.proofs.lemmas.Bool.{eq-eqb, false≢true}
 use Rattle.std.proofs.lemmas.Bool.Decides.{nat_tests}
 use Rattle.std.proofs.lemmas.List.{append-nil, length-append, map-append}
 use Rattle.std.proofs.lemmas.List.Elements.{filter-append}
@@ -15,23 +16,21 @@ use Rattle.rv_text.specs.Calls.{side_of, wait_of}
 use Rattle.rv_text.specs.Limits.{FitsSide}
 use Rattle.rv_session.specs.OwedDuty.{OwedDuty}
 use Rattle.rv_due.specs.Deadlines.{Deadlines}
-use Rattle.rv_account.specs.Calls.{opposite}
 use Rattle.rv_state.specs.State.{OpenPlace, Waiter, place_list, same_side}
-use Rattle.rv_state.proofs.Words.{none-some, same_Some}
+use Rattle.rv_state.proofs.Words.{none-some}
 use Rattle.rv_state.proofs.Filtered.{append_get}
 use Rattle.rv_state.proofs.SideLines.{same_side_itself}
 use Rattle.rv_waiters.specs.declared.outcome.Arrived.{Arrived}
-use Rattle.rv_waiters.specs.Parked.{AreParked}
 use Rattle.rv_waiters.specs.Meeting.{ArrivedOn, FindsNobody, MeetsFirst, MeetsOrWaits, OwnDuty, PartnersDuty}
-use Rattle.rv_waiters.specs.Meeting.{StartsToWait, StaysBy}
+use Rattle.rv_waiters.specs.Meeting.{StartsToWait}
 use Rattle.rv_waiters.specs.Views.{AreBelow, SameWaiters, Waiters, waiting_on}
 use Rattle.rv_waiters.proofs.Tabled.{same_parked, same_waiting}
-use Rattle.rv_machine.specs.OpenMap.{StandBelow, duty_at, facing, found_at, deadlines_in, line_in, opposed_in, owed_among}
+use Rattle.rv_machine.specs.OpenMap.{StandBelow, duty_at, facing, found_at, line_in, owed_among}
 use Rattle.rv_machine.specs.OpenMap.{count_waiting, with_limit, all_but}
 use Rattle.rv_machine.specs.Indexed.{AreIndexed, MayPark, own_duty}
 use Rattle.rv_machine.proofs.Firsts.{count_owed}
-use Rattle.rv_machine.proofs.Indexing.{on_line, other_side, parked_on, side_or_not, stands_found}
-use Rattle.rv_machine.proofs.Kept.{apart_from, filter_these, in_end, rise_more}
+use Rattle.rv_machine.proofs.Indexing.{other_side, parked_on, side_or_not, stands_found}
+use Rattle.rv_machine.proofs.Kept.{filter_these, in_end, rise_more}
 use Rattle.rv_machine.proofs.Limits.{limits_more}
 use Rattle.rv_machine.proofs.Meetings.{are_below}
 
@@ -104,7 +103,8 @@ module _ (all : List OpenPlace) (old new : Waiters) (waiting : ℕ) (due : Deadl
   stands_last (x ∷ xs) = stands_last xs
 
   its : owed_among more o.place ≡ option_map (λ w. duty) (wait_of call)
-  its = ap (option_and_then duty_at) (stands_found more (length all) o more_rise (stands_last all)) ∙ may.waiter
+  its = ap (option_and_then duty_at) (stands_found more (length all) o more_rise (stands_last all))
+      ∙ may.waiter
 
   as_some : (wait : Option Wait) → option_map (λ w. duty) wait ≡ option_and_then (λ w. Some duty) wait
   as_some None = refl
@@ -216,7 +216,8 @@ module _ (all : List OpenPlace) (old new : Waiters) (waiting : ℕ) (due : Deadl
   counted_back own count own_is count_is =
       by_wait (wait_of call) own own_is count_is refl by_waiter
     where
-      by_waiter : is_some {T = OwedDuty} (option_map (λ w. duty) (wait_of call)) ≡ is_some {T = Waiter} o.waiter
+      by_waiter : is_some {T = OwedDuty} (option_map (λ w. duty) (wait_of call)) ≡ is_some {T = Waiter}
+          o.waiter
       by_waiter = sym (ap (λ (d : Option OwedDuty). is_some d) may.waiter) ∙ count_owed o (duty_at o) refl
 
       by_wait : (wait : Option Wait) (own : Option OwedDuty) → own ≡ own_duty wait duty

@@ -1,6 +1,6 @@
 -- A list of open places parted at one of them: before it, itself, and behind it.
-use Rattle.std.proofs.Common.{◌≡◌, ◌<◌, ◌++◌, ◌∷◌, ◌∙◌, ℕ, zero, suc, List, [], Bool, true, false, cond, not}
-use Rattle.std.proofs.Common.{Option, Some, None, refl, sym, ap, subst, arith, slice_get, nat_eq}
+use Rattle.std.proofs.Common.{◌≡◌, ◌<◌, ◌++◌, ◌∷◌, ◌∙◌, ℕ, suc, List, [], Bool, true, false, cond, not}
+use Rattle.std.proofs.Common.{Some, refl, sym, ap, arith, nat_eq}
 use Rattle.std.specs.Prelude.{filter}
 use Rattle.std.specs.List.{list_any}
 use Rattle.std.proofs.Common.{◌||◌, ◌&&◌}
@@ -26,7 +26,8 @@ pub others_pass : (x : OpenPlace) (all : List OpenPlace) → PlacesRise (x ∷ a
     → all_but all x.place ≡ all
 others_pass x all rise =
     filter_these (λ (o : OpenPlace). not (nat_eq o.place x.place)) all (λ i o at.
-    let less : x.place < o.place = rise 0 (suc i) x o (omega arith) refl at in apart_from o.place x.place less)
+    let less : x.place < o.place = rise 0 (suc i) x o (omega arith) refl at in apart_from o.place x.place
+    less)
 
 parted_by : (x : OpenPlace) (all : List OpenPlace) (place : ℕ) (there : OpenPlace) → PlacesRise (x ∷ all)
     → (found_at all place ≡ Some there → PartedAt all place there) → (b : Bool) → nat_eq x.place place ≡ b
@@ -87,7 +88,8 @@ both_tests false c = refl
 turned : (a b : ℕ) → nat_eq a b ≡ nat_eq b a
 turned a b = grind (arith, nat_tests)
 
-pub but_cons : (all gone : List OpenPlace) (o : OpenPlace) → but all (o ∷ gone) ≡ but (all_but all o.place) gone
+pub but_cons : (all gone : List OpenPlace) (o : OpenPlace)
+    → but all (o ∷ gone) ≡ but (all_but all o.place) gone
 but_cons all gone o =
     filter_same (λ (x : OpenPlace). not (list_any (λ other. nat_eq other.place x.place) (o ∷ gone)))
     (λ x. not (nat_eq x.place o.place) && not (list_any (λ other. nat_eq other.place x.place) gone)) all

@@ -1,9 +1,9 @@
 -- A machine that counted one entry more.
-use Rattle.std.proofs.Common.{◌≡◌, ◌<◌, ◌≤◌, ◌+◌, ℕ, arith}
+use Rattle.std.proofs.Common.{◌<◌, ◌≤◌, ◌+◌, ℕ, arith}
 use Rattle.rv_rules.specs.Steps.{max_entries, max_moment}
 use Rattle.rv_machine.specs.declared.machine.Machine.{Machine}
 use Rattle.rv_machine.specs.Ending.{counted}
-use Rattle.rv_machine.specs.Machines.{IsConsistent, IsWhole, IsWaiter, state_in}
+use Rattle.rv_machine.specs.Machines.{IsWhole}
 use Rattle.rv_machine.specs.OpenMap.{count_waiting}
 
 pub recorded_ready : (m : Machine) (moment : ℕ) → IsWhole m → moment ≤ max_moment
@@ -25,7 +25,8 @@ recorded_ready m moment ready time space =
           lasts = own.lasts;
         };
         lie = is.lie;
-        clients = λ client session place call known asked. let was = is.clients client session place call known asked
+        clients = λ client session place call known asked. let was = is.clients client session place call
+            known asked
             in record {
               there = was.there;
               found = was.found;

@@ -1,12 +1,12 @@
 -- A state in which a request found nobody and stayed.
-use Rattle.std.proofs.Common.{◌≡◌, ◌≢◌, ◌⊎◌, ◌<◌, ◌≤◌, ◌∙◌, ◌++◌, ◌∷◌, ◌+◌, ◌&&◌, ℕ, zero, suc, List, [], Bool}
-use Rattle.std.proofs.Common.{true, false, cond, Option, Some, None, IsSome, is_some, length, refl, sym, ap, subst}
+use Rattle.std.proofs.Common.{◌≡◌, ◌≢◌, ◌⊎◌, ◌<◌, ◌≤◌, ◌∙◌, ◌++◌, ◌∷◌, ◌+◌, ◌&&◌, ℕ, zero, suc, List, []}
+use Rattle.std.proofs.Common.{Bool}
+use Rattle.std.proofs.Common.{true, false, cond, Option, Some, None, IsSome, is_some, length, refl, sym, ap}
+use Rattle.std.proofs.Common.{subst}
 use Rattle.std.proofs.Common.{arith, inl, inr, slice_get, nat_eq}
-use Rattle.std.specs.Prelude.{filter, option_and_then, option_map, take}
+use Rattle.std.specs.Prelude.{filter, take}
 use Rattle.std.proofs.lemmas.List.{length-append}
 use Rattle.std.proofs.lemmas.List.Elements.{filter-append}
-use Rattle.std.specs.FinMap.{FinMap, get}
-use Rattle.std.specs.Ordering.{nat_cmp}
 use Rattle.std.proofs.lemmas.Bool.{cases_eq, false≢true, lt-ltb}
 use Rattle.rv_text.specs.declared.message.Key.{Key}
 use Rattle.rv_text.specs.declared.call.Call.{Call}
@@ -16,8 +16,7 @@ use Rattle.rv_text.specs.declared.call.Wait.TheVariants.{Now, Millis, Forever}
 use Rattle.rv_text.specs.declared.answer.Reply.{Reply}
 use Rattle.rv_text.specs.declared.answer.Reply.TheVariants.{Done}
 use Rattle.rv_text.specs.declared.answer.Reply.TheVariants as reply
-use Rattle.rv_text.specs.Calls.{item_of, side_of, wait_of}
-use Rattle.rv_session.specs.OwedDuty.{OwedDuty}
+use Rattle.rv_text.specs.Calls.{side_of, wait_of}
 use Rattle.rv_session.specs.declared.client.ClientState.{ClientState}
 use Rattle.rv_session.specs.declared.client.LastRequest.{LastRequest}
 use Rattle.rv_session.specs.declared.client.LastRequest.TheVariants.{RepliedTo, Waits}
@@ -32,9 +31,9 @@ use Rattle.rv_state.specs.Follows.{NumberIsNext}
 use Rattle.rv_state.proofs.Filtered.{append_get}
 use Rattle.rv_state.proofs.Words.{none-some, same_Some}
 use Rattle.rv_waiters.specs.Meeting.{StaysBy}
-use Rattle.rv_machine.specs.OpenMap.{PlacesRise, StandBelow, found_at, opposed_in, count_waiting}
+use Rattle.rv_machine.specs.OpenMap.{PlacesRise, found_at, opposed_in, count_waiting}
 use Rattle.rv_machine.specs.Machines.{IsConsistent, IsWaiter, LiesThere, AwaitsPlace, last_key_in}
-use Rattle.rv_machine.proofs.Asked.{arrived_by, asked_as, with_clients_of}
+use Rattle.rv_machine.proofs.Asked.{arrived_by, asked_as}
 use Rattle.rv_machine.proofs.Indexing.{stands_found}
 use Rattle.rv_machine.proofs.Kept.{rise_more, in_end}
 use Rattle.rv_machine.proofs.Parted.{but_none}
@@ -64,7 +63,8 @@ lasts (Some (Millis n)) it = lt-ltb 0 n it
 lasts (Some Forever) it = refl
 
 stays : (call : Call) → StaysBy (side_of call) (wait_of call) → stays_open call [] ≡ true
-stays call it = both (is_some (opposite (side_of call))) (lasts_by (wait_of call)) it.0 (lasts (wait_of call) it.1)
+stays call it = both (is_some (opposite (side_of call))) (lasts_by (wait_of call)) it.0 (lasts (wait_of call)
+    it.1)
   where
     both : (b c : Bool) → b ≡ true → c ≡ true → (b && c) ≡ true
     both true true first second = refl
@@ -156,7 +156,8 @@ waits_more all o =
 
 -- ---- the state is consistent
 
-replied_waits_not : (call other : Call) (told : Reply) (place : ℕ) → RepliedTo call told ≡ Waits place other → ⊥
+replied_waits_not : (call other : Call) (told : Reply) (place : ℕ) → RepliedTo call told ≡ Waits place other
+    → ⊥
 replied_waits_not call other told place is = cc
 
 same_places : (p q : ℕ) (call other : Call) → Waits p call ≡ Waits q other → p ≡ q
@@ -164,7 +165,13 @@ same_places p q call other is = cc
 
 lies : (s : State) (moment : ℕ) (key : Key) (call : Call) → StaysBy (side_of call) (wait_of call)
     → (opened_by s moment key call).waiter ≡ None → LiesThere (opened_by s moment key call)
-lies s moment key (call.Put queue item) it none = record { queue = queue; side = refl; item = item; has = refl }
+lies s moment key (call.Put queue item) it none = record {
+  queue = queue;
+  side = refl;
+  item = item;
+  has =
+      refl;
+}
 lies s moment key (call.Transfer queue item wait) it none = absurd (none-some _ (sym none))
 lies s moment key (call.Take queue wait) it none = absurd (none-some _ (sym none))
 lies s moment key (call.Swap exchanger item wait) it none = absurd (none-some _ (sym none))
@@ -231,7 +238,8 @@ module _ (s : State) (is : IsConsistent s) (moment : ℕ) (key : Key) (call : Ca
   waiter_still : (there : OpenPlace) (w : Waiter) → IsWaiter s there w → IsWaiter t there w
   waiter_still there w was = record {
     session = was.session;
-    known = others w.key.client (idle_client w.key.client there.place was.session was.call was.known was.waits)
+    known = others w.key.client (idle_client w.key.client there.place was.session was.call was.known
+        was.waits)
         ∙ was.known;
     key_is = was.key_is;
     call = was.call;

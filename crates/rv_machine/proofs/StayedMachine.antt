@@ -1,5 +1,5 @@
 -- A machine in which a request found nobody and stayed.
-use Rattle.std.proofs.Common.{◌≡◌, ◌<◌, ◌≤◌, ◌∙◌, ◌++◌, ◌∷◌, ◌+◌, ℕ, List, [], Bool, cond, Option, Some, None}
+use Rattle.std.proofs.Common.{◌≡◌, ◌≤◌, ◌∙◌, ◌++◌, ◌∷◌, ◌+◌, ℕ, List, [], Bool, cond, Option, Some, None}
 use Rattle.std.proofs.Common.{is_some, refl, sym, ap, subst, arith, inl, inr, true, false}
 use Rattle.std.proofs.lemmas.Bool.{false≢true}
 use Rattle.std.proofs.lemmas.List.{append-nil}
@@ -13,15 +13,13 @@ use Rattle.rv_text.specs.declared.answer.Reply.TheVariants.{Done}
 use Rattle.rv_text.specs.Calls.{side_of, wait_of}
 use Rattle.rv_session.specs.OwedDuty.{OwedDuty}
 use Rattle.rv_session.specs.declared.client.ClientState.{ClientState}
-use Rattle.rv_session.specs.declared.client.LastRequest.TheVariants.{RepliedTo, Waits}
-use Rattle.rv_session.specs.Clients.{ClientStates, clients_asked, clients_told, place_awaited, place_waiting}
+use Rattle.rv_session.specs.declared.client.LastRequest.TheVariants.{Waits}
+use Rattle.rv_session.specs.Clients.{ClientStates, clients_asked, place_awaited, place_waiting}
 use Rattle.rv_session.specs.Clients.{with_clients, with_last_number}
-use Rattle.rv_account.specs.declared.entry.Entry.{Entry}
 use Rattle.rv_account.specs.declared.entry.Act.TheVariants.{Arrive}
 use Rattle.rv_account.specs.Account.{entry}
 use Rattle.rv_state.specs.State.{OpenPlace, State, client_at, place_list}
-use Rattle.rv_state.specs.After.{Following, following, opened_by, request_after, told_alone}
-use Rattle.rv_state.specs.Follows.{partners_of}
+use Rattle.rv_state.specs.After.{Following, opened_by, request_after, told_alone}
 use Rattle.rv_state.specs.Moves.{told_again}
 use Rattle.rv_waiters.specs.Meeting.{StaysBy}
 use Rattle.rv_machine.specs.declared.machine.Machine.{Machine}
@@ -31,7 +29,8 @@ use Rattle.rv_machine.specs.Indexed.{own_duty}
 use Rattle.rv_machine.specs.Machines.{IsConsistent, IsWhole, keys_settled, state_in}
 use Rattle.rv_machine.specs.OpenMap.{opposed_in, count_waiting}
 use Rattle.rv_machine.proofs.Asked.{asked_then_told}
-use Rattle.rv_machine.proofs.Stayed.{follows_as, known_after, none_met, put_or_waits, stayed, stayed_consistent}
+use Rattle.rv_machine.proofs.Stayed.{follows_as, known_after, none_met, put_or_waits, stayed}
+use Rattle.rv_machine.proofs.Stayed.{stayed_consistent}
 use Rattle.rv_machine.proofs.Stayed.{waits_more}
 use Rattle.rv_machine.proofs.Told.{asked_own}
 
@@ -56,20 +55,24 @@ module _ (m : Machine) (moment : ℕ) (key : Key) (call : Call) (may : MayArrive
     where
       by_wait : (wait : Option Wait) (put : Option OwedDuty) → put ≡ own_duty wait duty
           → IfSome put (λ d. place_awaited begun.clients d.client ≡ Some d.place)
-      by_wait None put is = subst (λ (p : Option OwedDuty). IfSome p (λ d. place_awaited begun.clients d.client
+      by_wait None put is = subst (λ (p : Option OwedDuty). IfSome p (λ d. place_awaited begun.clients
+          d.client
           ≡ Some d.place)) (sym is)
           (ap (option_and_then (λ (c : ClientState). place_waiting c.request))
           (asked_own m.clients.clients key (Waits m.length call) may.next.session may.next.of_session.there))
-      by_wait (Some w) put is = subst (λ (p : Option OwedDuty). IfSome p (λ d. place_awaited begun.clients d.client
+      by_wait (Some w) put is = subst (λ (p : Option OwedDuty). IfSome p (λ d. place_awaited begun.clients
+          d.client
           ≡ Some d.place)) (sym is) tt
 
   its_clients : (put : Option OwedDuty) → put ≡ own_duty (wait_of call) duty
       → after_put begun put
-      ≡ with_clients m.clients (clients_asked m.clients.clients key (request_after m.length call (told_alone s call)))
+      ≡ with_clients m.clients (clients_asked m.clients.clients key (request_after m.length call
+      (told_alone s call)))
   its_clients put is = elim (put_or_waits s call it) [
     | inl done ↦
         ap (after_put begun) (is ∙ ap (λ (w : Option Wait). own_duty w duty) done.0)
-        ∙ ap (with_clients m.clients) (asked_then_told m.clients.clients key m.length call Done may.next.session
+        ∙ ap (with_clients m.clients) (asked_then_told m.clients.clients key m.length call Done
+        may.next.session
         may.next.of_session.there)
         ∙ ap (λ (r : Option Reply). with_clients m.clients (clients_asked m.clients.clients key
         (request_after m.length call r))) (sym done.1)
@@ -87,7 +90,14 @@ module _ (m : Machine) (moment : ℕ) (key : Key) (call : Call) (may : MayArrive
       (clients : ClientStates) (put : Option OwedDuty) (put_is : put ≡ own_duty (wait_of call) duty)
       (are : clients ≡ after_put begun put) (settled : Vec Key) where
     abbrev parked : Machine
-    parked = record { moment = m.moment; length = m.length; table = table; clients = clients; settled = settled }
+    parked = record {
+      moment = m.moment;
+      length = m.length;
+      table = table;
+      clients = clients;
+      settled =
+          settled;
+    }
 
     abbrev new : Machine
     new = counted parked moment
@@ -127,11 +137,14 @@ module _ (m : Machine) (moment : ℕ) (key : Key) (call : Call) (may : MayArrive
     pub stay_arrives : settled.items ≡ m.settled.items
         → Arrives m new moment key call (entry moment (Arrive key copy) [])
     stay_arrives items = record {
-      made_is = (λ i. entry moment (Arrive key (same i)) (sym (ap place_list (none_met s moment key call alone it)) i));
+      made_is = (λ i. entry moment (Arrive key (same i))
+          (sym (ap place_list (none_met s moment key call alone it)) i));
       state = state_now ∙ ap (λ (f : Following). f.after) (sym (follows_as s moment key call alone it));
       settles = items ∙ sym (append-nil m.settled.items)
-          ∙ ap (λ (f : Following). m.settled.items ++ keys_settled f.settles) (sym (follows_as s moment key call alone it));
-      session = with_last_number may.next.session key.number (request_after s.length call (told_alone s call));
+          ∙ ap (λ (f : Following). m.settled.items ++ keys_settled f.settles)
+          (sym (follows_as s moment key call alone it));
+      session = with_last_number may.next.session key.number (request_after s.length call
+          (told_alone s call));
       known = ap (λ (x : State). client_at x key.client) state_now
           ∙ known_after s may.ready.consistent moment key call may.next it may.time may.space;
       told = by_reply (told_alone s call)

@@ -1,9 +1,9 @@
 -- A map of clients where one was told its reply, or asked its next number.
-use Rattle.std.proofs.Common.{◌≡◌, ◌≢◌, ◌⊎◌, ◌∙◌, ℕ, Bool, true, false, cond, Option, Some, None, IsSome, refl}
-use Rattle.std.proofs.Common.{sym, ap, subst, inl, inr}
+use Rattle.std.proofs.Common.{◌≡◌, ◌≢◌, ◌∙◌, ℕ, cond, Option, Some, None, refl}
+use Rattle.std.proofs.Common.{ap}
 use Rattle.std.specs.Cmp.{nat_cmp_total}
 use Rattle.std.specs.FinMap.{FinMap, get, get-insert, insert}
-use Rattle.std.specs.Ordering.{eq_by_cmp, nat_cmp}
+use Rattle.std.specs.Ordering.{nat_cmp}
 use Rattle.rv_text.specs.declared.message.Key.{Key}
 use Rattle.rv_text.specs.declared.answer.Reply.{Reply}
 use Rattle.rv_session.specs.declared.client.ClientState.{ClientState}
@@ -15,7 +15,8 @@ use Rattle.rv_session.proofs.Mapping.{other_client, same_client}
 abbrev ClientMap : Type 0
 ClientMap = FinMap nat_cmp ClientState
 
-pub put_own : (m : ClientMap) (client : ℕ) (session : ClientState) → get (insert m client session) client ≡ Some session
+pub put_own : (m : ClientMap) (client : ℕ) (session : ClientState)
+    → get (insert m client session) client ≡ Some session
 put_own m client session =
     get-insert nat_cmp_total m client session client
     ∙ ap (λ b. cond b (Some session) (get m client)) (same_client client client refl)
@@ -32,7 +33,8 @@ known_own : (m : ClientMap) (client : ℕ) (becomes : ClientState → ClientStat
 known_own m client becomes session known =
     ap (λ o. get (insert_known m client becomes o) client) known ∙ put_own m client (becomes session)
 
-known_other : (m : ClientMap) (client other : ℕ) (becomes : ClientState → ClientState) (o : Option ClientState)
+known_other : (m : ClientMap) (client other : ℕ) (becomes : ClientState → ClientState)
+    (o : Option ClientState)
     → other ≢ client → get (insert_known m client becomes o) other ≡ get m other
 known_other m client other becomes None apart = refl
 known_other m client other becomes (Some session) apart = put_other m client other (becomes session) apart
@@ -46,7 +48,8 @@ told_own m client reply session known =
 pub told_other : (m : ClientMap) (client other : ℕ) (reply : Reply) → other ≢ client
     → get (clients_told m client reply) other ≡ get m other
 told_other m client other reply apart =
-    known_other m client other (λ state. with_request state (answered reply state.request)) (get m client) apart
+    known_other m client other (λ state. with_request state (answered reply state.request)) (get m client)
+    apart
 
 pub asked_own : (m : ClientMap) (key : Key) (request : LastRequest) (session : ClientState)
     → get m key.client ≡ Some session
@@ -57,4 +60,5 @@ asked_own m key request session known =
 pub asked_other : (m : ClientMap) (key : Key) (other : ℕ) (request : LastRequest) → other ≢ key.client
     → get (clients_asked m key request) other ≡ get m other
 asked_other m key other request apart =
-    known_other m key.client other (λ state. with_last_number state key.number request) (get m key.client) apart
+    known_other m key.client other (λ state. with_last_number state key.number request) (get m key.client)
+    apart

@@ -1,7 +1,7 @@
 -- What it is to end a wait.
 use Rattle.std.specs.Prelude.{◌≡◌, ◌+◌, ◌++◌, ◌∷◌, [], ℕ, Some}
 use Rattle.rv_text.specs.declared.answer.Reply.{Reply}
-use Rattle.rv_state.specs.State.{OpenPlace, State, Waiter}
+use Rattle.rv_state.specs.State.{OpenPlace, Waiter}
 use Rattle.rv_state.specs.After.{closed}
 use Rattle.rv_machine.specs.declared.machine.Machine.{Machine}
 use Rattle.rv_machine.specs.Machines.{state_in}
@@ -14,7 +14,8 @@ pub record EndsWaiting (old new : Machine) (place : ℕ) (reply : Reply) : Type 
   pub found : found_at old.table place ≡ Some there
   pub waiter : Waiter
   pub waits : there.waiter ≡ Some waiter
-  pub state : state_in new ≡ closed (state_in old) (there ∷ []) (record { key = waiter.key; reply = reply } ∷ [])
+  pub state : state_in new ≡ closed (state_in old) (there ∷ []) (record { key = waiter.key; reply = reply }
+      ∷ [])
   pub listed : new.settled.items ≡ old.settled.items ++ waiter.key ∷ []
 
 -- one entry more of a moment was counted; the tables stay

@@ -1,6 +1,7 @@
 -- How the tables of what is open agree with it: those that wait on each side, how many wait, and when their
 -- waits end.
-use Rattle.std.specs.Prelude.{◌≡◌, ◌<◌, ◌∷◌, ◌++◌, [], ℕ, List, Option, Some, None, IsSome, option_map, slice_get}
+use Rattle.std.specs.Prelude.{◌≡◌, ◌<◌, ◌∷◌, ◌++◌, [], ℕ, List, Option, Some, None, IsSome, option_map}
+use Rattle.std.specs.Prelude.{slice_get}
 use Rattle.rv_text.specs.declared.message.Key.{Key}
 use Rattle.rv_text.specs.declared.call.Call.{Call}
 use Rattle.rv_text.specs.declared.call.Side.{Side}
@@ -24,7 +25,8 @@ pub record AreIndexed (all : List OpenPlace) (waiters : Waiters) (waiting : ℕ)
   where
     pub rise : PlacesRise all
     pub fit : (i : ℕ) (one : OpenPlace) → slice_get all i ≡ Some one → FitsSide one.side
-    pub limited : (i : ℕ) (one : OpenPlace) → slice_get all i ≡ Some one → IsSome one.limit → IsSome one.waiter
+    pub limited : (i : ℕ) (one : OpenPlace) → slice_get all i ≡ Some one → IsSome one.limit
+        → IsSome one.waiter
     pub lines : (side : Side) → waiting_on waiters side ≡ place_list (line_in all side)
     pub parked : AreParked (owed_among all) waiters
     pub counted : waiting ≡ count_waiting all
@@ -37,7 +39,8 @@ pub record WaitsIn (all : List OpenPlace) (place : ℕ) : Type 0 where
   pub waits : IsSome there.waiter
 
 -- what stood at a place is closed: it comes out, with the duty to settle who waited there, and all else stays
-pub record ClosesPlace (old new : List OpenPlace) (place : ℕ) (there : OpenPlace) (duty : Option OwedDuty) : Type 0
+pub record ClosesPlace (old new : List OpenPlace) (place : ℕ) (there : OpenPlace) (duty : Option OwedDuty) :
+    Type 0
   where
     pub found : found_at old place ≡ Some there
     pub owed : duty_at there ≡ duty

@@ -1,5 +1,5 @@
 -- The state that a machine holds, what always holds of it, and what a step tells.
-use Rattle.std.specs.Prelude.{◌≡◌, ◌+◌, ◌≤◌, ◌++◌, ℕ, List, map, Option, Some, None, IsSome, slice_get}
+use Rattle.std.specs.Prelude.{◌≡◌, ◌+◌, ◌≤◌, ◌++◌, ℕ, List, map, Some, None, IsSome, slice_get}
 use Rattle.std.specs.Prelude.{vec_capacity, vec_len}
 use Rattle.rv_text.specs.declared.message.Key.{Key}
 use Rattle.rv_text.specs.declared.message.Message.{Message}
@@ -111,7 +111,8 @@ Says s (said.Refused refusal) a = a ≡ answer.Refused refusal
 
 -- one move of the state for a message at a moment: these entries were made, this is said, and these keys
 -- were settled
-pub record MovesBy (old new : Machine) (moment : ℕ) (m : Message) (entries : List Entry) (told : Said) : Type 0
+pub record MovesBy (old new : Machine) (moment : ℕ) (m : Message) (entries : List Entry) (told : Said) :
+    Type 0
   where
     pub move : Move
     pub moves : StateNextAt (state_in old) moment m move

@@ -1,5 +1,6 @@
 -- What those who meet are told, by side and version.
-use Rattle.std.specs.Prelude.{◌≡◌, ◌<◌, ◌+◌, ◌++◌, ◌∷◌, [], ℕ, List, Option, Some, None, option_map, vec_capacity, vec_len}
+use Rattle.std.specs.Prelude.{◌≡◌, ◌<◌, ◌+◌, ◌++◌, ◌∷◌, [], ℕ, List, Option, Some, None, option_map}
+use Rattle.std.specs.Prelude.{vec_capacity, vec_len}
 use Rattle.std.specs.FinMap.{get}
 use Rattle.std.specs.Global.{Vec}
 use Rattle.rv_text.specs.declared.message.Key.{Key}
@@ -16,8 +17,8 @@ use Rattle.rv_state.specs.State.{Waiter}
 use Rattle.rv_state.specs.After.{receipt_of}
 use Rattle.rv_machine.specs.declared.machine.Machine.{Machine}
 
--- what a request that waits, or that doesn't wait long, is told of the one that it meets, which has this key and
--- item: a giver who took its item, by its session's version, a taker the item, and who swaps the other's
+-- what a request that waits, or that doesn't wait long, is told of the one that it meets, which has this key
+-- and item: a giver who took its item, by its session's version, a taker the item, and who swaps the other's
 abbrev pub told_on_side : Side → Version → Option Key → Option (List ℕ) → Option Reply
 told_on_side (Gives queue) version other gets = receipt_of version other
 told_on_side (Takes queue) version other gets = option_map (λ item. reply.Item item) gets
@@ -71,6 +72,7 @@ pub record WasTold (old new : Machine) (waiter : Option Waiter) (side : Side) (k
   pub longer : vec_len new.settled ≡ vec_len old.settled + 1
   pub capacity : vec_capacity new.settled ≡ vec_capacity old.settled
 
-abbrev pub TellsOne : Machine → Machine → Option OwedDuty → Option Waiter → Side → Key → Option (List ℕ) → Type 0
+abbrev pub TellsOne : Machine → Machine → Option OwedDuty → Option Waiter → Side → Key → Option (List ℕ)
+    → Type 0
 TellsOne old new None waiter side key gift = new ≡ old
 TellsOne old new (Some duty) waiter side key gift = WasTold old new waiter side key gift

@@ -68,8 +68,8 @@ fn list(there: OpenPlace, items: &mut Vec<Item>, places: &mut Vec<Place>)
 }
 
 impl Machine {
-    /// Records an arrival that drains a queue of at most so many of its oldest items, and gives its entry. Fails only if
-    /// memory was refused, and then nothing changes.
+    /// Records an arrival that drains a queue of at most so many of its oldest items, and gives its entry.
+    /// Fails only if memory was refused, and then nothing changes.
     pub(crate) fn drain(
         &mut self,
         moment: u64,
@@ -99,8 +99,8 @@ impl Machine {
         ))
     }
 
-    // Takes so many of a queue's oldest items for the request of this key, which there must be, one a pass, and lists them
-    // where there is room for them.
+    // Takes so many of a queue's oldest items for the request of this key, which there must be, one a pass,
+    // and lists them where there is room for them.
     fn take_items(
         &mut self,
         queue: u64,
@@ -124,7 +124,8 @@ impl Machine {
         }
     }
 
-    // Takes the oldest item of a queue for the request of this key, which there must be: who waited with it is told so.
+    // Takes the oldest item of a queue for the request of this key, which there must be: who waited with it
+    // is told so.
     fn take_item(&mut self, queue: u64, taker: Key) -> OpenPlace
         requires ready { IsWhole self.old }
         requires fits { FitsQueue queue }

@@ -41,8 +41,8 @@ fn peeked(front: &OpenPlace, alloc: Global) -> Result<Reply, NoMemory>
 }
 
 impl Machine {
-    /// Records an arrival that finds nobody and doesn't stay, and gives its entry: its request has its reply at once.
-    /// Fails only if memory was refused, and then nothing changes.
+    /// Records an arrival that finds nobody and doesn't stay, and gives its entry: its request has its reply
+    /// at once. Fails only if memory was refused, and then nothing changes.
     pub(crate) fn leave(&mut self, moment: u64, key: Key, call: Call) -> Result<Entry, NoMemory>
         requires may { MayArrive self.old moment key call }
         requires alone { opposed_in self.old.table (side_of call) ≡ [] }

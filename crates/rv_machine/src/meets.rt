@@ -65,8 +65,8 @@ fn arriving(
 }
 
 impl Machine {
-    /// A request meets the oldest that it can meet, which there must be. Fails only if memory was refused, and then the
-    /// state stays.
+    /// A request meets the oldest that it can meet, which there must be. Fails only if memory was refused,
+    /// and then the state stays.
     pub(crate) fn meet(&mut self, moment: u64, key: Key, call: Call) -> Result<Entry, NoMemory>
         requires may { MayArrive self.old moment key call }
         requires some { 0 < length (opposed_in self.old.table (side_of call)) }

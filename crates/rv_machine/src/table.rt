@@ -1,5 +1,6 @@
 //! What is open, with the tables by which it is found: who waits on each side, how many, and until when.
-ghost use Rattle.std.specs.Prelude.{◌≡◌, [], ◌∷◌, ◌++◌, None, Some, IfOk, IfSome, IfNone, OnOk, OnErr, length};
+ghost use Rattle.std.specs.Prelude.{◌≡◌, [], ◌∷◌, ◌++◌, None, Some, IfOk, IfSome, IfNone, OnOk, OnErr};
+ghost use Rattle.std.specs.Prelude.{length};
 ghost use Rattle.std.specs.Prelude.{cond, is_some, option_map, slice_get};
 ghost use Rattle.std.specs.Prelude.{◌<◌, IsSome};
 ghost use Rattle.std.specs.FinMap.{get};
@@ -61,7 +62,8 @@ fn forget(due: &mut Due, limit: Option<u64>, place: Place)
     }
 }
 
-// Lays an open place into the map and its limit among the deadlines. Fails only if memory was refused, and then both stay.
+// Lays an open place into the map and its limit among the deadlines. Fails only if memory was refused, and
+// then both stay.
 fn lay(opens: &mut OpenMap, due: &mut Due, opened: OpenPlace) -> Result<(), NoMemory>
     requires { StandBelow opens.old opened.place }
     ensures opened { OnOk result (opens.new ≡ opens.old ++ opened ∷ []) }
@@ -155,8 +157,8 @@ impl OpenTable {
         (there, duty)
     }
 
-    /// Closes the place of the request whose limit comes first, if that is at or below a moment. If none is, nothing
-    /// changes.
+    /// Closes the place of the request whose limit comes first, if that is at or below a moment. If none is,
+    /// nothing changes.
     pub(crate) fn close_due(&mut self, moment: u64) -> Option<(OpenPlace, Duty)>
         ensures some { IfSome result (λ out. ClosesDue self.old self.new moment out.0 out.1) }
         ensures none { IfNone result (due_in self.old moment ≡ []) }
@@ -194,8 +196,8 @@ impl OpenTable {
         self.waiters.opposed(side)
     }
 
-    /// Closes the place of a queue's oldest item, and gives the duty to settle who waited with it; a put's owes none. If
-    /// there is no item nothing changes.
+    /// Closes the place of a queue's oldest item, and gives the duty to settle who waited with it; a put's
+    /// owes none. If there is no item nothing changes.
     pub(crate) fn take_front(&mut self, queue: u64) -> Option<(OpenPlace, Option<Duty>)>
         requires { FitsQueue queue }
         ensures some { IfSome result (λ out. ClosesFirst self.old self.new (Some (Gives queue)) out.0 out.1) }
@@ -209,8 +211,8 @@ impl OpenTable {
         Some((there, duty))
     }
 
-    /// An arrival with a call meets the oldest that it can meet, which there must be. Its place must be above all that
-    /// are open.
+    /// An arrival with a call meets the oldest that it can meet, which there must be. Its place must be above
+    /// all that are open.
     pub(crate) fn meet(&mut self, call: &Call, duty: Duty) -> MetPlace
         requires fits { FitsSide (side_of call.now) }
         requires some { 0 < length (opposed_in self.old (side_of call.now)) }
@@ -233,8 +235,9 @@ impl OpenTable {
         }
     }
 
-    /// An arrival that stays is open from now on, behind all others: its request is the last of its client, and its
-    /// duty comes back only where it is a put's. Fails only if memory was refused, and then nothing changes.
+    /// An arrival that stays is open from now on, behind all others: its request is the last of its client,
+    /// and its duty comes back only where it is a put's. Fails only if memory was refused, and then nothing
+    /// changes.
     pub(crate) fn park(
         &mut self,
         clients: &mut Clients,
@@ -246,7 +249,8 @@ impl OpenTable {
         requires copy { copy.now ≡ call }
         requires known { IsSome (get clients.old.clients key.now.client) }
         requires may { MayPark self.old opened key.now call }
-        ensures ok { IfOk result (λ own. ParksPlace self.old self.new clients.old clients.new opened key.now call own) }
+        ensures ok { IfOk result
+            (λ own. ParksPlace self.old self.new clients.old clients.new opened key.now call own) }
         ensures same { OnErr result (self.new ≡ self.old) }
         ensures clients { OnErr result (clients.new ≡ clients.old) }
     {

@@ -1,5 +1,5 @@
 -- What was opened last is taken out again.
-use Rattle.std.proofs.Common.{◌≡◌, ◌∙◌, ◌++◌, ◌∷◌, [], ap, List}
+use Rattle.std.proofs.Common.{◌∙◌, ap, List}
 use Rattle.rv_state.specs.State.{OpenPlace}
 use Rattle.rv_machine.specs.OpenMap.{all_but}
 use Rattle.rv_machine.proofs.Parking.{on_err_back, taken_back}

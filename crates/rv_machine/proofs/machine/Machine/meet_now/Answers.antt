@@ -1,48 +1,50 @@
 -- The arrival met one, who was told before it.
 use Rattle.std.proofs.Common.{◌≡◌, ◌∙◌, ◌∷◌, ◌++◌, [], ap, subst, sym, refl, List, Option, Some, IsSome, ℕ}
-use Rattle.std.specs.Prelude.{option_map}
 use Rattle.rv_text.specs.declared.call.Call.{Call}
 use Rattle.rv_text.specs.declared.call.Side.{Side}
-use Rattle.rv_text.specs.declared.version.Version.{Version}
 use Rattle.rv_text.specs.declared.answer.Reply.{Reply}
-use Rattle.rv_text.specs.Calls.{item_of, side_of, wait_of}
+use Rattle.rv_text.specs.Calls.{side_of, wait_of}
 use Rattle.rv_session.specs.OwedDuty.{OwedDuty}
 use Rattle.rv_session.specs.Clients.{ClientStates, clients_told, place_awaited, with_clients}
 use Rattle.rv_account.specs.declared.entry.Entry.{Entry}
 use Rattle.rv_account.specs.declared.entry.Act.TheVariants.{Arrive}
 use Rattle.rv_account.specs.Account.{entry}
 use Rattle.rv_account.specs.Calls.{opposite}
-use Rattle.rv_state.specs.State.{OpenPlace, State}
-use Rattle.rv_state.specs.After.{key_of_waiter, told_own}
+use Rattle.rv_state.specs.After.{told_own}
 use Rattle.rv_machine.specs.declared.machine.Machine.{Machine}
 use Rattle.rv_machine.specs.Arriving.{Arrives}
 use Rattle.rv_machine.specs.Indexed.{ClosesFirst}
 use Rattle.rv_machine.specs.Machines.{IsWhole, state_in}
-use Rattle.rv_machine.specs.Telling.{TellsOne, TellsWaiter, told_arriving}
-use Rattle.rv_machine.proofs.MetMachine.{new_arrives, new_ready, new_small}
+use Rattle.rv_machine.specs.Telling.{TellsOne, TellsWaiter}
+use Rattle.rv_machine.proofs.MetMachine.{new_arrives, new_ready}
 use Rattle.rv_machine.proofs.MetOne.{begun, begun_with, opposes, tells_both, tells_waiter}
 use Rattle.rv_machine.proofs.MetReplies.{arrival_told, own_by_side, same_told}
 use Rattle.rv_machine.proofs.machine.Machine.meet_now.Goals as goal
 
 pub tell-requires : goal.tell-requires
 tell-requires c =
-    let met = subst (λ (x : Call). ClosesFirst c.args.self.now.table c.meet-there.new.self (opposite (side_of x))
+    let met = subst (λ (x : Call). ClosesFirst c.args.self.now.table c.meet-there.new.self
+    (opposite (side_of x))
     c.meet-there.result.there c.meet-there.result.other) c.requires.copy c.meet-there.ensures.met in
     record {
       waits = subst (λ (t : ClientStates). TellsWaiter (begun_with c.args.self.now c.meet-there.new.self t)
           c.meet-there.result.other c.meet-there.result.there.waiter c.meet-there.result.there.side c.args.key
           c.args.gift) (sym c.begin-duty.ensures.waits)
-          (subst (λ (g : Option (List ℕ)). TellsWaiter (begun c.args.self.now c.args.moment c.args.key c.args.call
+          (subst (λ (g : Option (List ℕ)). TellsWaiter (begun c.args.self.now c.args.moment c.args.key
+          c.args.call
           c.requires.may c.meet-there.new.self c.meet-there.result.there c.meet-there.result.other met)
-          c.meet-there.result.other c.meet-there.result.there.waiter c.meet-there.result.there.side c.args.key g)
+          c.meet-there.result.other c.meet-there.result.there.waiter c.meet-there.result.there.side c.args.key
+          g)
           (sym c.requires.gift)
-          (tells_waiter c.args.self.now c.args.moment c.args.key c.args.call c.requires.may c.meet-there.new.self
+          (tells_waiter c.args.self.now c.args.moment c.args.key c.args.call c.requires.may
+          c.meet-there.new.self
           c.meet-there.result.there c.meet-there.result.other met));
     }
 
 pub arriving-reply-requires : goal.arriving-reply-requires
 arriving-reply-requires c =
-    let met = subst (λ (x : Call). ClosesFirst c.args.self.now.table c.meet-there.new.self (opposite (side_of x))
+    let met = subst (λ (x : Call). ClosesFirst c.args.self.now.table c.meet-there.new.self
+    (opposite (side_of x))
     c.meet-there.result.there c.meet-there.result.other) c.requires.copy c.meet-there.ensures.met in
     let told = arrival_told (state_in c.args.self.now) c.requires.may.ready.consistent
     c.meet-there.result.there.place c.meet-there.result.there met.closes.found c.args.call
@@ -56,15 +58,19 @@ arriving-reply-requires c =
 
 pub settle-requires : goal.settle-requires
 settle-requires c =
-    let met = subst (λ (x : Call). ClosesFirst c.args.self.now.table c.meet-there.new.self (opposite (side_of x))
+    let met = subst (λ (x : Call). ClosesFirst c.args.self.now.table c.meet-there.new.self
+    (opposite (side_of x))
     c.meet-there.result.there c.meet-there.result.other) c.requires.copy c.meet-there.ensures.met in
-    let tells = subst (λ (t : ClientStates). TellsOne (begun_with c.args.self.now c.meet-there.new.self t) c.tell.new.self
+    let tells = subst (λ (t : ClientStates). TellsOne (begun_with c.args.self.now c.meet-there.new.self t)
+    c.tell.new.self
     c.meet-there.result.other c.meet-there.result.there.waiter c.meet-there.result.there.side c.args.key
     c.args.gift) c.begin-duty.ensures.waits c.tell.ensures in
-    let both = tells_both c.args.self.now c.args.moment c.args.key c.args.call c.requires.may c.meet-there.new.self
+    let both = tells_both c.args.self.now c.args.moment c.args.key c.args.call c.requires.may
+    c.meet-there.new.self
     c.meet-there.result.there c.meet-there.result.other met c.tell.new.self
     (subst (λ (g : Option (List ℕ)). TellsOne (begun c.args.self.now c.args.moment c.args.key c.args.call
-    c.requires.may c.meet-there.new.self c.meet-there.result.there c.meet-there.result.other met) c.tell.new.self
+    c.requires.may c.meet-there.new.self c.meet-there.result.there c.meet-there.result.other met)
+    c.tell.new.self
     c.meet-there.result.other c.meet-there.result.there.waiter c.meet-there.result.there.side c.args.key g)
     c.requires.gift tells) in
     subst (λ (d : OwedDuty). place_awaited c.tell.new.self.clients.clients d.client ≡ Some d.place)
@@ -72,15 +78,19 @@ settle-requires c =
 
 pub returns-clause-ready : goal.returns-clause-ready
 returns-clause-ready c =
-    let met = subst (λ (x : Call). ClosesFirst c.args.self.now.table c.meet-there.new.self (opposite (side_of x))
+    let met = subst (λ (x : Call). ClosesFirst c.args.self.now.table c.meet-there.new.self
+    (opposite (side_of x))
     c.meet-there.result.there c.meet-there.result.other) c.requires.copy c.meet-there.ensures.met in
-    let tells = subst (λ (t : ClientStates). TellsOne (begun_with c.args.self.now c.meet-there.new.self t) c.tell.new.self
+    let tells = subst (λ (t : ClientStates). TellsOne (begun_with c.args.self.now c.meet-there.new.self t)
+    c.tell.new.self
     c.meet-there.result.other c.meet-there.result.there.waiter c.meet-there.result.there.side c.args.key
     c.args.gift) c.begin-duty.ensures.waits c.tell.ensures in
-    let both = tells_both c.args.self.now c.args.moment c.args.key c.args.call c.requires.may c.meet-there.new.self
+    let both = tells_both c.args.self.now c.args.moment c.args.key c.args.call c.requires.may
+    c.meet-there.new.self
     c.meet-there.result.there c.meet-there.result.other met c.tell.new.self
     (subst (λ (g : Option (List ℕ)). TellsOne (begun c.args.self.now c.args.moment c.args.key c.args.call
-    c.requires.may c.meet-there.new.self c.meet-there.result.there c.meet-there.result.other met) c.tell.new.self
+    c.requires.may c.meet-there.new.self c.meet-there.result.there c.meet-there.result.other met)
+    c.tell.new.self
     c.meet-there.result.other c.meet-there.result.there.waiter c.meet-there.result.there.side c.args.key g)
     c.requires.gift tells) in
     let own : told_own (state_in c.args.self.now) c.args.key c.args.call (c.meet-there.result.there ∷ [])
@@ -104,15 +114,19 @@ returns-clause-ready c =
 
 pub returns-clause-arrives : goal.returns-clause-arrives
 returns-clause-arrives c =
-    let met = subst (λ (x : Call). ClosesFirst c.args.self.now.table c.meet-there.new.self (opposite (side_of x))
+    let met = subst (λ (x : Call). ClosesFirst c.args.self.now.table c.meet-there.new.self
+    (opposite (side_of x))
     c.meet-there.result.there c.meet-there.result.other) c.requires.copy c.meet-there.ensures.met in
-    let tells = subst (λ (t : ClientStates). TellsOne (begun_with c.args.self.now c.meet-there.new.self t) c.tell.new.self
+    let tells = subst (λ (t : ClientStates). TellsOne (begun_with c.args.self.now c.meet-there.new.self t)
+    c.tell.new.self
     c.meet-there.result.other c.meet-there.result.there.waiter c.meet-there.result.there.side c.args.key
     c.args.gift) c.begin-duty.ensures.waits c.tell.ensures in
-    let both = tells_both c.args.self.now c.args.moment c.args.key c.args.call c.requires.may c.meet-there.new.self
+    let both = tells_both c.args.self.now c.args.moment c.args.key c.args.call c.requires.may
+    c.meet-there.new.self
     c.meet-there.result.there c.meet-there.result.other met c.tell.new.self
     (subst (λ (g : Option (List ℕ)). TellsOne (begun c.args.self.now c.args.moment c.args.key c.args.call
-    c.requires.may c.meet-there.new.self c.meet-there.result.there c.meet-there.result.other met) c.tell.new.self
+    c.requires.may c.meet-there.new.self c.meet-there.result.there c.meet-there.result.other met)
+    c.tell.new.self
     c.meet-there.result.other c.meet-there.result.there.waiter c.meet-there.result.there.side c.args.key g)
     c.requires.gift tells) in
     let own : told_own (state_in c.args.self.now) c.args.key c.args.call (c.meet-there.result.there ∷ [])

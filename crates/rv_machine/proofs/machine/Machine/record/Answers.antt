@@ -1,5 +1,4 @@
 -- One entry more leaves the tables.
-use Rattle.std.proofs.Common.{arith}
 use Rattle.rv_machine.proofs.Recorded.{recorded_ready}
 use Rattle.rv_machine.proofs.machine.Machine.record.Goals as goal
 

@@ -1,5 +1,5 @@
 -- The request is open from now on, and its client's last.
-use Rattle.std.proofs.Common.{◌≡◌, ◌∙◌, [], ap, subst, sym, List, Some}
+use Rattle.std.proofs.Common.{◌≡◌, ◌∙◌, [], ap, subst, sym, Some}
 use Rattle.std.specs.Prelude.{◌+◌, ◌≤◌, IfSome, vec_capacity, vec_len}
 use Rattle.rv_session.specs.Clients.{ClientStates, place_awaited}
 use Rattle.rv_account.specs.declared.entry.Entry.{Entry}
@@ -15,17 +15,22 @@ use Rattle.rv_machine.proofs.machine.Machine.stay.Goals as goal
 
 pub settle_put-requires : goal.settle_put-requires
 settle_put-requires c =
-    let parks = subst (λ (o : OpenPlace). ParksPlace c.args.self.now.table c.park.new.self c.args.self.now.clients
-    c.park.new.clients o c.args.key c.args.call c.in_ok-put.put) c.in_ok-opened.ensures c.in_ok-put.ensures.ok in
-    subst (λ (t : ClientStates). IfSome c.in_ok-put.put (λ d. place_awaited t.clients d.client ≡ Some d.place))
+    let parks = subst (λ (o : OpenPlace). ParksPlace c.args.self.now.table c.park.new.self
+    c.args.self.now.clients
+    c.park.new.clients o c.args.key c.args.call c.in_ok-put.put) c.in_ok-opened.ensures c.in_ok-put.ensures.ok
+    in
+    subst (λ (t : ClientStates). IfSome c.in_ok-put.put (λ d. place_awaited t.clients d.client ≡ Some
+    d.place))
     (sym parks.begins)
     (put_awaits c.args.self.now c.args.moment c.args.key c.args.call c.requires.may c.requires.alone
     c.requires.stays c.in_ok-put.put parks.own_is)
 
 pub returns-clause-ready : goal.returns-clause-ready
 returns-clause-ready c =
-    let parks = subst (λ (o : OpenPlace). ParksPlace c.args.self.now.table c.park.new.self c.args.self.now.clients
-    c.park.new.clients o c.args.key c.args.call c.in_ok-put.put) c.in_ok-opened.ensures c.in_ok-put.ensures.ok in
+    let parks = subst (λ (o : OpenPlace). ParksPlace c.args.self.now.table c.park.new.self
+    c.args.self.now.clients
+    c.park.new.clients o c.args.key c.args.call c.in_ok-put.put) c.in_ok-opened.ensures c.in_ok-put.ensures.ok
+    in
     subst (λ (m : Machine). IsWhole m) (sym c.push.ensures.counted)
     (stay_ready c.args.self.now c.args.moment c.args.key c.args.call c.requires.may c.requires.alone
     c.requires.stays c.in_ok-copy.copy c.in_ok-copy.ensures.same c.park.new.self parks.opens
@@ -37,10 +42,13 @@ returns-clause-ready c =
 
 pub returns-clause-ok : goal.returns-clause-ok
 returns-clause-ok c =
-    let parks = subst (λ (o : OpenPlace). ParksPlace c.args.self.now.table c.park.new.self c.args.self.now.clients
-    c.park.new.clients o c.args.key c.args.call c.in_ok-put.put) c.in_ok-opened.ensures c.in_ok-put.ensures.ok in
+    let parks = subst (λ (o : OpenPlace). ParksPlace c.args.self.now.table c.park.new.self
+    c.args.self.now.clients
+    c.park.new.clients o c.args.key c.args.call c.in_ok-put.put) c.in_ok-opened.ensures c.in_ok-put.ensures.ok
+    in
     subst (λ (e : Entry). Arrives c.args.self.now c.push.new.self c.args.moment c.args.key c.args.call e)
-    (sym (c.push.ensures.entry ∙ ap (entry c.args.moment (Arrive c.args.key c.in_ok-copy.copy)) c.none.ensures))
+    (sym (c.push.ensures.entry ∙ ap (entry c.args.moment (Arrive c.args.key c.in_ok-copy.copy))
+    c.none.ensures))
     (subst (λ (m : Machine). Arrives c.args.self.now m c.args.moment c.args.key c.args.call
     (entry c.args.moment (Arrive c.args.key c.in_ok-copy.copy) []))
     (sym c.push.ensures.counted)

@@ -1,10 +1,10 @@
 -- Who waited at the place left its line, and its limit went.
-use Rattle.std.proofs.Common.{◌≡◌, ◌∙◌, ap, subst, sym, refl, arith, List, Option, Some, IsSome}
+use Rattle.std.proofs.Common.{◌∙◌, ap, subst, sym, refl, arith, List, Option, IsSome}
 use Rattle.rv_session.specs.OwedDuty.{OwedDuty}
 use Rattle.rv_state.specs.State.{OpenPlace}
 use Rattle.rv_machine.specs.OpenMap.{found_at, all_but}
 use Rattle.rv_machine.specs.Indexed.{WaitsIn}
-use Rattle.rv_machine.proofs.Indexing.{Withdrawn, closed_waiting, fits_found, one_waits, waits_there, withdrawn}
+use Rattle.rv_machine.proofs.Indexing.{closed_waiting, fits_found, one_waits, waits_there, withdrawn}
 use Rattle.rv_machine.proofs.table.OpenTable.close.Goals as goal
 
 pub withdraw-requires : goal.withdraw-requires

@@ -1,13 +1,13 @@
 -- The least deadline is that of the first that is due.
-use Rattle.std.proofs.Common.{◌≡◌, ◌∷◌, ◌∙◌, [], ap, subst, sym, refl, arith, List, Option, Some, IsSome}
+use Rattle.std.proofs.Common.{◌∙◌, ap, subst, sym, refl, arith, List, Option, IsSome}
 use Rattle.rv_session.specs.OwedDuty.{OwedDuty}
 use Rattle.rv_due.specs.Deadlines.{Deadline}
 use Rattle.rv_due.proofs.Kept.{if_none}
 use Rattle.rv_state.specs.State.{OpenPlace}
-use Rattle.rv_machine.specs.OpenMap.{due_in, found_at, all_but}
+use Rattle.rv_machine.specs.OpenMap.{due_in}
 use Rattle.rv_machine.specs.Indexed.{ClosesDue}
 use Rattle.rv_machine.proofs.Fronts.{closes_due, due_out, due_there, nothing_due, without_its}
-use Rattle.rv_machine.proofs.Indexing.{Withdrawn, closed_waiting, fits_found, one_waits, withdrawn}
+use Rattle.rv_machine.proofs.Indexing.{closed_waiting, fits_found, one_waits, withdrawn}
 use Rattle.rv_machine.proofs.table.OpenTable.close_due.Goals as goal
 
 pub returns-in_err-place-clause-none : goal.returns-in_err-place-clause-none

@@ -1,12 +1,13 @@
 -- The first of the queue's givers left its line.
-use Rattle.std.proofs.Common.{◌≡◌, ◌∷◌, ◌∙◌, [], ap, subst, sym, refl, arith, List, Option, Some, None, IsSome}
+use Rattle.std.proofs.Common.{◌≡◌, ◌∷◌, ◌∙◌, ap, subst, sym, refl, arith, List, Option, Some, IsSome}
 use Rattle.rv_text.specs.declared.call.Side.TheVariants.{Gives}
 use Rattle.rv_due.proofs.Kept.{if_none}
 use Rattle.rv_state.specs.State.{OpenPlace}
 use Rattle.rv_state.proofs.Words.{same_Some}
 use Rattle.rv_machine.specs.OpenMap.{line_in, owed_among, all_but}
 use Rattle.rv_machine.specs.Indexed.{ClosesFirst}
-use Rattle.rv_machine.proofs.Firsts.{closed_first, closes_first, count_first, first_left, no_places, owed_there}
+use Rattle.rv_machine.proofs.Firsts.{closed_first, closes_first, count_first, first_left, no_places}
+use Rattle.rv_machine.proofs.Firsts.{owed_there}
 use Rattle.rv_machine.proofs.Indexing.{LeftLine}
 use Rattle.rv_machine.proofs.table.OpenTable.take_front.Goals as goal
 
@@ -19,7 +20,8 @@ returns-in_err-duty-clause-none c =
 
 pub unwrap-there-requires : goal.unwrap-there-requires
 unwrap-there-requires c =
-    let first = first_left c.self.inside.opens c.self.inside.waiters c.take_front.new.self c.self.inside.waiting
+    let first = first_left c.self.inside.opens c.self.inside.waiters c.take_front.new.self
+    c.self.inside.waiting
     c.self.inside.due (Gives c.args.queue) c.in_ok-duty.place c.self.invariant c.in_ok-duty.ensures.first
     c.in_ok-duty.ensures.others (c.in_ok-duty.ensures.parked (owed_among c.self.inside.opens)
     c.self.invariant.parked) in
@@ -27,7 +29,8 @@ unwrap-there-requires c =
 
 pub overflow_sub-self : goal.overflow_sub-self
 overflow_sub-self c =
-    let first = first_left c.self.inside.opens c.self.inside.waiters c.take_front.new.self c.self.inside.waiting
+    let first = first_left c.self.inside.opens c.self.inside.waiters c.take_front.new.self
+    c.self.inside.waiting
     c.self.inside.due (Gives c.args.queue) c.in_ok-duty.place c.self.invariant c.in_ok-duty.ensures.first
     c.in_ok-duty.ensures.others (c.in_ok-duty.ensures.parked (owed_among c.self.inside.opens)
     c.self.invariant.parked) in
@@ -35,13 +38,15 @@ overflow_sub-self c =
     let same : first.there ≡ c.unwrap-there.result = same_Some _ _ (sym first.found ∙ found) in
     let owed = owed_there c.self.inside.opens c.in_ok-duty.place c.unwrap-there.result c.in_ok-duty.duty found
     (c.in_ok-duty.ensures.duty_is (owed_among c.self.inside.opens) c.self.invariant.parked) in
-    let counted = count_first c.self.inside.opens c.self.inside.waiters c.self.inside.waiting c.self.inside.due
+    let counted = count_first c.self.inside.opens c.self.inside.waiters c.self.inside.waiting
+    c.self.inside.due
     c.in_ok-duty.place c.unwrap-there.result c.in_ok-duty.duty c.self.invariant found owed in
     omega (arith, counted, c.owing.ensures)
 
 pub invariant_of-self-2 : goal.invariant_of-self-2
 invariant_of-self-2 c =
-    let first = first_left c.self.inside.opens c.self.inside.waiters c.take_front.new.self c.self.inside.waiting
+    let first = first_left c.self.inside.opens c.self.inside.waiters c.take_front.new.self
+    c.self.inside.waiting
     c.self.inside.due (Gives c.args.queue) c.in_ok-duty.place c.self.invariant c.in_ok-duty.ensures.first
     c.in_ok-duty.ensures.others (c.in_ok-duty.ensures.parked (owed_among c.self.inside.opens)
     c.self.invariant.parked) in
@@ -57,7 +62,8 @@ invariant_of-self-2 c =
 
 pub returns-clause-some : goal.returns-clause-some
 returns-clause-some c =
-    let first = first_left c.self.inside.opens c.self.inside.waiters c.take_front.new.self c.self.inside.waiting
+    let first = first_left c.self.inside.opens c.self.inside.waiters c.take_front.new.self
+    c.self.inside.waiting
     c.self.inside.due (Gives c.args.queue) c.in_ok-duty.place c.self.invariant c.in_ok-duty.ensures.first
     c.in_ok-duty.ensures.others (c.in_ok-duty.ensures.parked (owed_among c.self.inside.opens)
     c.self.invariant.parked) in
