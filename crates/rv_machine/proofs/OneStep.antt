@@ -12,7 +12,7 @@ use Rattle.rv_state.specs.State.{State}
 use Rattle.rv_machine.specs.declared.machine.Machine.{Machine}
 use Rattle.rv_machine.specs.declared.machine.Said.{Said}
 use Rattle.rv_machine.specs.Machines.{MovesBy, keys_settled, state_in}
-use Rattle.rv_machine.specs.Stepping.{StepsBy}
+use Rattle.rv_machine.specs.Stepping.{IsMachineStep}
 use Rattle.rv_machine.specs.Ticking.{TimesOut}
 
 -- the machine with another list of those that were settled
@@ -33,7 +33,7 @@ module _ (old ticked new : Machine) (list : Vec Key) (none : list.items ≡ []) 
 
   steps_then : TimesOut (with_settled old list) ticked moment (option_to_list tick)
       → MovesBy ticked new moment m (option_to_list made) told
-      → StepsBy old new now m (record { tick = tick; entry = made; said = told })
+      → IsMachineStep old new now m (record { tick = tick; entry = made; said = told })
   steps_then times moves = record {
     move = record {
       entries = ends.entries ++ moves.move.entries;
@@ -62,7 +62,7 @@ module _ (old ticked new : Machine) (list : Vec Key) (none : list.items ≡ []) 
   pub steps_by : (at : ℕ) → at ≡ moment
       → TimesOut (with_settled old list) ticked at (option_to_list tick)
       → MovesBy ticked new at m (option_to_list made) told
-      → StepsBy old new now m (record { tick = tick; entry = made; said = told })
+      → IsMachineStep old new now m (record { tick = tick; entry = made; said = told })
   steps_by at is times moves =
       steps_then
       (subst (λ (n : ℕ). TimesOut (with_settled old list) ticked n (option_to_list tick)) is times)

@@ -88,7 +88,8 @@ module _ (m : Machine) (moment : ℕ) (key : Key) (call : Call) (numbered : AreN
 -- ---- where it may arrive
 
 module _ (old new : Machine) (moment : ℕ) (key : Key) (call : Call) (numbered : AreNumbered (state_in old))
-    (next : AsksNext old.clients key) (need : ℕ) (is : need ≡ need_of call) (space : HasSpaceFor old need) where
+    (next : AsksNext old.clients key) (need : ℕ) (is : need ≡ need_of call)
+    (space : HasSpaceFor old need) where
   abbrev s : State
   s = state_in old
 

@@ -4,6 +4,7 @@ use Rattle.std.specs.Prelude.{option_to_list, slice_get}
 use Rattle.std.specs.Prelude.{vec_capacity, vec_len}
 use Rattle.rv_text.specs.declared.message.Key.{Key}
 use Rattle.rv_text.specs.declared.message.Message.{Message}
+use Rattle.rv_text.specs.declared.answer.Refusal.{Refusal}
 use Rattle.rv_text.specs.declared.call.Call.{Call}
 use Rattle.rv_text.specs.declared.call.Side.TheVariants.{Gives}
 use Rattle.rv_text.specs.declared.answer.Answer.{Answer}
@@ -123,9 +124,9 @@ pub record MovesBy (old new : Machine) (moment : ℕ) (m : Message) (entries : L
     pub after : state_in new ≡ move.after
 
 -- a message was heard: this is said, and this entry was made if there is one
-abbrev pub Hears : Machine → Machine → ℕ → Message → Said → Option Entry → Type 0
-Hears old new moment m told made = MovesBy old new moment m (option_to_list made) told
+abbrev pub MovesHeard : Machine → Machine → ℕ → Message → Said → Option Entry → Type 0
+MovesHeard old new moment m told made = MovesBy old new moment m (option_to_list made) told
 
 -- a message was refused, and made no entry
-abbrev pub Refuses : Machine → Machine → ℕ → Message → Refusal → Type 0
-Refuses old new moment m refusal = MovesBy old new moment m [] (said.Refused refusal)
+abbrev pub MovesRefused : Machine → Machine → ℕ → Message → Refusal → Type 0
+MovesRefused old new moment m refusal = MovesBy old new moment m [] (said.Refused refusal)

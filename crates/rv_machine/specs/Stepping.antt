@@ -11,7 +11,7 @@ use Rattle.rv_machine.specs.Machines.{Says, keys_settled, state_in}
 
 -- one step of its state, for a message at a moment that was handed in: it made its tick's entry and the
 -- message's own, this is said, and just these keys are listed as settled
-pub record StepsBy (old new : Machine) (now : ℕ) (m : Message) (made : Stepped) : Type 0 where
+pub record IsMachineStep (old new : Machine) (now : ℕ) (m : Message) (made : Stepped) : Type 0 where
   pub move : Move
   pub moves : StateNext (state_in old) now m move
   pub after : state_in new ≡ move.after

@@ -1,17 +1,16 @@
 //! Requests: repeats of the last one, and those of a session's next number, which arrive.
 ghost use Rattle.std.specs.Prelude.{◌≡◌, ◌≢◌, ◌↔◌, ◌≤◌, [], None, IfOk, IfErr, IsTrue};
-ghost use Rattle.std.specs.Prelude.{IsSome, OnErr, option_to_list};
+ghost use Rattle.std.specs.Prelude.{OnErr};
 ghost use Rattle.rv_text.specs.declared.message.Message.TheVariants.{Request};
 ghost use Rattle.rv_text.specs.declared.answer.Refusal.TheVariants.{OtherCall};
 ghost use Rattle.rv_text.specs.Calls.{side_of, wait_of};
 ghost use Rattle.rv_text.specs.Limits.{FitsCall};
-ghost use Rattle.rv_account.specs.Calls.{opposite};
 ghost use Rattle.rv_rules.specs.Steps.{max_moment};
 ghost use Rattle.rv_session.specs.ClientMeanings.{AsksNext};
 ghost use Rattle.rv_waiters.specs.Meeting.{StaysBy};
 ghost use Rattle.rv_machine.specs.Arriving.{Arrives, IsAsBefore, MayArrive};
 ghost use Rattle.rv_machine.specs.declared.machine.Said.TheVariants as said;
-ghost use Rattle.rv_machine.specs.Machines.{Hears, IsWhole, Refuses, state_in};
+ghost use Rattle.rv_machine.specs.Machines.{MovesHeard, IsWhole, MovesRefused, state_in};
 ghost use Rattle.rv_machine.specs.Numbering.{AreNumbered};
 
 use crate::machine::Machine;
@@ -19,23 +18,14 @@ use rv_account::{Entry, lasts, need_of};
 use rv_session::KeyStanding;
 use rv_text::{Call, Key, NoMemory, Refusal, Side};
 
-// Whether an arrival of this side can meet another.
-fn may_meet(side: Side) -> bool
-    ensures { IsTrue result ↔ IsSome (opposite side) }
-{
-    match side {
-        Side::Gives(_) => true,
-        Side::Takes(_) => true,
-        Side::Looks(_) => false,
-        Side::Exchanges(_) => true,
-    }
-}
-
 // Whether a call that finds nobody stays.
 fn stays(call: &Call) -> bool
     ensures { IsTrue result ↔ StaysBy (side_of call.now) (wait_of call.now) }
 {
-    may_meet(call.side()) && call.wait().is_none_or(|wait| lasts(wait))
+    match call.side() {
+        Side::Looks(_) => false,
+        _ => call.wait().is_none_or(|wait| lasts(wait)),
+    }
 }
 
 // No entry for a request of the last number, which came with this call; with another it is refused.
@@ -64,8 +54,8 @@ impl Machine {
         requires fits { FitsCall call }
         ensures ready { IsWhole self.new }
         ensures numbered { AreNumbered (state_in self.new) }
-        ensures ok { IfOk result (Hears self.old self.new moment (Request key call) (said.Told key)) }
-        ensures err { IfErr result (Refuses self.old self.new moment (Request key call)) }
+        ensures ok { IfOk result (MovesHeard self.old self.new moment (Request key call) (said.Told key)) }
+        ensures err { IfErr result (MovesRefused self.old self.new moment (Request key call)) }
     {
         match self.clients.look(&key) {
             KeyStanding::Refused(refusal) => Err(refusal),
@@ -86,8 +76,8 @@ impl Machine {
         requires next { AsksNext self.old.clients key }
         ensures ready { IsWhole self.new }
         ensures numbered { AreNumbered (state_in self.new) }
-        ensures ok { IfOk result (Hears self.old self.new moment (Request key call) (said.Told key)) }
-        ensures err { IfErr result (Refuses self.old self.new moment (Request key call)) }
+        ensures ok { IfOk result (MovesHeard self.old self.new moment (Request key call) (said.Told key)) }
+        ensures err { IfErr result (MovesRefused self.old self.new moment (Request key call)) }
     {
         if self.is_full(need_of(&call)) {
             return Err(Refusal::EpochFull);

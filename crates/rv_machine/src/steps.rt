@@ -7,7 +7,7 @@ ghost use Rattle.rv_state.specs.Moves.{state_moment};
 ghost use Rattle.rv_machine.specs.declared.machine.Said.TheVariants.{Refused};
 ghost use Rattle.rv_machine.specs.Machines.{IsWhole, MovesBy, state_in};
 ghost use Rattle.rv_machine.specs.Numbering.{AreNumbered};
-ghost use Rattle.rv_machine.specs.Stepping.{StepsBy};
+ghost use Rattle.rv_machine.specs.Stepping.{IsMachineStep};
 
 use crate::machine::{Machine, Said};
 use crate::table::OpenTable;
@@ -64,7 +64,7 @@ impl Machine {
         requires fits { FitsMessage message }
         ensures ready { IsWhole self.new }
         ensures numbered { AreNumbered (state_in self.new) }
-        ensures steps { StepsBy self.old self.new now message result }
+        ensures steps { IsMachineStep self.old self.new now message result }
     {
         let moment = self.moment_at(now);
         self.settled.clear();
