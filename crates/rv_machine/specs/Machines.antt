@@ -124,9 +124,9 @@ pub record MovesBy (old new : Machine) (moment : ℕ) (m : Message) (entries : L
     pub after : state_in new ≡ move.after
 
 -- a message was heard: this is said, and this entry was made if there is one
-abbrev pub MovesHeard : Machine → Machine → ℕ → Message → Said → Option Entry → Type 0
-MovesHeard old new moment m told made = MovesBy old new moment m (option_to_list made) told
+abbrev pub WasHeard : Machine → Machine → ℕ → Message → Said → Option Entry → Type 0
+WasHeard old new moment m told made = MovesBy old new moment m (option_to_list made) told
 
 -- a message was refused, and made no entry
-abbrev pub MovesRefused : Machine → Machine → ℕ → Message → Refusal → Type 0
-MovesRefused old new moment m refusal = MovesBy old new moment m [] (said.Refused refusal)
+abbrev pub WasRefused : Machine → Machine → ℕ → Message → Refusal → Type 0
+WasRefused old new moment m refusal = MovesBy old new moment m [] (said.Refused refusal)

@@ -5,7 +5,7 @@ ghost use Rattle.rv_rules.specs.Steps.{max_moment};
 ghost use Rattle.rv_session.specs.ClientMeanings.{AsksNext};
 ghost use Rattle.rv_machine.specs.declared.machine.Said.TheVariants as said;
 ghost use Rattle.rv_machine.specs.Entering.{LastWaits};
-ghost use Rattle.rv_machine.specs.Machines.{MovesHeard, IsWhole, MovesBy, MovesRefused, state_in};
+ghost use Rattle.rv_machine.specs.Machines.{WasHeard, IsWhole, MovesBy, WasRefused, state_in};
 ghost use Rattle.rv_machine.specs.Numbering.{AreNumbered};
 
 use crate::machine::Machine;
@@ -22,8 +22,8 @@ impl Machine {
         requires time { moment ≤ max_moment }
         ensures ready { IsWhole self.new }
         ensures numbered { AreNumbered (state_in self.new) }
-        ensures ok { IfOk result (MovesHeard self.old self.new moment (Cancel key) (said.Told key)) }
-        ensures err { IfErr result (MovesRefused self.old self.new moment (Cancel key)) }
+        ensures ok { IfOk result (WasHeard self.old self.new moment (Cancel key) (said.Told key)) }
+        ensures err { IfErr result (WasRefused self.old self.new moment (Cancel key)) }
     {
         match self.clients.look(&key) {
             KeyStanding::Refused(refusal) => Err(refusal),
@@ -57,8 +57,8 @@ impl Machine {
         requires next { AsksNext self.old.clients key }
         ensures ready { IsWhole self.new }
         ensures numbered { AreNumbered (state_in self.new) }
-        ensures ok { IfOk result (MovesHeard self.old self.new moment (Cancel key) (said.Told key)) }
-        ensures err { IfErr result (MovesRefused self.old self.new moment (Cancel key)) }
+        ensures ok { IfOk result (WasHeard self.old self.new moment (Cancel key) (said.Told key)) }
+        ensures err { IfErr result (WasRefused self.old self.new moment (Cancel key)) }
     {
         if self.is_full(1) {
             return Err(Refusal::EpochFull);

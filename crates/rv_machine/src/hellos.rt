@@ -10,7 +10,7 @@ ghost use Rattle.rv_session.specs.Clients.{fresh_state};
 ghost use Rattle.rv_state.specs.After.{advanced, with_client};
 ghost use Rattle.rv_machine.specs.declared.machine.Said.TheVariants as said;
 ghost use Rattle.rv_machine.specs.Entering.{CanOpen, IsNewHello};
-ghost use Rattle.rv_machine.specs.Machines.{MovesHeard, IsWhole, MovesRefused, state_in};
+ghost use Rattle.rv_machine.specs.Machines.{WasHeard, IsWhole, WasRefused, state_in};
 ghost use Rattle.rv_machine.specs.Numbering.{AreNumbered};
 ghost use Rattle.rv_machine.specs.OpenMap.{count_waiting};
 
@@ -34,9 +34,9 @@ impl Machine {
         requires time { moment ≤ max_moment }
         ensures ready { IsWhole self.new }
         ensures numbered { AreNumbered (state_in self.new) }
-        ensures ok { IfOk result (MovesHeard self.old self.new moment (Hello client incarnation version)
+        ensures ok { IfOk result (WasHeard self.old self.new moment (Hello client incarnation version)
             (said.Welcome self.old.clients.epoch client incarnation version)) }
-        ensures err { IfErr result (MovesRefused self.old self.new moment (Hello client incarnation version)) }
+        ensures err { IfErr result (WasRefused self.old self.new moment (Hello client incarnation version)) }
     {
         match self.clients.greet(client, incarnation, version) {
             Greeting::Again => Ok(None),
@@ -69,9 +69,9 @@ impl Machine {
         requires is_new { IsNewHello (state_in self.old) client incarnation }
         ensures ready { IsWhole self.new }
         ensures numbered { AreNumbered (state_in self.new) }
-        ensures ok { IfOk result (MovesHeard self.old self.new moment (Hello client incarnation version)
+        ensures ok { IfOk result (WasHeard self.old self.new moment (Hello client incarnation version)
             (said.Welcome self.old.clients.epoch client incarnation version)) }
-        ensures err { IfErr result (MovesRefused self.old self.new moment (Hello client incarnation version)) }
+        ensures err { IfErr result (WasRefused self.old self.new moment (Hello client incarnation version)) }
     {
         if self.is_full(1) {
             return Err(Refusal::EpochFull);
@@ -98,9 +98,9 @@ impl Machine {
         requires lower { HasLowerState self.old.clients client incarnation waiting }
         ensures ready { IsWhole self.new }
         ensures numbered { AreNumbered (state_in self.new) }
-        ensures ok { IfOk result (MovesHeard self.old self.new moment (Hello client incarnation version)
+        ensures ok { IfOk result (WasHeard self.old self.new moment (Hello client incarnation version)
             (said.Welcome self.old.clients.epoch client incarnation version)) }
-        ensures err { IfErr result (MovesRefused self.old self.new moment (Hello client incarnation version)) }
+        ensures err { IfErr result (WasRefused self.old self.new moment (Hello client incarnation version)) }
     {
         if self.is_full(1) {
             return Err(Refusal::EpochFull);

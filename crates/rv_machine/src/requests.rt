@@ -10,7 +10,7 @@ ghost use Rattle.rv_session.specs.ClientMeanings.{AsksNext};
 ghost use Rattle.rv_waiters.specs.Meeting.{StaysBy};
 ghost use Rattle.rv_machine.specs.Arriving.{Arrives, IsAsBefore, MayArrive};
 ghost use Rattle.rv_machine.specs.declared.machine.Said.TheVariants as said;
-ghost use Rattle.rv_machine.specs.Machines.{MovesHeard, IsWhole, MovesRefused, state_in};
+ghost use Rattle.rv_machine.specs.Machines.{WasHeard, IsWhole, WasRefused, state_in};
 ghost use Rattle.rv_machine.specs.Numbering.{AreNumbered};
 
 use crate::machine::Machine;
@@ -54,8 +54,8 @@ impl Machine {
         requires fits { FitsCall call }
         ensures ready { IsWhole self.new }
         ensures numbered { AreNumbered (state_in self.new) }
-        ensures ok { IfOk result (MovesHeard self.old self.new moment (Request key call) (said.Told key)) }
-        ensures err { IfErr result (MovesRefused self.old self.new moment (Request key call)) }
+        ensures ok { IfOk result (WasHeard self.old self.new moment (Request key call) (said.Told key)) }
+        ensures err { IfErr result (WasRefused self.old self.new moment (Request key call)) }
     {
         match self.clients.look(&key) {
             KeyStanding::Refused(refusal) => Err(refusal),
@@ -76,8 +76,8 @@ impl Machine {
         requires next { AsksNext self.old.clients key }
         ensures ready { IsWhole self.new }
         ensures numbered { AreNumbered (state_in self.new) }
-        ensures ok { IfOk result (MovesHeard self.old self.new moment (Request key call) (said.Told key)) }
-        ensures err { IfErr result (MovesRefused self.old self.new moment (Request key call)) }
+        ensures ok { IfOk result (WasHeard self.old self.new moment (Request key call) (said.Told key)) }
+        ensures err { IfErr result (WasRefused self.old self.new moment (Request key call)) }
     {
         if self.is_full(need_of(&call)) {
             return Err(Refusal::EpochFull);
