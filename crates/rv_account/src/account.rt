@@ -1,14 +1,13 @@
 //! The account of an epoch: what came to the book, in order, and who met whom.
-ghost use Rattle.std.specs.Prelude.{◌≡◌, ◌↔◌, ◌<◌, ◌≤◌, ◌+◌, ◌==◌, [], Some};
-ghost use Rattle.std.specs.Prelude.{IfOk, IsSome, IsTrue, OnErr, OnOk};
+ghost use Rattle.std.specs.Prelude.{◌≡◌, ◌<◌, ◌≤◌, ◌+◌, ◌==◌, [], Some};
+ghost use Rattle.std.specs.Prelude.{IfOk, IsSome, OnErr, OnOk};
 ghost use Rattle.std.specs.Prelude.{length, option_map, slice_get};
 ghost use Rattle.std.specs.Option.{option_copied};
-ghost use Rattle.rv_account.specs.Account.{call_at, entry, item_at, key_at, items_at, limit_at, own_moment};
+ghost use Rattle.rv_account.specs.Account.{call_at, item_at, key_at, items_at, limit_at, own_moment};
 ghost use Rattle.rv_account.specs.Account.{partners_items, with_entry};
 ghost use Rattle.rv_account.specs.Limits.{FitEntries};
 
 use crate::entry::{Act, Entry};
-use crate::partners::Partners;
 use crate::waits::limit_after;
 use rv_session::Place;
 use rv_text::{Call, Item, Items, Key, NoMemory};
@@ -80,13 +79,6 @@ impl Account {
             Act::Arrive { call, .. } => Some(call),
             Act::Hello { .. } | Act::Cancel { .. } | Act::Tick => None,
         }
-    }
-
-    /// Whether an arrival with this call stands at a place.
-    pub fn has_call(&self, place: Place, call: &Call) -> bool
-        ensures { IsTrue result ↔ (call_at self.now.account.entries place ≡ Some call.now) }
-    {
-        self.call(place).is_some_and(|other| other.is_same(call))
     }
 
     /// The limit of the request that arrived at a place, in milliseconds, if it has one. The account's
@@ -168,32 +160,25 @@ impl Account {
         self.entries.reserve(more)
     }
 
+    /// For how many entries more it has room.
+    pub fn room(&self) -> usize
+        ensures { result ≡ self.now.room }
+    {
+        self.entries.capacity() - self.entries.len()
+    }
+
     /// The allocator that the account keeps.
     pub fn allocator(&self) -> Global {
         *self.entries.allocator()
     }
 
     /// Records one entry more, for which there must be room. It takes no memory.
-    pub fn push(&mut self, moment: u64, act: Act, partners: Partners)
+    pub fn push(&mut self, entry: Entry)
         requires { 0 < self.old.room }
-        ensures entry { self.new.account ≡ with_entry self.old.account (entry moment act partners) }
+        ensures entry { self.new.account ≡ with_entry self.old.account entry }
         ensures room { self.old.room ≡ self.new.room + 1 }
     {
-        let entry = Entry {
-            moment,
-            act,
-            partners,
-        };
         self.entries.push_reserved(entry);
-    }
-
-    /// Records one entry more that names no partner, for which there must be room. It takes no memory.
-    pub fn push_alone(&mut self, moment: u64, act: Act)
-        requires { 0 < self.old.room }
-        ensures entry { self.new.account ≡ with_entry self.old.account (entry moment act []) }
-        ensures room { self.old.room ≡ self.new.room + 1 }
-    {
-        self.push(moment, act, Partners::none(self.allocator()));
     }
 
     /// The account of this epoch, opening moment and entries, legal or not. It takes no memory.

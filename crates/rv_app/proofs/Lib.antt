@@ -6,3 +6,4 @@ pub mod Writing
 pub mod Telling
 pub mod Settling
 pub mod CallsSoFar
+pub mod Answering

@@ -1,7 +1,7 @@
 -- Of the places under a number those that are none of some others: one looks from each to the next.
 use Rattle.rv_audit.proofs.Words.{◌≡◌, ◌⊎◌, ◌-◌, ◌<◌, ◌∙◌, inl, inr, ℕ, true, List, Option, Some, None}
 use Rattle.rv_audit.proofs.Words.{IfSome, IfNone, sym, subst, arith, cases_lt, false≢true, Among, same_or_not}
-use Rattle.rv_audit.proofs.Words.{IsLowest, IsNextMark, NoneBehind, NoneUnder, is_marked_under, Marks}
+use Rattle.rv_audit.proofs.Words.{IsNextMark, NoneBehind, is_marked_under, Marks}
 use Rattle.rv_audit.specs.Marks.{GoesOnAt}
 
 -- how many places are left to be looked at
@@ -10,15 +10,6 @@ left_from None = 0
 left_from (Some p) = 18446744073709551616 - p
 
 module _ (m : Marks) (number : ℕ) (places : List ℕ) where
-  pub goes_first : (found : Option ℕ) → IfSome found (IsLowest m number) → IfNone found (NoneUnder m number)
-      → GoesOnAt m number places found
-  goes_first None some none = λ p there. absurd (false≢true (sym (none p) ∙ there))
-  goes_first (Some q) some none = (
-    some.there,
-    λ p less there. absurd (false≢true (sym (some.lowest p less)
-        ∙ there)),
-  )
-
   module _ (place : ℕ) (at : GoesOnAt m number places (Some place)) (own : Among places place) where
     up_to : (p : ℕ) → is_marked_under m number p ≡ true → Among places p ⊎ (place < p)
     up_to p there = elim (cases_lt p place) [

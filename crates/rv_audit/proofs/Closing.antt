@@ -4,14 +4,14 @@ use Rattle.rv_audit.proofs.Words.{length, get_or, Option, Some, None, IfSome, If
 use Rattle.rv_audit.proofs.Words.{refl, sym, ap, subst, arith, false≢true, nat_tests, same_Some, Side, Entry}
 use Rattle.rv_audit.proofs.Words.{Account, Among, read_whole, call_read, same_or_not, one_side, stands_in}
 use Rattle.rv_audit.proofs.Words.{IsLeast, is_marked_under, AmongFirst, AreLimits, AreLines, AreTables, Gone}
-use Rattle.rv_audit.proofs.Words.{IsFront, IsTakingOut, TakesEach, gone_at, none_gone, passed_account}
+use Rattle.rv_audit.proofs.Words.{IsTakingOut, TakesEach, gone_at, none_gone, passed_account}
 use Rattle.rv_audit.proofs.Words.{with_gone, Front, OpenLines, Marks}
 use Rattle.std.proofs.Common.{cond}
-use Rattle.rv_book.specs.Legal.{IsDueAt}
-use Rattle.rv_book.specs.Waiting.{SideAt, limit_at, limit_in}
+use Rattle.rv_rules.specs.Legal.{IsDueAt}
+use Rattle.rv_rules.specs.Waiting.{SideAt, limit_at, limit_in}
 use Rattle.rv_rules.proofs.Deciding.{same_side}
 use Rattle.rv_rules.proofs.Places.{get-take}
-use Rattle.rv_audit.proofs.Named.{all_first, first_back, first_on, first_own, none_first, one_at}
+use Rattle.rv_audit.proofs.Named.{all_first, first_back, first_on, first_own, one_at}
 use Rattle.rv_audit.specs.Lines.{Closes}
 use Rattle.rv_audit.specs.Marks.{Loses}
 use Rattle.rv_audit.specs.Passed.{AreAuditSessions, AreMet, ClosesIf, IsArrived, IsFitting, LosesIf, SameRest}
@@ -164,9 +164,6 @@ marked_due a gone front moment mark are least =
     let is = are.limits.are mark.0 mark.1 least.there in
     (record { waits = is.waits; limit = mark.0; has = is.has; elapsed = least.until }, is.has)
 
-pub due_arrived : (es : List Entry) (moment r : ℕ) → IsDueAt es moment r → IsArrived es r
-due_arrived es moment r due = (due.waits.is_open.call, due.waits.is_open.arrived)
-
 -- one turn of taking out
 pub took_out : (start old new : Front) (moment place : ℕ) → IsTakingOut start old moment
     → TakesOutPlace old new place → IsDueAt (passed_account start).entries moment place
@@ -210,15 +207,6 @@ found_limit has None limit is fits there = absurd (is limit fits there)
 found_limit has (Some l) limit is fits there = sym is.0 ∙ there
 
 -- ---- places of a list
-
-pub takes_none : (start : Front) (places : List ℕ) → IsFront start
-    → TakesEach (AmongFirst places 0) start start
-takes_none start places front = record {
-  gone = none_gone;
-  are = λ r. (λ went. absurd (false≢true went), λ among. absurd (none_first places r among));
-  rest = refl;
-  tables = front;
-}
 
 gone_own : (gone : Gone) (place r : ℕ) → r ≡ place → with_gone gone place r ≡ true
 gone_own gone place r same = ap (λ b. cond b true (gone r)) (ap (λ n. nat_eq n place) same ∙ own_gone place)

@@ -7,12 +7,12 @@ use Rattle.rv_audit.proofs.Words.{NamesFreePartners, WaitsUnder, NamesKey, Waiti
 use Rattle.rv_audit.proofs.Words.{act_called, same_or_not, one_waits, EntersIf, IsAuditSessionOf}
 use Rattle.rv_audit.proofs.Words.{AuditSession}
 use Rattle.std.proofs.Common.{◌++◌}
-use Rattle.rv_book.specs.Sessions.{HasIncarnation, HasOpened, LastNumber, SaidHello}
+use Rattle.rv_rules.specs.Sessions.{HasIncarnation, HasOpened, LastNumber, SaidHello}
 use Rattle.rv_rules.proofs.Growing.{reads_back, reads_within}
 use Rattle.rv_rules.proofs.Keys.{NamesKey-back, NamesKey-on, client_of, key_read}
 use Rattle.rv_rules.proofs.Places.{get-append_end}
-use Rattle.rv_book.proofs.SessionTable.{named_at}
-use Rattle.rv_state.proofs.SessionsOn.{IsApart, IsAt, IsAt-on, greeted_at, other_apart}
+use Rattle.rv_state.proofs.SessionsOn.{IsApart, IsAt, IsAt-on, greeted_at, named_at, other_apart}
+use Rattle.rv_state.proofs.SessionsOn.{tick_apart}
 use Rattle.rv_rules.proofs.Sides.{ComesToWait, Waiting-back, WasWaiting, cancel_stops, hello_stops}
 use Rattle.rv_rules.proofs.Waits.{waiting_is_last}
 use Rattle.rv_audit.specs.Passed.{AreAuditSessions, IsAuditSession, session_after}
@@ -262,16 +262,6 @@ module _ (a : Account) (e : Entry) (legal : Legal a) (follows : MayFollow a e) w
         (session_of_on es e other (session_in old other) free (apart other differs) (are other))
   ]
 
-  tick_apart : (client : ℕ) → e.act ≡ Tick → IsApart e.act client
-  tick_apart client says = record {
-    no_hello = λ incarnation version own. tick_greets_not client incarnation version (sym (ap Some says)
-        ∙ own);
-    no_key = λ key names of_client. none-some key (sym (ap key_in says) ∙ names);
-  }
-    where
-      tick_greets_not : (c i : ℕ) (v : Version) → Some Tick ≡ Some (Hello c i v) → ⊥
-      tick_greets_not c i v same = cc
-
   others_apart : (client : ℕ) → client_of e.act ≡ client → (other : ℕ) → (other ≡ client → ⊥)
       → IsApart e.act other
   others_apart client is other differs = other_apart e.act other (λ same. differs (sym same ∙ is))
@@ -289,7 +279,8 @@ module _ (a : Account) (e : Entry) (legal : Legal a) (follows : MayFollow a e) w
       (cancel_session key says)
   joined_by old new Tick says are same = λ client.
       subst (λ (t : AuditSessions). IsAuditSessionOf after client (session_in t client)) (sym same)
-      (session_of_on es e client (session_in old client) free (tick_apart client says) (are client))
+      (session_of_on es e client (session_in old client) free
+      (subst (λ (does : Act). IsApart does client) (sym says) (tick_apart client)) (are client))
 
   pub sessions_joined : (old new : AuditSessions) → AreAuditSessions es old
       → EntersIf old new (session_after e.act (length es)) → AreAuditSessions after new

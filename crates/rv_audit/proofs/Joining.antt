@@ -1,41 +1,30 @@
 -- What an audit's tables are when one more entry was passed.
-use Rattle.rv_audit.proofs.Words.{◌≡◌, ◌⊎◌, ◌+◌, ◌-◌, ◌<◌, ◌∷◌, ◌∙◌, inl, inr, ℕ, zero, suc, Bool, true}
+use Rattle.rv_audit.proofs.Words.{◌≡◌, ◌⊎◌, ◌+◌, ◌<◌, ◌∷◌, ◌∙◌, inl, inr, ℕ, zero, suc, Bool, true}
 use Rattle.rv_audit.proofs.Words.{false, List, [], length, take, Option, Some, None, IsSome, option_and_then}
 use Rattle.rv_audit.proofs.Words.{refl, sym, ap, subst, arith, slice_get, false≢true, none-some, same_Some}
 use Rattle.rv_audit.proofs.Words.{Call, Side, Gives, Takes, Looks, Exchanges, side_of, Entry, Arrive, Account}
 use Rattle.rv_audit.proofs.Words.{Among, Names, act_at, opposite, Legal, MayFollow, NamesFreePartners, before}
-use Rattle.rv_audit.proofs.Words.{own_moment, Met, OpenAt, Waiting, call_read, act_called, same_or_not}
+use Rattle.rv_audit.proofs.Words.{Met, OpenAt, Waiting, call_read, act_called, same_or_not}
 use Rattle.rv_audit.proofs.Words.{stands_in, is_marked_under, AreLimits, AreLines, AreWithin, EntersIf, Gone}
 use Rattle.rv_audit.proofs.Words.{SetsFlags, is_any, none_gone, AreTables, passed_account, Front, OpenLines}
 use Rattle.rv_audit.proofs.Words.{Marks}
-use Rattle.std.proofs.Common.{◌++◌, unwrap_or, length-append}
-use Rattle.rv_account.specs.Account.{moment_at, with_entry}
+use Rattle.std.proofs.Common.{◌++◌, length-append}
+use Rattle.rv_account.specs.Account.{with_entry}
 use Rattle.rv_account.specs.Calls.{Stays}
-use Rattle.rv_book.specs.Waiting.{Open, StoppedAt, limit_at, limit_in}
+use Rattle.rv_rules.specs.Waiting.{Open, StoppedAt, limit_at, limit_in}
 use Rattle.rv_rules.proofs.Deciding.{same_side}
-use Rattle.rv_rules.proofs.Growing.{Met-back, Met-on, NamesAt-last, limit_on, moment_read}
+use Rattle.rv_rules.proofs.Growing.{Met-back, Met-on, NamesAt-last, limit_on}
+use Rattle.rv_rules.proofs.Growing.{reads_within}
 use Rattle.rv_rules.proofs.Places.{get-append, get-append_cases, get-append_end}
 use Rattle.rv_rules.proofs.Sides.{OpenAt-back, OpenAt-last, OpenAt-on, Waiting-back, Waiting-last, Waiting-on}
 use Rattle.rv_rules.proofs.Sides.{last_unmet, names_last, waiting_is_open}
-use Rattle.rv_book.proofs.WaitersBySide.{met_last, open_inside}
+use Rattle.rv_state.proofs.Stated.{own_last}
 use Rattle.rv_audit.specs.Lines.{IsOpenable}
 use Rattle.rv_audit.specs.Passed.{AreMet, AreTouched, Flags, GainsIf, IsNewOn, IsNewRequest, OpensIf, OpensOn}
 use Rattle.rv_audit.specs.Passed.{WaitsUntil, session_after, HasPassed, IsReadyFor}
 use Rattle.rv_audit.proofs.Entering.{sessions_joined}
 use Rattle.rv_audit.proofs.Named.{is_any_or_none, some_among}
 use Rattle.rv_rules.proofs.Legality.{Legal-with_entry}
-
--- ---- moments
-
-pub own_last : (a : Account) (e : Entry) → own_moment (with_entry a e) ≡ e.moment
-own_last a e =
-    let last : length (a.entries ++ e ∷ []) - 1 ≡ length a.entries = omega (
-      arith,
-      length-append a.entries
-          (e ∷ []),
-    ) in
-    ap (λ n. unwrap_or (moment_at (a.entries ++ e ∷ []) n) a.opened) last ∙ ap (λ o. unwrap_or (moment_read o)
-    a.opened) (get-append_end a.entries e)
 
 -- ---- pairs and swaps
 
@@ -151,11 +140,27 @@ module _ (a : Account) (e : Entry) (legal : Legal a) (follows : MayFollow a e) w
     own_alone : (side : Side) → OpenAt after side (length es) → e.partners ≡ []
     own_alone side there = elim (is_any_or_none e.partners) [
       | inr none ↦ none
-      | inl any ↦ let one = some_among e.partners any in absurd (met_last es e side one.0 free one.1 there)
+      | inl any ↦
+          let one = some_among e.partners any in
+          let partner = free.free one.0 one.1 in
+          absurd (there.is_open.unmet (record {
+            later = length es;
+            earlier = one.0;
+            names = record {
+              call = partner.call;
+              arrived = ap call_read (get-append_end es e) ∙ partner.arrives;
+              meets = partner.meets;
+              named = NamesAt-last es e one.0 one.1;
+            };
+            part = inl refl;
+          }))
     ]
 
     inside_apart : (side : Side) (r : ℕ) → OpenAt es side r → r ≡ length es → ⊥
-    inside_apart side r there same = let inside : r < length es = open_inside es side r there in omega arith
+    inside_apart side r there same =
+        let inside : r < length es =
+        reads_within call_read refl es r there.of_side.call there.of_side.arrived in
+        omega arith
 
     not_openable : (side : Side) (call : Call) → side_of call ≡ side → Stays call → IsOpenable side
     not_openable (Gives queue) call is stays = tt

@@ -43,9 +43,6 @@ module _ (places : List ℕ) (n : ℕ) where
     | inr above ↦ let most : among.0 < n + 1 = among.1 in inr (sym (read_at among.0 r (omega arith) among.2))
   ]
 
-pub none_first : (places : List ℕ) (r : ℕ) → AmongFirst places 0 r → ⊥
-none_first places r among = let none : among.0 < 0 = among.1 in omega arith
-
 pub all_first : (places : List ℕ) (n r : ℕ) → length places ≤ n → Among places r → AmongFirst places n r
 all_first places n r whole among = let less : among.0 < length places = within places among.0 r among.1 in
     (among.0, omega arith, among.1)

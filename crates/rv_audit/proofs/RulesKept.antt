@@ -9,9 +9,9 @@ use Rattle.rv_audit.proofs.Words.{IsOutOfOrder, IsPaired, MeetsWrongly, MissesPa
 use Rattle.rv_audit.proofs.Words.{StartsNoNewer}
 use Rattle.std.specs.Prelude.{unwrap_or}
 use Rattle.rv_account.specs.Account.{NamesAt, moment_at}
-use Rattle.rv_book.specs.Waiting.{NamesPartner}
-use Rattle.rv_book.specs.Legal.{CancelsInTurn, CountsUp, IsOfSession, KeepsLimits, KeepsTime, PairsOldest}
-use Rattle.rv_book.specs.Legal.{PairsOpposites, PairsWherePossible, RaisesIncarnation}
+use Rattle.rv_rules.specs.Waiting.{NamesPartner}
+use Rattle.rv_rules.specs.Legal.{CancelsInTurn, CountsUp, IsOfSession, KeepsLimits, KeepsTime, PairsOldest}
+use Rattle.rv_rules.specs.Legal.{PairsOpposites, PairsWherePossible, RaisesIncarnation}
 use Rattle.rv_rules.proofs.Histories.{one_last_number}
 use Rattle.rv_audit.specs.Breaking.{BreaksCount, FallsBack, IsOfNoSession, IsSwapped, NamesOne, NamesTooMany}
 use Rattle.rv_audit.specs.Breaking.{NamesWrongly, PassesLimit, TicksForNothing, WasNamed}

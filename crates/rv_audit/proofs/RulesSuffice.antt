@@ -1,5 +1,5 @@
 -- An entry that breaks no rule behind those of a legal account may follow them: of each rule what it gives.
-use Rattle.rv_audit.proofs.Words.{◌≡◌, ◌≢◌, ◌⊎◌, ◌+◌, ◌<◌, ◌≤◌, ◌∷◌, ◌∙◌, inl, inr, ℕ, List, [], length, take}
+use Rattle.rv_audit.proofs.Words.{◌≡◌, ◌≢◌, ◌⊎◌, ◌+◌, ◌<◌, ◌∷◌, ◌∙◌, inl, inr, ℕ, List, [], length, take}
 use Rattle.rv_audit.proofs.Words.{Option, Some, None, IsSome, refl, sym, ap, subst, arith, slice_get}
 use Rattle.rv_audit.proofs.Words.{cases_lt, none-some, same_Some, Version, Key, Call, Side, Gives, Takes}
 use Rattle.rv_audit.proofs.Words.{Looks, Exchanges, side_of, Entry, Act, Hello, Arrive, Cancel, Tick, Account}
@@ -15,33 +15,32 @@ use Rattle.std.specs.List.Sorted.{IsStrictlyIncreasing}
 use Rattle.rv_text.specs.declared.call.Call.TheVariants.{Drain}
 use Rattle.rv_account.specs.Account.{NamesAt, call_at}
 use Rattle.rv_account.specs.Calls.{MayMeet}
-use Rattle.rv_book.specs.Sessions.{HasIncarnation}
-use Rattle.rv_book.specs.Legal.{CancelsInTurn, CountsUp, IsFreePartner, IsOfSession, KeepsLimits, KeepsTime}
-use Rattle.rv_book.specs.Legal.{NothingDue, PairsOldest, PairsOpposites, PairsWherePossible}
-use Rattle.rv_book.specs.Legal.{RaisesIncarnation}
+use Rattle.rv_rules.specs.Sessions.{HasIncarnation}
+use Rattle.rv_rules.specs.Legal.{CancelsInTurn, CountsUp, IsFreePartner, IsOfSession, KeepsLimits, KeepsTime}
+use Rattle.rv_rules.specs.Legal.{NothingDue, PairsOldest, PairsOpposites, PairsWherePossible}
+use Rattle.rv_rules.specs.Legal.{RaisesIncarnation}
 use Rattle.rv_rules.proofs.Deciding.{find_hello, find_last, key_or_other, open_by, waits_or_not}
-use Rattle.rv_book.proofs.Entering.{step_keeps_time}
+use Rattle.rv_state.specs.After.{state_of}
+use Rattle.rv_state.proofs.Agreed.{agreed}
+use Rattle.rv_state.proofs.Due.{nothing_due}
+use Rattle.rv_state.proofs.MomentsBoth.{some_to_due}
+use Rattle.rv_state.proofs.OwnMoment.{later_keeps_time}
 use Rattle.rv_rules.proofs.Fronts.{open_in_front}
 use Rattle.rv_rules.proofs.Growing.{read_there, reads_within}
 use Rattle.rv_rules.proofs.Histories.{one_incarnation}
 use Rattle.rv_rules.proofs.Naming.{among_none, among_or_not}
 use Rattle.rv_rules.proofs.Numbers.{first_below}
 use Rattle.rv_rules.proofs.Opposites.{looks_alone}
-use Rattle.rv_book.proofs.Ticking.{something_or_nothing}
 use Rattle.rv_audit.specs.Breaking.{BreaksCount, FallsBack, IsOfNoSession, IsSwapped, NamesOne, NamesWrongly}
 use Rattle.rv_audit.specs.Breaking.{WasNamed}
 
 -- ---- moments
 
 pub keeps_time : (a : Account) (e : Entry) → Legal a → (FallsBack a e → ⊥) → KeepsTime a e.moment
-keeps_time a e legal stays =
-    let least : own_moment a ≤ e.moment = elim (cases_lt e.moment (own_moment a))
-    [ inl falls ↦ absurd (stays falls) | inr least ↦ least ] in
-    let own = step_keeps_time a 0 legal in
-    record {
-      opened = let opened = own.opened in omega arith;
-      since = λ r moment there. let most = own.since r moment there in omega arith;
-    }
+keeps_time a e legal stays = later_keeps_time a e.moment legal (elim (cases_lt e.moment (own_moment a)) [
+  | inl falls ↦ absurd (stays falls)
+  | inr least ↦ least
+])
 
 hello_no_tick : (client incarnation : ℕ) (version : Version) → Hello client incarnation version ≡ Tick → ⊥
 hello_no_tick client incarnation version is = cc
@@ -52,16 +51,16 @@ arrival_no_tick key call is = cc
 cancel_no_tick : (key : Key) → Cancel key ≡ Tick → ⊥
 cancel_no_tick key is = cc
 
-pub keeps_limits : (es : List Entry) (moment : ℕ) (does : Act) → (does ≢ Tick → SomethingDue es moment → ⊥)
-    → (does ≡ Tick → NothingDue es moment → ⊥) → KeepsLimits es moment does
-keeps_limits es moment (Hello client incarnation version) past idle = λ r due. past (hello_no_tick client
-    incarnation version) (r, due)
-keeps_limits es moment (Arrive key call) past idle = λ r due. past (arrival_no_tick key call) (r, due)
-keeps_limits es moment (Cancel key) past idle = λ r due. past (cancel_no_tick key) (r, due)
-keeps_limits es moment Tick past idle = elim (something_or_nothing es moment) [
-  | inl something ↦ something
-  | inr nothing ↦ absurd (idle refl nothing)
-]
+pub keeps_limits : (a : Account) (moment : ℕ) (does : Act) → Legal a
+    → (does ≢ Tick → SomethingDue a.entries moment → ⊥) → (does ≡ Tick → NothingDue a.entries moment → ⊥)
+    → KeepsLimits a.entries moment does
+keeps_limits a moment (Hello client incarnation version) legal past idle =
+    λ r due. past (hello_no_tick client incarnation version) (r, due)
+keeps_limits a moment (Arrive key call) legal past idle = λ r due. past (arrival_no_tick key call) (r, due)
+keeps_limits a moment (Cancel key) legal past idle = λ r due. past (cancel_no_tick key) (r, due)
+keeps_limits a moment Tick legal past idle =
+    let state = agreed a legal in
+    some_to_due a (state_of a) moment state (λ none. idle refl (nothing_due a (state_of a) moment state none))
 
 -- ---- numbers
 
@@ -408,7 +407,7 @@ may_follow a e legal keeps =
     record {
       moments = record {
         keeps_time = keeps_time a e legal (keeps M1);
-        keeps_limits = keeps_limits a.entries e.moment e.act (λ no_tick due. keeps M2
+        keeps_limits = keeps_limits a e.moment e.act legal (λ no_tick due. keeps M2
             (record { no_tick = no_tick; due = due }))
             (λ ticks nothing. keeps M3 (record { ticks = ticks; nothing_due = nothing }));
       };

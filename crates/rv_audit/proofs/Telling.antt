@@ -10,10 +10,10 @@ use Rattle.rv_audit.proofs.Words.{IsNoFreePlace, IsOutOfOrder, IsPaired, MeetsWr
 use Rattle.rv_audit.proofs.Words.{NamesTaken, PassesOver, StartsNoNewer, HasAmong, IsPassedBy, WaitsOf}
 use Rattle.rv_audit.proofs.Words.{is_any, AuditSession}
 use Rattle.std.proofs.Common.{nat_lt, nat_le, is_some}
-use Rattle.rv_book.specs.Sessions.{LastNumber, SaidHello}
-use Rattle.rv_book.specs.Waiting.{SideAt}
+use Rattle.rv_rules.specs.Sessions.{LastNumber, SaidHello}
+use Rattle.rv_rules.specs.Waiting.{SideAt}
 use Rattle.rv_rules.proofs.Histories.{hellos_at_most, one_last_number}
-use Rattle.rv_audit.specs.Breaking.{ArrivesAs, ArrivesToMeet, CountsTo, IsNotNext, NamesTooMany}
+use Rattle.rv_audit.specs.Breaking.{ArrivesAs, ArrivesToMeet, CountsTo, IsNotNext}
 use Rattle.rv_audit.specs.Breaking.{TicksForNothing}
 use Rattle.rv_audit.specs.Passed.{ArrivesWith, FindsOne, HasOlder, HasOne, IsAuditSession, IsOldestBeside}
 use Rattle.rv_audit.specs.Passed.{LeavesPartner, Misses}

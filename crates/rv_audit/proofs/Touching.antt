@@ -7,7 +7,7 @@ use Rattle.rv_audit.proofs.Words.{act_at, call_in, key_in, IsPut, HasWaiting, Le
 use Rattle.rv_audit.proofs.Words.{NamesKey, Waiting, read_front, read_whole, act_read, call_read, act_called}
 use Rattle.rv_audit.proofs.Words.{one_waits, NoneUntil, AreTables, Gone, IsFront, IsTakingOut, TakesEach}
 use Rattle.rv_audit.proofs.Words.{WaitsOf, gone_at, passed_account, Front}
-use Rattle.rv_book.specs.Waiting.{Open}
+use Rattle.rv_rules.specs.Waiting.{Open}
 use Rattle.rv_rules.proofs.Sides.{IsRequestOf, IsRequestUnder, arrival_stops_nobody, cancel_stops, due_until}
 use Rattle.rv_rules.proofs.Sides.{hello_stops, stopped_by_cancel, stopped_by_hello, stopped_by_tick}
 use Rattle.rv_rules.proofs.Sides.{tick_stops, until_due}

@@ -27,11 +27,11 @@ pub use Rattle.rv_audit.specs.declared.marks.Marks.{Marks}
 pub use Rattle.rv_audit.specs.declared.rule.Rule.{Rule}
 pub use Rattle.rv_audit.specs.declared.rule.Rule.TheVariants.{M1, M2, M3, N1, N2, N3, P1, P2, P3, P4, S1, S2}
 pub use Rattle.rv_audit.specs.declared.sessions.AuditSession.{AuditSession}
-pub use Rattle.rv_book.specs.Legal.{HasWaiting, IsNextNumber, IsOpenOpposite, Legal, MayFollow}
-pub use Rattle.rv_book.specs.Legal.{NamesFreePartners, SomethingDue, WaitsUnder, before}
-pub use Rattle.rv_book.specs.Sessions.{NamesKey}
-pub use Rattle.rv_book.specs.Steps.{own_moment}
-pub use Rattle.rv_book.specs.Waiting.{Met, OpenAt, Waiting}
+pub use Rattle.rv_rules.specs.Legal.{HasWaiting, IsNextNumber, IsOpenOpposite, Legal, MayFollow}
+pub use Rattle.rv_rules.specs.Legal.{NamesFreePartners, SomethingDue, WaitsUnder, before}
+pub use Rattle.rv_rules.specs.Sessions.{NamesKey}
+pub use Rattle.rv_rules.specs.Steps.{own_moment}
+pub use Rattle.rv_rules.specs.Waiting.{Met, OpenAt, Waiting}
 pub use Rattle.rv_rules.proofs.Fronts.{read_front, read_whole}
 pub use Rattle.rv_rules.proofs.Growing.{act_read, call_read}
 pub use Rattle.rv_rules.proofs.Keys.{act_called}

@@ -1,6 +1,6 @@
 -- What breaks each rule of an audit at a place, and which fault of an account is its first.
 --
--- An entry is looked at behind the account of those before it, in the words in which rv_book says which
+-- An entry is looked at behind the account of those before it, in the words in which rv_rules says which
 -- entry may stand where. Of each rule is said what breaks it, whether another is broken there or not. Who is
 -- open is said by pairs and swaps, which only arrivals that may meet make; in a legal account no others name
 -- partners.
@@ -17,11 +17,11 @@ use Rattle.rv_account.specs.declared.entry.Act.{Act}
 use Rattle.rv_account.specs.declared.entry.Act.TheVariants.{Hello, Arrive, Cancel, Tick}
 use Rattle.rv_account.specs.Account.{Account, Names, NamesAt, act_at, call_in, key_in}
 use Rattle.rv_account.specs.Calls.{MayMeet, may_name}
-use Rattle.rv_book.specs.Sessions.{HasIncarnation, LastNumber, SaidHello}
-use Rattle.rv_book.specs.Waiting.{OpenAt, SideAt}
-use Rattle.rv_book.specs.Legal.{before, HasWaiting, IsOpenOpposite, Legal, NothingDue}
-use Rattle.rv_book.specs.Legal.{SomethingDue, WaitsUnder}
-use Rattle.rv_book.specs.Steps.{own_moment}
+use Rattle.rv_rules.specs.Sessions.{HasIncarnation, LastNumber, SaidHello}
+use Rattle.rv_rules.specs.Waiting.{OpenAt, SideAt}
+use Rattle.rv_rules.specs.Legal.{before, HasWaiting, IsOpenOpposite, Legal, NothingDue}
+use Rattle.rv_rules.specs.Legal.{SomethingDue, WaitsUnder}
+use Rattle.rv_rules.specs.Steps.{own_moment}
 use Rattle.rv_audit.specs.declared.rule.Rule.{Rule}
 use Rattle.rv_audit.specs.declared.rule.Audit.{Audit}
 use Rattle.rv_audit.specs.declared.rule.Audit.TheVariants as tells

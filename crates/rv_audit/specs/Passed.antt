@@ -8,12 +8,12 @@ use Rattle.rv_account.specs.declared.entry.Act.{Act}
 use Rattle.rv_account.specs.declared.entry.Act.TheVariants.{Arrive, Cancel, Hello, Tick}
 use Rattle.rv_account.specs.declared.entry.Entry.{Entry}
 use Rattle.rv_account.specs.Account.{Account, Among, Names, act_at, call_at, call_in}
-use Rattle.rv_book.specs.Sessions.{HasIncarnation, LastNumber, NamesKey, SaidHello}
-use Rattle.rv_book.specs.Legal.{IsDueAt, IsOpenOpposite, Legal, MayFollow, before}
-use Rattle.rv_book.specs.Steps.{own_moment}
+use Rattle.rv_rules.specs.Sessions.{HasIncarnation, LastNumber, NamesKey, SaidHello}
+use Rattle.rv_rules.specs.Legal.{IsDueAt, IsOpenOpposite, Legal, MayFollow, before}
+use Rattle.rv_rules.specs.Steps.{own_moment}
 use Rattle.rv_account.specs.Calls.{IsPut, Stays, may_name}
 use Rattle.rv_text.specs.Calls.{side_of}
-use Rattle.rv_book.specs.Waiting.{Met, Open, OpenAt, SideAt, StoppedAt, Waiting, limit_at, limit_in}
+use Rattle.rv_rules.specs.Waiting.{Met, Open, OpenAt, SideAt, StoppedAt, Waiting, limit_at, limit_in}
 use Rattle.rv_audit.specs.Breaking.{BreaksBehind, IsPaired, IsSwapped, rank_of}
 use Rattle.rv_audit.specs.declared.rule.Rule.{Rule}
 use Rattle.rv_audit.specs.declared.rules.MeetingKind.{MeetingKind}

@@ -3,9 +3,9 @@ pub use Rattle.rv_text.specs.declared.call.Side.{Side}
 pub use Rattle.rv_text.specs.declared.version.Version.{Version}
 pub use Rattle.rv_account.specs.declared.entry.Act.TheVariants.{Hello}
 pub use Rattle.rv_account.specs.Account.{Among, call_in}
-pub use Rattle.rv_book.specs.Legal.{HasWaiting, IsOpenOpposite, MayFollow, SomethingDue, WaitsUnder}
-pub use Rattle.rv_book.specs.Steps.{own_moment}
-pub use Rattle.rv_book.specs.Waiting.{Met, OpenAt, SideAt, Waiting, limit_at}
+pub use Rattle.rv_rules.specs.Legal.{HasWaiting, IsOpenOpposite, MayFollow, SomethingDue, WaitsUnder}
+pub use Rattle.rv_rules.specs.Steps.{own_moment}
+pub use Rattle.rv_rules.specs.Waiting.{Met, OpenAt, SideAt, Waiting, limit_at}
 pub use Rattle.rv_audit.specs.Breaking.{ArrivesAs, ArrivesToMeet, BreaksBehind, BreaksCount, FallsBack}
 pub use Rattle.rv_audit.specs.Breaking.{IsNoFreePlace, IsNotNext, IsOfNoSession, IsOutOfOrder, IsPaired}
 pub use Rattle.rv_audit.specs.Breaking.{IsSwapped, MeetsWrongly, MissesPartner, NamesTaken, NamesTooMany}

@@ -1,6 +1,6 @@
 //! The audit of an account: whether it is legal, or its first fault.
 ghost use Rattle.std.specs.Prelude.{◌≡◌, ◌↔◌, IfNone, IfOk, IfSome};
-ghost use Rattle.rv_book.specs.Legal.{Legal};
+ghost use Rattle.rv_rules.specs.Legal.{Legal};
 ghost use Rattle.rv_audit.specs.Breaking.{IsToldOf};
 ghost use Rattle.rv_audit.specs.Passed.{BreaksFirst, BreaksFirstOf, BreaksNone, BreaksNoneOf};
 ghost use Rattle.rv_audit.specs.Passed.{IsFront, passed_account};
@@ -9,7 +9,7 @@ ghost use Rattle.rv_audit.specs.declared.rule.Audit.TheVariants as tells;
 use crate::front::Front;
 use crate::rule::{Audit, Rule};
 use crate::rules::breaks;
-use rv_book::{Account, Entry};
+use rv_account::{Account, Entry};
 use rv_text::NoMemory;
 use std::alloc::Global;
 

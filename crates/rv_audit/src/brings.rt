@@ -3,11 +3,11 @@
 ghost use Rattle.std.specs.Prelude.{◌≡◌, ◌↔◌, IfNone, IfSome, IsTrue};
 ghost use Rattle.rv_text.specs.Calls.{side_of};
 ghost use Rattle.rv_account.specs.Calls.{Lasts, MayMeet, Stays};
-ghost use Rattle.rv_book.specs.Waiting.{limit_in};
+ghost use Rattle.rv_rules.specs.Waiting.{limit_in};
 ghost use Rattle.rv_audit.specs.Passed.{IsFitting, OpensOn, WaitsUntil, session_after};
 
 use crate::sessions::AuditSession;
-use rv_book::{Act, Entry, Place};
+use rv_account::{Act, Entry, Place};
 use rv_text::{Call, Side, Wait};
 
 // The limit of an arrival, if it has one that fits a moment.

@@ -14,7 +14,7 @@ use crate::brings::{limit_of, opening, session_after, waiting_until};
 use crate::lines::{OpenLines, close_line, open_line};
 use crate::marks::{Marks, add_limit, drop_limit};
 use crate::sessions::{AuditSessions, enter_session};
-use rv_book::{Account, Act, Entry, Place};
+use rv_account::{Account, Act, Entry, Place};
 use rv_text::{Call, Key, NoMemory, Side};
 use std::alloc::{AllocError, Global};
 

@@ -4,7 +4,7 @@ ghost use Rattle.rv_text.specs.declared.call.Side.{Side};
 ghost use Rattle.rv_audit.specs.Lines.{ClosesIf, OpensIf};
 
 use crate::marks::Marks;
-use rv_book::Place;
+use rv_account::Place;
 use rv_text::{NoMemory, Side};
 use std::alloc::Global;
 

@@ -6,7 +6,7 @@ ghost use Rattle.rv_audit.specs.Marks.{Gains, GainsIf, IsLeast, IsLowest, IsLowe
 ghost use Rattle.rv_audit.specs.Marks.{Loses, LosesIf, NoneBehind, NoneBeside};
 ghost use Rattle.rv_audit.specs.Marks.{NoneUnder, NoneUntil, SameMarks, count_of, is_marked_under};
 
-use rv_book::Place;
+use rv_account::Place;
 use rv_text::NoMemory;
 use std::alloc::{AllocError, Global};
 use std::collections::BTreeSet;

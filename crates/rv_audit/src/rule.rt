@@ -2,7 +2,7 @@
 ghost use Rattle.std.specs.Prelude.{◌≡◌};
 ghost use Rattle.rv_audit.specs.Breaking.{name_of};
 
-use rv_book::Place;
+use rv_account::Place;
 
 /// A rule of accounts. An entry keeps or breaks it by itself and by the entries before it. At one place an
 /// audit asks the rules in this order.

@@ -11,8 +11,7 @@ ghost use Rattle.rv_audit.specs.Words.{passed_account};
 
 use crate::front::{Front, Looked};
 use crate::rule::Rule;
-use rv_account::may_name;
-use rv_book::{Act, Entry, Place};
+use rv_account::{Act, Entry, Place, may_name};
 use rv_text::{Call, Key, Side};
 
 // ---- moments

@@ -2,7 +2,7 @@
 ghost use Rattle.std.specs.Prelude.{◌≡◌, ℕ, None, OnOk};
 ghost use Rattle.rv_audit.specs.Sessions.{EntersIf};
 
-use rv_book::Place;
+use rv_account::Place;
 use rv_text::NoMemory;
 use std::alloc::{AllocError, Global};
 use std::collections::BTreeMap;

@@ -1,25 +1,19 @@
--- The reply of a drain: the items of all that it meets.
-use Rattle.rv_book.proofs.Words.{◌≡◌, ◌≤◌, ◌∷◌, ◌++◌, ◌∙◌, inl, ℕ, suc, List, [], length, Option, Some, None}
+-- The items that a drain is told: each that it meets has one, and they fit.
+use Rattle.rv_book.proofs.Words.{◌≡◌, ◌≤◌, ◌∷◌, ◌∙◌, ℕ, suc, List, [], length, Option, Some, None}
 use Rattle.rv_book.proofs.Words.{option_and_then, option_map, refl, sym, ap, subst, arith, slice_get}
-use Rattle.rv_book.proofs.Words.{none-some, same_Some, Call, Gives, Takes, item_of, side_of, FitsItem, Arrive}
-use Rattle.rv_book.proofs.Words.{Entry, Account, Among, act_at, call_at, call_in, with_entry, Stays, opposite}
-use Rattle.rv_book.proofs.Words.{IsKept, WillTell, entry, Legal, FitsAccount, NamesPartner, gives_item}
-use Rattle.rv_book.proofs.Words.{read_whole, call_read, read_there, reads_on, act_fits, act_there}
-use Rattle.rv_book.proofs.Words.{partner_open, one_opposite, get-append_end}
+use Rattle.rv_book.proofs.Words.{none-some, same_Some, Call, Gives, Takes, item_of, side_of, FitsItem, Entry}
+use Rattle.rv_book.proofs.Words.{Account, Among, act_at, call_at, call_in, opposite, Legal}
+use Rattle.rv_book.proofs.Words.{FitsAccount, NamesPartner, gives_item, read_whole, call_read, read_there}
+use Rattle.rv_book.proofs.Words.{act_fits, act_there, partner_open, one_opposite}
 use Rattle.std.specs.List.{All}
 use Rattle.std.proofs.lemmas.List.Elements.{All-cons, All-nil}
-use Rattle.rv_text.specs.declared.answer.Reply.TheVariants.{Drained}
 use Rattle.rv_text.specs.declared.call.Call.TheVariants.{Drain}
-use Rattle.rv_text.specs.Calls.{drains_of}
 use Rattle.rv_text.specs.Limits.{FitsCall, FitsItems}
 use Rattle.rv_text.proofs.Kept.{item_fits}
 use Rattle.rv_account.specs.Account.{item_at, items_at, partners_at}
 use Rattle.rv_account.proofs.Items.{joined, parts}
 use Rattle.rv_book.specs.Replies.{Drains}
 use Rattle.rv_rules.proofs.Limits.{call_of_act}
-use Rattle.rv_rules.proofs.OnePartner.{goes_unnamed}
-use Rattle.rv_book.proofs.ReplyLaws.{FitsIn, ReplyLaws}
-use Rattle.rv_session.specs.declared.kept.Kept.TheVariants as kept
 use Rattle.rv_state.proofs.StayingReplies.{drained_from}
 
 -- ---- the items of a list of places
@@ -33,15 +27,6 @@ all_items es (p ∷ places) each =
     let first = each p (0, refl) in
     let rest = all_items es places (λ q at. each q (suc at.0, at.1)) in
     (first.0 ∷ rest.0, joined es p places first.0 rest.0 first.1 rest.1)
-
--- and they stay where more entries follow
-items_on : (es more : List Entry) (places : List ℕ) (xs : List (List ℕ)) → items_at es places ≡ Some xs
-    → items_at (es ++ more) places ≡ Some xs
-items_on es more [] xs is = is
-items_on es more (p ∷ places) xs is =
-    let first = parts es p places xs is in
-    joined (es ++ more) p places first.0 first.1 (reads_on (λ o. option_and_then item_of (call_read o)) refl
-    es more p first.0 first.2) (items_on es more places first.1 first.3) ∙ ap Some (sym first.4)
 
 -- as many as places, and each within the limits of a text
 pub items_count : (es : List Entry) (places : List ℕ) (xs : List (List ℕ)) → items_at es places ≡ Some xs
@@ -70,19 +55,9 @@ items_fit a (p ∷ places) xs fits is =
 
 -- ---- what a drain takes
 
-pub drains_on : (es more : List Entry) (r : ℕ) (xs : List (List ℕ)) → Drains es r xs
-    → Drains (es ++ more) r xs
-drains_on es more r xs is =
-    let from = drained_from es (partners_at es r) xs is in
-    ap (option_and_then (items_at (es ++ more))) (reads_on (λ o. option_map (λ e. e.partners) o) refl es more
-    r from.0 from.1) ∙ items_on es more from.0 xs from.2
-
 module _ (queue max : ℕ) where
   abbrev own : Call
   own = Drain queue max
-
-  goes : Stays own → ⊥
-  goes stays = stays.1
 
   -- whoever a drain names hands over an item
   hands_item : (b : Account) (r p : ℕ) → Legal b → call_at b.entries r ≡ Some own → NamesPartner b.entries r p
@@ -114,14 +89,8 @@ module _ (queue max : ℕ) where
             ∙ all.1,
       )
 
-  pub drain_kept : (b : Account) (r : ℕ) → Legal b → call_at b.entries r ≡ Some own
-      → IsKept b.entries r own (kept.Drained r)
-  drain_kept b r legal arrived =
-      let has = has_items b r legal arrived in
-      record { reply = Drained has.0; is = ap (option_map Drained) has.1; replies = (has.0, has.1, refl) }
-
   -- no more than it may take, and each within its limit
-  fits_drained : (a : Account) (r : ℕ) (xs : List (List ℕ)) → Legal a → FitsAccount a
+  pub fits_drained : (a : Account) (r : ℕ) (xs : List (List ℕ)) → Legal a → FitsAccount a
       → call_at a.entries r ≡ Some own → Drains a.entries r xs → FitsItems xs
   fits_drained a r xs legal fits arrived is =
       let at = read_there call_read refl (slice_get a.entries r) own arrived in
@@ -134,39 +103,3 @@ module _ (queue max : ℕ) where
       let does = act_there call_in (act_at a.entries r) own arrived in
       let own_fits : FitsCall own = call_of_act does.0 own (act_fits a r does.0 fits does.1) does.2 in
       (omega (arith, few, as_many, ap length same, own_fits), items_fit a from.0 xs fits from.2)
-
-  pub drains : ReplyLaws own
-  drains = record {
-    stays = λ es more epoch opened r told legal arrived replies. (
-      replies.0,
-      drains_on es more r replies.0
-          replies.1,
-      replies.2,
-    );
-    one = λ b r x y legal arrived first second. second.2 ∙ ap Drained (same_Some _ _ (sym second.1 ∙ first.1))
-        ∙ sym first.2;
-    fits = λ a r told legal fits arrived replies. subst (FitsIn a.epoch) (sym replies.2)
-        (fits_drained a r replies.0 legal fits arrived replies.1, tt);
-    exists = λ a r legal arrived. let has = has_items a r legal arrived in
-        inl (Drained has.0, (has.0, has.1, refl));
-    waits_not = λ a r told legal arrived w replies. goes
-        (subst Stays (same_Some _ _ (sym w.is_open.arrived ∙ arrived)) w.is_open.stays);
-    stopped = λ es r told stays no_put unmet stopped. absurd (goes stays);
-    met = λ b earlier later other version legal arrived also names opposes waits asked. absurd
-        (goes_unnamed b later earlier own legal arrived goes names);
-  }
-
--- ---- the call that drains
-
-pub drain_is : (call : Call) (max : ℕ) → drains_of call ≡ Some max → (queue : ℕ) × (call ≡ Drain queue max)
-drain_is (Drain queue most) max is = (queue, ap (Drain queue) (same_Some _ _ is))
-drain_is _ max is = absurd (none-some max is)
-
--- what is kept of one will be its reply
-pub will_drain : (a : Account) (call : Call) (partners : List ℕ) (queue max : ℕ) → call ≡ Drain queue max
-    → WillTell a call partners (kept.Drained (length a.entries))
-will_drain a call partners queue max is = subst (λ c. WillTell a c partners (kept.Drained (length a.entries)))
-    (sym is) (λ moment key version before after asked.
-    let e = entry moment (Arrive key (Drain queue max)) partners in
-    drain_kept queue max (with_entry a e) (length a.entries) after
-    (ap call_read (get-append_end a.entries e)))

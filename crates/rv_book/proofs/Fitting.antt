@@ -5,8 +5,8 @@ use Rattle.rv_book.proofs.Words.{EntersOrNoMemory, EpochFullDue, NextAt, RefuseO
 use Rattle.rv_book.proofs.Words.{ClientsFullDue, OtherCallDue, Replies, FitsAccount, Reply, HasReply}
 use Rattle.rv_book.proofs.Words.{HasIncarnation, LastNumber, Key, Version, One, Two, option_and_then, Some}
 use Rattle.rv_book.proofs.Words.{ap, arith, inl, inr, subst, sym, ℕ, Message, Refusal, OtherVersion, act_fits}
-use Rattle.rv_book.proofs.Words.{act_there, Replied, Welcome, Cancelled, HasWaiting, Legal, before, no_hello}
-use Rattle.rv_book.proofs.Words.{arrival, cases_order, Call}
+use Rattle.rv_book.proofs.Words.{act_there, Replied, Welcome, Cancelled, HasWaiting, Legal, no_hello, arrival}
+use Rattle.rv_book.proofs.Words.{cases_order, Call}
 use Rattle.rv_text.specs.declared.message.Message.TheVariants.{Cancel, Hello}
 use Rattle.rv_book.specs.Steps.{GapDue, NoSessionDue, OldIncarnationDue, OldNumberDue, OtherEpochDue}
 use Rattle.rv_book.specs.Steps.{OtherVersionDue, BusyDue}
@@ -14,8 +14,7 @@ use Rattle.rv_text.specs.Limits.{FitsAnswer, FitsIdentifier, FitsKey, FitsLast, 
 use Rattle.rv_text.proofs.Kept.{cancelled_fits}
 use Rattle.rv_rules.proofs.Limits.{key_of_act}
 use Rattle.rv_rules.proofs.Lines.{RefuseOr-elim, WhereElse-elim}
-use Rattle.rv_book.proofs.Replying.{reply_laws}
-use Rattle.rv_book.proofs.ReplyLaws.{FitsIn}
+use Rattle.rv_book.proofs.RepliesFit.{FitsIn, replied_fits}
 use Rattle.rv_rules.proofs.Keys.{act_arrives}
 use Rattle.rv_rules.proofs.Waits.{no_hello_behind}
 
@@ -43,7 +42,7 @@ reply_fits : (b : Account) (key : Key) (told : Reply) → Legal b → FitsAccoun
     → FitsIn key.epoch told
 reply_fits b key told legal fits (inl has) =
     let own = (arrival b has.place key has.call legal has.arrived).epoch in
-    subst (λ n. FitsIn n told) (sym own) ((reply_laws has.call).fits b has.place told legal fits
+    subst (λ n. FitsIn n told) (sym own) (replied_fits has.call b has.place told legal fits
     (ap (option_and_then call_in) has.arrived) has.replies)
 reply_fits b key told legal fits (inr first) = subst (FitsIn key.epoch) (sym first.1) (cancelled_fits, tt)
 

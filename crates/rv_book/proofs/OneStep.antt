@@ -12,7 +12,7 @@ use Rattle.rv_text.specs.declared.answer.Refusal.TheVariants.{Busy, Gap, NoMemor
 use Rattle.std.proofs.Common.{◌≢◌}
 use Rattle.rv_book.specs.Laws.{OneNext}
 use Rattle.rv_rules.proofs.SamePartners.{same_partners}
-use Rattle.rv_book.proofs.Staying.{one_told}
+use Rattle.rv_state.proofs.OneTold.{one_told}
 use Rattle.rv_rules.proofs.Versions.{one_opened}
 
 -- ---- the lines
@@ -181,7 +181,7 @@ one_next_at a b c moment (Cancel key) x y first second ample enough =
     first second
 
 -- the time-outs of a step lead to one account
-one_ticked : (a b c : Account) (moment : ℕ) → Ticks a moment b → Ticks a moment c → b ≡ c
+pub one_ticked : (a b c : Account) (moment : ℕ) → Ticks a moment b → Ticks a moment c → b ≡ c
 one_ticked a b c moment = both_where _ _ _ _ _ (b ≡ c) (one_added a b c moment act.TheVariants.Tick)
     (λ first second. first ∙ sym second)
 

@@ -1,25 +1,24 @@
 -- Replies, and what is kept of them, stay where an account is extended, and a key is told one thing.
-use Rattle.rv_text.specs.declared.answer.Reply as reply
 use Rattle.rv_text.specs.declared.answer.Answer as answer
 use Rattle.rv_account.specs.declared.entry.Act as act
-use Rattle.rv_session.specs.declared.kept.Kept as kept
-use Rattle.rv_book.proofs.Words.{◌++◌, ◌<◌, ◌∙◌, ◌∷◌, ◌≡◌, Request, Account, act_at, call_in, key_at, key_in}
+use Rattle.rv_book.proofs.Words.{◌++◌, ◌<◌, ◌∙◌, ◌∷◌, ◌≡◌, Request, Account, call_in, key_in}
 use Rattle.rv_book.proofs.Words.{Act, Adds, Answers, EntersOrNoMemory, NextAt, Refuses, Replies, Ticks}
-use Rattle.rv_book.proofs.Words.{Waiting, Answer, Call, Entry, CancelledFirst, HasReply, RepliesAt, Kept, Key}
-use Rattle.rv_book.proofs.Words.{Legal, before, WaitsUnder, List, None, Option, Some, [], ap, arith, inl, inr}
-use Rattle.rv_book.proofs.Words.{length, option_and_then, option_map, refl, subst, sym, ℕ, Message, act_read}
-use Rattle.rv_book.proofs.Words.{call_read, reads_on, reads_within, Refusal, key_read, Reply, IsAsKept}
-use Rattle.rv_book.proofs.Words.{item_at, reply_of, arrives_once, item_of, get-append_within, cases_lt}
-use Rattle.rv_book.proofs.Words.{none-some, slice_get}
+use Rattle.rv_book.proofs.Words.{Answer, Entry, CancelledFirst, HasReply, Kept, Key}
+use Rattle.rv_book.proofs.Words.{Legal, List, None, Option, Some, [], ap, arith, inl, inr, length}
+use Rattle.rv_book.proofs.Words.{option_and_then, option_map, refl, subst, sym, ℕ, Message, act_read}
+use Rattle.rv_book.proofs.Words.{reads_on, reads_within, Refusal, Reply, IsAsKept}
+use Rattle.rv_book.proofs.Words.{reply_of, get-append_within, cases_lt}
+use Rattle.rv_book.proofs.Words.{none-some}
 use Rattle.rv_text.specs.declared.message.Message.TheVariants.{Cancel, Hello}
-use Rattle.rv_account.specs.Account.{Extends, partners_items}
-use Rattle.rv_book.proofs.Drains.{drains_on}
+use Rattle.rv_account.specs.Account.{Extends}
+use Rattle.rv_kept.proofs.KeptOn.{told_on}
 use Rattle.rv_book.specs.Replies.{RepliesToArrival}
 use Rattle.std.proofs.Common.{append_assoc, append-nil}
 use Rattle.rv_rules.proofs.Lines.{RefuseOr-elim, WhereElse-elim}
 use Rattle.rv_book.specs.Laws.{RepliesStay, StepsExtend}
 use Rattle.rv_rules.proofs.OnePartner.{arrives_first}
-use Rattle.rv_book.proofs.Replying.{reply_laws}
+use Rattle.rv_state.proofs.OneTold.{one_reply}
+use Rattle.rv_state.proofs.StayingReplies.{reply_stays}
 
 -- ---- a step only adds
 
@@ -106,11 +105,6 @@ steps_extend a b now m x next = extends_on a next.ticked b (ticks_extend a next.
 
 -- ---- what is kept of a reply stays
 
-reading_on : {B : Type 0} (F : Option Entry → Option B) → F None ≡ None → (a b : Account) (r : ℕ) (y : B)
-    → Extends a b → F (slice_get a.entries r) ≡ Some y → F (slice_get b.entries r) ≡ Some y
-reading_on F none a b r y extends there = ap (λ (es : List Entry). F (slice_get es r)) extends.entries
-    ∙ reads_on F none a.entries extends.more r y there
-
 pub mapped : {A B : Type 0} (f : A → B) (o : Option A) (y : B) → option_map f o ≡ Some y
     → (x : A) × (o ≡ Some x)
 mapped f None y h = absurd (none-some y h)
@@ -118,32 +112,9 @@ mapped f (Some x) y h = (x, refl)
 
 pub kept_stays : (a b : Account) (k : Kept) (r : Reply) → Extends a b → reply_of a.entries k ≡ Some r
     → reply_of b.entries k ≡ Some r
-kept_stays a b (kept.TheVariants.Item place) r extends is =
-    let item = mapped reply.TheVariants.Item (item_at a.entries place) r is in
-    let there : item_at b.entries place ≡ Some item.0 = reading_on (λ o. option_and_then item_of
-    (call_read o)) refl a b place item.0 extends item.1 in
-    ap (option_map reply.TheVariants.Item) (there ∙ sym item.1) ∙ is
-kept_stays a b (kept.TheVariants.Peeked place) r extends is =
-    let item = mapped reply.TheVariants.Peeked (item_at a.entries place) r is in
-    let there : item_at b.entries place ≡ Some item.0 = reading_on (λ o. option_and_then item_of
-    (call_read o)) refl a b place item.0 extends item.1 in
-    ap (option_map reply.TheVariants.Peeked) (there ∙ sym item.1) ∙ is
-kept_stays a b (kept.TheVariants.Swapped place) r extends is =
-    let item = mapped reply.TheVariants.Swapped (item_at a.entries place) r is in
-    let there : item_at b.entries place ≡ Some item.0 = reading_on (λ o. option_and_then item_of
-    (call_read o)) refl a b place item.0 extends item.1 in
-    ap (option_map reply.TheVariants.Swapped) (there ∙ sym item.1) ∙ is
-kept_stays a b (kept.TheVariants.Drained place) r extends is =
-    let items = mapped reply.TheVariants.Drained (partners_items a.entries place) r is in
-    let there : partners_items b.entries place ≡ Some items.0 = subst (λ es. partners_items es place ≡ Some
-    items.0) (sym extends.entries) (drains_on a.entries extends.more place items.0 items.1) in
-    ap (option_map reply.TheVariants.Drained) (there ∙ sym items.1) ∙ is
-kept_stays a b (kept.TheVariants.ReceivedBy place) r extends is =
-    let key = mapped reply.TheVariants.ReceivedBy (key_at a.entries place) r is in
-    let there : key_at b.entries place ≡ Some key.0 = reading_on key_read refl a b place key.0 extends key.1
-    in
-    ap (option_map reply.TheVariants.ReceivedBy) (there ∙ sym key.1) ∙ is
-kept_stays a b k r extends is = is
+kept_stays a b k r extends is =
+    subst (λ (es : List Entry). reply_of es k ≡ Some r) (sym extends.entries)
+    (told_on a.entries extends.more k r is)
 
 pub still_kept : (a b : Account) (k : Option Kept) (x : Answer) → Extends a b → IsAsKept a.entries k x
     → IsAsKept b.entries k x
@@ -152,48 +123,6 @@ still_kept a b k x extends is = is
 
 -- ---- a reply stays, and it is the only one
 
-pub one_call : (key : Key) (c d : Call)
-    → Some (act.TheVariants.Arrive key c) ≡ Some (act.TheVariants.Arrive key d) → c ≡ d
-one_call key c d e = cc
-
-pub one_reply : (b : Account) (key : Key) (x y : Reply) → Legal b → HasReply b.entries key x
-    → HasReply b.entries key y → y ≡ x
-one_reply b key x y legal (inl first) (inl second) =
-    let place : second.place ≡ first.place = arrives_once b second.place first.place key second.call
-    first.call legal second.arrived first.arrived in
-    let call : second.call ≡ first.call = one_call key second.call first.call (sym second.arrived
-    ∙ ap (act_at b.entries) place ∙ first.arrived) in
-    let moved = subst (λ r. RepliesAt b.entries r first.call y) place
-    (subst (λ c. RepliesAt b.entries second.place c y) call second.replies) in
-    (reply_laws first.call).one b first.place x y legal (ap (option_and_then call_in) first.arrived)
-    first.replies moved
-one_reply b key x y legal (inl first) (inr second) = absurd (second.0.not_arrived first.place first.call
-    first.arrived)
-one_reply b key x y legal (inr first) (inl second) = absurd (first.0.not_arrived second.place second.call
-    second.arrived)
-one_reply b key x y legal (inr first) (inr second) = second.1 ∙ sym first.1
-
--- who waits has no reply
-pub reply_or_waits : (b : Account) (key : Key) (reply : Reply) → Legal b → HasReply b.entries key reply
-    → WaitsUnder b.entries key → ⊥
-reply_or_waits b key reply legal (inl has) waits =
-    let place : waits.place ≡ has.place = arrives_once b waits.place has.place key waits.call has.call legal
-    waits.arrived has.arrived in
-    let there : Waiting b.entries has.place = subst (Waiting b.entries) place waits.waits in
-    (reply_laws has.call).waits_not b has.place reply legal (ap (option_and_then call_in) has.arrived) there
-    has.replies
-reply_or_waits b key reply legal (inr first) waits = first.0.not_arrived waits.place waits.call waits.arrived
-
--- a key is told one thing
-pub one_told : (b : Account) (key : Key) (x y : Answer) → Legal b → Answers b key x → Answers b key y → y ≡ x
-one_told b key x y legal (inl first) (inl second) = second.is ∙ ap (answer.TheVariants.Replied key)
-    (one_reply b key first.reply second.reply legal first.has second.has) ∙ sym first.is
-one_told b key x y legal (inl first) (inr second) = absurd (reply_or_waits b key first.reply legal first.has
-    second.0)
-one_told b key x y legal (inr first) (inl second) = absurd (reply_or_waits b key second.reply legal second.has
-    first.0)
-one_told b key x y legal (inr first) (inr second) = second.1 ∙ sym first.1
-
 arrival_on : (es more : List Entry) (epoch opened : ℕ) (key : Key) (reply : Reply)
     → Legal (record { epoch = epoch; opened = opened; entries = es ++ more }) → RepliesToArrival es key reply
     → RepliesToArrival (es ++ more) key reply
@@ -201,7 +130,7 @@ arrival_on es more epoch opened key reply legal has = record {
   place = has.place;
   call = has.call;
   arrived = reads_on act_read refl es more has.place (act.TheVariants.Arrive key has.call) has.arrived;
-  replies = (reply_laws has.call).stays es more epoch opened has.place reply legal
+  replies = reply_stays has.call es more epoch opened has.place reply legal
       (ap (option_and_then call_in) has.arrived) has.replies;
 }
 

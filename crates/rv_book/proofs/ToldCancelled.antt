@@ -1,15 +1,11 @@
--- What a cancel tells: its request is cancelled, whether it waited or had not come yet.
-use Rattle.rv_book.proofs.Words.{◌≡◌, ◌∷◌, ◌++◌, ◌∙◌, inl, inr, List, [], None, option_and_then}
-use Rattle.rv_book.proofs.Words.{refl, sym, ap, subst, same_Some, Key, Replied, Entry, Arrive, Cancel}
-use Rattle.rv_book.proofs.Words.{Account, call_in, just, with_entry, IsPut, IsNextNumber, Legal}
-use Rattle.rv_book.proofs.Words.{WaitsUnder, RepliesAt, told_by, HasIncarnation, Replies}
-use Rattle.rv_book.proofs.Words.{act_read, reads_on, just_none}
+-- What the cancel of a request that waits tells: its request is cancelled.
+use Rattle.rv_book.proofs.Words.{◌≡◌, ◌∷◌, ◌++◌, ◌∙◌, inl, List, [], None, option_and_then, refl, sym}
+use Rattle.rv_book.proofs.Words.{ap, subst, same_Some, Key, Replied, Entry, Arrive, Cancel, Account, call_in}
+use Rattle.rv_book.proofs.Words.{just, with_entry, IsPut, WaitsUnder, RepliesAt, told_by}
+use Rattle.rv_book.proofs.Words.{Replies, act_read, reads_on, just_none}
 use Rattle.rv_rules.proofs.Sides.{IsRequestUnder, cancel_stops}
-use Rattle.rv_book.proofs.StoppedReplies.{told_stopped}
+use Rattle.rv_state.proofs.StopReplies.{stop_replies}
 use Rattle.rv_text.specs.declared.answer.Reply as reply
-use Rattle.rv_state.proofs.OwnAnswers.{cancelled_first}
-
--- ---- a request that waited
 
 -- a request that waits under a key, by that key
 pub is_under : (es : List Entry) (key : Key) (waits : WaitsUnder es key) → IsRequestUnder es key waits.place
@@ -27,9 +23,10 @@ pub ended_reply : (a : Account) (e : Entry) (key : Key) → e.act ≡ Cancel key
     → (waits : WaitsUnder a.entries key)
     → RepliesAt (a.entries ++ e ∷ []) waits.place waits.call reply.TheVariants.Cancelled
 ended_reply a e key says none waits =
-    let told = told_stopped a.entries e waits.place waits.call waits.waits (ap (option_and_then call_in)
-    waits.arrived) (λ named. just_none e waits.place none named) (cancel_stops a.entries e key waits.place
-    says (is_under a.entries key waits)) in
+    let told = stop_replies a.entries e key waits.place waits.call
+    (record { arrived = waits.arrived; waits = waits.waits })
+    (λ named. just_none e waits.place none named)
+    (cancel_stops a.entries e key waits.place says (is_under a.entries key waits)) in
     subst (RepliesAt (a.entries ++ e ∷ []) waits.place waits.call) (ap told_by says) told
 
 pub waiting_replies : (a : Account) (e : Entry) (key : Key) → e.act ≡ Cancel key → e.partners ≡ just None
@@ -42,17 +39,5 @@ waiting_replies a e key says none waits = record {
     arrived = reads_on act_read refl a.entries (e ∷ []) waits.place (Arrive key waits.call) waits.arrived;
     replies = ended_reply a e key says none waits;
   });
-  is = refl;
-}
-
--- ---- a request that had not come
-
-pub next_replies : (a : Account) (e : Entry) (key : Key) → Legal a
-    → HasIncarnation a.entries key.client key.incarnation → IsNextNumber a.entries key → e.act ≡ Cancel key
-    → Replies (with_entry a e) key (Replied key reply.TheVariants.Cancelled)
-next_replies a e key legal has next says = record {
-  reply = reply.TheVariants.Cancelled;
-  has =
-      inr (cancelled_first a e key legal has next says, refl);
   is = refl;
 }

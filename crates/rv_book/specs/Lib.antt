@@ -9,14 +9,9 @@ pub mod Limits
 pub mod Verdicts
 pub mod Order
 pub mod Laws
--- What the invariant of `Book`, `IsSound` in `Tables`, says of its tables; private clauses cite these too.
-pub mod Parked
-pub mod Elapsing
+-- What the models of `Book` and `Verdict` say: the invariant, `IsSound` in `Tables`, and a verdict's stamp;
+-- private clauses cite these too.
 pub mod Saying
-pub mod Arriving
 pub mod Tables
 -- What only private clauses and proofs cite.
 pub mod Operations
-pub mod TakingOut
-pub mod Ending
-pub mod Draining

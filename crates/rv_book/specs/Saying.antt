@@ -1,5 +1,6 @@
 -- What the book's private words for an answer stand for, and the stamp that a verdict shows of them.
 use Rattle.std.specs.Prelude.{List, Option, Some, None, length, option_map, unwrap_or}
+use Rattle.rv_text.specs.declared.message.Key.{Key}
 use Rattle.rv_text.specs.declared.message.Message.{Message}
 use Rattle.rv_text.specs.declared.answer.Answer.{Answer}
 use Rattle.rv_text.specs.declared.answer.Answer as answer
@@ -10,6 +11,11 @@ use Rattle.rv_account.specs.Account.{Account}
 use Rattle.rv_book.specs.declared.verdict.KeptAnswer.{KeptAnswer}
 use Rattle.rv_book.specs.declared.verdict.KeptAnswer.TheVariants.{Welcome, Replied, Waiting, Refused}
 use Rattle.rv_book.specs.Verdicts.{VerdictView, reply_of}
+
+-- what is said to a request: the reply that is kept for it, or that it waits
+abbrev pub said_of : Key → Option Kept → KeptAnswer
+said_of key None = Waiting key
+said_of key (Some kept) = Replied key kept
 
 -- the answer that these words stand for; none where the reply that is kept has none
 abbrev pub answer_of : List Entry → KeptAnswer → Option Answer

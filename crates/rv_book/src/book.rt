@@ -1,16 +1,14 @@
 //! The book of one epoch: it takes messages one by one and says what becomes of each.
-ghost use Rattle.std.specs.Prelude.{◌≡◌, ◌≤◌, ◌^◌, [], Some, IsSome, IfOk, IfSome, OnErr, length, min};
+ghost use Rattle.std.specs.Prelude.{◌≡◌, ◌≤◌, ◌^◌, [], IfOk, OnErr, length, min};
 ghost use Rattle.rv_text.specs.Limits.{FitsAnswer, FitsIdentifier, FitsMessage};
 ghost use Rattle.rv_book.specs.Legal.{Legal};
 ghost use Rattle.rv_book.specs.Steps.{Next};
-ghost use Rattle.rv_book.specs.Verdicts.{HasText, ReplyHasText, VerdictView, WasGiven};
-ghost use Rattle.rv_book.specs.Verdicts.{reply_of as kept_reply};
+ghost use Rattle.rv_book.specs.Verdicts.{HasText, VerdictView, WasGiven};
 
-use crate::state::{BookState, MAX_MOMENT};
+use crate::state::BookState;
 use crate::verdict::{KeptAnswer, Verdict};
 use rv_account::Account;
-use rv_session::Kept;
-use rv_text::{Answer, Message, NoMemory, Reply};
+use rv_text::{Answer, Message, NoMemory};
 use std::alloc::Global;
 use std::marker::Model;
 use std::snapshot::Snapshot;
@@ -54,7 +52,7 @@ impl Book {
         ensures opened { IfOk result (λ book. book.opened ≡ min now (2 ^ 62)) }
         ensures empty { IfOk result (λ book. book.entries ≡ []) }
     {
-        let state = BookState::open(alloc, epoch, now.min(MAX_MOMENT))?;
+        let state = BookState::open(alloc, epoch, now)?;
         Ok(Book { state })
     }
 
@@ -101,36 +99,11 @@ impl Book {
                 version,
             }),
             KeptAnswer::Replied { key, kept } => {
-                let reply = reply_of(alloc, self.state.account(), kept)?;
+                let reply = rv_kept::reply(alloc, self.state.account(), kept)?;
                 Ok(Answer::Replied { key, reply })
             }
             KeptAnswer::Waiting { key } => Ok(Answer::Waiting { key }),
             KeptAnswer::Refused(refusal) => Ok(Answer::Refused(refusal)),
         }
-    }
-}
-
-// The reply that is kept, with its text copied from the account. Fails only if that copy does.
-fn reply_of(alloc: Global, account: &Account, kept: Kept) -> Result<Reply, NoMemory>
-    requires { IsSome (kept_reply account.now.account.entries kept) }
-    ensures ok { IfOk result (λ reply. kept_reply account.now.account.entries kept ≡ Some reply) }
-    ensures err { OnErr result (IfSome (kept_reply account.now.account.entries kept) ReplyHasText) }
-{
-    match kept {
-        Kept::Done => Ok(Reply::Done),
-        Kept::Item(place) => Ok(Reply::Item(account.item(place).copy(alloc)?)),
-        Kept::Empty => Ok(Reply::Empty),
-        Kept::Swapped(place) => Ok(Reply::Swapped(account.item(place).copy(alloc)?)),
-        Kept::Received => Ok(Reply::Received),
-        Kept::ReceivedBy(place) => Ok(Reply::ReceivedBy(account.key(place))),
-        Kept::Nobody => Ok(Reply::Nobody),
-        Kept::Cancelled => Ok(Reply::Cancelled),
-        Kept::Counted { items, consumers } => Ok(Reply::Counted {
-            items: items as u64,
-            consumers: consumers as u64,
-        }),
-        Kept::Peeked(place) => Ok(Reply::Peeked(account.item(place).copy(alloc)?)),
-        Kept::TimedOut => Ok(Reply::TimedOut),
-        Kept::Drained(place) => Ok(Reply::Drained(account.partners_items(place)?)),
     }
 }

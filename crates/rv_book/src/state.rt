@@ -1,20 +1,19 @@
-//! The account with the tables that answer for it, and the steps that change them together.
-ghost use Rattle.std.specs.Prelude.{◌≡◌, ◌<◌, ◌≤◌, [], IfOk};
+//! The account, the machine that holds its state, and what is kept of replies: the steps that change them.
+ghost use Rattle.std.specs.Prelude.{◌≡◌, ◌<◌, [], None, Some, IfOk, IsSome, OnErr, OnOk};
+ghost use Rattle.std.specs.FinMap.{get, insert};
 ghost use Rattle.rv_text.specs.Limits.{FitsIdentifier, FitsMessage};
-ghost use Rattle.rv_book.specs.Arriving.{entry};
-ghost use Rattle.rv_book.specs.Steps.{max_moment, step_moment};
-
-mod arrivals;
-mod endings;
-mod growth;
-mod hellos;
+ghost use Rattle.rv_state.specs.State.{client_at};
+ghost use Rattle.rv_kept.specs.Keeping.{client_of, front_of};
+ghost use Rattle.rv_account.specs.Limits.{FitsAct};
+ghost use Rattle.rv_machine.specs.Machines.{IsWhole, state_in};
+ghost use Rattle.rv_book.specs.Operations.{AreKnown, MayKeep, kept_after, kept_in, keeping_all};
 
 use crate::verdict::KeptAnswer;
-use rv_account::{Account, Act};
-use rv_due::Due;
-use rv_session::Sessions;
-use rv_text::{Message, NoMemory};
-use rv_waiters::Waiters;
+use rv_account::{Account, Act, Entry};
+use rv_kept::{KeptReplies, kept_again, source};
+use rv_machine::{Heard, Machine, Said, TickMade, message_need};
+use rv_session::Place;
+use rv_text::{Message, NoMemory, Refusal, Side};
 use std::alloc::Global;
 
 /// The most entries of an epoch.
@@ -26,33 +25,107 @@ pub const MAX_MOMENT: u64 = 4_611_686_018_427_387_904;
 #[derive(Drop)]
 pub(crate) struct BookState {
     account: Account,
-    sessions: Sessions,
-    waiters: Waiters,
-    // How many requests wait.
-    waiting: usize,
-    // The limits of those that have one, with their places.
-    due: Due,
+    // The account's state.
+    machine: Machine,
+    // Of each client the reply of its last request, by places of the account.
+    kept: KeptReplies,
+}
+
+// Keeps what a client's last request was told, of which a place has the text or the consumer.
+fn keep(machine: &Machine, kept: &mut KeptReplies, client: u64, place: Place)
+    requires known { IsSome (client_at (state_in machine.now) client) }
+    requires room { get kept.old.replies client ≡ None → 0 < kept.old.room }
+    ensures keeps { kept.new.replies
+        ≡ insert kept.old.replies client (kept_in (state_in machine.now) place client) }
+    ensures room { IsSome (get kept.old.replies client) → kept.new.room ≡ kept.old.room }
+{
+    let session = machine.client(client).unwrap();
+    kept.keep(client, kept_again(&session.request, place));
+}
+
+// Keeps what those were told whom the entry at a place settled.
+fn keep_settled(machine: &Machine, kept: &mut KeptReplies, place: Place)
+    requires { AreKnown (state_in machine.now) kept.old.replies machine.now.settled.items }
+    ensures keeps { kept.new.replies
+        ≡ keeping_all (state_in machine.now) place kept.old.replies machine.now.settled.items }
+    ensures room { kept.new.room ≡ kept.old.room }
+{
+    for key in machine.settled() {
+        keep(machine, kept, key.client, place);
+    }
+}
+
+// The client of an act, if it has one.
+fn client_of(act: &Act) -> Option<u64>
+    ensures { result ≡ client_of act.now }
+{
+    match act {
+        Act::Hello { client, .. } => Some(*client),
+        Act::Arrive { key, .. } => Some(key.client),
+        Act::Cancel { key } => Some(key.client),
+        Act::Tick => None,
+    }
+}
+
+// The place of the oldest item of the queue at which an arrival looks.
+fn front(machine: &Machine, act: &Act) -> Option<Place>
+    requires ready { IsWhole machine.now }
+    requires fits { FitsAct act.now }
+    ensures { result ≡ front_of (state_in machine.now) act.now }
+{
+    match act {
+        Act::Arrive { call, .. } => match call.side() {
+            Side::Looks(queue) => machine.front(queue),
+            Side::Gives(_) => None,
+            Side::Takes(_) => None,
+            Side::Exchanges(_) => None,
+        },
+        Act::Hello { .. } => None,
+        Act::Cancel { .. } => None,
+        Act::Tick => None,
+    }
+}
+
+// Keeps what an entry at a place told: those whom it settled, and its own client.
+fn keep_told(machine: &Machine, kept: &mut KeptReplies, entry: &Entry, place: Place)
+    requires { MayKeep machine.now kept.old entry.now }
+    ensures { kept.new.replies
+        ≡ kept_after (state_in machine.now) place entry.now machine.now.settled.items kept.old.replies }
+{
+    keep_settled(machine, kept, place);
+    match client_of(&entry.act) {
+        Some(client) => {
+            let own = source(entry, place, front(machine, &entry.act));
+            keep(machine, kept, client, own);
+        }
+        None => {}
+    }
 }
 
 impl BookState {
-    ghost use Rattle.rv_book.specs.Legal.{KeepsTime, NothingDue};
-    ghost use Rattle.rv_book.specs.Operations.{Becomes, BecomesAfterTicks, IsPushed, IsTime};
-    ghost use Rattle.rv_book.specs.Tables.{IsSound, account_of};
+    ghost use Rattle.std.specs.Prelude.{◌^◌, ◌+◌, min, true};
+    ghost use Rattle.rv_state.specs.State.{waiting_count};
+    ghost use Rattle.rv_text.specs.declared.answer.Answer.{Answer};
+    ghost use Rattle.rv_account.specs.Account.{with_entry};
+    ghost use Rattle.rv_machine.specs.Machines.{Says};
+    ghost use Rattle.rv_machine.specs.Needing.{MayLackMemory, message_need};
+    ghost use Rattle.rv_book.specs.Operations.{Becomes, BecomesAfterTicks, HasRoomFor, IsAhead, IsQuiet};
+    ghost use Rattle.rv_book.specs.Operations.{IsSame};
+    ghost use Rattle.rv_book.specs.Saying.{answer_of};
+    ghost use Rattle.rv_book.specs.Steps.{Ticks, step_moment};
+    ghost use Rattle.rv_book.specs.Tables.{IsSound, account_of, state_of_machine};
 
-    /// An empty account of an epoch, opened at a moment, and tables with nothing in them.
-    pub(crate) fn open(alloc: Global, epoch: u64, opened: u64) -> Result<BookState, NoMemory>
-        requires epoch { FitsIdentifier epoch }
-        requires opened { opened ≤ max_moment }
+    /// An empty account of an epoch, opened at a moment, which counts as at most 2^62.
+    pub(crate) fn open(alloc: Global, epoch: u64, now: u64) -> Result<BookState, NoMemory>
+        requires { FitsIdentifier epoch }
         ensures sound { IfOk result IsSound }
-        ensures account { IfOk result (λ state. account_of state
-            ≡ record { epoch = epoch; opened = opened; entries = [] }) }
+        ensures account { IfOk result (λ book. account_of book
+            ≡ record { epoch = epoch; opened = min now (2 ^ 62); entries = [] }) }
     {
         Ok(BookState {
-            account: Account::empty(alloc, epoch, opened),
-            sessions: Sessions::open(alloc, epoch),
-            waiters: Waiters::empty(alloc)?,
-            waiting: 0,
-            due: Due::new(alloc),
+            account: Account::empty(alloc, epoch, now.min(MAX_MOMENT)),
+            machine: Machine::open(alloc, epoch, now)?,
+            kept: KeptReplies::new(alloc),
         })
     }
 
@@ -70,55 +143,135 @@ impl BookState {
         ensures sound { IsSound self.new }
         ensures step { BecomesAfterTicks (account_of self.old) now message (account_of self.new) result }
     {
-        let moment = self.moment_at(now);
-        self.time_out(moment);
+        let moment = self.time_out(now);
         self.answer(moment, message)
+    }
+
+    // Times out all that is due by one tick, in room that it has, and gives the step's moment.
+    fn time_out(&mut self, now: u64) -> u64
+        requires { IsSound self.old }
+        ensures exact { result ≡ step_moment (account_of self.old) now }
+        ensures quiet { IsQuiet self.new result }
+        ensures ticks { Ticks (account_of self.old) result (account_of self.new) }
+    {
+        let TickMade { moment, entry } = self.machine.tick(now);
+        match entry {
+            Some(entry) => {
+                self.record(entry);
+                moment
+            }
+            None => moment,
+        }
     }
 
     // Takes the message's own step at a moment at which nothing is due, and says what became of it.
     fn answer(&mut self, moment: u64, message: Message) -> KeptAnswer
-        requires time { IsTime self.old moment }
-        requires nothing_due { NothingDue (account_of self.old).entries moment }
+        requires quiet { IsQuiet self.old moment }
         requires fits { FitsMessage message }
         ensures sound { IsSound self.new }
         ensures step { Becomes (account_of self.old) moment message (account_of self.new) result }
     {
-        let epoch = self.account.epoch();
-        match message {
-            Message::Hello {
-                client,
-                incarnation,
-                version,
-            } => match self.greet(moment, client, incarnation, version) {
-                Ok(()) => KeptAnswer::Welcome(epoch, client, incarnation, version),
-                Err(refusal) => KeptAnswer::Refused(refusal),
-            },
-            Message::Request { key, call } => match self.request(moment, key, call) {
-                Ok(kept) => KeptAnswer::of(key, kept),
-                Err(refusal) => KeptAnswer::Refused(refusal),
-            },
-            Message::Cancel { key } => match self.cancel(moment, key) {
-                Ok(kept) => KeptAnswer::Replied { key, kept },
-                Err(refusal) => KeptAnswer::Refused(refusal),
-            },
+        match self.make_room(&message) {
+            Ok(()) => self.hear(moment, message),
+            Err(_) => KeptAnswer::Refused(Refusal::NoMemory),
         }
     }
 
-    // The moment of a step: the book's own where that is later than the one handed in.
-    fn moment_at(&self, now: u64) -> u64
-        requires { IsSound self.now }
-        ensures exact { result ≡ step_moment (account_of self.now) now }
-        ensures time { KeepsTime (account_of self.now) result }
-        ensures fits { result ≤ max_moment }
+    // The same, where there is room for whatever the message makes.
+    fn hear(&mut self, moment: u64, message: Message) -> KeptAnswer
+        requires quiet { IsQuiet self.old moment }
+        requires fits { FitsMessage message }
+        requires room { HasRoomFor self.old message }
+        ensures sound { IsSound self.new }
+        ensures step { Becomes (account_of self.old) moment message (account_of self.new) result }
     {
-        self.account.own_moment().max(now.min(MAX_MOMENT))
+        let Heard { entry, said } = self.machine.hear(moment, message);
+        match entry {
+            Some(entry) => {
+                self.record(entry);
+                self.say(said)
+            }
+            None => self.say(said),
+        }
     }
 
-    // Records an entry that names no partner, for which there is room.
-    fn push(&mut self, moment: u64, act: Act)
-        requires { 0 < self.old.account.room }
-        ensures { IsPushed self.old self.new (entry moment act []) }
+    // How many entries there must be room for where a message enters one: with those of all that waits then.
+    fn entries_needed(&self, message: &Message) -> usize
+        requires { IsSound self.now }
+        ensures { result ≡ waiting_count (state_of_machine self.now) + message_need message.now }
     {
-        self.account.push_alone(moment, act);
+        self.machine.waiting() + message_need(message)
+    }
+
+    // Whether there is room for a message, if it is no hello.
+    fn has_room(&self, message: &Message) -> bool
+        requires { IsSound self.now }
+        ensures { result ≡ true → HasRoomFor self.now message.now }
+    {
+        match message {
+            Message::Hello { .. } => false,
+            Message::Request { .. } => self.entries_needed(message) <= self.account.room(),
+            Message::Cancel { .. } => self.entries_needed(message) <= self.account.room(),
+        }
+    }
+
+    // Makes room for the entry of a message, and for what is kept of a new client.
+    fn grow(&mut self, message: &Message) -> Result<(), NoMemory>
+        requires { IsSound self.old }
+        ensures same { IsSame self.old self.new }
+        ensures sound { IsSound self.new }
+        ensures room { OnOk result (HasRoomFor self.new message.now) }
+    {
+        let more = self.entries_needed(message);
+        self.account.reserve(more)?;
+        match message {
+            Message::Hello { .. } => self.kept.reserve(),
+            Message::Request { .. } => Ok(()),
+            Message::Cancel { .. } => Ok(()),
+        }
+    }
+
+    // Makes room for a message that will enter an entry and lacks it. Only this can fail, and only room
+    // changes.
+    fn make_room(&mut self, message: &Message) -> Result<(), NoMemory>
+        requires { IsSound self.old }
+        ensures same { IsSame self.old self.new }
+        ensures sound { IsSound self.new }
+        ensures room { OnOk result (HasRoomFor self.new message.now) }
+        ensures lacks { OnErr result (MayLackMemory (state_of_machine self.old) message.now) }
+    {
+        if self.has_room(message) {
+            return Ok(());
+        }
+        if !self.machine.enters(message) {
+            return Ok(());
+        }
+        self.grow(message)
+    }
+
+    // Records an entry that the machine made, and keeps what it told. There must be room for it.
+    fn record(&mut self, entry: Entry)
+        requires { IsAhead self.old entry }
+        ensures sound { IsSound self.new }
+        ensures recorded { account_of self.new ≡ with_entry (account_of self.old) entry }
+        ensures machine { self.new.machine ≡ self.old.machine }
+    {
+        keep_told(&self.machine, &mut self.kept, &entry, self.account.len());
+        self.account.push(entry);
+    }
+
+    // What is said of a message, by places.
+    fn say(&self, said: Said) -> KeptAnswer
+        requires { IsSound self.now }
+        ensures { (a : Answer) → Says (state_of_machine self.now) said a
+            → answer_of (account_of self.now).entries result ≡ Some a }
+    {
+        match said {
+            Said::Welcome(epoch, client, incarnation, version) => {
+                KeptAnswer::Welcome(epoch, client, incarnation, version)
+            }
+            Said::Told(key) => KeptAnswer::of(key, self.kept.get(key.client)),
+            Said::Refused(refusal) => KeptAnswer::Refused(refusal),
+        }
     }
 }

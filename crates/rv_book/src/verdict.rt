@@ -15,7 +15,7 @@ pub(crate) enum KeptAnswer {
 }
 
 impl KeptAnswer {
-    ghost use Rattle.rv_book.specs.Arriving.{said_of};
+    ghost use Rattle.rv_book.specs.Saying.{said_of};
     ghost use Rattle.std.specs.Prelude.{◌≡◌};
 
     // What is said to a request: the reply that is kept for it, or that it waits.

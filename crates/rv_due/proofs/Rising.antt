@@ -32,16 +32,3 @@ len_rising (x ∷ r) rises =
     ∙ add-one (length r)
 
 -- ---- sets that stay
-
-same_contained : (s : Deadlines) (x q : Deadline) → eq_by_cmp by_moment q x ≡ true
-    → contains s x ≡ contains s q
-same_contained s x q e = contains_tied by_moment_total s q x ((Equal-is (by_moment q x)).0 e)
-
-and_not : (b c : Bool) → (b ≡ true → c ≡ false) → c ≡ (not b && c)
-and_not true c none = none refl
-and_not false c none = refl
-
-pub remove_absent : (s : Deadlines) (x : Deadline) → contains s x ≡ false → s ≡ set.remove s x
-remove_absent s x none = same_set by_moment_total by_moment-IsAntisymmetric _ _ (λ q.
-    and_not (eq_by_cmp by_moment q x) (contains s q) (λ own. sym (same_contained s x q own) ∙ none)
-    ∙ sym (contains-remove by_moment_total s x q))

@@ -57,17 +57,6 @@ due_first all waiters waiting moment due d is least at =
 
 -- ---- what stands first on a line
 
-pub count_line : (all : List OpenPlace) (waiters : Waiters) (waiting : ℕ) (due : Deadlines) (side : Side)
-    → AreIndexed all waiters waiting due → length (waiting_on waiters side) ≡ length (line_in all side)
-count_line all waiters waiting due side is =
-    ap length (is.lines side) ∙ length-map (line_in all side) (λ (o : OpenPlace). o.place)
-
-pub count_opposed : (all : List OpenPlace) (waiters : Waiters) (waiting : ℕ) (due : Deadlines)
-    (other : Option Side) → AreIndexed all waiters waiting due
-    → opposed_by waiters other ≡ length (facing all other)
-count_opposed all waiters waiting due None is = refl
-count_opposed all waiters waiting due (Some other) is = count_line all waiters waiting due other is
-
 -- what is found at the first place of a line is the first of the line
 found_first : (all line : List OpenPlace) → ((i : ℕ) (o : OpenPlace) → slice_get line i ≡ Some o
     → found_at all o.place ≡ Some o) → (place : ℕ) → slice_get (place_list line) 0 ≡ Some place
@@ -89,16 +78,6 @@ pub first_found : (all : List OpenPlace) (waiters : Waiters) (waiting place : �
 first_found all waiters waiting place due side is first =
     found_first all (line_in all side) (line_found all side is.rise) place
     (sym (ap (λ l. slice_get l 0) (is.lines side)) ∙ first)
-
-pub first_none : (all : List OpenPlace) (waiters : Waiters) (waiting : ℕ) (due : Deadlines) (side : Side)
-    → AreIndexed all waiters waiting due → slice_get (waiting_on waiters side) 0 ≡ None
-    → slice_get (line_in all side) 0 ≡ None
-first_none all waiters waiting due side is none =
-    by_line (line_in all side) (sym (ap (λ l. slice_get l 0) (is.lines side)) ∙ none)
-  where
-    by_line : (line : List OpenPlace) → slice_get (place_list line) 0 ≡ None → slice_get line 0 ≡ None
-    by_line [] is = refl
-    by_line (o ∷ line) is = absurd (none-some o.place (sym is))
 
 -- what stood at the place of the least deadline
 pub record DueOut (all : List OpenPlace) (moment : ℕ) (d : Deadline) (there : OpenPlace) : Type 0 where

@@ -1,5 +1,5 @@
 -- What ends one by one what is due ends it as a tick does.
-use Rattle.std.proofs.Common.{◌≡◌, ◌++◌, ◌∷◌, ◌∙◌, ℕ, List, [], refl, sym, ap, arith, append_assoc}
+use Rattle.std.proofs.Common.{◌≡◌, ◌≤◌, ◌+◌, ◌++◌, ◌∷◌, ◌∙◌, ℕ, List, [], refl, sym, ap, arith, append_assoc}
 use Rattle.std.proofs.lemmas.List.{append-nil, map-append}
 use Rattle.rv_text.specs.declared.message.Key.{Key}
 use Rattle.rv_text.specs.declared.answer.Reply.TheVariants.{TimedOut}
@@ -11,7 +11,7 @@ use Rattle.rv_state.specs.Moves.{Ticked, ticked_at, ticked_if, ticking}
 use Rattle.rv_machine.specs.declared.machine.Machine.{Machine}
 use Rattle.rv_machine.specs.Ending.{counted}
 use Rattle.rv_machine.specs.Machines.{keys_settled, state_in}
-use Rattle.rv_machine.specs.OpenMap.{due_in}
+use Rattle.rv_machine.specs.OpenMap.{count_waiting, due_in}
 use Rattle.rv_machine.specs.Ticking.{EndsFirst, EndsNext, TimesOut}
 use Rattle.rv_machine.proofs.Stopping.{settled_one, settled_twice, stopped_none, stopped_one, stopped_twice}
 
@@ -60,8 +60,9 @@ ends_more old mid new moment some more = record {
 -- all that was due is gone, and the tick was counted
 pub ticked_all : (old new : Machine) (moment : ℕ) (there : OpenPlace) (rest : List OpenPlace)
     → due_in old.table moment ≡ there ∷ rest → EndsFirst old new moment → due_in new.table moment ≡ []
+    → 1 + count_waiting new.table ≤ count_waiting old.table
     → TimesOut old (counted new moment) moment (entry moment Tick [] ∷ [])
-ticked_all old new moment there rest due ends none =
+ticked_all old new moment there rest due ends none room =
     let all : ends.gone ≡ due_at (state_in old) moment =
     sym (append-nil ends.gone) ∙ ap (λ l. ends.gone ++ l) (sym none) ∙ sym ends.first in
     let ticks : ticked_at (state_in old) moment ≡ ticking (state_in old) moment =
@@ -75,16 +76,5 @@ ticked_all old new moment there rest due ends none =
           ∙ ap (λ l. advanced (stopped (state_in old) l TimedOut).after moment) all
           ∙ ap (λ (t : Ticked). t.after) (sym ticks);
       none_due = none;
-    }
-
--- nothing is due
-pub unticked_all : (m : Machine) (moment : ℕ) → due_in m.table moment ≡ [] → TimesOut m m moment []
-unticked_all m moment none =
-    let stays = ap (ticked_if (state_in m) moment) none in
-    record {
-      makes = ap (λ (t : Ticked). t.entries) (sym stays);
-      settles = sym (append-nil m.settled.items)
-          ∙ ap (λ (t : Ticked). m.settled.items ++ keys_settled t.settles) (sym stays);
-      after = ap (λ (t : Ticked). t.after) (sym stays);
-      none_due = none;
+      room = room;
     }

@@ -54,18 +54,6 @@ not_open call leaves =
     not_by (is_some (opposite (side_of call))) (lasts_by (wait_of call))
     (λ may lasts. leaves (may, lasts_both (wait_of call) lasts))
 
--- and a wait that lasts by the state's definitions lasts
-lasting_by : (wait : Option Wait) → Lasts wait → lasts_by wait ≡ true
-lasting_by None lasts = refl
-lasting_by (Some Now) lasts = absurd lasts
-lasting_by (Some (Millis n)) lasts = grind (arith, nat_tests)
-lasting_by (Some Forever) lasts = refl
-
--- what isn't open where it meets nobody doesn't stay by its side and its wait
-pub not_staying : (call : Call) → stays_open call [] ≡ false → ¬ StaysBy (side_of call) (wait_of call)
-not_staying call closed stays =
-    true≢false (sym (λ i. stays.0 i && lasting_by (wait_of call) stays.1 i) ∙ closed)
-
 -- ---- what it makes of a state
 
 -- what an arrival makes of a state where it meets these

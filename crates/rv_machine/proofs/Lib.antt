@@ -36,8 +36,10 @@ pub mod CancelMoves
 pub mod NumberedArrivals
 pub mod RequestMoves
 pub mod OutcomeMoves
-pub mod OneStep
 pub mod AtFirst
 pub mod TakenOne
 pub mod TakenAll
 pub mod Drained
+pub mod Deciding
+pub mod RoomTaken
+pub mod NoRoom

@@ -31,16 +31,6 @@ same_deadline q x e = by_moment-IsAntisymmetric q x ((Equal-is (by_moment q x)).
 pub own_test : (x : Deadline) → eq_by_cmp by_moment x x ≡ true
 own_test x = (eq_by_cmp_equiv by_moment_total).refl x
 
--- two sets whose members pass the same tests are one
-same_tests : (b c : Bool) → (b ≡ true → c ≡ true) → (c ≡ true → b ≡ true) → b ≡ c
-same_tests true c on back = sym (on refl)
-same_tests false true on back = back refl
-same_tests false false on back = refl
-
-or_true : (b c : Bool) → (b || c) ≡ true → (b ≡ false → c ≡ true)
-or_true true c is apart = absurd (true≢false apart)
-or_true false c is apart = is
-
 -- ---- one more
 
 pub limits_more : (all : List OpenPlace) (o : OpenPlace)
@@ -87,16 +77,6 @@ listed_place all d any =
       ap (λ (x : Deadline). x.1) is.2,
       is.1 ∙ ap (λ (x : Deadline). Some x.0) is.2,
     )
-
-pub place_listed : (all : List OpenPlace) (i : ℕ) (o : OpenPlace) (d : Deadline) → slice_get all i ≡ Some o
-    → o.place ≡ d.1 → o.limit ≡ Some d.0
-    → list_any (eq_by_cmp by_moment d) (filter_map deadline_of_place all) ≡ true
-place_listed all i o d at place limit =
-    let its : Deadline = (d.0, o.place) in
-    let value = get_filter_map deadline_of_place all i o its at (ap (option_map (λ l. (l, o.place))) limit) in
-    let same : its ≡ d = ap (λ (r : ℕ). let x : Deadline = (d.0, r) in x) place in
-    get_any (eq_by_cmp by_moment d) (filter_map deadline_of_place all) value.0 d (value.1 ∙ ap Some same)
-    (own_test d)
 
 pub left_apart : (all : List OpenPlace) (place i : ℕ) (o : OpenPlace)
     → slice_get (all_but all place) i ≡ Some o → o.place ≡ place → ⊥

@@ -120,11 +120,6 @@ module _ (m : Machine) (moment : ℕ) (key : Key) (call : Call) (may : MayArrive
       recorded_ready before moment before_ready may.time
       (omega (arith, may.space, fewer, need, both.length_is))
 
-  pub new_small : now.length < max_entries
-  new_small =
-      let need = at_least_one (wait_of call) in
-      omega (arith, may.space, need, both.length_is)
-
   opens : State
   opens = with_open gone (parked s moment key call (there ∷ []))
 

@@ -70,7 +70,7 @@ some_item : {X : Type 0} (f : List ℕ → X) (o : Option (List ℕ)) → IsSome
 some_item f None some = absurd (false≢true some)
 some_item f (Some x) some = refl
 
-some_receipt : (version : Version) (o : Option Key) → IsSome o → IsSome (receipt_of version o)
+pub some_receipt : (version : Version) (o : Option Key) → IsSome o → IsSome (receipt_of version o)
 some_receipt One o some = refl
 some_receipt Two None some = absurd (false≢true some)
 some_receipt Two (Some key) some = refl

@@ -26,13 +26,6 @@ use Rattle.rv_machine.proofs.EndingOne.{but_one}
 use Rattle.rv_machine.proofs.GoneItem.{gone_consistent, no_more_wait}
 use Rattle.rv_machine.proofs.Lying.{line_item}
 
--- a first one is there
-pub some_first : {X : Type 0} (o : Option X) (line : List OpenPlace) → 0 < length line
-    → IfNone o (line ≡ []) → IsSome o
-some_first (Some x) line some none = refl
-some_first None line some none =
-    let empty : length line ≡ 0 = ap length none in absurd (omega (arith, some, empty))
-
 -- what came out
 pub came_out : (o : Option (OpenPlace × Option OwedDuty)) (out : OpenPlace × Option OwedDuty)
     (duty : Option OwedDuty) (old new : List OpenPlace) (queue : ℕ) → o ≡ Some out → out.1 ≡ duty

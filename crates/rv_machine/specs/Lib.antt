@@ -10,4 +10,5 @@ pub mod Entering
 pub mod Arriving
 pub mod Telling
 pub mod Stepping
+pub mod Needing
 pub mod Taking

@@ -1,5 +1,5 @@
 -- What it is to end all that is due at a moment.
-use Rattle.std.specs.Prelude.{◌≡◌, ◌+◌, ◌++◌, ◌∷◌, ◌≤◌, [], ℕ, List, Some}
+use Rattle.std.specs.Prelude.{◌≡◌, ◌+◌, ◌++◌, ◌∷◌, ◌≤◌, [], ℕ, List, Some, length}
 use Rattle.rv_text.specs.declared.answer.Reply.TheVariants.{TimedOut}
 use Rattle.rv_account.specs.declared.entry.Entry.{Entry}
 use Rattle.rv_state.specs.State.{OpenPlace, Waiter}
@@ -29,10 +29,12 @@ pub record EndsFirst (old new : Machine) (moment : ℕ) : Type 0 where
       ≡ old.settled.items ++ keys_settled (stopped (state_in old) gone TimedOut).settles
   pub fewer : count_waiting new.table ≤ count_waiting old.table
 
--- the time-outs of a step at a moment, which made these entries: nothing is due any longer
+-- the time-outs of a step at a moment, which made these entries, in the place of waits that ended: nothing is
+-- due any longer
 pub record TimesOut (old new : Machine) (moment : ℕ) (entries : List Entry) : Type 0 where
   pub makes : entries ≡ (ticked_at (state_in old) moment).entries
   pub settles : new.settled.items
       ≡ old.settled.items ++ keys_settled (ticked_at (state_in old) moment).settles
   pub after : state_in new ≡ (ticked_at (state_in old) moment).after
   pub none_due : due_in new.table moment ≡ []
+  pub room : length entries + count_waiting new.table ≤ count_waiting old.table

@@ -1,20 +1,19 @@
 //! Arrivals that drain a queue.
 ghost use Rattle.std.specs.Prelude.{◌≡◌, ◌<◌, ◌≤◌, ◌++◌, ◌∷◌, [], None, Some, IfOk, IsSome, OnErr, length};
-ghost use Rattle.std.specs.Prelude.{option_and_then, option_map, unwrap_or, vec_capacity, vec_len};
-ghost use Rattle.std.specs.FinMap.{get};
+ghost use Rattle.std.specs.Prelude.{unwrap_or, vec_capacity, vec_len};
 ghost use Rattle.rv_text.specs.Calls.{drains_of, side_of};
 ghost use Rattle.rv_text.specs.Limits.{FitsCall, FitsQueue};
 ghost use Rattle.rv_text.specs.declared.call.Side.TheVariants.{Gives, Takes};
-ghost use Rattle.rv_state.specs.After.{receipt_of};
 ghost use Rattle.rv_machine.specs.Arriving.{Arrives, IsAsBefore, MayArrive};
 ghost use Rattle.rv_machine.specs.Machines.{IsWhole};
 ghost use Rattle.rv_machine.specs.OpenMap.{line_in};
 ghost use Rattle.rv_machine.specs.Taking.{TakesAll, TakesOne};
 
 use crate::machine::Machine;
+use crate::meets::receipt;
 use rv_account::{Act, Entry, Partners};
-use rv_session::{Clients, OpenPlace, Place};
-use rv_text::{Call, Item, Items, Key, NoMemory, Reply, Version};
+use rv_session::{OpenPlace, Place};
+use rv_text::{Call, Item, Items, Key, NoMemory, Reply};
 
 // The queue that a call drains.
 fn drained_queue(call: &Call) -> u64
@@ -32,25 +31,6 @@ fn drained_queue(call: &Call) -> u64
         Call::Count { .. } => unreachable!(),
         Call::Peek { .. } => unreachable!(),
     }
-}
-
-// What a transfer is told in a session of this version, whose item the request of this key received.
-fn receipt(version: Version, taker: Key) -> Reply
-    ensures { receipt_of version (Some taker) ≡ Some result }
-{
-    match version {
-        Version::One => Reply::Received,
-        Version::Two => Reply::ReceivedBy(taker),
-    }
-}
-
-// The same of this client's transfer.
-fn receipt_to(clients: &Clients, client: u64, taker: Key) -> Reply
-    requires { IsSome (get clients.now.clients client) }
-    ensures { option_and_then (λ version. receipt_of version (Some taker))
-        (option_map (λ session. session.version) (get clients.now.clients client)) ≡ Some result }
-{
-    receipt(clients.get(client).unwrap().version, taker)
 }
 
 // Lists what was taken, for which there is room.
@@ -92,11 +72,8 @@ impl Machine {
         self.take_items(queue, key, most, &mut items, &mut places);
         let reply = Reply::Drained(Items::from_vec(items));
         self.clients.conclude(&key, call, reply);
-        Ok(self.record(
-            moment,
-            Act::Arrive { key, call: copy },
-            Partners::from_vec(places),
-        ))
+        let act = Act::Arrive { key, call: copy };
+        Ok(self.record(moment, act, Partners::from_vec(places)))
     }
 
     // Takes so many of a queue's oldest items for the request of this key, which there must be, one a pass,
@@ -137,7 +114,7 @@ impl Machine {
         match duty {
             Some(duty) => {
                 let key = there.waiter.unwrap().key;
-                let reply = receipt_to(&self.clients, key.client, taker);
+                let reply = receipt(self.version_of(key.client), Some(taker));
                 self.settled.push_reserved(key);
                 self.clients.settle(duty, reply);
                 there

@@ -54,11 +54,8 @@ impl Machine {
         let copy = call.copy(alloc)?;
         let reply = self.reply_alone(&call, alloc)?;
         self.clients.conclude(&key, call, reply);
-        Ok(self.record(
-            moment,
-            Act::Arrive { key, call: copy },
-            Partners::none(alloc),
-        ))
+        let act = Act::Arrive { key, call: copy };
+        Ok(self.record(moment, act, Partners::none(alloc)))
     }
 
     // What a request is told that finds nobody and doesn't stay.

@@ -1,7 +1,6 @@
 //! The machine of a book: its tables are the state of an account, and its steps are those of the state.
 #![tactic(auto)]
 
-mod answers;
 mod cancels;
 mod drains;
 mod hellos;
@@ -17,4 +16,5 @@ mod table;
 mod ticks;
 
 pub use machine::{Machine, Said};
-pub use steps::Stepped;
+pub use space::message_need;
+pub use steps::{Heard, TickMade};

@@ -1,5 +1,8 @@
 //! The machine of a book: the state of an account in tables, and what changes them together.
-ghost use Rattle.std.specs.Prelude.{◌≡◌, ◌++◌, ◌∷◌, ◌+◌, ◌<◌, ◌≤◌, []};
+ghost use Rattle.std.specs.Prelude.{◌≡◌, ◌+◌, ◌<◌, ◌≤◌, option_map, slice_get};
+ghost use Rattle.rv_text.specs.Limits.{FitsQueue};
+ghost use Rattle.rv_text.specs.declared.call.Side.TheVariants.{Gives};
+ghost use Rattle.rv_state.specs.State.{client_at, line, place_list, waiting_count};
 ghost use Rattle.rv_machine.specs.Indexed.{WaitsIn};
 ghost use Rattle.rv_machine.specs.Machines.{IsWhole, state_in};
 ghost use Rattle.rv_machine.specs.Ending.{EndsWaiting, counted};
@@ -9,7 +12,7 @@ ghost use Rattle.rv_machine.specs.OpenMap.{count_waiting};
 
 use crate::table::OpenTable;
 use rv_account::{Act, Entry, Partners};
-use rv_session::{Clients, Place};
+use rv_session::{ClientState, Clients, Place};
 use rv_text::{Key, Refusal, Reply, Version};
 use std::alloc::Global;
 
@@ -32,7 +35,7 @@ pub struct Machine {
     pub(crate) length: usize,
     pub(crate) table: OpenTable,
     pub(crate) clients: Clients,
-    // The keys that the step has settled so far.
+    // The keys that the tick or the message has settled so far.
     pub(crate) settled: Vec<Key>,
 }
 
@@ -49,13 +52,12 @@ impl Machine {
         self.clients.settle(duty, reply);
     }
 
-    /// Counts one entry more, of a moment, and gives it. There must be room for it among the entries.
+    /// Counts one entry more, of a moment, and gives it. What is whole stays so if there is space for it.
     pub(crate) fn record(&mut self, moment: u64, act: Act, partners: Partners) -> Entry
-        requires ready { IsWhole self.old }
-        requires time { moment ≤ max_moment }
-        requires space { self.old.length + count_waiting self.old.table < max_entries }
+        requires { self.old.length < max_entries }
         ensures entry { result ≡ entry moment act partners }
-        ensures ready { IsWhole self.new }
+        ensures ready { IsWhole self.old → moment ≤ max_moment
+            → self.old.length + count_waiting self.old.table < max_entries → IsWhole self.new }
         ensures counted { self.new ≡ counted self.old moment }
     {
         self.length += 1;
@@ -65,6 +67,36 @@ impl Machine {
             act,
             partners,
         }
+    }
+
+    /// How many requests wait.
+    pub fn waiting(&self) -> usize
+        ensures { result ≡ waiting_count (state_in self.now) }
+    {
+        self.table.waiting()
+    }
+
+    /// The client's state, if it said hello.
+    pub fn client(&self, client: u64) -> Option<&ClientState>
+        ensures { option_map (λ c. c.now) result ≡ client_at (state_in self.now) client }
+    {
+        self.clients.get(client)
+    }
+
+    /// The place of a queue's oldest item.
+    pub fn front(&self, queue: u64) -> Option<Place>
+        requires { FitsQueue queue }
+        ensures { result ≡ slice_get (place_list (line (state_in self.now) (Gives queue))) 0 }
+    {
+        Some(self.table.front(queue)?.place)
+    }
+
+    /// The keys of the requests that were settled by what was called last of [`tick`](Machine::tick) and
+    /// [`hear`](Machine::hear), in their order.
+    pub fn settled(&self) -> &[Key]
+        ensures { result.now ≡ self.now.settled.items }
+    {
+        &self.settled
     }
 
     /// The allocator that the machine keeps.

@@ -16,8 +16,8 @@ use rv_account::{Act, Entry, Partners};
 use rv_session::{Duty, OpenPlace, Place, Waiter};
 use rv_text::{Call, Item, Key, NoMemory, Reply, Side, Version, Wait};
 
-// What a giver is told whose item was taken by the request of a key.
-fn receipt(version: Version, taker: Option<Key>) -> Reply
+/// What a giver is told whose item was taken by the request of a key.
+pub(crate) fn receipt(version: Version, taker: Option<Key>) -> Reply
     requires { IsSome (receipt_of version taker) }
     ensures { receipt_of version taker ≡ Some result }
 {
@@ -118,11 +118,11 @@ impl Machine {
         let reply = arriving(copy.wait(), copy.side(), version, taker, item);
         self.clients.settle(own, reply);
         let act = Act::Arrive { key, call: copy };
-        self.push(moment, act, Partners::from_vec(places))
+        self.record(moment, act, Partners::from_vec(places))
     }
 
-    // The version of a client's session.
-    fn version_of(&self, client: u64) -> Version
+    /// The version of a client's session.
+    pub(crate) fn version_of(&self, client: u64) -> Version
         requires { IsSome (get self.now.clients.clients client) }
         ensures { option_map (λ c. c.version) (get self.now.clients.clients client) ≡ Some result }
     {

@@ -1,5 +1,5 @@
 //! What is open, by its place.
-ghost use Rattle.std.specs.Prelude.{◌≡◌, [], ◌∷◌, ◌++◌, OnOk, OnErr, option_map, length};
+ghost use Rattle.std.specs.Prelude.{◌≡◌, [], ◌∷◌, ◌++◌, OnOk, OnErr, option_map};
 ghost use Rattle.rv_machine.specs.OpenMap.{StandBelow, found_at, all_but};
 
 use rv_session::{OpenPlace, Place};
@@ -10,7 +10,7 @@ use std::marker::Model;
 
 /// What is open, which contracts see as the list of open places, the oldest first.
 ///
-/// Each call takes time logarithmic in their number, and `len` constant time.
+/// Each call takes time logarithmic in their number.
 #[derive(Drop)]
 pub(crate) struct OpenMap {
     places: BTreeMap<Place, OpenPlace>,
@@ -62,12 +62,5 @@ impl OpenMap {
         ensures { option_map (λ o. o.now) result ≡ found_at self.now place }
     {
         self.places.get(&place)
-    }
-
-    /// How many are open.
-    pub(crate) fn len(&self) -> usize
-        ensures { result ≡ length self.now }
-    {
-        self.places.len()
     }
 }

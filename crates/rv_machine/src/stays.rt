@@ -1,15 +1,13 @@
 //! Requests that find nobody and stay: they are open from then on.
-ghost use Rattle.std.specs.Prelude.{◌≡◌, ◌+◌, ◌<◌, ◌≤◌, [], Some, IfOk, IfSome, OnErr};
+ghost use Rattle.std.specs.Prelude.{◌≡◌, ◌≤◌, [], Some, IfOk, IfSome, OnErr};
 ghost use Rattle.rv_session.specs.Clients.{place_awaited};
-ghost use Rattle.rv_account.specs.Account.{entry};
 ghost use Rattle.rv_account.specs.Calls.{Lasts};
-ghost use Rattle.rv_rules.specs.Steps.{max_entries, max_moment};
+ghost use Rattle.rv_rules.specs.Steps.{max_moment};
 ghost use Rattle.rv_state.specs.After.{opened_by};
 ghost use Rattle.rv_text.specs.Calls.{item_of, side_of, wait_of};
 ghost use Rattle.rv_text.specs.Limits.{FitsCall};
 ghost use Rattle.rv_waiters.specs.Meeting.{StaysBy};
 ghost use Rattle.rv_machine.specs.Arriving.{Arrives, IsAsBefore, MayArrive, after_put};
-ghost use Rattle.rv_machine.specs.Ending.{counted};
 ghost use Rattle.rv_machine.specs.Machines.{IsWhole, state_in};
 ghost use Rattle.rv_machine.specs.OpenMap.{opposed_in};
 
@@ -40,21 +38,6 @@ fn settle_put(clients: &mut Clients, put: Option<Duty>)
 }
 
 impl Machine {
-    /// Counts one entry more, of a moment, and gives it.
-    pub(crate) fn push(&mut self, moment: u64, act: Act, partners: Partners) -> Entry
-        requires { self.old.length < max_entries }
-        ensures entry { result ≡ entry moment act partners }
-        ensures counted { self.new ≡ counted self.old moment }
-    {
-        self.length += 1;
-        self.moment = moment;
-        Entry {
-            moment,
-            act,
-            partners,
-        }
-    }
-
     // The open place of a request that stays, with a copy of its item.
     fn opening(&self, moment: u64, key: &Key, call: &Call) -> Result<OpenPlace, NoMemory>
         requires time { moment ≤ max_moment }
@@ -94,6 +77,6 @@ impl Machine {
             .park(&mut self.clients, opened, &key, call, &copy)?;
         settle_put(&mut self.clients, put);
         let act = Act::Arrive { key, call: copy };
-        Ok(self.push(moment, act, Partners::none(alloc)))
+        Ok(self.record(moment, act, Partners::none(alloc)))
     }
 }

@@ -1,13 +1,13 @@
-//! Steps: a machine opens, and each message with the moment that is handed in is one step.
-ghost use Rattle.std.specs.Prelude.{◌≡◌, ◌≤◌, None, IfErr, IfOk, option_to_list};
+//! Steps: a machine opens; each step is a tick at a moment that is handed in, and then a message is heard.
+ghost use Rattle.std.specs.Prelude.{◌≡◌, ◌≤◌, None, IfErr, IfOk};
 ghost use Rattle.rv_text.specs.Limits.{FitsMessage};
 ghost use Rattle.rv_rules.specs.Steps.{capped_moment, max_moment};
 ghost use Rattle.rv_state.specs.State.{opening};
 ghost use Rattle.rv_state.specs.Moves.{state_moment};
 ghost use Rattle.rv_machine.specs.declared.machine.Said.TheVariants.{Refused};
-ghost use Rattle.rv_machine.specs.Machines.{IsWhole, MovesBy, state_in};
+ghost use Rattle.rv_machine.specs.Machines.{IsWhole, state_in};
 ghost use Rattle.rv_machine.specs.Numbering.{AreNumbered};
-ghost use Rattle.rv_machine.specs.Stepping.{IsMachineStep};
+ghost use Rattle.rv_machine.specs.Stepping.{IsHearing, IsTick};
 
 use crate::machine::{Machine, Said};
 use crate::table::OpenTable;
@@ -19,25 +19,35 @@ use std::alloc::Global;
 // The greatest moment, 2^62.
 const MAX_MOMENT: u64 = 4_611_686_018_427_387_904;
 
-/// What a step made.
+/// What the tick of a step made.
 #[derive(Drop)]
-pub struct Stepped {
-    /// The entry of its tick, if something was due.
-    pub tick: Option<Entry>,
-    /// The entry of its message, if it made one.
+pub struct TickMade {
+    /// The moment of the step.
+    pub moment: u64,
+    /// The tick's entry, if something was due.
     pub entry: Option<Entry>,
-    /// What is said of the message.
+}
+
+/// What came of a message.
+#[derive(Drop)]
+pub struct Heard {
+    /// The entry of the message, if it made one.
+    pub entry: Option<Entry>,
+    /// What is said of it.
     pub said: Said,
 }
 
 // The entry that a message made and what is said, or its refusal.
-fn outcome(made: Result<Option<Entry>, Refusal>, said: Said) -> (Option<Entry>, Said)
-    ensures ok { IfOk made (λ entry. result ≡ (entry, said)) }
-    ensures err { IfErr made (λ refusal. result ≡ (None, Refused refusal)) }
+fn outcome(made: Result<Option<Entry>, Refusal>, said: Said) -> Heard
+    ensures ok { IfOk made (λ entry. result ≡ record { entry = entry; said = said }) }
+    ensures err { IfErr made (λ refusal. result ≡ record { entry = None; said = Refused refusal }) }
 {
     match made {
-        Ok(entry) => (entry, said),
-        Err(refusal) => (None, Said::Refused(refusal)),
+        Ok(entry) => Heard { entry, said },
+        Err(refusal) => Heard {
+            entry: None,
+            said: Said::Refused(refusal),
+        },
     }
 }
 
@@ -57,34 +67,26 @@ impl Machine {
         })
     }
 
-    /// One step: all that is due at the moment is ended, then the message is heard.
-    pub fn step(&mut self, now: u64, message: Message) -> Stepped
+    /// The first half of a step: all that is due at its moment is ended, and its keys are listed. The moment
+    /// is the one that is handed in, at most 2^62, or the last one if that is later. It takes no memory.
+    pub fn tick(&mut self, now: u64) -> TickMade
         requires ready { IsWhole self.old }
         requires numbered { AreNumbered (state_in self.old) }
-        requires fits { FitsMessage message }
         ensures ready { IsWhole self.new }
         ensures numbered { AreNumbered (state_in self.new) }
-        ensures steps { IsMachineStep self.old self.new now message result }
+        ensures exact { result.moment ≡ state_moment (state_in self.old) now }
+        ensures later { self.new.moment ≤ result.moment }
+        ensures time { result.moment ≤ max_moment }
+        ensures ticks { IsTick self.old self.new result }
     {
-        let moment = self.moment_at(now);
+        let moment = self.moment.max(now.min(MAX_MOMENT));
         self.settled.clear();
-        let tick = self.time_out(moment);
-        let (entry, said) = self.hear(moment, message);
-        Stepped { tick, entry, said }
+        let entry = self.time_out(moment);
+        TickMade { moment, entry }
     }
 
-    // The moment of a step: the one that is handed in, at most 2^62, or the last one if that is later.
-    fn moment_at(&self, now: u64) -> u64
-        requires ready { IsWhole self.now }
-        ensures exact { result ≡ state_moment (state_in self.now) now }
-        ensures later { self.now.moment ≤ result }
-        ensures fits { result ≤ max_moment }
-    {
-        self.moment.max(now.min(MAX_MOMENT))
-    }
-
-    // Hears a message at a moment, and gives its entry, if it made one, and what is said.
-    fn hear(&mut self, moment: u64, message: Message) -> (Option<Entry>, Said)
+    /// The second half of a step: a message is heard at its moment, and the keys that it settles are listed.
+    pub fn hear(&mut self, moment: u64, message: Message) -> Heard
         requires ready { IsWhole self.old }
         requires numbered { AreNumbered (state_in self.old) }
         requires later { self.old.moment ≤ moment }
@@ -92,8 +94,9 @@ impl Machine {
         requires fits { FitsMessage message }
         ensures ready { IsWhole self.new }
         ensures numbered { AreNumbered (state_in self.new) }
-        ensures moves { MovesBy self.old self.new moment message (option_to_list result.0) result.1 }
+        ensures hears { IsHearing self.old self.new moment message result }
     {
+        self.settled.clear();
         match message {
             Message::Hello {
                 client,

@@ -1,9 +1,8 @@
 -- Which sides, waits and items go together in one call.
 use Rattle.rv_rules.proofs.Words.{◌≡◌, ℕ, List, Option, Some, None, refl, subst, Side, Gives, Takes, Looks}
-use Rattle.rv_rules.proofs.Words.{Exchanges, Call, side_of, MayMeet, Stays, may_name, opposite}
+use Rattle.rv_rules.proofs.Words.{Exchanges, Call, side_of, Stays, may_name}
 use Rattle.rv_text.specs.declared.call.Wait.{Wait}
 use Rattle.rv_text.specs.Calls.{wait_of, item_of}
-use Rattle.std.specs.Prelude.{IsSome}
 use Rattle.rv_text.specs.declared.call.Call as call
 
 abbrev pub IsKind : Side → Option Wait → Option (List ℕ) → Type 0
@@ -44,19 +43,6 @@ pub exchanges_item : (call : Call) (exchanger : ℕ) → side_of call ≡ Exchan
     → (item : List ℕ) × (item_of call ≡ Some item)
 exchanges_item call exchanger is = let has = exchanger_has (wait_of call) (item_of call) exchanger
     (kind_at call (Exchanges exchanger) is) in (has.1, has.3)
-
-waiter_meets : (side : Side) (wait : Wait) (item : Option (List ℕ)) → IsKind side (Some wait) item
-    → IsSome (opposite side)
-waiter_meets (Gives queue) wait item kind = refl
-waiter_meets (Takes queue) wait item kind = refl
-waiter_meets (Looks queue) wait None kind = absurd kind
-waiter_meets (Looks queue) wait (Some bytes) kind = absurd kind
-waiter_meets (Exchanges exchanger) wait item kind = refl
-
--- what may wait may meet
-pub waiting_meets : (call : Call) (wait : Wait) → wait_of call ≡ Some wait → MayMeet call
-waiting_meets call wait is = waiter_meets (side_of call) wait (item_of call)
-    (subst (λ w. IsKind (side_of call) w (item_of call)) is (kind_of call))
 
 -- what stays may name one
 pub staying_single : (call : Call) → Stays call → may_name call ≡ 1

@@ -6,11 +6,11 @@ use Rattle.rv_rules.proofs.Words.{zero, ℕ, [], Call, Version, Entry, Exchanges
 use Rattle.rv_rules.proofs.Words.{HasIncarnation, LastHello, LastNumber, NamesKey, Key, IsPut, MayMeet, Stays}
 use Rattle.rv_rules.proofs.Words.{opposite, EndsWait, Met, NamesPartner, Open, OpenAt, Stopped, StoppedAt}
 use Rattle.rv_rules.proofs.Words.{Waiting, limit_at, Side, Among, act_at, call_at, key_at, cases_lt, is_some}
-use Rattle.rv_rules.proofs.Words.{none-some, same_Some, side_of, HasWaiting, slice_get, NumberOf}
+use Rattle.rv_rules.proofs.Words.{none-some, same_Some, side_of, slice_get, NumberOf}
 use Rattle.std.proofs.Common.{Bool, false, true}
 use Rattle.rv_rules.specs.Sessions.{SaidHello}
 use Rattle.rv_account.specs.Calls.{Lasts}
-use Rattle.rv_rules.specs.Waiting.{HasElapsed, IsOldest}
+use Rattle.rv_rules.specs.Waiting.{HasElapsed}
 use Rattle.rv_text.specs.declared.call.Wait.TheVariants.{Now, Millis, Forever}
 use Rattle.rv_text.specs.declared.call.Wait.{Wait}
 use Rattle.rv_rules.proofs.Growing.{act_read, call_read, reads_within}
@@ -500,26 +500,6 @@ pub find_waiting : (es : List Entry) → (n : ℕ) × NumberOf (Waiting es) n
 find_waiting es = find_number (Waiting es) (waits_or_not es) (length es) (λ r w. reads_within call_read refl
     es r w.is_open.call w.is_open.arrived)
 
--- a request of the client waits at r
-abbrev pub WaitsForAt : List Entry → ℕ → ℕ → Type 0
-WaitsForAt es client r = (key : Key) × Waiting es r × NamesKey es client r key
-
-waits_at : (es : List Entry) (client r : ℕ) → WaitsForAt es client r ⊎ (WaitsForAt es client r → ⊥)
-waits_at es client r = elim (waits_or_not es r) [
-  | inr not_here ↦ inr (λ h. not_here h.1)
-  | inl waits ↦ elim (key_of client (key_at es r)) [
-    | inl found ↦ inl (found.0, waits, record { named = found.1; of_client = found.2 })
-    | inr none ↦ inr (λ h. none h.0 h.2.named h.2.of_client)
-  ]
-]
-
-pub has_waiting_or_not : (es : List Entry) (client : ℕ) → HasWaiting es client ⊎ (HasWaiting es client → ⊥)
-has_waiting_or_not es client = elim (first_below (WaitsForAt es client) (waits_at es client) (length es)) [
-  | inl found ↦ inl (record { place = found.0; key = found.2.0; waits = found.2.1; names = found.2.2 })
-  | inr none ↦ inr (λ h. none h.place (reads_within call_read refl es h.place h.waits.is_open.call
-      h.waits.is_open.arrived) (h.key, h.waits, h.names))
-]
-
 pub open_by : (es : List Entry) (side : Side) (r : ℕ) (c : Option Call) → call_at es r ≡ c
     → OpenAt es side r ⊎ (OpenAt es side r → ⊥)
 open_by es side r None calls = inr (λ h. none-some h.of_side.call (sym calls ∙ h.of_side.arrived))
@@ -534,13 +514,3 @@ open_by es side r (Some call) calls = elim (same_side (side_of call) side) [
   ]
   | inr apart ↦ inr (λ h. apart (ap side_of (same_Some _ _ (sym calls ∙ h.of_side.arrived)) ∙ h.of_side.is))
 ]
-
--- the side's oldest open arrival, or that there is none
-pub find_oldest : (es : List Entry) (side : Side)
-    → ((p : ℕ) × IsOldest es side p) ⊎ ((r : ℕ) → OpenAt es side r → ⊥)
-find_oldest es side = elim (first_below (OpenAt es side) (λ r. open_by es side r (call_at es r) refl)
-    (length es)) [
-      | inl found ↦ inl (found.0, record { there = found.2; oldest = found.3 })
-      | inr none ↦ inr (λ r opened. none r (reads_within call_read refl es r opened.of_side.call
-          opened.of_side.arrived) opened)
-    ]

@@ -1,27 +1,10 @@
--- The first entry that stops a request: that it is there or not, is one, and stays.
-use Rattle.rv_rules.proofs.Words.{◌≡◌, ◌⊎◌, ◌<◌, ◌∷◌, ◌++◌, ◌∙◌, inl, inr, ℕ, List, [], length, refl, sym, ap}
+-- The first entry that stops a request: that it is one, and stays.
+use Rattle.rv_rules.proofs.Words.{◌≡◌, ◌<◌, ◌∷◌, ◌++◌, ◌∙◌, inl, inr, ℕ, List, [], length, sym, ap}
 use Rattle.rv_rules.proofs.Words.{arith, slice_get, cases_order, same_Some, Entry, Stopped, StoppedAt}
 use Rattle.rv_text.specs.declared.answer.Reply.{Reply}
 use Rattle.rv_rules.specs.Replies.{FirstStop, ToldStopped, told_by}
-use Rattle.rv_rules.proofs.Deciding.{stops_or_not}
 use Rattle.rv_rules.proofs.Growing.{StoppedAt-back, StoppedAt-on}
-use Rattle.rv_rules.proofs.Numbers.{first_below}
 use Rattle.rv_rules.proofs.Places.{get-append_end, within}
-
--- ---- it is there, if anything stops the request
-
-pub first_stop : (es : List Entry) (r : ℕ) → ((s : ℕ) × FirstStop es r s) ⊎ (Stopped es r → ⊥)
-first_stop es r = elim (first_below (StoppedAt es r) (stops_or_not es r) (length es)) [
-  | inl found ↦ inl (found.0, record { stops = found.2; first = found.3 })
-  | inr none ↦ inr (λ stopped. none stopped.0 (within es stopped.0 stopped.1.stopper stopped.1.there)
-      stopped.1)
-]
-
-pub told_or_not : (es : List Entry) (r : ℕ) → ((told : Reply) × ToldStopped es r told) ⊎ (Stopped es r → ⊥)
-told_or_not es r = elim (first_stop es r) [
-  | inl found ↦ inl (told_by found.1.stops.stopper.act, record { place = found.0; stop = found.1; is = refl })
-  | inr unstopped ↦ inr unstopped
-]
 
 -- ---- it is one
 

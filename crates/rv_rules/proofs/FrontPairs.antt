@@ -1,18 +1,15 @@
--- An arrival that names the oldest open arrivals of the other side, as many as it may, keeps the pairs; there
--- is such a one.
-use Rattle.rv_rules.proofs.Words.{◌≡◌, ◌+◌, ◌<◌, ◌≤◌, ◌∙◌, inl, inr, ℕ, List, [], length, take, Option, Some}
-use Rattle.rv_rules.proofs.Words.{None, refl, sym, ap, subst, arith, length-take, is_some, slice_index}
-use Rattle.rv_rules.proofs.Words.{IsStrictlyIncreasing, cases_lt, get_or_from_slice_get, none-some, same_Some}
-use Rattle.rv_rules.proofs.Words.{Key, Call, Side, side_of, Arrive, Entry, Among, call_at, may_name, opposite}
+-- An arrival that names the oldest open arrivals of the other side, as many as it may, keeps the pairs.
+use Rattle.rv_rules.proofs.Words.{◌≡◌, ◌+◌, ◌<◌, ◌≤◌, ◌∙◌, inl, inr, ℕ, List, length, take, Some}
+use Rattle.rv_rules.proofs.Words.{refl, sym, ap, subst, arith, length-take, is_some, slice_index}
+use Rattle.rv_rules.proofs.Words.{IsStrictlyIncreasing, cases_lt, get_or_from_slice_get, same_Some}
+use Rattle.rv_rules.proofs.Words.{Key, Call, Side, side_of, Arrive, Entry, Among, may_name, opposite}
 use Rattle.rv_rules.proofs.Words.{NumberOf, IsOpenOpposite, OpenAt}
 use Rattle.std.proofs.lemmas.List.{get_or-take}
 use Rattle.rv_account.specs.Account.{entry}
 use Rattle.rv_rules.specs.Legal.{IsFreePartner, KeepsPairs}
 use Rattle.rv_rules.specs.Waiting.{SideAt}
-use Rattle.rv_rules.proofs.Counting.{find_number, later_is_greater}
-use Rattle.rv_rules.proofs.Deciding.{open_by}
+use Rattle.rv_rules.proofs.Counting.{later_is_greater}
 use Rattle.rv_rules.proofs.Growing.{call_read, reads_within}
-use Rattle.rv_rules.proofs.Naming.{among_none, just_rises}
 use Rattle.rv_rules.proofs.Places.{get-take, within}
 use Rattle.rv_rules.proofs.SamePartners.{among_contains, contains_among}
 use Rattle.rv_rules.proofs.Sides.{one_side}
@@ -125,37 +122,3 @@ module _ (es : List Entry) (moment : ℕ) (key : Key) (call : Call) (other : Sid
         let same : call ≡ theirs = same_Some _ _ calls in
         all_named r (subst (λ c. length named < may_name c) (sym same) fewer) (opposed r theirs same partner);
   }
-
--- ---- there is such an arrival
-
-alone_pairs : (es : List Entry) (moment : ℕ) (key : Key) (call : Call) → opposite (side_of call) ≡ None
-    → KeepsPairs es (entry moment (Arrive key call) [])
-alone_pairs es moment key call looks = record {
-  names_free_partners = record {
-    rising = just_rises None;
-    few = λ theirs calls. omega arith;
-    free = λ p names. absurd (among_none [] p refl names);
-  };
-  pairs_opposites = λ p theirs names calls meets. absurd (among_none [] p refl names);
-  pairs_oldest = λ p r side names at less there. absurd (among_none [] p refl names);
-  pairs_where_possible = λ r theirs calls fewer partner.
-      absurd (none-some partner.side (sym looks ∙ ap (λ c. opposite (side_of c)) (same_Some _ _ calls)
-      ∙ partner.opposes));
-}
-
--- the open arrivals of a side have a number
-pub find_open : (es : List Entry) (side : Side) → (n : ℕ) × NumberOf (OpenAt es side) n
-find_open es side = find_number (OpenAt es side) (λ r. open_by es side r (call_at es r) refl) (length es)
-    (λ r there. reads_within call_read refl es r there.of_side.call there.of_side.arrived)
-
-pairs_by : (es : List Entry) (moment : ℕ) (key : Key) (call : Call) (o : Option Side)
-    → opposite (side_of call) ≡ o → (places : List ℕ) × KeepsPairs es (entry moment (Arrive key call) places)
-pairs_by es moment key call None looks = ([], alone_pairs es moment key call looks)
-pairs_by es moment key call (Some other) opposes =
-    let found = find_open es other in
-    (take (may_name call) found.1.places, front_pairs es moment key call other found.0 opposes found.1)
-
--- whom an arrival names
-pub find_pairs : (es : List Entry) (moment : ℕ) (key : Key) (call : Call)
-    → (places : List ℕ) × KeepsPairs es (entry moment (Arrive key call) places)
-find_pairs es moment key call = pairs_by es moment key call (opposite (side_of call)) refl

@@ -23,5 +23,3 @@ pub mod Deciding
 pub mod FewClients
 pub mod SamePartners
 pub mod FrontPairs
-pub mod NextKeys
-pub mod OldestMet

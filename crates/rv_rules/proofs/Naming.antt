@@ -13,16 +13,10 @@ named_just None p (i, at) = absurd (none-some p at)
 named_just (Some q) p (zero, at) = at
 named_just (Some q) p (suc i, at) = absurd (none-some p at)
 
-pub just_names : (p : ℕ) → Among (just (Some p)) p
-just_names p = (0, refl)
-
 -- an entry whose partners are one at most names that one alone
 pub names_only : (e : Entry) (partner : Option ℕ) (p : ℕ) → e.partners ≡ just partner → Names e p
     → partner ≡ Some p
 names_only e partner p is names = named_just partner p (subst (λ (places : List ℕ). Among places p) is names)
-
-pub names_it : (e : Entry) (p : ℕ) → e.partners ≡ just (Some p) → Names e p
-names_it e p is = subst (λ (places : List ℕ). Among places p) (sym is) (just_names p)
 
 -- an entry without partners names nobody
 pub just_none : (e : Entry) (p : ℕ) → e.partners ≡ just None → Names e p → ⊥
@@ -31,10 +25,6 @@ just_none e p is names = none-some p (names_only e None p is names)
 pub just_rises : (partner : Option ℕ) → IsStrictlyIncreasing (just partner)
 just_rises None k less = absurd (omega arith)
 just_rises (Some p) k less = absurd (omega arith)
-
-pub just_few : (partner : Option ℕ) → length (just partner) ≤ 1
-just_few None = omega arith
-just_few (Some p) = omega arith
 
 -- ---- how many
 

@@ -17,12 +17,6 @@ pub one_opposite : (side other third : Side) → opposite side ≡ Some other �
     → third ≡ other
 one_opposite side other third opposes also = same_Some _ _ (sym also ∙ opposes)
 
--- who meets it
-pub one_opposed : (side other third : Side) → opposite side ≡ Some other → opposite third ≡ Some side
-    → third ≡ other
-one_opposed side other third opposes back = one_opposite side other third opposes (opposite_back third side
-    back)
-
 -- who looks meets nobody
 pub looks_alone : (queue : ℕ) → IsSome (opposite (Looks queue)) → ⊥
 looks_alone queue meets = let no : ⊥ = cc in no

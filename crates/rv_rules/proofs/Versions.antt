@@ -3,15 +3,15 @@
 use Rattle.rv_rules.proofs.Words.{◌≡◌, ◌<◌, ◌∷◌, ◌++◌, ◌∙◌, inl, inr, ℕ, List, [], length, take, Some}
 use Rattle.rv_rules.proofs.Words.{option_and_then, refl, sym, ap, subst, arith, cases_order, take-append-le}
 use Rattle.rv_rules.proofs.Words.{none-some, same_Some, Version, Key, Call, Entry, Arrive, Hello, Account}
-use Rattle.rv_rules.proofs.Words.{act_at, call_at, key_at, key_in, Legal, HasIncarnation, Waiting}
+use Rattle.rv_rules.proofs.Words.{act_at, key_at, key_in, Waiting}
 use Rattle.std.proofs.Math.Seq.{take-append_seam}
 use Rattle.rv_rules.specs.Sessions.{AskedIn, HasOpened}
 use Rattle.rv_rules.proofs.Fronts.{read_front, read_whole}
 use Rattle.rv_rules.proofs.Growing.{act_read, reads_on, reads_within}
 use Rattle.rv_rules.proofs.Histories.{one_last_hello}
-use Rattle.rv_rules.proofs.Keys.{LastHello-on, act_called, key_read}
+use Rattle.rv_rules.proofs.Keys.{LastHello-on, key_read}
 use Rattle.rv_rules.proofs.Places.{get-append_end, get-append_within}
-use Rattle.rv_rules.proofs.Waits.{arrival, no_hello_behind}
+use Rattle.rv_rules.proofs.Waits.{no_hello_behind}
 
 -- ---- a session's version
 
@@ -29,10 +29,6 @@ opened_by es c i v h hello last = record {
   last = record { version = v; hello = hello; last = last };
   version_is = refl;
 }
-
--- a session of an incarnation has a version
-pub has_version : (es : List Entry) (c i : ℕ) → HasIncarnation es c i → (v : Version) × HasOpened es c i v
-has_version es c i has = (has.1.version, record { h = has.0; last = has.1; version_is = refl })
 
 one_version_of : (c i j : ℕ) (v w : Version) → Some (Hello c i v) ≡ Some (Hello c j w) → v ≡ w
 one_version_of c i j v w e = cc
@@ -86,22 +82,6 @@ asked_back es more r v inside asked =
     asked.opened in
     asked_in es r asked.key asked.incarnation v (ap key_read (sym (get-append_within es more r inside))
     ∙ asked.named) opened
-
--- ---- where there is one
-
--- each request that arrived was asked in some version
-pub arrival_asked : (a : Account) (r : ℕ) (key : Key) (call : Call) → Legal a
-    → act_at a.entries r ≡ Some (Arrive key call) → (v : Version) × AskedIn a.entries r v
-arrival_asked a r key call legal arrived =
-    let has = has_version (take r a.entries) key.client key.incarnation (arrival a r key call legal
-    arrived).incarnation in
-    (has.0, asked_in a.entries r key key.incarnation has.0 (ap (option_and_then key_in) arrived) has.1)
-
-pub call_asked : (a : Account) (r : ℕ) (call : Call) → Legal a → call_at a.entries r ≡ Some call
-    → (v : Version) × AskedIn a.entries r v
-call_asked a r call legal called =
-    let named = act_called (act_at a.entries r) call called in
-    arrival_asked a r named.0 call legal named.1
 
 -- the last entry's request is asked in the session that its client has before it
 pub asked_last : (es : List Entry) (e : Entry) (key : Key) (i : ℕ) (v : Version) → key_in e.act ≡ Some key

@@ -15,7 +15,7 @@ pub use Rattle.rv_account.specs.declared.entry.Act.{Act}
 pub use Rattle.rv_account.specs.declared.entry.Act.TheVariants.{Arrive, Cancel, Hello, Tick}
 pub use Rattle.rv_account.specs.declared.entry.Entry.{Entry}
 pub use Rattle.rv_rules.specs.Counting.{NumberOf}
-pub use Rattle.rv_rules.specs.Legal.{HasWaiting, IsOpenOpposite, Legal, MayFollow, before}
+pub use Rattle.rv_rules.specs.Legal.{IsOpenOpposite, Legal, MayFollow, before}
 pub use Rattle.rv_rules.specs.Sessions.{HasIncarnation, LastHello, LastNumber, NamesKey}
 pub use Rattle.rv_rules.specs.Waiting.{EndsWait, Met, NamesPartner, Open, OpenAt, Stopped, StoppedAt, Waiting}
 pub use Rattle.rv_rules.specs.Waiting.{limit_at}

@@ -19,9 +19,6 @@ use Rattle.rv_session.proofs.Mapping.{are_same}
 abbrev pub clients_of : Table → List ℕ
 clients_of t = keys t.sessions
 
-pub length-clients : (t : Table) → length (clients_of t) ≡ session_count t
-length-clients t = length-map (entries t.sessions) (λ e. e.0) ∙ sym (len-entries t.sessions)
-
 first_holds : (a b : Bool) → T (a && b) → T a
 first_holds true b h = tt
 first_holds false b h = absurd h
@@ -44,9 +41,6 @@ rises (e ∷ []) h k below = absurd (omega arith)
 rises (e ∷ f ∷ es) h zero below = less_by_cmp e.0 f.0 (first_holds _ _ (first_holds _ _ h))
 rises (e ∷ f ∷ es) h (suc k) below =
     rw (add-one (suc k)) (rw (add-one k) at (rises (f ∷ es) (second_holds _ _ h) k (omega arith)))
-
-pub clients_rise : (t : Table) → IsStrictlyIncreasing (clients_of t)
-clients_rise t = rises (entries t.sessions) (entries_sorted t.sessions)
 
 pub clients_are : (t : Table) (client : ℕ) → Contains (clients_of t) client ↔ IsSome (session_of t client)
 clients_are t client = (

@@ -3,7 +3,7 @@ use Rattle.rv_state.proofs.Words.{◌≡◌, ◌⊎◌, ◌∷◌, ◌∙◌, in
 use Rattle.rv_state.proofs.Words.{ap, subst, slice_get, none-some, same_Some, Key, Call, Reply, Act, Hello}
 use Rattle.rv_state.proofs.Words.{Arrive, Cancel, Tick, Entry, Account, act_at, key_in, IsNextNumber, Legal}
 use Rattle.rv_state.proofs.Words.{MayFollow, WaitsUnder, RepliesAt, Waiting, act_read, reads_on}
-use Rattle.rv_state.proofs.Words.{get-append_end, OpenPlace, State, client_waits, Settled, acted, cancelled}
+use Rattle.rv_state.proofs.Words.{get-append_end, OpenPlace, State, client_waits, Settled, acted}
 use Rattle.rv_state.proofs.Words.{following, state_of, IsArrival}
 use Rattle.rv_rules.specs.Replies.{HasReply}
 use Rattle.rv_rules.proofs.Sides.{IsRequestUnder, cancel_stops}
@@ -15,6 +15,7 @@ use Rattle.rv_state.proofs.Coming.{Comes, more}
 use Rattle.rv_state.proofs.FollowsBoth.{account_to_state}
 use Rattle.rv_state.proofs.GoneBy.{gone_by, waiting_no_put}
 use Rattle.rv_state.proofs.ClosedPlaces.{closes_open}
+use Rattle.rv_state.proofs.OwnAnswers.{cancel_by}
 use Rattle.rv_state.proofs.SettledOrder.{settled_order}
 use Rattle.rv_state.proofs.Settling.{settled_get, settles_are, tells}
 use Rattle.rv_state.proofs.Telling.{IsSettledBy, all_settled, own_replies, own_waits, settled_replies}
@@ -96,11 +97,6 @@ told_cancelled s moment i key settled there =
     (subst (λ list. slice_get list i ≡ Some settled) is there) in
     sym (same_Some _ _ from.is)
 
-cancel_replies : (s : State) (key : Key) (o : Option OpenPlace)
-    → (cancelled s key o).reply ≡ Some reply.Cancelled
-cancel_replies s key None = refl
-cancel_replies s key (Some there) = refl
-
 cancelled_waits : (a : Account) (s : State) (e : Entry) (key : Key) → Comes a s e → e.act ≡ Cancel key
     → WaitsUnder a.entries key → HasReply (more a e) key reply.Cancelled
 cancelled_waits a s e key comes says under =
@@ -142,7 +138,7 @@ own_told a s e comes (Arrive own call) says key is =
 own_told a s e comes (Cancel own) says key is =
     let named : e.act ≡ Cancel key = says ∙ ap Cancel (same_Some _ _ is) in
     let told : (following s e.moment e.act).reply ≡ Some reply.Cancelled =
-    ap (λ does. (acted s e.moment does).reply) named ∙ cancel_replies s key (client_waits s key.client) in
+    ap (λ does. (acted s e.moment does).reply) named ∙ cancel_by s key (client_waits s key.client) in
     subst (ToldOwn (more a e) key) (sym told)
     (own_cancel_told a s e key comes named (comes.follows.numbers.cancels key named))
 own_told a s e comes Tick says key is = absurd (none-some key is)

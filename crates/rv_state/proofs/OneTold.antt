@@ -49,7 +49,7 @@ pub meet_back : (es : List Entry) (r s : ℕ) → Meet es r s → Meet es s r
 meet_back es r s (inl names) = inr names
 meet_back es r s (inr names) = inl names
 
-one_taker : (a : Account) (r : ℕ) (own : Call) (x y : Key) → Legal a → call_at a.entries r ≡ Some own
+pub one_taker : (a : Account) (r : ℕ) (own : Call) (x y : Key) → Legal a → call_at a.entries r ≡ Some own
     → may_name own ≡ 1 → MeetsKey a.entries r x → MeetsKey a.entries r y → x ≡ y
 one_taker a r own x y legal arrived single first second =
     let place : first.place ≡ second.place =

@@ -65,7 +65,7 @@ pub first_replies : (a : Account) (e : Entry) (key : Key) → Legal a
 first_replies a e key legal has next says =
     record { reply = Cancelled; has = inr (cancelled_first a e key legal has next says, refl); is = refl }
 
-cancel_by : (s : State) (key : Key) (o : Option OpenPlace) → (cancelled s key o).reply ≡ Some Cancelled
+pub cancel_by : (s : State) (key : Key) (o : Option OpenPlace) → (cancelled s key o).reply ≡ Some Cancelled
 cancel_by s key None = refl
 cancel_by s key (Some there) = refl
 

@@ -27,12 +27,6 @@ use Rattle.rv_state.proofs.Settling.{settles_are, tells}
 
 -- ---- whose place it is
 
--- who is settled at an open place waits there
-pub record SettledThere (there : OpenPlace) (settled : Settled) : Type 0 where
-  pub waiter : Waiter
-  pub waits : there.waiter ≡ Some waiter
-  pub key_is : waiter.key ≡ settled.key
-
 settled_there : (told : Key → Option Reply) (waiter : Option Waiter) (settled : Settled)
     → option_and_then (λ w. option_map (λ r. record { key = w.key; reply = r }) (told w.key)) waiter
     ≡ Some settled

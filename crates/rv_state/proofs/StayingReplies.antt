@@ -33,7 +33,8 @@ pub drained_from : (es : List Entry) (o : Option (List ℕ)) (xs : List (List �
 drained_from es None xs is = absurd (none-some xs is)
 drained_from es (Some places) xs is = (places, refl, is)
 
-drains_on : (es more : List Entry) (r : ℕ) (xs : List (List ℕ)) → Drains es r xs → Drains (es ++ more) r xs
+pub drains_on : (es more : List Entry) (r : ℕ) (xs : List (List ℕ)) → Drains es r xs
+    → Drains (es ++ more) r xs
 drains_on es more r xs is =
     let from = drained_from es (partners_at es r) xs is in
     let there = reads_on (λ o. option_map (λ e. e.partners) o) refl es more r from.0 from.1 in

@@ -1,21 +1,15 @@
 -- What stops a waiting request first tells it its reply.
-use Rattle.rv_state.proofs.Words.{◌≡◌, ◌<◌, ◌∷◌, ◌++◌, ◌∙◌, inl, inr, ℕ, zero, suc, List, [], length, Some}
-use Rattle.rv_state.proofs.Words.{option_and_then, refl, sym, ap, subst, arith, same_Some, Key, Call, Wait}
-use Rattle.rv_state.proofs.Words.{Now, Millis, Forever, Reply, Entry, Names, call_in, IsPut, Lasts, Stays}
-use Rattle.rv_state.proofs.Words.{RepliesAt, RepliesUnmet, Met, StoppedAt, act_read, reads_within, WaitsThere}
+use Rattle.rv_state.proofs.Words.{◌≡◌, ◌<◌, ◌∷◌, ◌++◌, ◌∙◌, inl, inr, ℕ, List, [], length}
+use Rattle.rv_state.proofs.Words.{option_and_then, refl, sym, ap, subst, arith, same_Some, Key, Call}
+use Rattle.rv_state.proofs.Words.{Reply, Entry, Names, call_in, IsPut, Stays}
+use Rattle.rv_state.proofs.Words.{RepliesAt, Met, StoppedAt, act_read, reads_within, WaitsThere}
 use Rattle.rv_rules.specs.Replies.{ToldStopped, told_by}
 use Rattle.rv_rules.proofs.FirstStops.{told_by_last}
 use Rattle.rv_rules.proofs.Growing.{Met-back}
 use Rattle.rv_rules.proofs.Opposites.{looks_alone}
+use Rattle.rv_state.proofs.UnmetReplies.{lasting_told}
 use Rattle.rv_text.specs.declared.call.Call.TheVariants as call
 use Rattle.rv_text.specs.declared.answer.Reply.TheVariants as reply
-
-lasting_told : (wait : Wait) (es : List Entry) (r : ℕ) (at_once told : Reply) → Lasts (Some wait)
-    → ToldStopped es r told → RepliesUnmet es r wait at_once told
-lasting_told Now es r at_once told lasts stopped = absurd lasts
-lasting_told (Millis zero) es r at_once told lasts stopped = absurd (omega arith)
-lasting_told (Millis (suc n)) es r at_once told lasts stopped = stopped
-lasting_told Forever es r at_once told lasts stopped = stopped
 
 -- one that stays, unmet, is told by what stopped it first
 stopped_told : (its : Call) (es : List Entry) (r : ℕ) (told : Reply) → Stays its → (IsPut its → ⊥)

@@ -1,8 +1,8 @@
 -- A step is there wherever no refusal is due.
-use Rattle.rv_world.proofs.Words.{◌≡◌, ◌≢◌, ◌⊎◌, ◌+◌, ◌<◌, ◌∷◌, ◌++◌, ◌∙◌, inl, inr, ℕ, List, [], Option}
+use Rattle.rv_world.proofs.Words.{◌≡◌, ◌≢◌, ◌+◌, ◌<◌, ◌∷◌, ◌++◌, ◌∙◌, inl, inr, ℕ, List, [], Option}
 use Rattle.rv_world.proofs.Words.{Some, None, Bool, true, cond, nat_eq, length, refl, sym, ap, arith}
 use Rattle.rv_world.proofs.Words.{option_and_then, lookup, nat_tests, Version, Key, Message, Call, Answer}
-use Rattle.rv_world.proofs.Words.{Reply, Act, Account, need_of, Legal, Adds, Next, Ticks, step_moment}
+use Rattle.rv_world.proofs.Words.{Reply, Legal}
 use Rattle.rv_world.proofs.Words.{same_or_not, Process, New, Idle, Outstanding, Starting, Asking, Hears}
 use Rattle.rv_world.proofs.Words.{first_key, key_after, cancel_of, hello_of, request_of, Outcome, Welcomed}
 use Rattle.rv_world.proofs.Words.{TurnedAway, Settled, EpochEnded, Replaced, Ignored, Event, Packet, Seen}
@@ -12,254 +12,25 @@ use Rattle.rv_world.proofs.Words.{RunsNone, Steps, WorldBecomes, sender, with_me
 use Rattle.std.specs.Prelude.{slice_get}
 use Rattle.std.proofs.lemmas.Bool.{cases_lt}
 use Rattle.std.proofs.lemmas.List.{append_cancel_left, length-append}
-use Rattle.rv_text.specs.declared.version.Version.TheVariants.{One, Two}
 use Rattle.rv_text.specs.declared.answer.Refusal.{Refusal}
-use Rattle.rv_book.specs.Laws.{CanCancel, CanEnter}
-use Rattle.rv_book.specs.Legal.{WaitsUnder}
-use Rattle.rv_book.specs.Sessions.{HasIncarnation, LastNumber}
-use Rattle.rv_book.specs.Steps.{Answers, BusyDue, ClientsFullDue, EntersOrNoMemory, EpochFullDue, GapDue}
-use Rattle.rv_book.specs.Steps.{KeyLines, NextAt, NoSessionDue, OldIncarnationDue, OldNumberDue, OtherCallDue}
-use Rattle.rv_book.specs.Steps.{OtherEpochDue, OtherVersionDue, RefuseOr, Refuses, Repeats, Replies}
-use Rattle.rv_book.specs.Steps.{WhereElse, HelloLines}
 use Rattle.rv_rules.proofs.Deciding.{key_or_other}
-use Rattle.rv_book.proofs.Entering.{cancels_can_enter, hellos_can_enter, requests_can_enter, ticks_can_enter}
-use Rattle.rv_book.proofs.Staying.{one_told}
+use Rattle.rv_state.proofs.DueDecided.{same_version}
+use Rattle.rv_book.proofs.CanEnter.{next_exists}
 use Rattle.rv_client.specs.Process.{SaysNothingFinal}
 use Rattle.rv_world.specs.Events.{next_answer, next_message}
 use Rattle.rv_world.specs.Laws.{CanStep, SentNoMemory, StepsExist}
 use Rattle.rv_world.proofs.TableWrites.{apart_from}
-use Rattle.rv_text.specs.declared.message.Message.TheVariants as message
 use Rattle.rv_text.specs.declared.answer.Answer.TheVariants as answers
 use Rattle.rv_text.specs.declared.answer.Refusal.TheVariants as refusals
-use Rattle.rv_text.specs.declared.answer.Reply.TheVariants as reply
-use Rattle.rv_account.specs.declared.entry.Act.TheVariants as act
 use Rattle.rv_world.specs.declared.event.Event.TheVariants as event
 use Rattle.rv_world.specs.declared.seen.Seen.TheVariants as sees
 use Rattle.rv_world.specs.declared.seen.WorldRefusal.TheVariants as refuses
-
--- ---- a step of the book
-
--- an account and an answer are so, and the answer is no want of memory
-record Chosen (Is : Account → Answer → Type 0) : Type 0 where
-  after : Account
-  said : Answer
-  is : Is after said
-  ample : said ≢ answers.Refused refusals.NoMemory
-
--- a refusal that is due and names no want of memory
-same_refusal : (p q : Refusal) → answers.Refused p ≡ answers.Refused q → p ≡ q
-same_refusal p q e = cc
-
-refuse_or : (D : Refusal → Type 0) (O : Type 0) (Is : Account → Answer → Type 0) (a : Account)
-    → ((refusal : Refusal) → D refusal → refusal ≢ refusals.NoMemory)
-    → (O → Chosen Is) → RefuseOr D (λ refusal. Unit {0}) O
-    → Chosen (λ b x. RefuseOr D (Refuses a b x) (Is b x))
-refuse_or D O Is a named goes_on (inl h) = record {
-  after = a;
-  said = answers.Refused h.refusal;
-  is = inl (record { refusal = h.refusal; is_due = h.is_due; refuses_it = (refl, refl) });
-  ample = λ e. named h.refusal h.is_due (same_refusal h.refusal refusals.NoMemory e);
-}
-refuse_or D O Is a named goes_on (inr h) =
-    let k = goes_on h.1 in
-    record { after = k.after; said = k.said; is = inr (h.0, k.is); ample = k.ample }
-
-where_else : (C T O : Type 0) (This That : Account → Answer → Type 0) → (T → Chosen This) → (O → Chosen That)
-    → WhereElse C T O
-    → Chosen (λ b x. WhereElse C (This b x) (That b x))
-where_else C T O This That this that (inl h) = let k = this h.1 in record {
-  after = k.after;
-  said = k.said;
-  is = inl (h.0, k.is);
-  ample = k.ample;
-}
-where_else C T O This That this that (inr h) = let k = that h.1 in record {
-  after = k.after;
-  said = k.said;
-  is = inr (h.0, k.is);
-  ample = k.ample;
-}
-
--- what is due is no want of memory
-other_epoch : (a : Account) (key : Key) (p : Refusal) → OtherEpochDue a key p → p ≢ refusals.NoMemory
-other_epoch a key p due none = let is = due.1 in cc
-
-no_session : (a : Account) (key : Key) (p : Refusal) → NoSessionDue a key p → p ≢ refusals.NoMemory
-no_session a key p due none = let is = due.1 in cc
-
-old_incarnation : (a : Account) (client incarnation : ℕ) (p : Refusal)
-    → OldIncarnationDue a client incarnation p → p ≢ refusals.NoMemory
-old_incarnation a client incarnation p due none = let is = due.is in cc
-
-other_version : (a : Account) (client incarnation : ℕ) (version : Version) (p : Refusal)
-    → OtherVersionDue a client incarnation version p → p ≢ refusals.NoMemory
-other_version a client incarnation version p due none = let is = due.is in cc
-
-old_number : (a : Account) (key : Key) (p : Refusal) → OldNumberDue a key p → p ≢ refusals.NoMemory
-old_number a key p due none = let is = due.is in cc
-
-other_call : (a : Account) (key : Key) (call : Call) (p : Refusal) → OtherCallDue a key call p
-    → p ≢ refusals.NoMemory
-other_call a key call p due none = let is = due.is in cc
-
-busy : (a : Account) (key : Key) (p : Refusal) → BusyDue a key p → p ≢ refusals.NoMemory
-busy a key p due none = let is = due.is in cc
-
-gap : (a : Account) (key : Key) (p : Refusal) → GapDue a key p → p ≢ refusals.NoMemory
-gap a key p due none = let is = due.is in cc
-
-clients_full : (a : Account) (client : ℕ) (p : Refusal) → ClientsFullDue a client p → p ≢ refusals.NoMemory
-clients_full a client p due none = let is = due.is in cc
-
-epoch_full : (a : Account) (need : ℕ) (p : Refusal) → EpochFullDue a need p → p ≢ refusals.NoMemory
-epoch_full a need p due none = let is = due.is in cc
-
-replied_ample : (key : Key) (told : Reply) (x : Answer) → x ≡ answers.Replied key told
-    → x ≢ answers.Refused refusals.NoMemory
-replied_ample key told x is none = cc
-
-waits_ample : (key : Key) (x : Answer) → x ≡ answers.Waiting key → x ≢ answers.Refused refusals.NoMemory
-waits_ample key x is none = cc
-
-welcome_ample : (epoch client incarnation : ℕ) (version : Version)
-    → answers.Welcome epoch client incarnation version ≢ answers.Refused refusals.NoMemory
-welcome_ample epoch client incarnation version none = cc
-
-answer_ample : (a : Account) (key : Key) (x : Answer) → Answers a key x
-    → x ≢ answers.Refused refusals.NoMemory
-answer_ample a key x (inl replies) = replied_ample key replies.reply x replies.is
-answer_ample a key x (inr waits) = waits_ample key x waits.1
-
--- a repeat is told what its key is told
-repeat : (a : Account) (key : Key) (x : Answer) → Legal a → Answers a key x
-    → Chosen (λ b y. Repeats a b key y)
-repeat a key x legal told = record {
-  after = a;
-  said = x;
-  is = record { account = refl; answers = told; only = λ other also. one_told a key x other legal told also };
-  ample = answer_ample a key x told;
-}
-
--- the lines for a key, with what is chosen at the last number and above it
-key_lines : (a : Account) (key : Key) (need : ℕ) (L G : Type 0) (Last Above : Account → Answer → Type 0)
-    → (L → Chosen Last) → (G → Chosen Above)
-    → KeyLines a key (λ refusal. Unit {0}) L (RefuseOr (EpochFullDue a need) (λ refusal. Unit {0}) G)
-    → Chosen (λ b x. KeyLines a key (Refuses a b x) (Last b x) (RefuseOr (EpochFullDue a need) (Refuses a b x)
-    (Above b x)))
-key_lines a key need L G Last Above last above =
-    refuse_or _ _ _ a (other_epoch a key)
-    (refuse_or _ _ _ a (no_session a key)
-    (refuse_or _ _ _ a (old_incarnation a key.client key.incarnation)
-    (refuse_or _ _ _ a (old_number a key)
-    (where_else (LastNumber a.entries key.client key.number) L _ Last _ last
-    (refuse_or _ _ _ a (busy a key)
-    (refuse_or _ _ _ a (gap a key)
-    (refuse_or _ _ _ a (epoch_full a need)
-    above)))))))
-
-request_lines : (before a : Account) (now : ℕ) (key : Key) (call : Call) → Legal a
-    → KeyLines a key (λ refusal. Unit {0}) (RefuseOr (OtherCallDue a key call) (λ refusal. Unit {0})
-    ((x : Answer) × Answers a key x))
-    (RefuseOr (EpochFullDue a (need_of call)) (λ refusal. Unit {0}) (CanEnter a (step_moment before now) key
-    call))
-    → Chosen (λ b x. NextAt a (step_moment before now) (message.Request key call) b x)
-request_lines before a now key call legal lines =
-    let moment : ℕ = step_moment before now in
-    key_lines a key (need_of call) _ _
-    (λ b x. RefuseOr (OtherCallDue a key call) (Refuses a b x) (Repeats a b key x))
-    (λ b x. EntersOrNoMemory a moment (act.Arrive key call) b x (Answers b key x))
-    (refuse_or (OtherCallDue a key call) ((x : Answer) × Answers a key x) (λ b x. Repeats a b key x) a
-    (other_call a key call) (λ told. repeat a key told.0 legal told.1))
-    (λ can. record {
-      after = can.after;
-      said = can.answer;
-      is = inr (can.adds, can.answers);
-      ample =
-          answer_ample can.after key can.answer can.answers;
-    })
-    lines
-
-cancel_lines : (before a : Account) (now : ℕ) (key : Key) → Legal a
-    → KeyLines a key (λ refusal. Unit {0}) (WhereElse (WaitsUnder a.entries key)
-    (CanCancel a (step_moment before now) key) ((x : Answer) × Replies a key x))
-    (RefuseOr (EpochFullDue a 1) (λ refusal. Unit {0}) (CanCancel a (step_moment before now) key))
-    → Chosen (λ b x. NextAt a (step_moment before now) (message.Cancel key) b x)
-cancel_lines before a now key legal lines =
-    let moment : ℕ = step_moment before now in
-    key_lines a key 1 _ _
-    (λ b x. WhereElse (WaitsUnder a.entries key) (Adds a moment (act.Cancel key) b
-    × (x ≡ answers.Replied key reply.Cancelled)) (Repeats a b key x))
-    (λ b x. EntersOrNoMemory a moment (act.Cancel key) b x (Replies b key x))
-    (where_else (WaitsUnder a.entries key) (CanCancel a moment key) ((x : Answer) × Replies a key x)
-    (λ b x. Adds a moment (act.Cancel key) b × (x ≡ answers.Replied key reply.Cancelled))
-    (λ b x. Repeats a b key x)
-    (λ can. record {
-      after = can.after;
-      said = answers.Replied key reply.Cancelled;
-      is = (can.adds, refl);
-      ample = replied_ample key reply.Cancelled _ refl;
-    })
-    (λ told. repeat a key told.0 legal (inl told.1)))
-    (λ can. record {
-      after = can.after;
-      said = answers.Replied key reply.Cancelled;
-      is =
-          inr (can.adds, can.replies);
-      ample = replied_ample key reply.Cancelled _ refl;
-    })
-    lines
-
-hello_lines : (a : Account) (moment client incarnation : ℕ) (version : Version)
-    → HelloLines a client incarnation version (λ refusal. Unit {0}) (Unit {0}) ((b : Account) × Adds a moment
-    (act.Hello client incarnation version) b)
-    → Chosen (λ b x. NextAt a moment (message.Hello client incarnation version) b x)
-hello_lines a moment client incarnation version lines =
-    let welcome : Answer = answers.Welcome a.epoch client incarnation version in
-    let ample = welcome_ample a.epoch client incarnation version in
-    let says : Act = act.Hello client incarnation version in
-    refuse_or _ _ _ a (old_incarnation a client incarnation)
-    (refuse_or _ _ _ a (other_version a client incarnation version)
-    (where_else (HasIncarnation a.entries client incarnation) (Unit {0}) _ (λ b x. (b ≡ a) × (x ≡ welcome)) _
-    (λ again. record { after = a; said = welcome; is = (refl, refl); ample = ample })
-    (refuse_or _ _ _ a (clients_full a client)
-    (refuse_or _ ((b : Account) × Adds a moment says b) (λ b x. EntersOrNoMemory a moment says b x
-    (x ≡ welcome)) a (epoch_full a 1)
-    (λ can. record { after = can.0; said = welcome; is = inr (can.1, refl); ample = ample })))))
-    lines
-
--- each message leads on, whatever its moment
-chosen : (before a : Account) (now : ℕ) (m : Message) → Legal before → Ticks before (step_moment before now) a
-    → Legal a → Chosen (λ b x. NextAt a (step_moment before now) m b x)
-chosen before a now (message.Hello client incarnation version) legal ticks then = hello_lines a
-    (step_moment before now) client incarnation version (hellos_can_enter before a now client incarnation
-    version legal ticks)
-chosen before a now (message.Request key call) legal ticks then = request_lines before a now key call then
-    (requests_can_enter before a now key call legal ticks)
-chosen before a now (message.Cancel key) legal ticks then = cancel_lines before a now key then
-    (cancels_can_enter before a now key legal ticks)
-
-next_exists : (a : Account) (now : ℕ) (m : Message) → Legal a → Chosen (λ b x. Next a now m b x)
-next_exists a now m legal =
-    let ticks = ticks_can_enter a now legal in
-    let k = chosen a ticks.0 now m legal ticks.1 ticks.2 in
-    record {
-      after = k.after;
-      said = k.said;
-      is = record { ticked = ticks.0; ticks = ticks.1; steps = k.is };
-      ample = k.ample;
-    }
 
 -- ---- what a process makes of an answer
 
 record CanHear (process : Process) (answer : Answer) : Type 0 where
   outcome : Outcome
   hears : Hears process answer outcome
-
-same_version : (v w : Version) → (v ≡ w) ⊎ (v ≢ w)
-same_version One One = inl refl
-same_version Two Two = inl refl
-same_version One Two = inr (λ is. cc)
-same_version Two One = inr (λ is. cc)
 
 -- a welcome that is not for it
 passes_welcome : (s : Starting) (epoch client incarnation : ℕ) (version : Version)
@@ -682,7 +453,7 @@ can_reach_server w packet moment legal nothing (Some m) is =
       present = next.after;
       to_client = w.to_client ++ record {
         client = sender m;
-        answer = next.said;
+        answer = next.answer;
       } ∷ [];
     } in
     record {
@@ -691,15 +462,14 @@ can_reach_server w packet moment legal nothing (Some m) is =
       steps = record {
         message = m;
         there = is;
-        said = next.said;
-        next = next.is;
-        told = next.said;
-        is_told =
-            inl refl;
+        said = next.answer;
+        next = next.next;
+        told = next.answer;
+        is_told = inl refl;
         rest = refl;
         shown = refl;
       };
-      not_sent = told w v (sender m) next.said refl next.ample;
+      not_sent = told w v (sender m) next.answer refl next.in_memory;
     }
 
 can_reach_client : (w : World) (packet : ℕ) → NoRefusalDue w (event.ToClient packet) → (sent : Option Packet)

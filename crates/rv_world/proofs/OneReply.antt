@@ -1,7 +1,8 @@
 -- Each key has one reply: what an event adds to what was asked, held and answered keeps that.
 use Rattle.rv_world.proofs.Words.{◌≡◌, ◌⊎◌, ◌∙◌, inl, inr, sym, subst, Key, Call, Reply, Account, HasReply}
 use Rattle.rv_world.proofs.Words.{World, IsHeld, WasAsked, HasEachKeyOnce, IsAnswered, OnlyGrows}
-use Rattle.rv_book.proofs.Staying.{one_reply, replies_stay}
+use Rattle.rv_book.proofs.Staying.{replies_stay}
+use Rattle.rv_state.proofs.OneTold.{one_reply}
 use Rattle.rv_world.specs.Headline.{IsReplyOf, LegalAccounts, NoTwoReplies}
 use Rattle.rv_world.proofs.Listing.{still_contains}
 use Rattle.rv_text.specs.declared.answer.Answer.TheVariants as answers

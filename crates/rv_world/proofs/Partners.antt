@@ -16,7 +16,7 @@ use Rattle.rv_rules.proofs.Fronts.{read_whole}
 use Rattle.rv_rules.proofs.Growing.{act_read, call_read, read_there}
 use Rattle.rv_rules.proofs.Opposites.{opposite_back}
 use Rattle.rv_rules.proofs.OnePartner.{arrives_once, meets_one, partner_open}
-use Rattle.rv_book.proofs.Receipts.{one_taker}
+use Rattle.rv_state.proofs.OneTold.{one_taker}
 use Rattle.rv_world.specs.Headline.{IsNo, IsPair, IsReceipt, IsToldItem, NamesTaker}
 use Rattle.rv_world.proofs.Drained.{told_among}
 use Rattle.rv_text.specs.declared.call.Call.TheVariants as call

@@ -106,12 +106,3 @@ newest_after old new messages sent said are same is quiet =
     subst (λ (l : List (ℕ × ℕ)). AreNewest l (started_by sent)) (sym same)
     (subst (λ (l : List (ℕ × ℕ)). AreNewest old l) (sym (ap (λ (l : List Message). started_by l) is
     ∙ sent_quiet messages said quiet)) are)
-
-pub none_newest : AreNewest [] []
-none_newest = record {
-  known = λ client last found. absurd (none-some last found);
-  unknown = λ client any none there. nothing there.1;
-}
-  where
-    nothing : {k : ℕ} → k < 0 → ⊥
-    nothing below = omega (arith, below)

@@ -1,15 +1,16 @@
--- The own step of a hello, a request or a cancel is the step of the message.
-use Rattle.rv_book.proofs.Words.{Some, sym, ap, subst, Message, Welcome, NextAt}
+-- A message for which memory was refused is refused so.
+use Rattle.std.proofs.Common.{subst, sym}
+use Rattle.rv_book.specs.Operations.{Becomes}
+use Rattle.rv_account.specs.Account.{Account}
+use Rattle.rv_book.specs.Tables.{account_of}
+use Rattle.rv_book.specs.declared.verdict.KeptAnswer as said
+use Rattle.rv_text.specs.declared.answer.Refusal.TheVariants.{NoMemory}
+use Rattle.rv_book.proofs.Heard.{becomes_lacking}
 use Rattle.rv_book.proofs.state.BookState.answer.Goals as goal
 
-pub returns-in-Ok-clause-step : goal.returns-in-Ok-clause-step
-returns-in-Ok-clause-step c =
-    let a = c.args.self.now.account.account in
-    let welcome = Welcome a.epoch c.in-Hello.client c.in-Hello.incarnation c.in-Hello.version in
-    record {
-      answer = welcome;
-      is = ap (λ epoch. Some (Welcome epoch c.in-Hello.client c.in-Hello.incarnation c.in-Hello.version))
-          c.epoch-epoch.ensures;
-      step = subst (λ (m : Message). NextAt a c.args.moment m c.greet.new.self.account.account welcome)
-          (sym c.in-Hello.is) c.in-Ok.ensures.ok;
-    }
+pub returns-in-Err-clause-step : goal.returns-in-Err-clause-step
+returns-in-Err-clause-step c =
+    subst (λ (b : Account). Becomes (account_of c.args.self.now) c.args.moment c.args.message b
+    (said.TheVariants.Refused NoMemory)) (sym c.make_room.ensures.same.account)
+    (becomes_lacking c.args.self.now c.args.moment c.requires.quiet c.args.message
+    (c.in-Err.ensures.lacks c.args.moment))

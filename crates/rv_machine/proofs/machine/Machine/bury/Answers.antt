@@ -1,5 +1,5 @@
 -- The next number is the last, and cancelled.
-use Rattle.std.proofs.Common.{◌∷◌, ◌∙◌, [], ap, sym, subst, refl}
+use Rattle.std.proofs.Common.{◌∷◌, ◌∙◌, [], ap, arith, sym, subst, refl}
 use Rattle.rv_account.specs.Account.{entry}
 use Rattle.rv_account.specs.declared.entry.Act.TheVariants as act
 use Rattle.rv_account.specs.declared.entry.Entry.{Entry}
@@ -22,15 +22,17 @@ returns-then-is_full-clause-err c =
     fills_cancel c.args.self.now c.args.moment c.args.key c.requires.numbered c.requires.next
     (c.is_full.ensures.full c.if-is_full.true)
 
-pub record-requires-clause-ready : goal.record-requires-clause-ready
-record-requires-clause-ready c =
+pub returns-clause-ready : goal.returns-clause-ready
+returns-clause-ready c =
     let old = c.args.self.now in
-    put_ready old c.requires.ready c.args.key.client (buried old c.args.moment c.args.key c.requires.next)
+    c.record.ensures.ready
+    (put_ready old c.requires.ready c.args.key.client (buried old c.args.moment c.args.key c.requires.next)
     c.bury.new.self
     (clients_buried old c.args.moment c.args.key c.requires.next c.bury.new.self c.bury.ensures)
     (ap (λ (t : ClientStates). t.epoch) c.bury.ensures)
     (ap (λ (t : ClientStates). t.most) c.bury.ensures)
-    (next_idle old c.args.moment c.args.key c.requires.next) refl
+    (next_idle old c.args.moment c.args.key c.requires.next) refl) c.requires.time
+    (omega (arith, c.is_full.ensures.space c.if-is_full.false))
 
 pub returns-clause-numbered : goal.returns-clause-numbered
 returns-clause-numbered c =

@@ -1,9 +1,16 @@
 -- Its items were taken, and its own session stayed until it was told.
-use Rattle.std.proofs.Common.{◌≡◌, ◌∙◌, ℕ, List, ap, arith, length, min, refl}
+use Rattle.std.proofs.Common.{◌≡◌, ◌<◌, ◌+◌, ◌∙◌, ℕ, List, ap, arith, length, min, refl}
+use Rattle.rv_text.specs.declared.call.Call.{Call}
+use Rattle.rv_text.specs.declared.message.Key.{Key}
+use Rattle.rv_rules.specs.Steps.{max_entries}
+use Rattle.rv_state.specs.State.{State}
+use Rattle.rv_machine.specs.Arriving.{MayArrive}
+use Rattle.rv_machine.specs.Taking.{TakesAll}
+use Rattle.rv_machine.specs.declared.machine.Machine.{Machine}
 use Rattle.rv_session.specs.declared.client.LastRequest.{LastRequest}
 use Rattle.rv_session.specs.Clients.{clients_asked, with_clients}
 use Rattle.rv_text.specs.declared.call.Side.TheVariants.{Gives}
-use Rattle.rv_machine.specs.OpenMap.{line_in}
+use Rattle.rv_machine.specs.OpenMap.{count_waiting, line_in}
 use Rattle.rv_session.specs.declared.client.LastRequest.TheVariants.{RepliedTo}
 use Rattle.rv_text.specs.declared.answer.Reply.TheVariants.{Drained}
 use Rattle.rv_account.specs.declared.entry.Act.TheVariants.{Arrive}
@@ -12,6 +19,8 @@ use Rattle.rv_machine.specs.Ending.{counted}
 use Rattle.rv_machine.proofs.Concluded.{asked_in, concluded_ready}
 use Rattle.rv_machine.proofs.Drained.{drains_by, is_known_still, next_there}
 use Rattle.rv_machine.proofs.Leaving.{arrives_as, concluded_now, copied_entry}
+use Rattle.rv_text.specs.Calls.{wait_of}
+use Rattle.rv_machine.proofs.RoomTaken.{needs_one}
 use Rattle.rv_machine.proofs.machine.Machine.drain.Goals as goal
 
 pub conclude-requires : goal.conclude-requires
@@ -20,14 +29,36 @@ conclude-requires c =
     c.min-most.result
     c.take_items.new.items.items c.take_items.new.places.items c.take_items.ensures.takes c.requires.may.next
 
-pub record-requires-clause-ready : goal.record-requires-clause-ready
-record-requires-clause-ready c =
-    concluded_ready c.take_items.new.self c.args.key (RepliedTo c.args.call (Drained c.from_vec.result))
+has_space : (old new : Machine) (queue : ℕ) (key taker : Key) (call : Call) (count moment : ℕ)
+    (items : List (List ℕ)) (places : List ℕ) → MayArrive old moment key call
+    → TakesAll old new queue taker count items places
+    → new.length + count_waiting new.table < max_entries
+has_space old new queue key taker call count moment items places may takes =
+    let least = needs_one (wait_of call) in
+    let fewer = takes.fewer in
+    let length = ap (λ (s : State). s.length) takes.state in
+    let space = may.space in
+    omega arith
+
+pub record-requires : goal.record-requires
+record-requires c =
+    let space = has_space c.args.self.now c.take_items.new.self c.drained_queue-queue.result c.args.key
+    c.args.key c.args.call c.min-most.result c.args.moment c.take_items.new.items.items
+    c.take_items.new.places.items c.requires.may c.take_items.ensures.takes in
+    omega arith
+
+pub returns-clause-ready : goal.returns-clause-ready
+returns-clause-ready c =
+    c.record.ensures.ready
+    (concluded_ready c.take_items.new.self c.args.key (RepliedTo c.args.call (Drained c.from_vec.result))
     c.conclude.new.self c.take_items.ensures.ready
     (next_there c.args.self.now c.take_items.new.self c.args.key c.drained_queue-queue.result
     c.min-most.result
     c.take_items.new.items.items c.take_items.new.places.items c.take_items.ensures.takes c.requires.may.next)
-    refl c.conclude.ensures
+    refl c.conclude.ensures) c.requires.may.time
+    (has_space c.args.self.now c.take_items.new.self c.drained_queue-queue.result c.args.key c.args.key
+    c.args.call c.min-most.result c.args.moment c.take_items.new.items.items c.take_items.new.places.items
+    c.requires.may c.take_items.ensures.takes)
 
 pub returns-clause-arrives : goal.returns-clause-arrives
 returns-clause-arrives c =

@@ -1,5 +1,5 @@
 -- The request that waited is cancelled.
-use Rattle.std.proofs.Common.{◌∷◌, ◌∙◌, [], ap, sym, subst}
+use Rattle.std.proofs.Common.{◌∷◌, ◌∙◌, [], ap, arith, sym, subst}
 use Rattle.rv_account.specs.Account.{entry}
 use Rattle.rv_account.specs.declared.entry.Act.TheVariants as act
 use Rattle.rv_account.specs.declared.entry.Entry.{Entry}
@@ -24,9 +24,16 @@ end-requires-clause-waits c =
     (waits_for s c.requires.ready.consistent c.args.key.client c.args.place asks.state asks.of_key.there
     (ap place_waiting asks.request_is))
 
-pub record-requires-clause-space : goal.record-requires-clause-space
-record-requires-clause-space c =
-    space_after c.args.self.now c.end.new.self c.requires.ready c.args.place Cancelled c.end.ensures.ends
+pub record-requires : goal.record-requires
+record-requires c =
+    let space = space_after c.args.self.now c.end.new.self c.requires.ready c.args.place Cancelled
+    c.end.ensures.ends in
+    omega arith
+
+pub returns-clause-ready : goal.returns-clause-ready
+returns-clause-ready c =
+    c.record.ensures.ready c.end.ensures.ready c.requires.time
+    (space_after c.args.self.now c.end.new.self c.requires.ready c.args.place Cancelled c.end.ensures.ends)
 
 pub returns-clause-numbered : goal.returns-clause-numbered
 returns-clause-numbered c =

@@ -8,11 +8,12 @@ use Rattle.rv_machine.proofs.Idle.{put_ready, put_state}
 use Rattle.rv_machine.proofs.Numbered.{put_numbered}
 use Rattle.rv_machine.proofs.machine.Machine.enter.Goals as goal
 
-pub record-requires-clause-ready : goal.record-requires-clause-ready
-record-requires-clause-ready c =
-    put_ready c.args.self.now c.requires.ready c.args.client (fresh_state c.args.incarnation c.args.version)
+pub returns-clause-ready : goal.returns-clause-ready
+returns-clause-ready c =
+    c.record.ensures.ready
+    (put_ready c.args.self.now c.requires.ready c.args.client (fresh_state c.args.incarnation c.args.version)
     c.enter.new.self c.enter.ensures.clients c.enter.ensures.epoch c.enter.ensures.most c.requires.opens.idle
-    refl
+    refl) c.requires.time c.requires.space
 
 pub returns-clause-numbered : goal.returns-clause-numbered
 returns-clause-numbered c =

@@ -1,17 +1,25 @@
 -- Its client had nothing that waits, and its request has a reply.
-use Rattle.std.proofs.Common.{[], refl}
+use Rattle.std.proofs.Common.{[], arith, refl}
+use Rattle.rv_text.specs.Calls.{wait_of}
 use Rattle.rv_session.specs.declared.client.LastRequest.TheVariants.{RepliedTo}
 use Rattle.rv_account.specs.declared.entry.Act.TheVariants.{Arrive}
 use Rattle.rv_account.specs.Account.{entry}
 use Rattle.rv_machine.specs.Ending.{counted}
 use Rattle.rv_machine.proofs.Concluded.{asked_in, concluded_ready}
 use Rattle.rv_machine.proofs.Leaving.{arrives_as, concluded_now, copied_entry, leaves_arrived}
+use Rattle.rv_machine.proofs.RoomTaken.{needs_one}
 use Rattle.rv_machine.proofs.machine.Machine.leave.Goals as goal
 
-pub record-requires-clause-ready : goal.record-requires-clause-ready
-record-requires-clause-ready c =
-    concluded_ready c.args.self.now c.args.key (RepliedTo c.args.call c.in_ok-reply.reply) c.conclude.new.self
-    c.requires.may.ready c.requires.may.next refl c.conclude.ensures
+pub record-requires : goal.record-requires
+record-requires c = let least = needs_one (wait_of c.args.call) in omega (arith, c.requires.may.space)
+
+pub returns-clause-ready : goal.returns-clause-ready
+returns-clause-ready c =
+    c.record.ensures.ready
+    (concluded_ready c.args.self.now c.args.key (RepliedTo c.args.call c.in_ok-reply.reply)
+    c.conclude.new.self
+    c.requires.may.ready c.requires.may.next refl c.conclude.ensures) c.requires.may.time
+    (let least = needs_one (wait_of c.args.call) in omega (arith, c.requires.may.space))
 
 pub returns-clause-arrives : goal.returns-clause-arrives
 returns-clause-arrives c =

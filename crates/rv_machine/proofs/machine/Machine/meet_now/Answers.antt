@@ -107,7 +107,7 @@ returns-clause-ready c =
     let clients = c.settle.ensures ∙ ap (λ (d : OwedDuty). with_clients c.tell.new.self.clients
     (clients_told c.tell.new.self.clients.clients d.client c.arriving-reply.result))
     (c.meet-there.ensures.own ∙ c.begin-duty.ensures.duty) in
-    subst (λ (m : Machine). IsWhole m) (sym c.push.ensures.counted)
+    subst (λ (m : Machine). IsWhole m) (sym c.record.ensures.counted)
     (new_ready c.args.self.now c.args.moment c.args.key c.args.call c.requires.may c.meet-there.new.self
     c.meet-there.result.there c.meet-there.result.other met c.requires.one c.tell.new.self both
     c.arriving-reply.result own c.settle.new.self clients)
@@ -143,10 +143,10 @@ returns-clause-arrives c =
     let clients = c.settle.ensures ∙ ap (λ (d : OwedDuty). with_clients c.tell.new.self.clients
     (clients_told c.tell.new.self.clients.clients d.client c.arriving-reply.result))
     (c.meet-there.ensures.own ∙ c.begin-duty.ensures.duty) in
-    subst (λ (e : Entry). Arrives c.args.self.now c.push.new.self c.args.moment c.args.key c.args.call e)
-    (sym c.push.ensures.entry)
+    subst (λ (e : Entry). Arrives c.args.self.now c.record.new.self c.args.moment c.args.key c.args.call e)
+    (sym c.record.ensures.entry)
     (subst (λ (m : Machine). Arrives c.args.self.now m c.args.moment c.args.key c.args.call
-    (entry c.args.moment (Arrive c.args.key c.args.copy) c.from_vec.result)) (sym c.push.ensures.counted)
+    (entry c.args.moment (Arrive c.args.key c.args.copy) c.from_vec.result)) (sym c.record.ensures.counted)
     (new_arrives c.args.self.now c.args.moment c.args.key c.args.call c.requires.may c.meet-there.new.self
     c.meet-there.result.there c.meet-there.result.other met c.requires.one c.tell.new.self both
     c.arriving-reply.result own c.settle.new.self clients c.args.copy c.from_vec.result c.requires.copy

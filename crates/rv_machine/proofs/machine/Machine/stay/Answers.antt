@@ -31,7 +31,7 @@ returns-clause-ready c =
     c.args.self.now.clients
     c.park.new.clients o c.args.key c.args.call c.in_ok-put.put) c.in_ok-opened.ensures c.in_ok-put.ensures.ok
     in
-    subst (λ (m : Machine). IsWhole m) (sym c.push.ensures.counted)
+    subst (λ (m : Machine). IsWhole m) (sym c.record.ensures.counted)
     (stay_ready c.args.self.now c.args.moment c.args.key c.args.call c.requires.may c.requires.alone
     c.requires.stays c.in_ok-copy.copy c.in_ok-copy.ensures.same c.park.new.self parks.opens
     c.settle_put.new.clients c.in_ok-put.put parks.own_is
@@ -46,12 +46,12 @@ returns-clause-ok c =
     c.args.self.now.clients
     c.park.new.clients o c.args.key c.args.call c.in_ok-put.put) c.in_ok-opened.ensures c.in_ok-put.ensures.ok
     in
-    subst (λ (e : Entry). Arrives c.args.self.now c.push.new.self c.args.moment c.args.key c.args.call e)
-    (sym (c.push.ensures.entry ∙ ap (entry c.args.moment (Arrive c.args.key c.in_ok-copy.copy))
+    subst (λ (e : Entry). Arrives c.args.self.now c.record.new.self c.args.moment c.args.key c.args.call e)
+    (sym (c.record.ensures.entry ∙ ap (entry c.args.moment (Arrive c.args.key c.in_ok-copy.copy))
     c.none.ensures))
     (subst (λ (m : Machine). Arrives c.args.self.now m c.args.moment c.args.key c.args.call
     (entry c.args.moment (Arrive c.args.key c.in_ok-copy.copy) []))
-    (sym c.push.ensures.counted)
+    (sym c.record.ensures.counted)
     (stay_arrives c.args.self.now c.args.moment c.args.key c.args.call c.requires.may c.requires.alone
     c.requires.stays c.in_ok-copy.copy c.in_ok-copy.ensures.same c.park.new.self parks.opens
     c.settle_put.new.clients c.in_ok-put.put parks.own_is

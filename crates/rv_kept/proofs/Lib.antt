@@ -1,0 +1,10 @@
+pub mod TextsAt
+pub mod MetTexts
+pub mod FrontAfter
+pub mod OwnTexts
+pub mod RequestsAfter
+pub mod SettledTexts
+pub mod OwnKept
+pub mod SettledKept
+pub mod OtherKept
+pub mod KeptOn

@@ -1,0 +1,10 @@
+//! What is kept of each client's reply: the places of the account where its texts stand.
+#![tactic(auto)]
+
+mod naming;
+mod table;
+mod texts;
+
+pub use naming::{kept_again, source};
+pub use table::KeptReplies;
+pub use texts::reply;
