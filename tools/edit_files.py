@@ -60,7 +60,7 @@ def function_at(text, old, path, last=False):
     # from the end of the text on: it may hold the function's name
     start = text.rindex(old) if last else text.index(old)
     lines = text[:start + len(old)].split("\n")
-    name, owner = None, ""
+    name, owner, beside = None, "", None
     for line in reversed(lines):
         found = re.match(r"(\s*)(?:pub(?:\([a-z]+\))? )?(?:const )?(?:unsafe )?fn (\w+)", line)
         if name is None and found:
@@ -69,12 +69,15 @@ def function_at(text, old, path, last=False):
                 break
         elif name is not None and (found := re.match(r"impl(?:<.*?>)? (?:([\w:]+)(?:<.*>)? for )?(\w+)", line)):
             owner = rf"{found[2]}{found[1].split('::')[-1] if found[1] else ''}\w*::"
+            beside = found[2]
             break
         elif name is not None and (found := re.match(r"(?:pub )?trait (\w+)", line)):
             owner = rf"\w*{found[1]}::"
             break
-    # the prover names a method by the module of its type, which may be one above this file's
+    # the prover names a method by the module of its type, which may be one above this file's, or one beside it
     above = "".join(f"(?:{part}::)?" if owner and index else f"{part}::" for index, part in enumerate(modules))
+    if beside and len(modules) == 1 and not re.search(rf"\b(?:struct|enum|trait) {beside}\b", text):
+        above = r"\w+::"
     return re.compile(rf"\w+::{above}{owner}{name}") if name else None
 
 
