@@ -1,6 +1,6 @@
 -- A reply whose text, texts or consumer stand at a place is had again from that place.
-use Rattle.rv_state.proofs.Words.{◌≡◌, ℕ, List, Some, option_map, refl, ap, Call, Reply, Entry}
-use Rattle.rv_state.proofs.Words.{LastRequest, Fresh, Waits, RepliedTo, CancelledUnseen}
+use Rattle.rv_state.proofs.Words.{◌≡◌, ℕ, List, Some, option_map, refl, ap, Reply, Entry}
+use Rattle.rv_state.proofs.Words.{LastRequest}
 use Rattle.rv_account.specs.Account.{item_at, key_at, partners_items}
 use Rattle.rv_state.specs.Moves.{told_again}
 use Rattle.rv_text.specs.declared.answer.Reply.TheVariants as reply

@@ -12,7 +12,7 @@ use std::marker::Model;
 /// more clients there is room.
 ///
 /// Only [`reserve`](KeptReplies::reserve) takes memory. `get` and `keep` look a client up in a hash table,
-/// once or twice, and search nothing else: they take constant time on average.
+/// once unless it is new, and search nothing else: they take constant time on average.
 #[derive(Drop)]
 pub struct KeptReplies {
     replies: IndexMap<u64, Option<Kept>>,
@@ -35,7 +35,7 @@ impl Model for KeptReplies {
 }
 
 impl KeptReplies {
-    ghost use Rattle.std.specs.Prelude.{◌+◌, is_some, option_and_then};
+    ghost use Rattle.std.specs.Prelude.{◌+◌, is_some, option_and_then, true, false};
     ghost use Rattle.std.specs.FinMap.{empty};
 
     /// The table of no client. It takes no memory yet.
@@ -56,13 +56,6 @@ impl KeptReplies {
         }
     }
 
-    // Whether the client is known.
-    fn knows(&self, client: u64) -> bool
-        ensures { result ≡ is_some (get self.now.replies client) }
-    {
-        self.replies.get(&client).is_some()
-    }
-
     /// Makes room for one client more, if there is none. It fails only if memory is refused. What is kept
     /// stays, and there is no less room, also where it fails.
     pub fn reserve(&mut self) -> Result<(), NoMemory>
@@ -75,13 +68,18 @@ impl KeptReplies {
         Ok(())
     }
 
-    // Replaces what is kept of a client that is known, and takes no memory.
-    fn renew(&mut self, client: u64, kept: Option<Kept>)
-        requires { IsSome (get self.old.replies client) }
-        ensures replies { self.new.replies ≡ insert self.old.replies client kept }
-        ensures room { self.new.room ≡ self.old.room }
+    // Replaces what is kept of a client, if it is known, and tells whether it is. It takes no memory.
+    fn renew(&mut self, client: u64, kept: Option<Kept>) -> bool
+        ensures known { result ≡ is_some (get self.old.replies client) }
+        ensures replies { result ≡ true → self.new.replies ≡ insert self.old.replies client kept }
+        ensures room { result ≡ true → self.new.room ≡ self.old.room }
+        ensures stays { result ≡ false → self.new ≡ self.old }
     {
-        *self.replies.get_mut(&client).unwrap() = kept;
+        if let Some(there) = self.replies.get_mut(&client) {
+            *there = kept;
+            return true;
+        }
+        false
     }
 
     // Keeps this of a client that isn't known, for which there must be room.
@@ -102,9 +100,7 @@ impl KeptReplies {
         ensures known { IsSome (get self.old.replies client) → self.new.room ≡ self.old.room }
         ensures room { self.old.room ≤ self.new.room + 1 }
     {
-        if self.knows(client) {
-            self.renew(client, kept);
-        } else {
+        if !self.renew(client, kept) {
             self.add(client, kept);
         }
     }

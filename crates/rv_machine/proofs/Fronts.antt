@@ -1,9 +1,8 @@
 -- What stands first: of what is due, and on a line.
-use Rattle.std.proofs.Common.{◌≡◌, ◌∷◌, ◌∙◌, ℕ, List, [], Option, Some, None, IsSome}
-use Rattle.std.proofs.Common.{length, refl, sym, ap, subst, slice_get, nat_eq}
+use Rattle.std.proofs.Common.{◌≡◌, ◌∷◌, ◌∙◌, ℕ, List, [], Option, Some, IsSome}
+use Rattle.std.proofs.Common.{refl, sym, ap, subst, slice_get, nat_eq}
 use Rattle.std.specs.FinSet.{contains, contains-from_list, remove}
 use Rattle.std.specs.Prelude.{filter_map}
-use Rattle.std.proofs.lemmas.List.{length-map}
 use Rattle.std.proofs.lemmas.Bool.{eqb-true}
 use Rattle.rv_text.specs.declared.call.Side.{Side}
 use Rattle.rv_session.specs.OwedDuty.{OwedDuty}
@@ -13,9 +12,8 @@ use Rattle.rv_state.specs.State.{OpenPlace, place_list, same_side}
 use Rattle.rv_state.proofs.Words.{none-some, same_Some}
 use Rattle.rv_state.specs.After.{deadline_of_place}
 use Rattle.rv_state.proofs.Filtered.{filter_get, find_get}
-use Rattle.rv_waiters.specs.Meeting.{opposed_by}
 use Rattle.rv_waiters.specs.Views.{Waiters, waiting_on}
-use Rattle.rv_machine.specs.OpenMap.{PlacesRise, due_in, duty_at, facing, found_at, line_in, all_but}
+use Rattle.rv_machine.specs.OpenMap.{PlacesRise, due_in, duty_at, found_at, line_in, all_but}
 use Rattle.rv_machine.specs.OpenMap.{without_limit}
 use Rattle.rv_machine.specs.Indexed.{AreIndexed, ClosesDue}
 use Rattle.rv_machine.proofs.DueFirst.{first_due, none_due}

@@ -16,7 +16,7 @@ use Rattle.rv_due.specs.Deadlines.{Deadline, by_moment}
 use Rattle.rv_due.proofs.Order.{by_moment_total, by_moment-IsAntisymmetric}
 use Rattle.rv_state.specs.State.{OpenPlace}
 use Rattle.rv_state.specs.After.{deadline_of_place}
-use Rattle.rv_state.proofs.Filtered.{any_get, filter_get, filter_map_get, get_any, get_filter_map}
+use Rattle.rv_state.proofs.Filtered.{any_get, filter_get, filter_map_get}
 use Rattle.rv_state.proofs.Filtered.{mapped_there}
 use Rattle.std.proofs.lemmas.Bool.{eq-eqb}
 use Rattle.rv_state.proofs.Words.{cons_option}

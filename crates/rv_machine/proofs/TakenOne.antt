@@ -1,9 +1,9 @@
 -- A machine whose oldest item of a queue was taken.
 use Rattle.std.proofs.Common.{◌≡◌, ◌<◌, ◌≤◌, ◌++◌, ◌∷◌, ◌∙◌, ◌+◌, ℕ, List, [], Option, Some, None, IsSome}
 use Rattle.std.proofs.Common.{refl}
-use Rattle.std.proofs.Common.{sym, ap, subst, arith, slice_get, nat_eq, length}
+use Rattle.std.proofs.Common.{sym, ap, subst, arith, slice_get, nat_eq}
 use Rattle.std.proofs.lemmas.List.{append-nil}
-use Rattle.std.specs.Prelude.{IfNone, IfSome, option_map, vec_capacity, vec_len}
+use Rattle.std.specs.Prelude.{IfSome, option_map, vec_capacity, vec_len}
 use Rattle.std.specs.FinMap.{get}
 use Rattle.std.specs.List.{cons_option}
 use Rattle.std.specs.Global.{Vec}

@@ -97,6 +97,10 @@ pub record IsWhole (m : Machine) : Type 0 where
   pub most : m.clients.most ≡ max_clients
   pub room : count_waiting m.table + vec_len m.settled ≤ vec_capacity m.settled
 
+-- the list of the settled takes no more room than there was for it
+abbrev pub SameListRoom : Machine → Machine → Type 0
+SameListRoom old new = vec_capacity new.settled ≡ vec_capacity old.settled
+
 -- ---- what a step tells
 
 -- the keys of those that were settled

@@ -1,9 +1,12 @@
 -- What the two halves of a step make of a machine.
-use Rattle.std.specs.Prelude.{◌≡◌, ◌+◌, ◌≤◌, ℕ, length, option_to_list}
+use Rattle.std.specs.Prelude.{◌≡◌, ◌≢◌, ◌+◌, ◌≤◌, ℕ, None, length, option_to_list}
 use Rattle.rv_text.specs.declared.message.Message.{Message}
+use Rattle.rv_text.specs.declared.message.Message.TheVariants.{Hello, Request, Cancel}
+use Rattle.rv_text.specs.declared.answer.Refusal.TheVariants.{NoMemory}
 use Rattle.rv_state.specs.Moves.{Move, StateNextAt, ticked_at}
 use Rattle.rv_state.specs.State.{waiting_count}
 use Rattle.rv_machine.specs.declared.machine.Machine.{Machine}
+use Rattle.rv_machine.specs.declared.machine.Said.TheVariants.{Refused}
 use Rattle.rv_machine.specs.declared.steps.Heard.{Heard}
 use Rattle.rv_machine.specs.declared.steps.TickMade.{TickMade}
 use Rattle.rv_machine.specs.Machines.{Says, keys_settled, state_in}
@@ -15,6 +18,17 @@ pub record IsTick (old new : Machine) (made : TickMade) : Type 0 where
   pub settles : new.settled.items ≡ keys_settled (ticked_at (state_in old) made.moment).settles
   pub after : state_in new ≡ (ticked_at (state_in old) made.moment).after
   pub room : length (option_to_list made.entry) + waiting_count (state_in new) ≤ waiting_count (state_in old)
+
+-- the message is no request
+abbrev pub IsNoRequest : Message → Type 0
+IsNoRequest (Hello client incarnation version) = Unit {0}
+IsNoRequest (Request key call) = ⊥
+IsNoRequest (Cancel key) = Unit {0}
+
+-- nothing came of a message, and not for want of memory: it repeats what was told, or is refused
+pub record MadeNothing (made : Heard) : Type 0 where
+  pub none : made.entry ≡ None
+  pub in_memory : made.said ≢ Refused NoMemory
 
 -- one move of the state for a message at a moment: it made this entry, this is said, and just these keys are
 -- listed as settled

@@ -5,7 +5,7 @@ ghost use Rattle.rv_rules.specs.Steps.{max_moment};
 ghost use Rattle.rv_session.specs.ClientMeanings.{AsksNext};
 ghost use Rattle.rv_machine.specs.declared.machine.Said.TheVariants as said;
 ghost use Rattle.rv_machine.specs.Entering.{LastWaits};
-ghost use Rattle.rv_machine.specs.Machines.{WasHeard, IsWhole, MovesBy, WasRefused, state_in};
+ghost use Rattle.rv_machine.specs.Machines.{WasHeard, IsWhole, SameListRoom, MovesBy, WasRefused, state_in};
 ghost use Rattle.rv_machine.specs.Numbering.{AreNumbered};
 
 use crate::machine::Machine;
@@ -14,8 +14,7 @@ use rv_session::{KeyStanding, Place};
 use rv_text::{Key, Refusal, Reply};
 
 impl Machine {
-    /// A cancel: it ends what waits, tells what has its reply, and settles what did not come yet. It takes
-    /// no memory.
+    /// A cancel: it ends what waits, tells what has its reply, and settles what did not come yet.
     pub(crate) fn cancel(&mut self, moment: u64, key: Key) -> Result<Option<Entry>, Refusal>
         requires ready { IsWhole self.old }
         requires numbered { AreNumbered (state_in self.old) }
@@ -24,6 +23,7 @@ impl Machine {
         ensures numbered { AreNumbered (state_in self.new) }
         ensures ok { IfOk result (WasHeard self.old self.new moment (Cancel key) (said.Told key)) }
         ensures err { IfErr result (WasRefused self.old self.new moment (Cancel key)) }
+        ensures room { SameListRoom self.old self.new }
     {
         match self.clients.look(&key) {
             KeyStanding::Refused(refusal) => Err(refusal),
@@ -43,6 +43,7 @@ impl Machine {
         ensures ready { IsWhole self.new }
         ensures numbered { AreNumbered (state_in self.new) }
         ensures moves { MovesBy self.old self.new moment (Cancel key) (result ∷ []) (said.Told key) }
+        ensures room { SameListRoom self.old self.new }
     {
         self.end(place, Reply::Cancelled);
         let partners = Partners::none(self.allocator());
@@ -59,6 +60,7 @@ impl Machine {
         ensures numbered { AreNumbered (state_in self.new) }
         ensures ok { IfOk result (WasHeard self.old self.new moment (Cancel key) (said.Told key)) }
         ensures err { IfErr result (WasRefused self.old self.new moment (Cancel key)) }
+        ensures room { SameListRoom self.old self.new }
     {
         if self.is_full(1) {
             return Err(Refusal::EpochFull);

@@ -10,7 +10,7 @@ ghost use Rattle.rv_session.specs.Clients.{fresh_state};
 ghost use Rattle.rv_state.specs.After.{advanced, with_client};
 ghost use Rattle.rv_machine.specs.declared.machine.Said.TheVariants as said;
 ghost use Rattle.rv_machine.specs.Entering.{CanOpen, IsNewHello};
-ghost use Rattle.rv_machine.specs.Machines.{WasHeard, IsWhole, WasRefused, state_in};
+ghost use Rattle.rv_machine.specs.Machines.{WasHeard, IsWhole, SameListRoom, WasRefused, state_in};
 ghost use Rattle.rv_machine.specs.Numbering.{AreNumbered};
 ghost use Rattle.rv_machine.specs.OpenMap.{count_waiting};
 
@@ -37,6 +37,7 @@ impl Machine {
         ensures ok { IfOk result (WasHeard self.old self.new moment (Hello client incarnation version)
             (said.Welcome self.old.clients.epoch client incarnation version)) }
         ensures err { IfErr result (WasRefused self.old self.new moment (Hello client incarnation version)) }
+        ensures room { SameListRoom self.old self.new }
     {
         match self.clients.greet(client, incarnation, version) {
             Greeting::Again => Ok(None),
@@ -72,6 +73,7 @@ impl Machine {
         ensures ok { IfOk result (WasHeard self.old self.new moment (Hello client incarnation version)
             (said.Welcome self.old.clients.epoch client incarnation version)) }
         ensures err { IfErr result (WasRefused self.old self.new moment (Hello client incarnation version)) }
+        ensures room { SameListRoom self.old self.new }
     {
         if self.is_full(1) {
             return Err(Refusal::EpochFull);
@@ -82,8 +84,7 @@ impl Machine {
         }
     }
 
-    // A hello of a later incarnation of a client, whose last request waits at a place if there is one. It
-    // takes no memory.
+    // A hello of a later incarnation of a client, whose last request waits at a place if there is one.
     fn renew(
         &mut self,
         moment: u64,
@@ -101,6 +102,7 @@ impl Machine {
         ensures ok { IfOk result (WasHeard self.old self.new moment (Hello client incarnation version)
             (said.Welcome self.old.clients.epoch client incarnation version)) }
         ensures err { IfErr result (WasRefused self.old self.new moment (Hello client incarnation version)) }
+        ensures room { SameListRoom self.old self.new }
     {
         if self.is_full(1) {
             return Err(Refusal::EpochFull);

@@ -4,7 +4,7 @@ ghost use Rattle.rv_text.specs.Limits.{FitsQueue};
 ghost use Rattle.rv_text.specs.declared.call.Side.TheVariants.{Gives};
 ghost use Rattle.rv_state.specs.State.{client_at, line, place_list, waiting_count};
 ghost use Rattle.rv_machine.specs.Indexed.{WaitsIn};
-ghost use Rattle.rv_machine.specs.Machines.{IsWhole, state_in};
+ghost use Rattle.rv_machine.specs.Machines.{IsWhole, SameListRoom, state_in};
 ghost use Rattle.rv_machine.specs.Ending.{EndsWaiting, counted};
 ghost use Rattle.rv_account.specs.Account.{entry};
 ghost use Rattle.rv_rules.specs.Steps.{max_entries, max_moment};
@@ -46,6 +46,7 @@ impl Machine {
         requires waits { WaitsIn self.old.table place }
         ensures ready { IsWhole self.new }
         ensures ends { EndsWaiting self.old self.new place reply }
+        ensures room { SameListRoom self.old self.new }
     {
         let (there, duty) = self.table.close(place);
         self.settled.push_reserved(there.waiter.unwrap().key);
@@ -91,8 +92,7 @@ impl Machine {
         Some(self.table.front(queue)?.place)
     }
 
-    /// The keys of the requests that were settled by what was called last of [`tick`](Machine::tick) and
-    /// [`hear`](Machine::hear), in their order.
+    /// The keys that the last [`tick`](Machine::tick) or [`hear`](Machine::hear) settled, in their order.
     pub fn settled(&self) -> &[Key]
         ensures { result.now ≡ self.now.settled.items }
     {

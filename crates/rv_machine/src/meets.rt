@@ -102,8 +102,7 @@ impl Machine {
         ensures ready { IsWhole self.new }
         ensures arrives { Arrives self.old self.new moment key call result }
     {
-        let version = self.version_of(key.client);
-        let duty = self.clients.begin(&key, self.length, call);
+        let (duty, version) = self.clients.begin(&key, self.length, call);
         let MetPlace { there, own, other } = self.table.meet(&copy, duty);
         places.push_reserved(there.place);
         let OpenPlace {

@@ -1,8 +1,7 @@
 //! Requests: repeats of the last one, and those of a session's next number, which arrive.
-ghost use Rattle.std.specs.Prelude.{◌≡◌, ◌≢◌, ◌↔◌, ◌≤◌, [], None, IfOk, IfErr, IsTrue};
-ghost use Rattle.std.specs.Prelude.{OnErr};
+ghost use Rattle.std.specs.Prelude.{◌≡◌, ◌≢◌, ◌↔◌, ◌≤◌, [], None, Ok, IfOk, IfErr, OnErr, IsTrue};
 ghost use Rattle.rv_text.specs.declared.message.Message.TheVariants.{Request};
-ghost use Rattle.rv_text.specs.declared.answer.Refusal.TheVariants.{OtherCall};
+ghost use Rattle.rv_text.specs.declared.answer.Refusal.TheVariants.{NoMemory, OtherCall};
 ghost use Rattle.rv_text.specs.Calls.{side_of, wait_of};
 ghost use Rattle.rv_text.specs.Limits.{FitsCall};
 ghost use Rattle.rv_rules.specs.Steps.{max_moment};
@@ -10,7 +9,7 @@ ghost use Rattle.rv_session.specs.ClientMeanings.{AsksNext};
 ghost use Rattle.rv_waiters.specs.Meeting.{StaysBy};
 ghost use Rattle.rv_machine.specs.Arriving.{Arrives, IsAsBefore, MayArrive};
 ghost use Rattle.rv_machine.specs.declared.machine.Said.TheVariants as said;
-ghost use Rattle.rv_machine.specs.Machines.{WasHeard, IsWhole, WasRefused, state_in};
+ghost use Rattle.rv_machine.specs.Machines.{WasHeard, IsWhole, SameListRoom, WasRefused, state_in};
 ghost use Rattle.rv_machine.specs.Numbering.{AreNumbered};
 
 use crate::machine::Machine;
@@ -56,6 +55,8 @@ impl Machine {
         ensures numbered { AreNumbered (state_in self.new) }
         ensures ok { IfOk result (WasHeard self.old self.new moment (Request key call) (said.Told key)) }
         ensures err { IfErr result (WasRefused self.old self.new moment (Request key call)) }
+        ensures none { result ≡ Ok None → SameListRoom self.old self.new }
+        ensures refused { IfErr result (λ refusal. refusal ≢ NoMemory → SameListRoom self.old self.new) }
     {
         match self.clients.look(&key) {
             KeyStanding::Refused(refusal) => Err(refusal),
@@ -78,6 +79,8 @@ impl Machine {
         ensures numbered { AreNumbered (state_in self.new) }
         ensures ok { IfOk result (WasHeard self.old self.new moment (Request key call) (said.Told key)) }
         ensures err { IfErr result (WasRefused self.old self.new moment (Request key call)) }
+        ensures none { result ≡ Ok None → SameListRoom self.old self.new }
+        ensures refused { IfErr result (λ refusal. refusal ≢ NoMemory → SameListRoom self.old self.new) }
     {
         if self.is_full(need_of(&call)) {
             return Err(Refusal::EpochFull);

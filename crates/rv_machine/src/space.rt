@@ -28,8 +28,7 @@ pub fn message_need(message: &Message) -> usize
 }
 
 impl Machine {
-    /// Whether there is no space for so many entries more, beside those that the waiting requests may come to
-    /// need.
+    /// Whether there is no space for so many entries more, beside those that what waits may come to need.
     pub(crate) fn is_full(&self, need: usize) -> bool
         requires ready { IsWhole self.now }
         requires small { need ≤ max_entries }

@@ -5,9 +5,9 @@ ghost use Rattle.rv_rules.specs.Steps.{capped_moment, max_moment};
 ghost use Rattle.rv_state.specs.State.{opening};
 ghost use Rattle.rv_state.specs.Moves.{state_moment};
 ghost use Rattle.rv_machine.specs.declared.machine.Said.TheVariants.{Refused};
-ghost use Rattle.rv_machine.specs.Machines.{IsWhole, state_in};
+ghost use Rattle.rv_machine.specs.Machines.{IsWhole, SameListRoom, state_in};
 ghost use Rattle.rv_machine.specs.Numbering.{AreNumbered};
-ghost use Rattle.rv_machine.specs.Stepping.{IsHearing, IsTick};
+ghost use Rattle.rv_machine.specs.Stepping.{IsHearing, IsNoRequest, MadeNothing, IsTick};
 
 use crate::machine::{Machine, Said};
 use crate::table::OpenTable;
@@ -78,6 +78,7 @@ impl Machine {
         ensures later { self.new.moment ≤ result.moment }
         ensures time { result.moment ≤ max_moment }
         ensures ticks { IsTick self.old self.new result }
+        ensures room { SameListRoom self.old self.new }
     {
         let moment = self.moment.max(now.min(MAX_MOMENT));
         self.settled.clear();
@@ -95,6 +96,8 @@ impl Machine {
         ensures ready { IsWhole self.new }
         ensures numbered { AreNumbered (state_in self.new) }
         ensures hears { IsHearing self.old self.new moment message result }
+        ensures room { IsNoRequest message → SameListRoom self.old self.new }
+        ensures quiet { MadeNothing result → SameListRoom self.old self.new }
     {
         self.settled.clear();
         match message {

@@ -1,8 +1,6 @@
 //! What is open, with the tables by which it is found: who waits on each side, how many, and until when.
-ghost use Rattle.std.specs.Prelude.{◌≡◌, [], ◌∷◌, ◌++◌, None, Some, IfOk, IfSome, IfNone, OnOk, OnErr};
-ghost use Rattle.std.specs.Prelude.{length};
-ghost use Rattle.std.specs.Prelude.{cond, is_some, option_map, slice_get};
-ghost use Rattle.std.specs.Prelude.{◌<◌, IsSome};
+ghost use Rattle.std.specs.Prelude.{◌≡◌, ◌<◌, [], ◌∷◌, ◌++◌, None, Some, IsSome, IfOk, IfSome, IfNone, OnOk};
+ghost use Rattle.std.specs.Prelude.{OnErr, cond, is_some, length, option_map, slice_get};
 ghost use Rattle.std.specs.FinMap.{get};
 ghost use Rattle.rv_account.specs.Calls.{opposite};
 ghost use Rattle.rv_text.specs.Calls.{side_of, wait_of};
@@ -236,8 +234,7 @@ impl OpenTable {
     }
 
     /// An arrival that stays is open from now on, behind all others: its request is the last of its client,
-    /// and its duty comes back only where it is a put's. Fails only if memory was refused, and then nothing
-    /// changes.
+    /// and its duty comes back only where it is a put's. Fails only if memory was refused, and all stays.
     pub(crate) fn park(
         &mut self,
         clients: &mut Clients,
@@ -257,7 +254,7 @@ impl OpenTable {
         self.waiters.reserve(copy)?;
         let place = opened.place;
         lay(&mut self.opens, &mut self.due, opened)?;
-        let duty = clients.begin(key, place, call);
+        let (duty, _) = clients.begin(key, place, call);
         let own = parked(self.waiters.arrive(copy, duty));
         self.waiting += 1 - owing(&own);
         Ok(own)

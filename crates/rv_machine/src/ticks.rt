@@ -1,7 +1,7 @@
 //! Time-outs: all that is due is ended, by one tick.
 ghost use Rattle.std.specs.Prelude.{◌≡◌, ◌≤◌, [], true, false, option_to_list};
 ghost use Rattle.rv_rules.specs.Steps.{max_moment};
-ghost use Rattle.rv_machine.specs.Machines.{IsWhole, state_in};
+ghost use Rattle.rv_machine.specs.Machines.{IsWhole, SameListRoom, state_in};
 ghost use Rattle.rv_machine.specs.Numbering.{AreNumbered};
 ghost use Rattle.rv_machine.specs.OpenMap.{due_in};
 ghost use Rattle.rv_machine.specs.Ticking.{EndsFirst, EndsNext, TimesOut};
@@ -11,8 +11,7 @@ use rv_account::{Act, Entry, Partners};
 use rv_text::Reply;
 
 impl Machine {
-    /// Ends all that is due at a moment, by one tick, and gives its entry if something was due. It takes no
-    /// memory.
+    /// Ends all that is due at a moment, by one tick, and gives its entry if something was due.
     pub(crate) fn time_out(&mut self, moment: u64) -> Option<Entry>
         requires ready { IsWhole self.old }
         requires numbered { AreNumbered (state_in self.old) }
@@ -20,6 +19,7 @@ impl Machine {
         ensures ready { IsWhole self.new }
         ensures numbered { AreNumbered (state_in self.new) }
         ensures ticks { TimesOut self.old self.new moment (option_to_list result) }
+        ensures room { SameListRoom self.old self.new }
     {
         if !self.end_next(moment) {
             return None;
@@ -36,13 +36,13 @@ impl Machine {
         ensures ready { IsWhole self.new }
         ensures numbered { AreNumbered (state_in self.new) }
         ensures ends { EndsFirst self.old self.new moment }
+        ensures room { SameListRoom self.old self.new }
         ensures none_due { due_in self.new.table moment ≡ [] }
     {
         while self.end_next(moment) {}
     }
 
-    // Ends the wait of the request whose limit comes first, if it is due at a moment, and tells whether one
-    // was.
+    // Ends the wait whose limit comes first, if it is due at a moment, and tells whether one was.
     fn end_next(&mut self, moment: u64) -> bool
         requires ready { IsWhole self.old }
         requires numbered { AreNumbered (state_in self.old) }
@@ -51,6 +51,7 @@ impl Machine {
         ensures one { result ≡ true → EndsNext self.old self.new moment }
         ensures none { result ≡ false → due_in self.old.table moment ≡ [] }
         ensures stays { result ≡ false → self.new ≡ self.old }
+        ensures room { SameListRoom self.old self.new }
     {
         match self.table.close_due(moment) {
             Some((there, duty)) => {

@@ -1,7 +1,7 @@
 -- The clients of a table as a rising list: it has each client with a session, no other, and its length is the
 -- number of sessions.
 use Rattle.std.proofs.Common.{◌≡◌, ℕ, zero, suc, add-one, Bool, true, false, ◌&&◌, T, ◌<◌, List, [], ◌∷◌}
-use Rattle.std.proofs.Common.{length, map, IsSome, refl, sym, ◌∙◌, arith}
+use Rattle.std.proofs.Common.{map, IsSome, refl, sym, ◌∙◌, arith}
 use Rattle.std.specs.Prelude.{Contains, ◌↔◌}
 use Rattle.std.specs.List.Sorted.{IsStrictlyIncreasing}
 use Rattle.std.specs.declared.cmp.Ordering.{Ordering}
@@ -10,10 +10,9 @@ use Rattle.std.specs.Ordering.{nat_cmp, is_lt}
 use Rattle.std.specs.Cmp.{ranked, nat_cmp_total}
 use Rattle.std.proofs.lemmas.Cmp.{eq_by_cmp_equiv}
 use Rattle.std.proofs.lemmas.Map.Views.{list_any-from_Contains, Contains-from_any}
-use Rattle.std.specs.FinMap.{keys, entries, entries_sorted, contains_key-keys, len-entries, is_sorted}
-use Rattle.std.proofs.lemmas.List.{length-map}
+use Rattle.std.specs.FinMap.{keys, contains_key-keys, is_sorted}
 use Rattle.rv_session.specs.declared.session.Session.{Session}
-use Rattle.rv_session.specs.Table.{Table, session_of, session_count}
+use Rattle.rv_session.specs.Table.{Table, session_of}
 use Rattle.rv_session.proofs.Mapping.{are_same}
 
 abbrev pub clients_of : Table → List ℕ

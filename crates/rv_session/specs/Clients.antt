@@ -1,5 +1,5 @@
 -- A table of clients: the epoch, the most clients, a map from clients to their states, and the room for more.
-use Rattle.std.specs.Prelude.{ℕ, Option, Some, None, option_and_then, refl}
+use Rattle.std.specs.Prelude.{ℕ, Option, Some, None, option_and_then, option_map, refl}
 use Rattle.std.specs.Ordering.{nat_cmp}
 use Rattle.std.specs.Coded.{Coded, code_by, coded×, coded_ℕ}
 use Rattle.std.specs.FinMap.{FinMap, get, insert}
@@ -80,6 +80,10 @@ with_last_number client number request =
 -- where the last request of a client waits, if it does
 abbrev pub place_awaited : FinMap nat_cmp ClientState → ℕ → Option ℕ
 place_awaited clients client = option_and_then (λ c. place_waiting c.request) (get clients client)
+
+-- the version of a client's session
+abbrev pub client_version : FinMap nat_cmp ClientState → ℕ → Option Version
+client_version clients client = option_map (λ c. c.version) (get clients client)
 
 -- a client that is known has this state now
 abbrev pub insert_known : FinMap nat_cmp ClientState → ℕ → (ClientState → ClientState) → Option ClientState

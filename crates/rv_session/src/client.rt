@@ -97,12 +97,14 @@ impl ClientState {
         *self = state;
     }
 
-    // Makes a number the last, and says what became of its request.
-    pub(crate) fn advance(&mut self, number: u64, request: LastRequest)
-        ensures { self.new ≡ with_last_number self.old number request }
+    // Makes a number the last, says what became of its request, and gives the session's version.
+    pub(crate) fn advance(&mut self, number: u64, request: LastRequest) -> Version
+        ensures asked { self.new ≡ with_last_number self.old number request }
+        ensures version { result ≡ self.old.version }
     {
         self.last = number;
         self.request = request;
+        self.version
     }
 
     // Gives the last request this reply, if it waits.

@@ -51,7 +51,7 @@ impl Clients {
     ghost use Rattle.std.specs.FinMap.{empty};
     ghost use Rattle.rv_session.specs.declared.client.LastRequest.TheVariants as requests;
     ghost use Rattle.rv_session.specs.Clients.{clients_asked, fresh_state, clients_told, place_awaited};
-    ghost use Rattle.rv_session.specs.Clients.{with_clients, with_room};
+    ghost use Rattle.rv_session.specs.Clients.{client_version, with_clients, with_room};
     ghost use Rattle.rv_session.specs.ClientStandings.{hello_greeting, key_standing, stands_as};
     ghost use Rattle.rv_session.specs.ClientMeanings.{GreetingSays, StandingSays};
 
@@ -176,15 +176,17 @@ impl Clients {
         }
     }
 
-    // Makes a key's number the last of its client, with what became of its request.
-    fn advance(&mut self, key: &Key, request: LastRequest)
+    // Makes a key's number the last of its client, with what became of its request, and gives the session's
+    // version.
+    fn advance(&mut self, key: &Key, request: LastRequest) -> Version
         requires { IsSome (get self.old.clients key.now.client) }
-        ensures { self.new ≡ with_clients self.old (clients_asked self.old.clients key.now request) }
+        ensures asked { self.new ≡ with_clients self.old (clients_asked self.old.clients key.now request) }
+        ensures version { client_version self.old.clients key.now.client ≡ Some result }
     {
         self.clients
             .get_mut(&key.client)
             .unwrap()
-            .advance(key.number, request);
+            .advance(key.number, request)
     }
 
     // Gives the last request of a client that is known this reply, if it waits.
@@ -196,15 +198,17 @@ impl Clients {
     }
 
     /// Makes a key's number its client's last, whose request arrived at a place with this call and waits
-    /// there, and gives the duty to settle it. The client must be known. All else stays, the room too.
-    pub fn begin(&mut self, key: &Key, place: Place, call: Call) -> Duty
+    /// there, and gives the duty to settle it and the version of its session. The client must be known. All
+    /// else stays, the room too.
+    pub fn begin(&mut self, key: &Key, place: Place, call: Call) -> (Duty, Version)
         requires { IsSome (get self.old.clients key.now.client) }
-        ensures duty { result ≡ record { place = place; client = key.now.client } }
+        ensures duty { result.0 ≡ record { place = place; client = key.now.client } }
+        ensures version { client_version self.old.clients key.now.client ≡ Some result.1 }
         ensures waits { self.new ≡ with_clients self.old
             (clients_asked self.old.clients key.now (requests.Waits place call)) }
     {
-        self.advance(key, LastRequest::Waits { place, call });
-        Duty::new(place, key.client)
+        let version = self.advance(key, LastRequest::Waits { place, call });
+        (Duty::new(place, key.client), version)
     }
 
     /// Settles the request that a duty is for: from now on it has this reply. The duty's client must wait at

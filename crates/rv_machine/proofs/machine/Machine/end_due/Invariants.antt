@@ -1,6 +1,6 @@
 -- While waits are ended one by one, those that are over are the first that were due.
 use Rattle.std.specs.Prelude.{◌≡◌, length}
-use Rattle.rv_machine.specs.Machines.{IsWhole, state_in}
+use Rattle.rv_machine.specs.Machines.{IsWhole, SameListRoom, state_in}
 use Rattle.rv_machine.specs.Numbering.{AreNumbered}
 use Rattle.rv_machine.specs.OpenMap.{due_in}
 use Rattle.rv_machine.specs.Ticking.{EndsFirst}
@@ -12,6 +12,7 @@ invariant-loop l = record {
   numbered : AreNumbered (state_in l.self);
   moment : l.moment ≡ l.initial.moment;
   ends : EndsFirst l.initial.self l.self l.moment;
+  room : SameListRoom l.initial.self l.self;
 }
 
 abbrev pub decreases-loop : goal.decreases-loop

@@ -48,11 +48,11 @@ arriving-reply-requires c =
     c.meet-there.result.there c.meet-there.result.other) c.requires.copy c.meet-there.ensures.met in
     let told = arrival_told (state_in c.args.self.now) c.requires.may.ready.consistent
     c.meet-there.result.there.place c.meet-there.result.there met.closes.found c.args.call
-    c.version_of-version.result
+    c.begin-duty.result.1
     (opposes c.args.self.now c.args.moment c.args.key c.args.call c.requires.may c.meet-there.new.self
     c.meet-there.result.there c.meet-there.result.other met) in
     subst (λ (o : Option Reply). IsSome o) (sym (same_told c.wait.result c.side.result c.args.call
-    c.version_of-version.result c.key_of-taker.result c.meet-there.result.there
+    c.begin-duty.result.1 c.key_of-taker.result c.meet-there.result.there
     (c.wait.ensures ∙ ap wait_of c.requires.copy) (c.side.ensures ∙ ap side_of c.requires.copy)
     c.key_of-taker.ensures)) told
 
@@ -96,11 +96,11 @@ returns-clause-ready c =
     let own : told_own (state_in c.args.self.now) c.args.key c.args.call (c.meet-there.result.there ∷ [])
     ≡ Some c.arriving-reply.result =
     own_by_side (state_in c.args.self.now) c.args.key c.args.call c.meet-there.result.there
-    c.version_of-version.result
+    c.begin-duty.result.1
     (subst (λ (o : Option Side). IsSome o) (sym (opposes c.args.self.now c.args.moment c.args.key c.args.call
     c.requires.may c.meet-there.new.self c.meet-there.result.there c.meet-there.result.other met)) refl)
-    c.requires.one c.version_of-version.ensures
-    ∙ sym (same_told c.wait.result c.side.result c.args.call c.version_of-version.result c.key_of-taker.result
+    c.requires.one c.begin-duty.ensures.version
+    ∙ sym (same_told c.wait.result c.side.result c.args.call c.begin-duty.result.1 c.key_of-taker.result
     c.meet-there.result.there (c.wait.ensures ∙ ap wait_of c.requires.copy)
     (c.side.ensures ∙ ap side_of c.requires.copy) c.key_of-taker.ensures)
     ∙ c.arriving-reply.ensures in
@@ -132,11 +132,11 @@ returns-clause-arrives c =
     let own : told_own (state_in c.args.self.now) c.args.key c.args.call (c.meet-there.result.there ∷ [])
     ≡ Some c.arriving-reply.result =
     own_by_side (state_in c.args.self.now) c.args.key c.args.call c.meet-there.result.there
-    c.version_of-version.result
+    c.begin-duty.result.1
     (subst (λ (o : Option Side). IsSome o) (sym (opposes c.args.self.now c.args.moment c.args.key c.args.call
     c.requires.may c.meet-there.new.self c.meet-there.result.there c.meet-there.result.other met)) refl)
-    c.requires.one c.version_of-version.ensures
-    ∙ sym (same_told c.wait.result c.side.result c.args.call c.version_of-version.result c.key_of-taker.result
+    c.requires.one c.begin-duty.ensures.version
+    ∙ sym (same_told c.wait.result c.side.result c.args.call c.begin-duty.result.1 c.key_of-taker.result
     c.meet-there.result.there (c.wait.ensures ∙ ap wait_of c.requires.copy)
     (c.side.ensures ∙ ap side_of c.requires.copy) c.key_of-taker.ensures)
     ∙ c.arriving-reply.ensures in

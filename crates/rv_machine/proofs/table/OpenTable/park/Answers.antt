@@ -20,7 +20,7 @@ arrive-requires-clause-above c =
     c.requires.may) in
     let is = same_index c.self.inside.opens c.self.inside.waiters c.reserve.new.self c.self.inside.waiting
     c.self.inside.due c.self.invariant c.in_ok-reserve.ensures.makes.same in
-    are_below c.self.inside.opens c.reserve.new.self c.self.inside.waiting c.begin-duty.result.place
+    are_below c.self.inside.opens c.reserve.new.self c.self.inside.waiting c.begin-duty.result.0.place
     c.self.inside.due is
     (subst (λ (d : OwedDuty). StandBelow c.self.inside.opens d.place) (sym c.begin-duty.ensures.duty)
     may.below)
