@@ -446,7 +446,7 @@ lasts_or_not (Some (Millis n)) = elim (cases_lt 0 n) [
 ]
 lasts_or_not (Some Forever) = inl tt
 
-stays_or_not : (call : Call) → Stays call ⊎ (Stays call → ⊥)
+pub stays_or_not : (call : Call) → Stays call ⊎ (Stays call → ⊥)
 stays_or_not call = elim (meets_or_not call) [
   | inr alone ↦ inr (λ stays. alone stays.0)
   | inl meets ↦ elim (lasts_or_not (wait_of call)) [
