@@ -495,6 +495,12 @@ waits_or_not es r = elim (open_or_not es r) [
   ]
 ]
 
+-- how many places are open
+pub find_open : (es : List Entry) → (n : ℕ) × NumberOf (Open es) n
+find_open es =
+    find_number (Open es) (open_or_not es) (length es)
+    (λ r o. reads_within call_read refl es r o.call o.arrived)
+
 -- how many requests wait
 pub find_waiting : (es : List Entry) → (n : ℕ) × NumberOf (Waiting es) n
 find_waiting es = find_number (Waiting es) (waits_or_not es) (length es) (λ r w. reads_within call_read refl

@@ -38,3 +38,18 @@ pub record AreStepLimits (limits : StepLimits) : Type 0 where
   pub entries : limits.entries ≤ max_identifier
   pub clients : limits.clients ≤ most_clients
   pub places : BoundsPlaces limits.open_places limits.entries
+
+-- ---- which limits allow more
+
+-- a bound on open places is at most another, if that bounds them
+abbrev pub BoundAtMost : Option ℕ → Option ℕ → Type 0
+BoundAtMost None None = Unit {0}
+BoundAtMost (Some most) None = Unit {0}
+BoundAtMost None (Some greater) = ⊥
+BoundAtMost (Some most) (Some greater) = most ≤ greater
+
+-- each limit is at most the other's
+pub record AreAtMost (limits greater : StepLimits) : Type 0 where
+  pub entries : limits.entries ≤ greater.entries
+  pub clients : limits.clients ≤ greater.clients
+  pub places : BoundAtMost limits.open_places greater.open_places

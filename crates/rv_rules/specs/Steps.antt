@@ -1,7 +1,6 @@
--- One step: the answer to a message, and which accounts may stand after it, under any limits and under a
--- book's.
-use Rattle.std.specs.Prelude.{◌≡◌, ◌≢◌, ◌⊎◌, ◌<◌, ◌≤◌, ◌+◌, ℕ, List, length, Option, None, Some}
-use Rattle.std.specs.Prelude.{min, max}
+-- One step, under any limits and under a book's: the answer to a message, and which accounts may stand after
+-- it.
+use Rattle.std.specs.Prelude.{◌≡◌, ◌≢◌, ◌⊎◌, ◌<◌, ◌≤◌, ◌+◌, ℕ, List, length, Option, None, Some, min, max}
 use Rattle.rv_text.specs.declared.version.Version.{Version}
 use Rattle.rv_text.specs.declared.message.Key.{Key}
 use Rattle.rv_text.specs.declared.call.Call.{Call}
@@ -111,7 +110,7 @@ pub record EpochFullDueUnder (limits : StepLimits) (a : Account) (need : ℕ) (r
   pub full : limits.entries < length a.entries + waiting + need
   pub is : refusal ≡ EpochFull
 
--- an arrival with this call meets nobody, and stays
+-- an arrival with this call would stay: its call does, and nobody is there whom it would meet
 pub record WouldStay (entries : List Entry) (call : Call) : Type 0 where
   pub stays : Stays call
   pub alone : (p : ℕ) → ¬ IsOpenOpposite entries call p
@@ -124,11 +123,11 @@ pub record PlacesFullDue (most : ℕ) (a : Account) (call : Call) (refusal : Ref
   pub full : most ≤ places
   pub is : refusal ≡ EpochFull
 
--- by a book: as many clients said a hello as an epoch can have
+-- under a book's limits: the client is new, and 1,024 clients said a hello
 abbrev pub ClientsFullDue : Account → ℕ → Refusal → Type 0
 ClientsFullDue = ClientsFullDueUnder book_limits
 
--- and the entries would be more than 100,000
+-- under a book's limits: all these entries are more than 100,000
 abbrev pub EpochFullDue : Account → ℕ → Refusal → Type 0
 EpochFullDue = EpochFullDueUnder book_limits
 
@@ -197,7 +196,7 @@ HelloLinesUnder limits a client incarnation version refuses repeats enters =
     (RefuseOr (EpochFullDueUnder limits a 1) refuses
     enters))))
 
--- the lines of a book
+-- the lines under a book's limits
 abbrev pub RequestLines : Account → Key → Call → (Refusal → Type 0) → Type 0 → Type 0 → Type 0
 RequestLines = RequestLinesUnder book_limits
 
@@ -274,7 +273,7 @@ pub record NextUnder (limits : StepLimits) (a : Account) (now : ℕ) (m : Messag
   pub ticks : Ticks a (step_moment a now) ticked
   pub steps : NextAtUnder limits ticked (step_moment a now) m b answer
 
--- ---- the steps of a book
+-- ---- a step under a book's limits
 
 abbrev pub NextAt : Account → ℕ → Message → Account → Answer → Type 0
 NextAt = NextAtUnder book_limits

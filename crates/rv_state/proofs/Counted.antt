@@ -3,10 +3,9 @@
 -- wait.
 use Rattle.rv_state.proofs.Words.{◌≡◌, ◌<◌, ◌∷◌, ◌∙◌, ℕ, zero, suc, Bool, true, false, List, [], map, Option}
 use Rattle.rv_state.proofs.Words.{length, Some, None, option_and_then, refl, sym, ap, subst, arith, filter}
-use Rattle.rv_state.proofs.Words.{slice_get}
-use Rattle.rv_state.proofs.Words.{nat_cmp, get, keys, false≢true, same_Some, Wait, Key, wait_of, Account}
-use Rattle.rv_state.proofs.Words.{call_in, NumberOf, SaidHello, Open, Waiting, ClientState, OpenPlace, State}
-use Rattle.rv_state.proofs.Words.{client_at, place_list, waiter_of, IsStateOf}
+use Rattle.rv_state.proofs.Words.{slice_get, nat_cmp, get, keys, false≢true, same_Some, Wait, Key, wait_of}
+use Rattle.rv_state.proofs.Words.{Account, call_in, NumberOf, SaidHello, Open, Waiting, ClientState}
+use Rattle.rv_state.proofs.Words.{OpenPlace, State, client_at, place_list, waiter_of, IsStateOf}
 use Rattle.std.proofs.Common.{add-one, ◌&&◌, T, is_some}
 use Rattle.std.specs.Prelude.{Contains}
 use Rattle.std.specs.List.Sorted.{IsStrictlyIncreasing}

@@ -1,10 +1,8 @@
 -- Whether a refusal of a step of a state is due, and whether a condition of its lines holds, is decided.
-use Rattle.rv_state.proofs.Words.{◌≡◌, ◌<◌, ◌+◌, ◌≤◌, ◌⊎◌, ℕ, Option, Some, None, inl, inr, refl, sym}
-use Rattle.rv_state.proofs.Words.{subst, arith, cases_lt, none-some, same_Some, Key, Call, Version}
-use Rattle.rv_state.proofs.Words.{Refusal, State, ClientState, client_at, place_waiting, ◌∷◌, [], List}
-use Rattle.rv_state.proofs.Words.{length}
-use Rattle.rv_state.proofs.Words.{OpenPlace, Stays}
-use Rattle.rv_state.proofs.Words.{IncarnationOld, OldIncarnation}
+use Rattle.rv_state.proofs.Words.{◌≡◌, ◌<◌, ◌+◌, ◌≤◌, ◌⊎◌, ◌∷◌, ℕ, List, [], length, Option, Some, None}
+use Rattle.rv_state.proofs.Words.{inl, inr, refl, sym, subst, arith, cases_lt, none-some, same_Some, Key}
+use Rattle.rv_state.proofs.Words.{Call, Stays, Version, Refusal, State, OpenPlace, ClientState, client_at}
+use Rattle.rv_state.proofs.Words.{place_waiting, IncarnationOld, OldIncarnation}
 use Rattle.std.specs.Prelude.{◌≢◌}
 use Rattle.std.specs.FinMap.{len}
 use Rattle.rv_text.specs.declared.version.Version.TheVariants.{One, Two}
@@ -18,9 +16,8 @@ use Rattle.rv_rules.proofs.Deciding.{stays_or_not}
 use Rattle.rv_state.specs.State.{opposites, waiting_count}
 use Rattle.rv_state.specs.Follows.{IsNewIncarnation, NumberWaits}
 use Rattle.rv_state.specs.Moves.{EpochDiffers, SessionLacks, VersionDiffers, NumberOld, CallDiffers}
-use Rattle.rv_state.specs.Moves.{SessionBusy, NumberAbove, NoClientMoreUnder, NoEntryMoreUnder}
-use Rattle.rv_state.specs.Moves.{NoPlaceMore, NumberIsLast}
-use Rattle.rv_state.specs.Moves.{HasSessionOf, call_asked}
+use Rattle.rv_state.specs.Moves.{SessionBusy, NumberAbove, NoClientMoreUnder, NoEntryMoreUnder, NoPlaceMore}
+use Rattle.rv_state.specs.Moves.{NumberIsLast, HasSessionOf, call_asked}
 
 -- a refusal is due, and it isn't want of memory
 pub record IsDue (due : Refusal → Type 0) : Type 0 where

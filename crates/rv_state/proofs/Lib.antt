@@ -58,4 +58,5 @@ pub mod DueDecided
 pub mod MovesThere
 pub mod WhoWaits
 pub mod StateLaws
+pub mod LimitLaws
 pub mod TableClients

@@ -1,17 +1,15 @@
 -- What a move makes of a state is what its entries make of it, one after the other.
 use Rattle.rv_state.proofs.Words.{◌≡◌, ◌++◌, ◌∷◌, ◌∙◌, inl, inr, ℕ, List, [], append-nil, append_assoc, refl}
 use Rattle.rv_state.proofs.Words.{Option, None, Some, Call, sym, ap, subst, fold, Key, Message, Answer}
-use Rattle.rv_state.proofs.Words.{Refusal, Act, Entry, OpenPlace}
-use Rattle.rv_state.proofs.Words.{State, Settled, due_at, following, state_after, Move, Ticked, entering}
-use Rattle.rv_state.proofs.Words.{staying, ticked_at}
+use Rattle.rv_state.proofs.Words.{Refusal, Act, Entry, OpenPlace, State, Settled, due_at, following}
+use Rattle.rv_state.proofs.Words.{state_after, Move, Ticked, entering, staying, ticked_at}
 use Rattle.std.proofs.lemmas.List.Sums.{fold-append}
 use Rattle.rv_text.specs.declared.message.Message.TheVariants.{Hello, Request, Cancel}
 use Rattle.rv_text.specs.declared.answer.Refusal.TheVariants.{NoMemory}
 use Rattle.rv_rules.specs.StepLimits.{StepLimits}
 use Rattle.rv_rules.specs.Steps.{RefuseOr, WhereElse}
 use Rattle.rv_state.specs.Moves.{EntersMove, RefusesMove, RepeatsMove, StateKeyLines, StateNextAtUnder}
-use Rattle.rv_state.specs.Moves.{StateNextUnder, StatePlaceLine}
-use Rattle.rv_state.specs.Moves.{state_moment, ticked_if}
+use Rattle.rv_state.specs.Moves.{StateNextUnder, StatePlaceLine, state_moment, ticked_if}
 
 -- whom some entries settle, by the state before them
 abbrev pub settles_by : State → List Entry → List Settled

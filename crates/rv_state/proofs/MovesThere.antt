@@ -17,8 +17,7 @@ use Rattle.rv_state.specs.Laws.{HasMoveUnder}
 use Rattle.rv_state.proofs.DueDecided.{DueOrNot, call_decided, last_decided, waits_decided}
 use Rattle.rv_state.proofs.DueDecided.{above_decided, busy_decided, clients_decided, epoch_decided}
 use Rattle.rv_state.proofs.DueDecided.{incarnation_decided, lack_decided, number_decided, places_decided}
-use Rattle.rv_state.proofs.DueDecided.{room_decided}
-use Rattle.rv_state.proofs.DueDecided.{session_decided, version_decided}
+use Rattle.rv_state.proofs.DueDecided.{room_decided, session_decided, version_decided}
 
 -- a move is so, and its answer is no want of memory
 record Chosen (Is : Move → Type 0) : Type 0 where
@@ -119,10 +118,8 @@ module _ (limits : StepLimits) (s : State) where
       let does : Act = act.Arrive key call in
       key_lines s key _ _
       (λ last. refuse_or s _ (λ move. RepeatsMove s key move) (call_decided s key call) (repeats s key last))
-      (refuse_or s _ _
-      (room_decided s limits (need_of call))
-      (place_line s limits.open_places call (λ move. EntersMove s moment does move (answer_after s moment key
-      does))
+      (refuse_or s _ _ (room_decided s limits (need_of call))
+      (place_line s limits.open_places call _
       (may_enter s moment does (answer_after s moment key does)
       (told_in_memory key (following s moment does).reply))))
   next_at moment (Cancel key) =
@@ -139,8 +136,7 @@ module _ (limits : StepLimits) (s : State) where
 
 -- the time-outs of a step before its message's own
 after_ticks : (limits : StepLimits) (s : State) (now : ℕ) (m : Message)
-    → Chosen (λ move. StateNextAtUnder limits (ticked_at s (state_moment s now)).after (state_moment s now) m
-    move)
+    → Chosen (StateNextAtUnder limits (ticked_at s (state_moment s now)).after (state_moment s now) m)
     → HasMoveUnder limits s now m
 after_ticks limits s now m then =
     let made : Ticked = ticked_at s (state_moment s now) in
@@ -164,5 +160,5 @@ after_ticks limits s now m then =
 
 pub move_there : (limits : StepLimits) (s : State) (now : ℕ) (m : Message) → HasMoveUnder limits s now m
 move_there limits s now m =
-    after_ticks limits s now m (next_at limits (ticked_at s (state_moment s now)).after (state_moment s now)
-    m)
+    let made : Ticked = ticked_at s (state_moment s now) in
+    after_ticks limits s now m (next_at limits made.after (state_moment s now) m)

@@ -9,10 +9,9 @@ use Rattle.rv_rules.specs.Steps.{NextUnder}
 use Rattle.rv_rules.proofs.Fronts.{Legal-before}
 use Rattle.rv_rules.proofs.Legality.{follows_itself}
 use Rattle.rv_state.specs.State.{opening}
-use Rattle.rv_state.specs.Laws.{IsMoveTo, MovesExist, MovesExistUnder, MovesStep, MovesStepUnder}
-use Rattle.rv_state.specs.Laws.{OneFuture, StatesAgree, StatesFollow, StatesKeepRules, StatesSettle}
-use Rattle.rv_state.specs.Laws.{StatesTellWaiting, StepsAlike, StepsAlikeUnder, StepsMove, StepsMoveUnder}
-use Rattle.rv_state.specs.Laws.{TicksMove, TicksStep}
+use Rattle.rv_state.specs.Laws.{IsMoveTo, MovesExist, MovesExistUnder, MovesStep, MovesStepUnder, OneFuture}
+use Rattle.rv_state.specs.Laws.{StatesAgree, StatesFollow, StatesKeepRules, StatesSettle, StatesTellWaiting}
+use Rattle.rv_state.specs.Laws.{StepsAlike, StepsAlikeUnder, StepsMove, StepsMoveUnder, TicksMove, TicksStep}
 use Rattle.rv_state.specs.Follows.{FollowsState}
 use Rattle.rv_state.specs.Moves.{StateNextUnder, Ticked, ticked_at}
 use Rattle.rv_state.specs.Settling.{SettlesEach}
@@ -171,7 +170,7 @@ steps_alike_under limits a b after now m answer legal other same next =
 pub moves_exist_under : (limits : StepLimits) → MovesExistUnder limits
 moves_exist_under limits s now m = move_there limits s now m
 
--- ---- a step of a book
+-- ---- under a book's limits
 
 pub steps_move : StepsMove
 steps_move = steps_move_under book_limits

@@ -1,15 +1,18 @@
 -- The laws of states: what a state says is what its account says, and what follows one follows the other.
-use Rattle.std.specs.Prelude.{◌≡◌, ◌≢◌, ◌↔◌, ◌≤◌, ◌++◌, ℕ, List, Some, None}
+use Rattle.std.specs.Prelude.{◌≡◌, ◌≢◌, ◌↔◌, ◌≤◌, ◌+◌, ◌++◌, ℕ, List, Some, None, length, max}
 use Rattle.rv_text.specs.declared.message.Key.{Key}
 use Rattle.rv_text.specs.declared.message.Message.{Message}
 use Rattle.rv_text.specs.declared.answer.Answer.{Answer}
 use Rattle.rv_text.specs.declared.answer.Answer.TheVariants.{Refused}
-use Rattle.rv_text.specs.declared.answer.Refusal.TheVariants.{NoMemory}
+use Rattle.rv_text.specs.declared.answer.Refusal.TheVariants.{ClientsFull, EpochFull, NoMemory}
 use Rattle.rv_account.specs.declared.entry.Entry.{Entry}
 use Rattle.rv_account.specs.Account.{Account, key_in, own_moment, with_entry}
 use Rattle.rv_rules.specs.Legal.{Legal, MayFollow}
-use Rattle.rv_rules.specs.StepLimits.{StepLimits, book_limits}
+use Rattle.rv_rules.specs.Counting.{NumberOf}
+use Rattle.rv_rules.specs.Sessions.{SaidHello}
+use Rattle.rv_rules.specs.StepLimits.{AreAtMost, StepLimits, book_limits}
 use Rattle.rv_rules.specs.Steps.{NextUnder, Ticks}
+use Rattle.rv_rules.specs.Waiting.{Open, Waiting}
 use Rattle.rv_state.specs.State.{State}
 use Rattle.rv_state.specs.After.{Following, Settled, following, state_of}
 use Rattle.rv_state.specs.Follows.{FollowsState}
@@ -114,7 +117,7 @@ StepsAlikeUnder limits = (a b after : Account) (now : ℕ) (m : Message) (answer
     → state_of a ≡ state_of b → NextUnder limits a now m after answer
     → GoesOnAlikeUnder limits a b after now m answer
 
--- ---- the steps of a book
+-- ---- under a book's limits
 
 abbrev pub StepsMove : Type 0
 StepsMove = StepsMoveUnder book_limits
@@ -153,3 +156,27 @@ pub record TicksTo (a : Account) (moment : ℕ) : Type 0 where
 
 abbrev pub TicksStep : Type 0
 TicksStep = (a : Account) (moment : ℕ) → Legal a → own_moment a ≤ moment → TicksTo a moment
+
+-- ---- limits
+
+-- limits only refuse: a step that isn't refused for want of room for clients or entries is a step under all
+-- limits that are no less
+abbrev pub LimitsOnlyRefuse : Type 0
+LimitsOnlyRefuse = (limits greater : StepLimits) (a b : Account) (now : ℕ) (m : Message) (answer : Answer)
+    → AreAtMost limits greater → NextUnder limits a now m b answer → answer ≢ Refused ClientsFull
+    → answer ≢ Refused EpochFull → NextUnder greater a now m b answer
+
+-- what limits bound is at most its limit behind a step, or at most what it was before: the entries with those
+-- that wait, the clients, and what is open
+pub record StaysWithin (limits : StepLimits) (a b : Account) : Type 0 where
+  pub entries : (before after : ℕ) → NumberOf (Waiting a.entries) before
+      → NumberOf (Waiting b.entries) after
+      → length b.entries + after ≤ max limits.entries (length a.entries + before)
+  pub clients : (before after : ℕ) → NumberOf (SaidHello a.entries) before
+      → NumberOf (SaidHello b.entries) after → after ≤ max limits.clients before
+  pub places : (most before after : ℕ) → limits.open_places ≡ Some most
+      → NumberOf (Open a.entries) before → NumberOf (Open b.entries) after → after ≤ max most before
+
+abbrev pub LimitsHold : Type 0
+LimitsHold = (limits : StepLimits) (a b : Account) (now : ℕ) (m : Message) (answer : Answer)
+    → NextUnder limits a now m b answer → StaysWithin limits a b

@@ -103,14 +103,14 @@ pub record NoEntryMoreUnder (limits : StepLimits) (s : State) (need : ℕ) (refu
   pub full : limits.entries < s.length + waiting_count s + need
   pub is : refusal ≡ EpochFull
 
--- an arrival with this call stays, with nobody there to meet, and as many places are open as may be
+-- an arrival with this call would stay, with nobody there to meet, and as many places are open as may be
 pub record NoPlaceMore (most : ℕ) (s : State) (call : Call) (refusal : Refusal) : Type 0 where
   pub stays : Stays call
   pub alone : opposites s call ≡ []
   pub full : most ≤ length s.open_places
   pub is : refusal ≡ EpochFull
 
--- by a book
+-- under a book's limits
 abbrev pub NoClientMore : State → ℕ → Refusal → Type 0
 NoClientMore = NoClientMoreUnder book_limits
 
@@ -180,7 +180,7 @@ StateHelloLinesUnder limits s client incarnation version refuses repeats enters 
     (RefuseOr (NoEntryMoreUnder limits s 1) refuses
     enters))))
 
--- the lines of a book
+-- the lines under a book's limits
 abbrev pub StateRequestLines : State → Key → Call → (Refusal → Type 0) → Type 0 → Type 0 → Type 0
 StateRequestLines = StateRequestLinesUnder book_limits
 
@@ -299,7 +299,7 @@ pub record StateNextUnder (limits : StepLimits) (s : State) (now : ℕ) (m : Mes
     pub settles : move.settles ≡ (ticked_at s (state_moment s now)).settles ++ then.settles
     pub after : move.after ≡ then.after
 
--- ---- the steps of a book
+-- ---- a step under a book's limits
 
 abbrev pub StateNextAt : State → ℕ → Message → Move → Type 0
 StateNextAt = StateNextAtUnder book_limits

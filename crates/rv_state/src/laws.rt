@@ -1,6 +1,7 @@
 //! Laws of states: each function is its contract, over the definitions alone.
 ghost use Rattle.rv_rules.specs.StepLimits.{AreStepLimits, StepLimits, book_limits};
-ghost use Rattle.rv_state.specs.Laws.{MovesExist, MovesExistUnder, MovesStep, MovesStepUnder, OneFuture};
+ghost use Rattle.rv_state.specs.Laws.{LimitsHold, LimitsOnlyRefuse, MovesExist, MovesExistUnder};
+ghost use Rattle.rv_state.specs.Laws.{MovesStep, MovesStepUnder, OneFuture};
 ghost use Rattle.rv_state.specs.Laws.{StatesAgree, StatesFollow, StatesKeepRules, StatesSettle};
 ghost use Rattle.rv_state.specs.Laws.{StatesTellWaiting, StepsAlike, StepsAlikeUnder, StepsMove};
 ghost use Rattle.rv_state.specs.Laws.{StepsMoveUnder, TicksMove, TicksStep};
@@ -98,4 +99,15 @@ pub fn ticks_step()
 /// A book's limits are limits that a step may have.
 pub fn book_limits_fit()
     ensures { AreStepLimits book_limits }
+{}
+
+/// A step under some limits that isn't refused for want of room for clients or entries is a step under all
+/// that are no less.
+pub fn limits_only_refuse()
+    ensures { LimitsOnlyRefuse }
+{}
+
+/// What limits bound is at most its limit behind a step, or at most what it was before.
+pub fn limits_hold()
+    ensures { LimitsHold }
 {}
