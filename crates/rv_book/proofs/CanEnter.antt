@@ -12,6 +12,7 @@ use Rattle.rv_book.specs.Steps.{KeyLines, Next, WhereElse}
 use Rattle.rv_state.specs.After.{state_of}
 use Rattle.rv_state.proofs.Agreed.{agreed}
 use Rattle.rv_state.proofs.EntersBoth.{adds_own, own_entry}
+use Rattle.rv_rules.specs.StepLimits.{book_limits}
 use Rattle.rv_state.proofs.MovesThere.{move_there}
 use Rattle.rv_state.proofs.OwnAnswers.{first_replies}
 use Rattle.rv_state.proofs.StateLaws.{moves_step}
@@ -28,7 +29,7 @@ pub record HasNext (a : Account) (now : ℕ) (m : Message) : Type 0 where
 
 pub next_exists : (a : Account) (now : ℕ) (m : Message) → Legal a → HasNext a now m
 next_exists a now m legal =
-    let there = move_there (state_of a) now m in
+    let there = move_there book_limits (state_of a) now m in
     let steps = moves_step a now m there.move legal there.moves in
     record {
       after = steps.after;

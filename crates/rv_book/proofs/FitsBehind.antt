@@ -13,6 +13,7 @@ use Rattle.rv_account.specs.Account.{Account, with_entry}
 use Rattle.rv_account.specs.Limits.{FitEntries, FitsAct, FitsEntry}
 use Rattle.rv_rules.specs.Legal.{Legal}
 use Rattle.rv_rules.specs.Limits.{FitsAccount}
+use Rattle.rv_rules.specs.StepLimits.{book_limits, max_clients}
 use Rattle.rv_rules.specs.Steps.{ClientsFullDue, NextAt}
 use Rattle.rv_rules.specs.Waiting.{Waiting}
 use Rattle.rv_rules.proofs.Counting.{one_number}
@@ -72,12 +73,12 @@ module _ (a b : Account) (e : Entry) (moment : ℕ) (x : Answer) (few : FewClien
   no_hello : ((client incarnation : ℕ) (v : Version) → e.act ≡ act.Hello client incarnation v → ⊥)
       → FewClients (a.entries ++ e ∷ [])
   no_hello not =
-      few_still a.entries e (λ c i w own. absurd (not c i w (same_Some _ _ own))) few
+      few_still max_clients a.entries e (λ c i w own. absurd (not c i w (same_Some _ _ own))) few
 
   pub few_behind : (m : Message) → NextAt a moment m b x → e.act ≡ act_of m → FewClients (a.entries ++ e ∷ [])
   few_behind (Hello client incarnation v) next is =
-      few_with a e client incarnation v (ap Some is) (hello_room a b moment client incarnation v x next apart)
-      few
+      few_with a e client incarnation v (ap Some is) book_limits max_clients (omega arith)
+      (hello_room a b moment client incarnation v x next apart) few
   few_behind (Request key call) next is = no_hello (λ c i w own. let no : ⊥ = cc in no)
   few_behind (Cancel key) next is = no_hello (λ c i w own. let no : ⊥ = cc in no)
 
@@ -89,4 +90,4 @@ act_of_fits (Cancel key) fits = fits
 
 -- a tick is no hello
 pub few_ticked : (es : List Entry) (e : Entry) → e.act ≡ act.Tick → FewClients es → FewClients (es ++ e ∷ [])
-few_ticked es e is few = few_still es e (λ c i w own. absurd (let no : ⊥ = cc in no)) few
+few_ticked es e is few = few_still max_clients es e (λ c i w own. absurd (let no : ⊥ = cc in no)) few

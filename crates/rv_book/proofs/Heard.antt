@@ -17,6 +17,7 @@ use Rattle.rv_account.specs.Limits.{FitsAct, FitsEntry, max_moment}
 use Rattle.rv_rules.specs.Legal.{Legal, MayFollow}
 use Rattle.rv_rules.specs.Sessions.{SaidHello}
 use Rattle.rv_rules.specs.Limits.{FitsAccount}
+use Rattle.rv_rules.specs.StepLimits.{book_limits}
 use Rattle.rv_rules.specs.Steps.{NextAt}
 use Rattle.rv_rules.proofs.Legality.{follows_itself}
 use Rattle.rv_state.specs.Agreement.{IsStateOf}
@@ -87,7 +88,7 @@ module _ (book : BookState) (moment : ℕ) (quiet : IsQuiet book moment) (m : Me
 
     pub leads : Leads
     leads =
-        let done = next_at_from a s moment quiet.sound.legal quiet.sound.stands quiet.not_before
+        let done = next_at_from book_limits a s moment quiet.sound.legal quiet.sound.stands quiet.not_before
         quiet.none_due move m steps in
         let is : IsMoveTo a done.what.0 done.what.1 move = done.wanted in
         record {

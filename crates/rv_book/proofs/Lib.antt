@@ -1,6 +1,5 @@
 pub mod Words
 pub mod Leaving
-pub mod Lasting
 pub mod Drains
 pub mod RepliesFit
 pub mod Staying

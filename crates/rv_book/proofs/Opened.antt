@@ -10,6 +10,7 @@ use Rattle.rv_rules.specs.Legal.{Legal}
 use Rattle.rv_rules.specs.Limits.{FitsAccount}
 use Rattle.rv_rules.specs.Waiting.{Waiting}
 use Rattle.rv_rules.proofs.Counting.{one_number}
+use Rattle.rv_rules.specs.StepLimits.{max_clients}
 use Rattle.rv_rules.proofs.FewClients.{few_none}
 use Rattle.rv_state.specs.Agreement.{IsStateOf}
 use Rattle.rv_state.specs.State.{State, opening, waiting_count}
@@ -40,7 +41,7 @@ module _ (epoch opened : ℕ) (identifier : FitsIdentifier epoch) (time : opened
         let none : waiting ≡ 0 = one_number (Waiting []) waiting 0 count
         (tells_waiting (empty_account epoch opened) (opening epoch opened) legal state).number in
         omega (arith, none);
-    clients = few_none [] refl;
+    clients = few_none max_clients [] refl;
   }
 
   pub opened_sound : (stored : Stored) (m : Machine) (table : KeptTable)

@@ -446,7 +446,7 @@ lasts_or_not (Some (Millis n)) = elim (cases_lt 0 n) [
 ]
 lasts_or_not (Some Forever) = inl tt
 
-stays_or_not : (call : Call) → Stays call ⊎ (Stays call → ⊥)
+pub stays_or_not : (call : Call) → Stays call ⊎ (Stays call → ⊥)
 stays_or_not call = elim (meets_or_not call) [
   | inr alone ↦ inr (λ stays. alone stays.0)
   | inl meets ↦ elim (lasts_or_not (wait_of call)) [
@@ -494,6 +494,12 @@ waits_or_not es r = elim (open_or_not es r) [
     | inr no_put ↦ inl (record { is_open = opened; no_put = no_put })
   ]
 ]
+
+-- how many places are open
+pub find_open : (es : List Entry) → (n : ℕ) × NumberOf (Open es) n
+find_open es =
+    find_number (Open es) (open_or_not es) (length es)
+    (λ r o. reads_within call_read refl es r o.call o.arrived)
 
 -- how many requests wait
 pub find_waiting : (es : List Entry) → (n : ℕ) × NumberOf (Waiting es) n

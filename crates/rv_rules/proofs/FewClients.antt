@@ -1,40 +1,46 @@
--- That at most 1,024 clients said a hello stays so, entry by entry.
+-- That at most so many clients said a hello stays so, entry by entry.
 use Rattle.rv_rules.proofs.Words.{◌≡◌, ◌+◌, ◌≤◌, ◌∷◌, ◌++◌, ◌∙◌, inl, inr, ℕ, List, [], length, Some, refl}
 use Rattle.rv_rules.proofs.Words.{sym, ap, subst, arith, cases_lt, none-some, Version, Hello, Entry, Account}
 use Rattle.rv_rules.proofs.Words.{act_at, NumberOf}
 use Rattle.rv_text.specs.declared.answer.Refusal.{Refusal}
 use Rattle.rv_text.specs.declared.answer.Refusal.TheVariants.{ClientsFull}
 use Rattle.rv_rules.specs.Sessions.{SaidHello}
-use Rattle.rv_rules.specs.Steps.{ClientsFullDue, max_clients}
+use Rattle.rv_rules.specs.StepLimits.{StepLimits, max_clients}
+use Rattle.rv_rules.specs.Steps.{ClientsFullDueUnder}
 use Rattle.rv_rules.proofs.Counting.{number_at_most, number_below, number_drop}
 use Rattle.rv_rules.proofs.Deciding.{find_clients, said_or_not}
 use Rattle.rv_rules.proofs.Growing.{act_read, reads_back, reads_on}
 use Rattle.rv_rules.proofs.Keys.{hello_is_own}
 use Rattle.rv_rules.proofs.Places.{get-append_end}
 
+-- at most so many clients said a hello
+abbrev pub ClientsAtMost : ℕ → List Entry → Type 0
+ClientsAtMost most es = (clients : ℕ) → NumberOf (SaidHello es) clients → clients ≤ most
+
+-- as many as a book may have
 abbrev pub FewClients : List Entry → Type 0
-FewClients es = (clients : ℕ) → NumberOf (SaidHello es) clients → clients ≤ max_clients
+FewClients = ClientsAtMost max_clients
 
 -- with no entry
-pub few_none : (es : List Entry) → es ≡ [] → FewClients es
-few_none es none clients count =
+pub few_none : (most : ℕ) (es : List Entry) → es ≡ [] → ClientsAtMost most es
+few_none most es none clients count =
     let zero : clients ≤ 0 = number_below (SaidHello es) clients 0
     (λ c said. absurd (none-some _ (sym (ap (λ (l : List Entry). act_at l said.0) none) ∙ said.3))) count
     in
     omega arith
 
 -- behind an entry that is no hello of a new client
-pub few_still : (es : List Entry) (e : Entry)
+pub few_still : (most : ℕ) (es : List Entry) (e : Entry)
     → ((client incarnation : ℕ) (v : Version) → Some e.act ≡ Some (Hello client incarnation v) → SaidHello es
-    client) → FewClients es → FewClients (es ++ e ∷ [])
-few_still es e known few clients count =
+    client) → ClientsAtMost most es → ClientsAtMost most (es ++ e ∷ [])
+few_still most es e known few clients count =
     let found = find_clients es in
-    let most : clients ≤ found.0 = number_at_most (SaidHello (es ++ e ∷ [])) (SaidHello es) clients found.0
+    let no_more : clients ≤ found.0 = number_at_most (SaidHello (es ++ e ∷ [])) (SaidHello es) clients found.0
     (λ c said. elim (reads_back act_read refl es e said.0 _ said.3) [
       | inl before ↦ (said.0, said.1, said.2, before.1)
       | inr last ↦ known c said.1 said.2 last.1
     ]) count found.1 in
-    let bound : found.0 ≤ 1024 = few found.0 found.1 in
+    let bound : found.0 ≤ most = few found.0 found.1 in
     omega arith
 
 -- behind a hello for whose client there is room
@@ -43,10 +49,11 @@ module _ (a : Account) (e : Entry) (client incarnation : ℕ) (v : Version) (say
   own_client : (c i : ℕ) (w : Version) → Some e.act ≡ Some (Hello c i w) → client ≡ c
   own_client c i w own = sym (hello_is_own e.act client incarnation v says) ∙ hello_is_own e.act c i w own
 
-  pub few_with : ((refusal : Refusal) → ClientsFullDue a client refusal → ⊥) → FewClients a.entries
-      → FewClients (a.entries ++ e ∷ [])
-  few_with room few clients count = elim (said_or_not a.entries client) [
-    | inl known ↦ few_still a.entries e (λ c i w own. subst (SaidHello a.entries) (own_client c i w own)
+  pub few_with : (limits : StepLimits) (most : ℕ) → limits.clients ≤ most
+      → ((refusal : Refusal) → ClientsFullDueUnder limits a client refusal → ⊥)
+      → ClientsAtMost most a.entries → ClientsAtMost most (a.entries ++ e ∷ [])
+  few_with limits most no_less room few clients count = elim (said_or_not a.entries client) [
+    | inl known ↦ few_still most a.entries e (λ c i w own. subst (SaidHello a.entries) (own_client c i w own)
         known) few clients count
     | inr new ↦
         let own : SaidHello (a.entries ++ e ∷ []) client = (
@@ -68,7 +75,7 @@ module _ (a : Account) (e : Entry) (client incarnation : ℕ) (v : Version) (say
           ]),
         )) in
         let is : clients ≡ rest.0 + 1 = rest.1 in
-        elim (cases_lt rest.0 1024) [
+        elim (cases_lt rest.0 limits.clients) [
           | inl less ↦ omega arith
           | inr full ↦ absurd (room ClientsFull (record {
             is_new = new;

@@ -21,5 +21,13 @@ pub mod Getting
 pub mod Looking
 pub mod Deciding
 pub mod FewClients
+pub mod NumbersBehind
+pub mod Needs
+pub mod WaitingBehind
+pub mod StepLeaves
+pub mod RoomKept
+pub mod OpenBehind
+pub mod PlacesKept
+pub mod GreaterLimits
 pub mod SamePartners
 pub mod FrontPairs

@@ -6,7 +6,7 @@ use Rattle.rv_rules.proofs.Words.{Side, same_Some, side_of, Legal, EndsWait, Met
 use Rattle.rv_rules.proofs.Words.{Stopped, StoppedAt, Waiting, limit_at, IsPut, Stays, Arrive, Cancel, Hello}
 use Rattle.rv_rules.proofs.Words.{Tick, Key}
 use Rattle.rv_account.specs.Account.{just}
-use Rattle.rv_rules.specs.Legal.{IsDueAt, NamesFreePartners}
+use Rattle.rv_rules.specs.Legal.{IsDueAt, NamesFreePartners, WaitsUnder}
 use Rattle.rv_rules.specs.Waiting.{HasElapsed, SideAt}
 use Rattle.rv_rules.proofs.Growing.{NamesAt-last, NamesPartner-back, Open-back, Open-on, act_read, call_read}
 use Rattle.rv_rules.proofs.Growing.{limit_on, reads_back, reads_on, reads_within}
@@ -89,6 +89,17 @@ pub record IsRequestUnder (es : List Entry) (key : Key) (r : ℕ) : Type 0 where
   pub call : Call
   pub arrived : act_at es r ≡ Some (Arrive key call)
   pub no_put : IsPut call → ⊥
+
+-- as does one that waits under it
+pub is_under : (es : List Entry) (key : Key) (waits : WaitsUnder es key) → IsRequestUnder es key waits.place
+is_under es key waits =
+    let same : waits.waits.is_open.call ≡ waits.call =
+    same_Some _ _ (sym waits.waits.is_open.arrived ∙ ap (option_and_then call_in) waits.arrived) in
+    record {
+      call = waits.call;
+      arrived = waits.arrived;
+      no_put = λ put. waits.waits.no_put (subst IsPut (sym same) put);
+    }
 
 -- a cancel stops the request with its key, but no put
 pub cancel_stops : (es : List Entry) (e : Entry) (key : Key) (r : ℕ) → e.act ≡ Cancel key
@@ -324,6 +335,22 @@ OpenAt-last a e side legal none new =
         unstopped = last_unstopped es e;
       };
     }
+
+-- one that names somebody is met, and not open
+pub named_not_open : (es : List Entry) (e : Entry) (p : ℕ) → Names e p → Open (es ++ e ∷ []) (length es) → ⊥
+named_not_open es e p names opened =
+    opened.unmet
+    (record {
+      later = length es;
+      earlier = p;
+      names = record {
+        call = opened.call;
+        arrived = opened.arrived;
+        meets = opened.stays.0;
+        named = NamesAt-last es e p names;
+      };
+      part = inl refl;
+    })
 
 -- ---- who waits
 

@@ -4,6 +4,7 @@ pub mod Waiting
 pub mod Sessions
 pub mod Legal
 pub mod Replies
+pub mod StepLimits
 pub mod Steps
 pub mod Limits
 pub mod Order

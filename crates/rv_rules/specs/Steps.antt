@@ -1,6 +1,6 @@
--- One step of the book: the answer to a message, and which accounts may stand after it.
-use Rattle.std.specs.Prelude.{◌≡◌, ◌≢◌, ◌⊎◌, ◌<◌, ◌≤◌, ◌+◌, ℕ, length, Some}
-use Rattle.std.specs.Prelude.{min, max}
+-- One step, under any limits and under a book's: the answer to a message, and which accounts may stand after
+-- it.
+use Rattle.std.specs.Prelude.{◌≡◌, ◌≢◌, ◌⊎◌, ◌<◌, ◌≤◌, ◌+◌, ℕ, List, length, Option, None, Some, min, max}
 use Rattle.rv_text.specs.declared.version.Version.{Version}
 use Rattle.rv_text.specs.declared.message.Key.{Key}
 use Rattle.rv_text.specs.declared.call.Call.{Call}
@@ -15,18 +15,18 @@ use Rattle.rv_text.specs.declared.answer.Refusal.TheVariants.{EpochFull, NoMemor
 use Rattle.rv_text.specs.declared.answer.Answer.{Answer}
 use Rattle.rv_text.specs.declared.answer.Answer.TheVariants.{Welcome, Replied, Refused}
 use Rattle.rv_text.specs.declared.answer.Answer as answer
-pub use Rattle.rv_session.specs.Standings.{max_clients}
+pub use Rattle.rv_rules.specs.StepLimits.{StepLimits, book_limits, max_clients, max_entries}
 use Rattle.rv_account.specs.declared.entry.Entry.{Entry}
 use Rattle.rv_account.specs.declared.entry.Act.{Act}
 use Rattle.rv_account.specs.declared.entry.Act as act
 use Rattle.rv_account.specs.Account.{Account, act_at, with_entry}
-use Rattle.rv_account.specs.Calls.{need_of}
+use Rattle.rv_account.specs.Calls.{Stays, need_of}
 pub use Rattle.rv_account.specs.Account.{own_moment}
 pub use Rattle.rv_account.specs.Limits.{max_moment}
 use Rattle.rv_rules.specs.Counting.{NumberOf}
 use Rattle.rv_rules.specs.Sessions.{HasIncarnation, HasOnlyLower, HasOpened, LastNumber, SaidHello}
-use Rattle.rv_rules.specs.Waiting.{Waiting}
-use Rattle.rv_rules.specs.Legal.{HasWaiting, Legal, SomethingDue, WaitsUnder}
+use Rattle.rv_rules.specs.Waiting.{Open, Waiting}
+use Rattle.rv_rules.specs.Legal.{HasWaiting, IsOpenOpposite, Legal, SomethingDue, WaitsUnder}
 use Rattle.rv_rules.specs.Replies.{HasReply}
 
 -- ---- the step's moment
@@ -93,25 +93,43 @@ pub record GapDue (a : Account) (key : Key) (refusal : Refusal) : Type 0 where
   pub above : last + 1 < key.number
   pub is : refusal ≡ Gap last
 
--- the client is new, and as many clients said a hello as an epoch can have
-pub record ClientsFullDue (a : Account) (client : ℕ) (refusal : Refusal) : Type 0 where
-  pub is_new : ¬ SaidHello a.entries client
-  pub clients : ℕ
-  pub count : NumberOf (SaidHello a.entries) clients
-  pub full : max_clients ≤ clients
-  pub is : refusal ≡ ClientsFull
-
--- the most entries of an epoch
-abbrev pub max_entries : ℕ
-max_entries = 100000
+-- the client is new, and as many clients said a hello as there may be
+pub record ClientsFullDueUnder (limits : StepLimits) (a : Account) (client : ℕ) (refusal : Refusal) : Type 0
+  where
+    pub is_new : ¬ SaidHello a.entries client
+    pub clients : ℕ
+    pub count : NumberOf (SaidHello a.entries) clients
+    pub full : limits.clients ≤ clients
+    pub is : refusal ≡ ClientsFull
 
 -- the entries, those that the waiting requests may come to need and those that are needed now are more than
--- 100,000
-pub record EpochFullDue (a : Account) (need : ℕ) (refusal : Refusal) : Type 0 where
+-- there may be
+pub record EpochFullDueUnder (limits : StepLimits) (a : Account) (need : ℕ) (refusal : Refusal) : Type 0 where
   pub waiting : ℕ
   pub count : NumberOf (Waiting a.entries) waiting
-  pub full : max_entries < length a.entries + waiting + need
+  pub full : limits.entries < length a.entries + waiting + need
   pub is : refusal ≡ EpochFull
+
+-- an arrival with this call would stay: its call does, and nobody is there whom it would meet
+pub record WouldStay (entries : List Entry) (call : Call) : Type 0 where
+  pub stays : Stays call
+  pub alone : (p : ℕ) → ¬ IsOpenOpposite entries call p
+
+-- an arrival with this call would stay, and as many places are open as may be
+pub record PlacesFullDue (most : ℕ) (a : Account) (call : Call) (refusal : Refusal) : Type 0 where
+  pub would_stay : WouldStay a.entries call
+  pub places : ℕ
+  pub count : NumberOf (Open a.entries) places
+  pub full : most ≤ places
+  pub is : refusal ≡ EpochFull
+
+-- under a book's limits: the client is new, and 1,024 clients said a hello
+abbrev pub ClientsFullDue : Account → ℕ → Refusal → Type 0
+ClientsFullDue = ClientsFullDueUnder book_limits
+
+-- under a book's limits: all these entries are more than 100,000
+abbrev pub EpochFullDue : Account → ℕ → Refusal → Type 0
+EpochFullDue = EpochFullDueUnder book_limits
 
 -- ---- the lines of a step, of which the first that applies decides
 
@@ -141,33 +159,52 @@ KeyLines a key refuses at_last above =
     (RefuseOr (GapDue a key) refuses
     above))))))
 
+-- the line of a bound on open places, where there is one
+abbrev pub PlaceLine : Option ℕ → Account → Call → (Refusal → Type 0) → Type 0 → Type 0
+PlaceLine None a call refuses enters = enters
+PlaceLine (Some most) a call refuses enters = RefuseOr (PlacesFullDue most a call) refuses enters
+
 -- the lines for a request: also what happens where it is a repeat
-abbrev pub RequestLines : Account → Key → Call → (Refusal → Type 0) → Type 0 → Type 0 → Type 0
-RequestLines a key call refuses repeats enters =
+abbrev pub RequestLinesUnder : StepLimits → Account → Key → Call → (Refusal → Type 0) → Type 0 → Type 0
+    → Type 0
+RequestLinesUnder limits a key call refuses repeats enters =
     KeyLines a key refuses
     (RefuseOr (OtherCallDue a key call) refuses
     repeats)
-    (RefuseOr (EpochFullDue a (need_of call)) refuses
-    enters)
+    (RefuseOr (EpochFullDueUnder limits a (need_of call)) refuses
+    (PlaceLine limits.open_places a call refuses
+    enters))
 
 -- the lines for a cancel: also what happens where its request waits, and where the last number is settled
-abbrev pub CancelLines : Account → Key → (Refusal → Type 0) → Type 0 → Type 0 → Type 0 → Type 0
-CancelLines a key refuses ends repeats enters =
+abbrev pub CancelLinesUnder : StepLimits → Account → Key → (Refusal → Type 0) → Type 0 → Type 0 → Type 0
+    → Type 0
+CancelLinesUnder limits a key refuses ends repeats enters =
     KeyLines a key refuses
     (WhereElse (WaitsUnder a.entries key) ends
     repeats)
-    (RefuseOr (EpochFullDue a 1) refuses
+    (RefuseOr (EpochFullDueUnder limits a 1) refuses
     enters)
 
 -- the lines for a hello: also what happens where it is a repeat
-abbrev pub HelloLines : Account → ℕ → ℕ → Version → (Refusal → Type 0) → Type 0 → Type 0 → Type 0
-HelloLines a client incarnation version refuses repeats enters =
+abbrev pub HelloLinesUnder : StepLimits → Account → ℕ → ℕ → Version → (Refusal → Type 0) → Type 0 → Type 0
+    → Type 0
+HelloLinesUnder limits a client incarnation version refuses repeats enters =
     RefuseOr (OldIncarnationDue a client incarnation) refuses
     (RefuseOr (OtherVersionDue a client incarnation version) refuses
     (WhereElse (HasIncarnation a.entries client incarnation) repeats
-    (RefuseOr (ClientsFullDue a client) refuses
-    (RefuseOr (EpochFullDue a 1) refuses
+    (RefuseOr (ClientsFullDueUnder limits a client) refuses
+    (RefuseOr (EpochFullDueUnder limits a 1) refuses
     enters))))
+
+-- the lines under a book's limits
+abbrev pub RequestLines : Account → Key → Call → (Refusal → Type 0) → Type 0 → Type 0 → Type 0
+RequestLines = RequestLinesUnder book_limits
+
+abbrev pub CancelLines : Account → Key → (Refusal → Type 0) → Type 0 → Type 0 → Type 0 → Type 0
+CancelLines = CancelLinesUnder book_limits
+
+abbrev pub HelloLines : Account → ℕ → ℕ → Version → (Refusal → Type 0) → Type 0 → Type 0 → Type 0
+HelloLines = HelloLinesUnder book_limits
 
 -- ---- the accounts after a step
 
@@ -206,19 +243,19 @@ EntersOrNoMemory a moment does b answer answers =
     Refuses a b answer NoMemory ⊎ (Adds a moment does b × answers)
 
 -- the step of a message at a moment: the accounts before and after, and the answer
-abbrev pub NextAt : Account → ℕ → Message → Account → Answer → Type 0
-NextAt a moment (Hello client incarnation version) b answer =
-    HelloLines a client incarnation version (Refuses a b answer)
+abbrev pub NextAtUnder : StepLimits → Account → ℕ → Message → Account → Answer → Type 0
+NextAtUnder limits a moment (Hello client incarnation version) b answer =
+    HelloLinesUnder limits a client incarnation version (Refuses a b answer)
     ((b ≡ a) × (answer ≡ Welcome a.epoch client incarnation version))
     (EntersOrNoMemory a moment (act.TheVariants.Hello client incarnation version) b answer
     (answer ≡ Welcome a.epoch client incarnation version))
-NextAt a moment (Request key call) b answer =
-    RequestLines a key call (Refuses a b answer)
+NextAtUnder limits a moment (Request key call) b answer =
+    RequestLinesUnder limits a key call (Refuses a b answer)
     (Repeats a b key answer)
     (EntersOrNoMemory a moment (act.TheVariants.Arrive key call) b answer
     (Answers b key answer))
-NextAt a moment (Cancel key) b answer =
-    CancelLines a key (Refuses a b answer)
+NextAtUnder limits a moment (Cancel key) b answer =
+    CancelLinesUnder limits a key (Refuses a b answer)
     (Adds a moment (act.TheVariants.Cancel key) b × (answer ≡ Replied key Cancelled))
     (Repeats a b key answer)
     (EntersOrNoMemory a moment (act.TheVariants.Cancel key) b answer
@@ -230,7 +267,16 @@ abbrev pub Ticks : Account → ℕ → Account → Type 0
 Ticks a moment b = WhereElse (SomethingDue a.entries moment) (Adds a moment act.TheVariants.Tick b) (b ≡ a)
 
 -- one step: the account before, the moment that is handed in, the message, the account after and the answer
-pub record Next (a : Account) (now : ℕ) (m : Message) (b : Account) (answer : Answer) : Type 0 where
+pub record NextUnder (limits : StepLimits) (a : Account) (now : ℕ) (m : Message) (b : Account)
+    (answer : Answer) : Type 0 where
   pub ticked : Account
   pub ticks : Ticks a (step_moment a now) ticked
-  pub steps : NextAt ticked (step_moment a now) m b answer
+  pub steps : NextAtUnder limits ticked (step_moment a now) m b answer
+
+-- ---- a step under a book's limits
+
+abbrev pub NextAt : Account → ℕ → Message → Account → Answer → Type 0
+NextAt = NextAtUnder book_limits
+
+abbrev pub Next : Account → ℕ → Message → Account → Answer → Type 0
+Next = NextUnder book_limits

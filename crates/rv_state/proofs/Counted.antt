@@ -1,9 +1,11 @@
--- A state's clients are as many as said a hello, and its waiters as many as wait.
+-- A state's clients are as many as said a hello, its open places as many as are open, and its waiters as many
+-- as
+-- wait.
 use Rattle.rv_state.proofs.Words.{◌≡◌, ◌<◌, ◌∷◌, ◌∙◌, ℕ, zero, suc, Bool, true, false, List, [], map, Option}
-use Rattle.rv_state.proofs.Words.{Some, None, option_and_then, refl, sym, ap, subst, arith, filter, slice_get}
-use Rattle.rv_state.proofs.Words.{nat_cmp, get, keys, false≢true, same_Some, Wait, Key, wait_of, Account}
-use Rattle.rv_state.proofs.Words.{call_in, NumberOf, SaidHello, Open, Waiting, ClientState, OpenPlace, State}
-use Rattle.rv_state.proofs.Words.{client_at, place_list, waiter_of, IsStateOf}
+use Rattle.rv_state.proofs.Words.{length, Some, None, option_and_then, refl, sym, ap, subst, arith, filter}
+use Rattle.rv_state.proofs.Words.{slice_get, nat_cmp, get, keys, false≢true, same_Some, Wait, Key, wait_of}
+use Rattle.rv_state.proofs.Words.{Account, call_in, NumberOf, SaidHello, Open, Waiting, ClientState}
+use Rattle.rv_state.proofs.Words.{OpenPlace, State, client_at, place_list, waiter_of, IsStateOf}
 use Rattle.std.proofs.Common.{add-one, ◌&&◌, T, is_some}
 use Rattle.std.specs.Prelude.{Contains}
 use Rattle.std.specs.List.Sorted.{IsStrictlyIncreasing}
@@ -77,6 +79,14 @@ clients_number a s state = record {
   );
   is = len-entries s.clients ∙ sym (length-map (entries s.clients) (λ e. e.0));
 }
+
+-- ---- what is open
+
+pub open_number : (a : Account) (s : State) → IsStateOf a s
+    → NumberOf (Open a.entries) (length s.open_places)
+open_number a s state =
+    subst (NumberOf (Open a.entries)) (length-map s.open_places (λ (o : OpenPlace). o.place))
+    (line_count (Open a.entries) (place_list s.open_places) state.in_order)
 
 -- ---- waiters
 

@@ -1,8 +1,8 @@
 -- Whether a refusal of a step of a state is due, and whether a condition of its lines holds, is decided.
-use Rattle.rv_state.proofs.Words.{◌≡◌, ◌<◌, ◌+◌, ◌≤◌, ◌⊎◌, ℕ, Option, Some, None, inl, inr, refl, sym}
-use Rattle.rv_state.proofs.Words.{subst, arith, cases_lt, none-some, same_Some, Key, Call, Version}
-use Rattle.rv_state.proofs.Words.{Refusal, State, ClientState, client_at, place_waiting}
-use Rattle.rv_state.proofs.Words.{IncarnationOld, OldIncarnation}
+use Rattle.rv_state.proofs.Words.{◌≡◌, ◌<◌, ◌+◌, ◌≤◌, ◌⊎◌, ◌∷◌, ℕ, List, [], length, Option, Some, None}
+use Rattle.rv_state.proofs.Words.{inl, inr, refl, sym, subst, arith, cases_lt, none-some, same_Some, Key}
+use Rattle.rv_state.proofs.Words.{Call, Stays, Version, Refusal, State, OpenPlace, ClientState, client_at}
+use Rattle.rv_state.proofs.Words.{place_waiting, IncarnationOld, OldIncarnation}
 use Rattle.std.specs.Prelude.{◌≢◌}
 use Rattle.std.specs.FinMap.{len}
 use Rattle.rv_text.specs.declared.version.Version.TheVariants.{One, Two}
@@ -11,12 +11,13 @@ use Rattle.rv_text.specs.declared.answer.Refusal.TheVariants.{Busy, Gap, Clients
 use Rattle.rv_text.specs.declared.answer.Refusal.TheVariants.{OtherVersion}
 use Rattle.rv_text.proofs.Kept.{same_call}
 use Rattle.rv_rules.proofs.Numbers.{same_or_not}
-use Rattle.rv_rules.specs.Steps.{max_clients, max_entries}
-use Rattle.rv_state.specs.State.{waiting_count}
+use Rattle.rv_rules.specs.StepLimits.{StepLimits}
+use Rattle.rv_rules.proofs.Deciding.{stays_or_not}
+use Rattle.rv_state.specs.State.{opposites, waiting_count}
 use Rattle.rv_state.specs.Follows.{IsNewIncarnation, NumberWaits}
 use Rattle.rv_state.specs.Moves.{EpochDiffers, SessionLacks, VersionDiffers, NumberOld, CallDiffers}
-use Rattle.rv_state.specs.Moves.{SessionBusy, NumberAbove, NoClientMore, NoEntryMore, NumberIsLast}
-use Rattle.rv_state.specs.Moves.{HasSessionOf, call_asked}
+use Rattle.rv_state.specs.Moves.{SessionBusy, NumberAbove, NoClientMoreUnder, NoEntryMoreUnder, NoPlaceMore}
+use Rattle.rv_state.specs.Moves.{NumberIsLast, HasSessionOf, call_asked}
 
 -- a refusal is due, and it isn't want of memory
 pub record IsDue (due : Refusal → Type 0) : Type 0 where
@@ -110,6 +111,10 @@ new_or_not incarnation (Some session) = elim (less_or_not session.incarnation in
   | inr most ↦ inr (λ all. most (all session refl))
 ]
 
+empty_or_not : (l : List OpenPlace) → (l ≡ []) ⊎ (l ≡ [] → ⊥)
+empty_or_not [] = inl refl
+empty_or_not (first ∷ others) = inr (λ is. let no : ⊥ = cc in no)
+
 none_or_not : (there : Option ClientState) → (there ≡ None) ⊎ (there ≡ None → ⊥)
 none_or_not None = inl refl
 none_or_not (Some session) = inr (λ is. none-some session (sym is))
@@ -183,19 +188,28 @@ module _ (s : State) where
       (λ x there above. record { session = x; there = there; above = above; is = refl })
       (λ p due. (due.session, due.there, due.above)) (λ x e. cc)
 
-  pub clients_decided : (client : ℕ) → DueOrNot (NoClientMore s client)
-  clients_decided client =
-      condition_due (NoClientMore s client) ((client_at s client ≡ None) × (max_clients ≤ len s.clients))
-      ClientsFull
-      (both_or_not _ _ (none_or_not (client_at s client)) (most_or_not max_clients (len s.clients)))
+  pub clients_decided : (limits : StepLimits) (client : ℕ) → DueOrNot (NoClientMoreUnder limits s client)
+  clients_decided limits client =
+      condition_due (NoClientMoreUnder limits s client)
+      ((client_at s client ≡ None) × (limits.clients ≤ len s.clients)) ClientsFull
+      (both_or_not _ _ (none_or_not (client_at s client)) (most_or_not limits.clients (len s.clients)))
       (λ h. record { is_new = h.0; full = h.1; is = refl }) (λ p due. (due.is_new, due.full)) (λ e. cc)
 
-  pub room_decided : (need : ℕ) → DueOrNot (NoEntryMore s need)
-  room_decided need =
-      condition_due (NoEntryMore s need) (max_entries < s.length + waiting_count s + need) EpochFull
-      (less_or_not max_entries (s.length + waiting_count s + need))
+  pub room_decided : (limits : StepLimits) (need : ℕ) → DueOrNot (NoEntryMoreUnder limits s need)
+  room_decided limits need =
+      condition_due (NoEntryMoreUnder limits s need) (limits.entries < s.length + waiting_count s + need)
+      EpochFull (less_or_not limits.entries (s.length + waiting_count s + need))
       (λ full. record { full = full; is = refl })
       (λ p due. due.full) (λ e. cc)
+
+  pub places_decided : (most : ℕ) (call : Call) → DueOrNot (NoPlaceMore most s call)
+  places_decided most call =
+      condition_due (NoPlaceMore most s call)
+      (Stays call × ((opposites s call ≡ []) × (most ≤ length s.open_places))) EpochFull
+      (both_or_not _ _ (stays_or_not call)
+      (both_or_not _ _ (empty_or_not (opposites s call)) (most_or_not most (length s.open_places))))
+      (λ h. record { stays = h.0; alone = h.1.0; full = h.1.1; is = refl })
+      (λ p due. (due.stays, (due.alone, due.full))) (λ e. cc)
 
   -- ---- conditions
 

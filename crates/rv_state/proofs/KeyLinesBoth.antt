@@ -1,19 +1,20 @@
--- The lines for a key decide alike by an account and by its state.
+-- The lines for a key, and that of a bound on open places, decide alike by an account and by its state.
 use Rattle.rv_state.proofs.Words.{◌≡◌, ◌+◌, ◌<◌, ◌∙◌, inl, inr, ℕ, Option, Some, None, refl, sym, ap, subst}
-use Rattle.rv_state.proofs.Words.{arith, cases_lt, cases_order, none-some, same_Some, Refusal, OldIncarnation}
+use Rattle.rv_state.proofs.Words.{arith, cases_lt, cases_order, none-some, same_Some, Call, Refusal}
+use Rattle.rv_state.proofs.Words.{OldIncarnation}
 use Rattle.rv_state.proofs.Words.{Key, Account, Legal, same_key, ClientState, State, client_at, place_waiting}
 use Rattle.rv_state.proofs.Words.{InSession, NumberIsNext, IncarnationOld, BecameOf, IsStateOf, last_key_of}
 use Rattle.rv_text.specs.declared.answer.Refusal.TheVariants.{Busy, Gap, NoSession, OldNumber, OtherEpoch}
-use Rattle.rv_rules.specs.Steps.{KeyLines}
+use Rattle.rv_rules.specs.Steps.{KeyLines, PlaceLine}
 use Rattle.rv_rules.proofs.Numbers.{same_or_not}
 use Rattle.rv_state.specs.Moves.{EpochDiffers, NumberAbove, NumberIsLast, NumberOld, SessionBusy}
-use Rattle.rv_state.specs.Moves.{SessionLacks, StateKeyLines}
+use Rattle.rv_state.specs.Moves.{SessionLacks, StateKeyLines, StatePlaceLine}
 use Rattle.rv_state.proofs.AtLast.{AtLast}
 use Rattle.rv_state.proofs.CarriedLines.{Done, carried_condition, carried_refusal}
 use Rattle.rv_state.proofs.ClientParts.{client_known}
 use Rattle.rv_state.proofs.RefusalsBoth.{busy_from, busy_to, epoch_from, epoch_to, gap_from, gap_to}
 use Rattle.rv_state.proofs.RefusalsBoth.{incarnation_from, incarnation_to, lacks_from, lacks_to, last_from}
-use Rattle.rv_state.proofs.RefusalsBoth.{last_to, old_from, old_to}
+use Rattle.rv_state.proofs.RefusalsBoth.{last_to, old_from, old_to, places_from, places_to}
 
 -- ---- what the first lines leave
 
@@ -156,3 +157,23 @@ module _ (X : Type 0) (W : X → Type 0) (a : Account) (s : State) (legal : Lega
       (λ no_gap.
       above (number_is_next s key session.0 session.1 not_old not_last idle no_gap))))))))
       lines
+
+-- ---- the line of a bound on open places
+
+module _ (X : Type 0) (W : X → Type 0) (a : Account) (s : State) (legal : Legal a) (state : IsStateOf a s)
+    (call : Call) where
+  pub place_line_to : (R : Refusal → Type 0) (S : X → Refusal → Type 0) (G : Type 0) (H : X → Type 0)
+      → ((p : Refusal) → R p → Done X W (λ x. S x p)) → (bound : Option ℕ) → (G → Done X W H)
+      → PlaceLine bound a call R G → Done X W (λ x. StatePlaceLine bound s call (S x) (H x))
+  place_line_to R S G H refused None goes_on = goes_on
+  place_line_to R S G H refused (Some most) goes_on =
+      carried_refusal X W _ _ R _ S _ (places_to a s legal state most call)
+      (places_from a s legal state most call) refused (λ some. goes_on)
+
+  pub place_line_from : (R : Refusal → Type 0) (S : X → Refusal → Type 0) (G : Type 0) (H : X → Type 0)
+      → ((p : Refusal) → R p → Done X W (λ x. S x p)) → (bound : Option ℕ) → (G → Done X W H)
+      → StatePlaceLine bound s call R G → Done X W (λ x. PlaceLine bound a call (S x) (H x))
+  place_line_from R S G H refused None goes_on = goes_on
+  place_line_from R S G H refused (Some most) goes_on =
+      carried_refusal X W _ _ R _ S _ (places_from a s legal state most call)
+      (places_to a s legal state most call) refused (λ some. goes_on)

@@ -40,6 +40,7 @@ pub mod GivenOrder
 pub mod SettledOrder
 pub mod EntrySays
 pub mod Counted
+pub mod NamedPlaces
 pub mod RefusalsBoth
 pub mod OneTold
 pub mod CarriedLines
@@ -52,10 +53,10 @@ pub mod StepsBoth
 pub mod TicksBoth
 pub mod MovesBoth
 pub mod MoveRuns
-pub mod NamedPlaces
 pub mod RulesKept
 pub mod DueDecided
 pub mod MovesThere
 pub mod WhoWaits
 pub mod StateLaws
+pub mod LimitLaws
 pub mod TableClients

@@ -1,14 +1,15 @@
 -- What a move makes of a state is what its entries make of it, one after the other.
 use Rattle.rv_state.proofs.Words.{◌≡◌, ◌++◌, ◌∷◌, ◌∙◌, inl, inr, ℕ, List, [], append-nil, append_assoc, refl}
-use Rattle.rv_state.proofs.Words.{sym, ap, subst, fold, Key, Message, Answer, Refusal, Act, Entry, OpenPlace}
-use Rattle.rv_state.proofs.Words.{State, Settled, due_at, following, state_after, Move, Ticked, entering}
-use Rattle.rv_state.proofs.Words.{staying, ticked_at}
+use Rattle.rv_state.proofs.Words.{Option, None, Some, Call, sym, ap, subst, fold, Key, Message, Answer}
+use Rattle.rv_state.proofs.Words.{Refusal, Act, Entry, OpenPlace, State, Settled, due_at, following}
+use Rattle.rv_state.proofs.Words.{state_after, Move, Ticked, entering, staying, ticked_at}
 use Rattle.std.proofs.lemmas.List.Sums.{fold-append}
 use Rattle.rv_text.specs.declared.message.Message.TheVariants.{Hello, Request, Cancel}
 use Rattle.rv_text.specs.declared.answer.Refusal.TheVariants.{NoMemory}
+use Rattle.rv_rules.specs.StepLimits.{StepLimits}
 use Rattle.rv_rules.specs.Steps.{RefuseOr, WhereElse}
-use Rattle.rv_state.specs.Moves.{EntersMove, RefusesMove, RepeatsMove, StateKeyLines, StateNext, StateNextAt}
-use Rattle.rv_state.specs.Moves.{state_moment, ticked_if}
+use Rattle.rv_state.specs.Moves.{EntersMove, RefusesMove, RepeatsMove, StateKeyLines, StateNextAtUnder}
+use Rattle.rv_state.specs.Moves.{StateNextUnder, StatePlaceLine, state_moment, ticked_if}
 
 -- whom some entries settle, by the state before them
 abbrev pub settles_by : State → List Entry → List Settled
@@ -66,23 +67,30 @@ module _ (s : State) (move : Move) where
       (refuse_end _ _ _ _ refused_runs
       (refuse_end _ _ _ _ refused_runs second))))))
 
-  next_at_runs : (moment : ℕ) (m : Message) → StateNextAt s moment m move → RunsMove s move
-  next_at_runs moment (Hello client incarnation version) =
+  place_end : (bound : Option ℕ) (call : Call) (enters : Type 0) → (enters → RunsMove s move)
+      → StatePlaceLine bound s call (RefusesMove s move) enters → RunsMove s move
+  place_end None call enters goes_on = goes_on
+  place_end (Some most) call enters goes_on = refuse_end _ _ _ _ refused_runs goes_on
+
+  next_at_runs : (limits : StepLimits) (moment : ℕ) (m : Message) → StateNextAtUnder limits s moment m move
+      → RunsMove s move
+  next_at_runs limits moment (Hello client incarnation version) =
       refuse_end _ _ _ _ refused_runs
       (refuse_end _ _ _ _ refused_runs
       (where_end _ _ _ _ (stays_runs _)
       (refuse_end _ _ _ _ refused_runs
       (refuse_end _ _ _ _ refused_runs (may_enter_runs moment _ _)))))
-  next_at_runs moment (Request key call) =
+  next_at_runs limits moment (Request key call) =
       key_end key _ _ (refuse_end _ _ _ _ refused_runs (repeats_runs key))
-      (refuse_end _ _ _ _ refused_runs (may_enter_runs moment _ _))
-  next_at_runs moment (Cancel key) =
+      (refuse_end _ _ _ _ refused_runs
+      (place_end limits.open_places call _ (may_enter_runs moment _ _)))
+  next_at_runs limits moment (Cancel key) =
       key_end key _ _ (where_end _ _ _ _ (enters_runs moment _ _) (repeats_runs key))
       (refuse_end _ _ _ _ refused_runs (may_enter_runs moment _ _))
 
 -- ---- both parts of a step
 
-ticked_runs : (s : State) (moment : ℕ) (due : List OpenPlace)
+pub ticked_runs : (s : State) (moment : ℕ) (due : List OpenPlace)
     → Runs s (ticked_if s moment due).entries (ticked_if s moment due).after (ticked_if s moment due).settles
 ticked_runs s moment [] = record { after_is = refl; settles_are = refl }
 ticked_runs s moment (first ∷ others) =
@@ -96,12 +104,12 @@ settles_append s (e ∷ es) more =
     ∙ sym (append_assoc (following s e.moment e.act).settles (settles_by (state_after s e) es)
     (settles_by (fold state_after (state_after s e) es) more))
 
-pub move_runs : (s : State) (now : ℕ) (m : Message) (move : Move) → StateNext s now m move
-    → Runs s move.entries move.after move.settles
-move_runs s now m move next =
+pub move_runs : (limits : StepLimits) (s : State) (now : ℕ) (m : Message) (move : Move)
+    → StateNextUnder limits s now m move → Runs s move.entries move.after move.settles
+move_runs limits s now m move next =
     let made : Ticked = ticked_at s (state_moment s now) in
     let first = ticked_runs s (state_moment s now) (due_at s (state_moment s now)) in
-    let second = next_at_runs made.after next.then (state_moment s now) m next.steps in
+    let second = next_at_runs made.after next.then limits (state_moment s now) m next.steps in
     let es = made.entries in
     let more = next.then.entries in
     record {

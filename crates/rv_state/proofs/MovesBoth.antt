@@ -3,8 +3,9 @@ use Rattle.rv_state.proofs.Words.{◌≡◌, ◌++◌, ◌≤◌, ◌∙◌, ℕ
 use Rattle.rv_state.proofs.Words.{Message, Answer, Entry, Account, Legal, State, Move, Ticked, ticked_at}
 use Rattle.rv_state.proofs.Words.{IsStateOf}
 use Rattle.std.specs.Prelude.{max}
-use Rattle.rv_rules.specs.Steps.{Next, NextAt, Ticks, capped_moment, step_moment}
-use Rattle.rv_state.specs.Moves.{StateNext, state_moment}
+use Rattle.rv_rules.specs.StepLimits.{StepLimits}
+use Rattle.rv_rules.specs.Steps.{NextAtUnder, NextUnder, Ticks, capped_moment, step_moment}
+use Rattle.rv_state.specs.Moves.{StateNextUnder, state_moment}
 pub use Rattle.rv_state.proofs.Leading.{IsMoveTo}
 use Rattle.rv_state.proofs.StepsBoth.{next_at_from, next_at_to}
 use Rattle.rv_state.proofs.TicksBoth.{TicksTo, ticks_from, ticks_to}
@@ -36,23 +37,24 @@ joined a t b moment made said then move ticks is entries answer after = record {
 
 -- ---- from the account to its state
 
-pub record MovesTo (a : Account) (s : State) (now : ℕ) (m : Message) (b : Account) (answer : Answer) : Type 0
-  where
-    pub move : Move
-    pub steps : StateNext s now m move
-    pub is : IsMoveTo a b answer move
+pub record MovesTo (limits : StepLimits) (a : Account) (s : State) (now : ℕ) (m : Message) (b : Account)
+    (answer : Answer) : Type 0 where
+  pub move : Move
+  pub steps : StateNextUnder limits s now m move
+  pub is : IsMoveTo a b answer move
 
-pub next_to_move : (a b : Account) (s : State) (now : ℕ) (m : Message) (answer : Answer) → Legal a
-    → IsStateOf a s → Next a now m b answer → MovesTo a s now m b answer
-next_to_move a b s now m answer legal state next =
+pub next_to_move : (limits : StepLimits) (a b : Account) (s : State) (now : ℕ) (m : Message)
+    (answer : Answer) → Legal a → IsStateOf a s → NextUnder limits a now m b answer
+    → MovesTo limits a s now m b answer
+next_to_move limits a b s now m answer legal state next =
     let moment : ℕ = state_moment s now in
     let same : step_moment a now ≡ moment = same_moment a s now state in
     let made : Ticked = ticked_at s moment in
     let t : Account = next.ticked in
     let ticks = ticks_to a t s moment legal state (not_before s now)
     (subst (λ n. Ticks a n t) same next.ticks) in
-    let done = next_at_to t made.after moment ticks.legal ticks.state b answer m
-    (subst (λ n. NextAt t n m b answer) same next.steps) in
+    let done = next_at_to limits t made.after moment ticks.legal ticks.state b answer m
+    (subst (λ n. NextAtUnder limits t n m b answer) same next.steps) in
     let then : Move = done.what in
     let move : Move = record {
       entries = made.entries ++ then.entries;
@@ -75,22 +77,23 @@ next_to_move a b s now m answer legal state next =
 
 -- ---- from the state to its account
 
-pub record NextBy (a : Account) (now : ℕ) (m : Message) (move : Move) : Type 0 where
+pub record NextBy (limits : StepLimits) (a : Account) (now : ℕ) (m : Message) (move : Move) : Type 0 where
   pub after : Account
   pub answer : Answer
-  pub next : Next a now m after answer
+  pub next : NextUnder limits a now m after answer
   pub is : IsMoveTo a after answer move
 
-pub move_to_next : (a : Account) (s : State) (now : ℕ) (m : Message) (move : Move) → Legal a → IsStateOf a s
-    → StateNext s now m move → NextBy a now m move
-move_to_next a s now m move legal state next =
+pub move_to_next : (limits : StepLimits) (a : Account) (s : State) (now : ℕ) (m : Message) (move : Move)
+    → Legal a → IsStateOf a s → StateNextUnder limits s now m move → NextBy limits a now m move
+move_to_next limits a s now m move legal state next =
     let moment : ℕ = state_moment s now in
     let same : moment ≡ step_moment a now = sym (same_moment a s now state) in
     let made : Ticked = ticked_at s moment in
     let found = ticks_from a s moment legal state (not_before s now) in
     let t : Account = found.0 in
     let ticks = ticks_to a t s moment legal state (not_before s now) found.1 in
-    let done = next_at_from t made.after moment ticks.legal ticks.state ticks.not_before ticks.none next.then
+    let done = next_at_from limits t made.after moment ticks.legal ticks.state ticks.not_before ticks.none
+    next.then
     m next.steps in
     let b : Account = done.what.0 in
     let said : Answer = done.what.1 in
@@ -100,7 +103,7 @@ move_to_next a s now m move legal state next =
       next = record {
         ticked = t;
         ticks = subst (λ n. Ticks a n t) same found.1;
-        steps = subst (λ n. NextAt t n m b said) same done.how;
+        steps = subst (λ n. NextAtUnder limits t n m b said) same done.how;
       };
       is = joined a t b moment made said next.then move ticks done.wanted next.entries next.answer next.after;
     }

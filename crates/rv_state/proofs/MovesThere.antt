@@ -1,6 +1,6 @@
 -- Whatever the state, there is a move for each moment and message.
 use Rattle.rv_state.proofs.Words.{◌≡◌, ◌++◌, ◌⊎◌, ℕ, Option, Some, None, inl, inr, refl, Key, Version}
-use Rattle.rv_state.proofs.Words.{Message, Answer, Refusal, Reply, Act, State, following, Move, Ticked}
+use Rattle.rv_state.proofs.Words.{Message, Answer, Refusal, Reply, Call, Act, State, following, Move, Ticked}
 use Rattle.rv_state.proofs.Words.{entering, staying, ticked_at, Replied, Cancelled}
 use Rattle.std.specs.Prelude.{◌≢◌}
 use Rattle.rv_text.specs.declared.message.Message.TheVariants.{Hello, Request, Cancel}
@@ -8,14 +8,16 @@ use Rattle.rv_text.specs.declared.answer.Answer.TheVariants.{Welcome, Refused}
 use Rattle.rv_text.specs.declared.answer.Refusal.TheVariants.{NoMemory}
 use Rattle.rv_account.specs.Calls.{need_of}
 use Rattle.rv_account.specs.declared.entry.Act.TheVariants as act
+use Rattle.rv_rules.specs.StepLimits.{StepLimits}
 use Rattle.rv_rules.specs.Steps.{RefuseOr, WhereElse}
 use Rattle.rv_state.specs.Moves.{EntersMove, NumberIsLast, RefusesMove, RepeatsMove, StateKeyLines}
-use Rattle.rv_state.specs.Moves.{StateNextAt, answer_after, answer_told, state_moment, told_again}
-use Rattle.rv_state.specs.Laws.{HasMove}
+use Rattle.rv_state.specs.Moves.{StateNextAtUnder, StatePlaceLine, answer_after, answer_told, state_moment}
+use Rattle.rv_state.specs.Moves.{told_again}
+use Rattle.rv_state.specs.Laws.{HasMoveUnder}
 use Rattle.rv_state.proofs.DueDecided.{DueOrNot, call_decided, last_decided, waits_decided}
 use Rattle.rv_state.proofs.DueDecided.{above_decided, busy_decided, clients_decided, epoch_decided}
-use Rattle.rv_state.proofs.DueDecided.{incarnation_decided, lack_decided, number_decided, room_decided}
-use Rattle.rv_state.proofs.DueDecided.{session_decided, version_decided}
+use Rattle.rv_state.proofs.DueDecided.{incarnation_decided, lack_decided, number_decided, places_decided}
+use Rattle.rv_state.proofs.DueDecided.{room_decided, session_decided, version_decided}
 
 -- a move is so, and its answer is no want of memory
 record Chosen (Is : Move → Type 0) : Type 0 where
@@ -92,44 +94,51 @@ module _ (s : State) where
       (refuse_or _ _ (busy_decided s key)
       (refuse_or _ Above (above_decided s key) above))))))
 
+  place_line : (bound : Option ℕ) (call : Call) (Enters : Move → Type 0) → Chosen Enters
+      → Chosen (λ move. StatePlaceLine bound s call (RefusesMove s move) (Enters move))
+  place_line None call Enters enters = enters
+  place_line (Some most) call Enters enters = refuse_or _ Enters (places_decided s most call) enters
+
+module _ (limits : StepLimits) (s : State) where
   -- ---- a move for each message
 
-  next_at : (moment : ℕ) (m : Message) → Chosen (λ move. StateNextAt s moment m move)
+  next_at : (moment : ℕ) (m : Message) → Chosen (λ move. StateNextAtUnder limits s moment m move)
   next_at moment (Hello client incarnation version) =
       let welcome : Answer = Welcome s.epoch client incarnation version in
       let in_memory = welcome_in_memory s.epoch client incarnation version in
       let does : Act = act.Hello client incarnation version in
-      refuse_or _ _ (incarnation_decided s client incarnation)
-      (refuse_or _ _ (version_decided s client incarnation version)
+      refuse_or s _ _ (incarnation_decided s client incarnation)
+      (refuse_or s _ _ (version_decided s client incarnation version)
       (where_else _ (λ move. move ≡ staying s welcome) _ (session_decided s client incarnation)
-      (λ has. stays welcome in_memory)
-      (refuse_or _ _ (clients_decided s client)
-      (refuse_or _ (λ move. EntersMove s moment does move welcome) (room_decided s 1)
-      (may_enter moment does welcome in_memory)))))
+      (λ has. stays s welcome in_memory)
+      (refuse_or s _ _ (clients_decided s limits client)
+      (refuse_or s _ (λ move. EntersMove s moment does move welcome) (room_decided s limits 1)
+      (may_enter s moment does welcome in_memory)))))
   next_at moment (Request key call) =
       let does : Act = act.Arrive key call in
-      key_lines key _ _
-      (λ last. refuse_or _ (λ move. RepeatsMove s key move) (call_decided s key call) (repeats key last))
-      (refuse_or _ (λ move. EntersMove s moment does move (answer_after s moment key does))
-      (room_decided s (need_of call))
-      (may_enter moment does (answer_after s moment key does)
-      (told_in_memory key (following s moment does).reply)))
+      key_lines s key _ _
+      (λ last. refuse_or s _ (λ move. RepeatsMove s key move) (call_decided s key call) (repeats s key last))
+      (refuse_or s _ _ (room_decided s limits (need_of call))
+      (place_line s limits.open_places call _
+      (may_enter s moment does (answer_after s moment key does)
+      (told_in_memory key (following s moment does).reply))))
   next_at moment (Cancel key) =
       let does : Act = act.Cancel key in
-      key_lines key _ _
+      key_lines s key _ _
       (λ last. where_else _ (λ move. move ≡ entering s moment does (Replied key Cancelled))
       (λ move. RepeatsMove s key move) (waits_decided s key)
-      (λ waits. enters moment does (Replied key Cancelled) (replied_in_memory key Cancelled))
-      (repeats key last))
-      (refuse_or _ (λ move. EntersMove s moment does move (answer_after s moment key does)) (room_decided s 1)
-      (may_enter moment does (answer_after s moment key does)
+      (λ waits. enters s moment does (Replied key Cancelled) (replied_in_memory key Cancelled))
+      (repeats s key last))
+      (refuse_or s _ (λ move. EntersMove s moment does move (answer_after s moment key does))
+      (room_decided s limits 1)
+      (may_enter s moment does (answer_after s moment key does)
       (told_in_memory key (following s moment does).reply)))
 
 -- the time-outs of a step before its message's own
-after_ticks : (s : State) (now : ℕ) (m : Message)
-    → Chosen (λ move. StateNextAt (ticked_at s (state_moment s now)).after (state_moment s now) m move)
-    → HasMove s now m
-after_ticks s now m then =
+after_ticks : (limits : StepLimits) (s : State) (now : ℕ) (m : Message)
+    → Chosen (StateNextAtUnder limits (ticked_at s (state_moment s now)).after (state_moment s now) m)
+    → HasMoveUnder limits s now m
+after_ticks limits s now m then =
     let made : Ticked = ticked_at s (state_moment s now) in
     record {
       move = record {
@@ -149,6 +158,7 @@ after_ticks s now m then =
       in_memory = then.in_memory;
     }
 
-pub move_there : (s : State) (now : ℕ) (m : Message) → HasMove s now m
-move_there s now m =
-    after_ticks s now m (next_at (ticked_at s (state_moment s now)).after (state_moment s now) m)
+pub move_there : (limits : StepLimits) (s : State) (now : ℕ) (m : Message) → HasMoveUnder limits s now m
+move_there limits s now m =
+    let made : Ticked = ticked_at s (state_moment s now) in
+    after_ticks limits s now m (next_at limits made.after (state_moment s now) m)

@@ -9,8 +9,8 @@ use Rattle.rv_state.proofs.Words.{met_by, IsArrival, partners_of}
 use Rattle.std.specs.Prelude.{Decides}
 use Rattle.std.proofs.lemmas.Bool.Decides.{Decides-and, Decides-ltb}
 use Rattle.rv_account.specs.Account.{moment_at}
-use Rattle.rv_rules.proofs.Growing.{NamesAt-last, limit_on, moment_read}
-use Rattle.rv_rules.proofs.Sides.{OpenAt-last}
+use Rattle.rv_rules.proofs.Growing.{limit_on, moment_read}
+use Rattle.rv_rules.proofs.Sides.{OpenAt-last, named_not_open}
 use Rattle.rv_state.specs.After.{lasts_by, opened_by, parked, stays_open}
 use Rattle.rv_state.proofs.Coming.{Comes, more}
 
@@ -89,22 +89,6 @@ own_call a e = ap call_read (get-append_end a.entries e)
 no_arrival : (a : Account) (e : Entry) → call_in e.act ≡ None → Open (more a e) (length a.entries) → ⊥
 no_arrival a e none opened = none-some opened.call (sym (own_call a e ∙ none) ∙ opened.arrived)
 
-meets_not_open : (a : Account) (e : Entry) (p : ℕ) → Among e.partners p → Open (more a e) (length a.entries)
-    → ⊥
-meets_not_open a e p names opened =
-    opened.unmet
-    (record {
-      later = length a.entries;
-      earlier = p;
-      names = record {
-        call = opened.call;
-        arrived = opened.arrived;
-        meets = opened.stays.0;
-        named = NamesAt-last a.entries e p names;
-      };
-      part = inl refl;
-    })
-
 module _ (a : Account) (s : State) (e : Entry) (comes : Comes a s e) where
   own_stays : (key : Key) (call : Call) → e.act ≡ Arrive key call → Open (more a e) (length a.entries)
       → Stays call
@@ -131,7 +115,7 @@ module _ (a : Account) (s : State) (e : Entry) (comes : Comes a s e) where
   arrival_ends key call is (first ∷ others) met true stays = absurd (true≢false (sym stays))
   arrival_ends key call is (first ∷ others) met false goes =
       let names = subst (λ places. Among places first.place) (sym met) (0, refl) in
-      inl (refl, meets_not_open a e first.place names)
+      inl (refl, named_not_open a.entries e first.place names)
 
   ends_by : (does : Act) → e.act ≡ does → EndsWith a e (opens_by s e.moment does)
   ends_by (Hello client incarnation version) is = inl (refl, no_arrival a e (ap call_in is))

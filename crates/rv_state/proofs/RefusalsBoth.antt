@@ -1,22 +1,29 @@
 -- Each refusal is due by a legal account exactly where it is due by its state.
-use Rattle.rv_state.proofs.Words.{◌≡◌, ◌⊎◌, ◌+◌, ◌<◌, ◌≤◌, ◌∙◌, ℕ, length, Option, Some, None, refl, sym, ap}
+use Rattle.rv_state.proofs.Words.{◌≡◌, ◌⊎◌, ◌+◌, ◌<◌, ◌≤◌, ◌∙◌, ◌∷◌, [], ℕ, List, length, Option, Some, None}
+use Rattle.rv_state.proofs.Words.{refl, sym, ap, Among, Call, Open, OpenPlace, place_list}
 use Rattle.rv_state.proofs.Words.{subst, arith, Refusal, OldIncarnation, Key, Version, Account, Legal}
 use Rattle.rv_state.proofs.Words.{HasIncarnation, LastNumber, SaidHello, Waiting, ClientState, State}
 use Rattle.rv_state.proofs.Words.{client_at, place_waiting, IncarnationOld, IsStateOf}
 use Rattle.std.specs.FinMap.{len}
 use Rattle.rv_text.specs.declared.answer.Refusal.TheVariants.{Busy, Gap, OldNumber, OtherEpoch, OtherVersion}
 use Rattle.rv_rules.specs.Sessions.{HasOpened}
-use Rattle.rv_rules.specs.Steps.{BusyDue, ClientsFullDue, EpochFullDue, GapDue, NoSessionDue}
+use Rattle.rv_rules.specs.StepLimits.{StepLimits}
+use Rattle.rv_rules.specs.Steps.{BusyDue, ClientsFullDueUnder, EpochFullDueUnder, GapDue, NoSessionDue}
+use Rattle.rv_rules.specs.Legal.{IsOpenOpposite}
 use Rattle.rv_rules.specs.Steps.{OldIncarnationDue, OldNumberDue, OtherEpochDue, OtherVersionDue}
+use Rattle.rv_rules.specs.Steps.{PlacesFullDue}
+use Rattle.rv_rules.proofs.Naming.{among_none}
 use Rattle.rv_rules.proofs.Counting.{one_number}
 use Rattle.rv_rules.proofs.Keys.{act_arrives}
 use Rattle.rv_rules.proofs.Versions.{one_opened}
-use Rattle.rv_state.specs.Moves.{EpochDiffers, HasSessionOf, NoClientMore, NoEntryMore, NumberAbove}
+use Rattle.rv_state.specs.Moves.{EpochDiffers, HasSessionOf, NoClientMoreUnder, NoEntryMoreUnder}
+use Rattle.rv_state.specs.Moves.{NoPlaceMore, NumberAbove}
 use Rattle.rv_state.specs.Moves.{NumberIsLast, NumberOld, SessionBusy, SessionLacks, VersionDiffers}
-use Rattle.rv_state.specs.State.{waiting_count}
-use Rattle.rv_state.proofs.Counted.{clients_number, waiters_number}
+use Rattle.rv_state.specs.State.{opposites, waiting_count}
+use Rattle.rv_state.proofs.Counted.{clients_number, open_number, waiters_number}
 use Rattle.rv_state.proofs.ClientParts.{above_to_lower, client_known, client_new, has_said, lower_to_above}
 use Rattle.rv_state.proofs.ClientParts.{said_known, same_incarnation, same_last, session_incarnation}
+use Rattle.rv_state.proofs.NamedPlaces.{opposite_from, opposite_to}
 use Rattle.rv_state.proofs.NumbersBoth.{waits_known}
 use Rattle.rv_state.proofs.Sessions.{waits_in_state}
 
@@ -190,17 +197,17 @@ module _ (a : Account) (s : State) (legal : Legal a) (state : IsStateOf a s) whe
   new_by client (Some session) is new =
       absurd (new (has_said a client session.incarnation (session_incarnation a s client session state is)))
 
-  pub clients_to : (client : ℕ) (refusal : Refusal) → ClientsFullDue a client refusal
-      → NoClientMore s client refusal
-  clients_to client refusal due =
+  pub clients_to : (limits : StepLimits) (client : ℕ) (refusal : Refusal)
+      → ClientsFullDueUnder limits a client refusal → NoClientMoreUnder limits s client refusal
+  clients_to limits client refusal due =
       let same : due.clients ≡ len s.clients =
       one_number (SaidHello a.entries) due.clients (len s.clients) due.count (clients_number a s state) in
-      let full : 1024 ≤ due.clients = due.full in
+      let full : limits.clients ≤ due.clients = due.full in
       record { is_new = new_by client (client_at s client) refl due.is_new; full = omega arith; is = due.is }
 
-  pub clients_from : (client : ℕ) (refusal : Refusal) → NoClientMore s client refusal
-      → ClientsFullDue a client refusal
-  clients_from client refusal due = record {
+  pub clients_from : (limits : StepLimits) (client : ℕ) (refusal : Refusal)
+      → NoClientMoreUnder limits s client refusal → ClientsFullDueUnder limits a client refusal
+  clients_from limits client refusal due = record {
     is_new = client_new a s client state due.is_new;
     clients = len s.clients;
     count = clients_number a s state;
@@ -208,16 +215,54 @@ module _ (a : Account) (s : State) (legal : Legal a) (state : IsStateOf a s) whe
     is = due.is;
   }
 
-  pub full_to : (need : ℕ) (refusal : Refusal) → EpochFullDue a need refusal → NoEntryMore s need refusal
-  full_to need refusal due =
+  pub full_to : (limits : StepLimits) (need : ℕ) (refusal : Refusal)
+      → EpochFullDueUnder limits a need refusal → NoEntryMoreUnder limits s need refusal
+  full_to limits need refusal due =
       let same : due.waiting ≡ waiting_count s =
       one_number (Waiting a.entries) due.waiting (waiting_count s) due.count (waiters_number a s state) in
-      let full : 100000 < length a.entries + due.waiting + need = due.full in
+      let full : limits.entries < length a.entries + due.waiting + need = due.full in
       let long : s.length ≡ length a.entries = state.length in
       record { full = omega arith; is = due.is }
 
-  pub full_from : (need : ℕ) (refusal : Refusal) → NoEntryMore s need refusal → EpochFullDue a need refusal
-  full_from need refusal due =
-      let full : 100000 < s.length + waiting_count s + need = due.full in
+  pub full_from : (limits : StepLimits) (need : ℕ) (refusal : Refusal)
+      → NoEntryMoreUnder limits s need refusal → EpochFullDueUnder limits a need refusal
+  full_from limits need refusal due =
+      let full : limits.entries < s.length + waiting_count s + need = due.full in
       let long : s.length ≡ length a.entries = state.length in
       record { waiting = waiting_count s; count = waiters_number a s state; full = omega arith; is = due.is }
+
+  -- ---- what is open
+
+  none_by : (call : Call) (there : List OpenPlace) → opposites s call ≡ there
+      → ((p : ℕ) → IsOpenOpposite a.entries call p → ⊥) → there ≡ []
+  none_by call [] is alone = refl
+  none_by call (first ∷ others) is alone =
+      absurd (alone first.place (opposite_from a s state call first.place
+      (subst (λ (l : List OpenPlace). Among (place_list l) first.place) (sym is) (0, refl))))
+
+  pub places_to : (most : ℕ) (call : Call) (refusal : Refusal) → PlacesFullDue most a call refusal
+      → NoPlaceMore most s call refusal
+  places_to most call refusal due =
+      let same : due.places ≡ length s.open_places =
+      one_number (Open a.entries) due.places (length s.open_places) due.count (open_number a s state) in
+      let full : most ≤ due.places = due.full in
+      record {
+        stays = due.would_stay.stays;
+        alone = none_by call (opposites s call) refl due.would_stay.alone;
+        full = omega arith;
+        is = due.is;
+      }
+
+  pub places_from : (most : ℕ) (call : Call) (refusal : Refusal) → NoPlaceMore most s call refusal
+      → PlacesFullDue most a call refusal
+  places_from most call refusal due = record {
+    would_stay = record {
+      stays = due.stays;
+      alone = λ p partner. among_none (place_list (opposites s call)) p (ap place_list due.alone)
+          (opposite_to a s state call p partner);
+    };
+    places = length s.open_places;
+    count = open_number a s state;
+    full = due.full;
+    is = due.is;
+  }

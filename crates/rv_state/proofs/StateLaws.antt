@@ -1,26 +1,28 @@
 -- The laws of states, from what an entry and a step say.
-use Rattle.rv_state.proofs.Words.{◌≡◌, ◌++◌, ◌∷◌, ◌∙◌, ℕ, List, [], append_assoc, length, refl, sym, ap}
-use Rattle.rv_state.proofs.Words.{subst, fold, Message, Entry, Account, with_entry, Legal, state_after}
-use Rattle.rv_state.proofs.Words.{state_of, Move}
+use Rattle.rv_state.proofs.Words.{◌≡◌, ◌++◌, ◌∷◌, ◌∙◌, List, [], append_assoc, length, refl, sym, ap}
+use Rattle.rv_state.proofs.Words.{subst, fold, Entry, Account, with_entry, Legal, state_after}
+use Rattle.rv_state.proofs.Words.{state_of, Move, Settled, State, due_at, own_moment, arith}
 use Rattle.std.proofs.Math.Seq.{take-append_seam}
 use Rattle.std.proofs.lemmas.List.Sums.{fold-append}
-use Rattle.rv_rules.specs.Steps.{Next}
+use Rattle.rv_rules.specs.StepLimits.{StepLimits, book_limits}
+use Rattle.rv_rules.specs.Steps.{NextUnder}
 use Rattle.rv_rules.proofs.Fronts.{Legal-before}
 use Rattle.rv_rules.proofs.Legality.{follows_itself}
 use Rattle.rv_state.specs.State.{opening}
-use Rattle.rv_state.specs.Laws.{MovesExist}
-use Rattle.rv_state.specs.Laws.{IsMoveTo, MovesStep, OneFuture, StatesAgree, StatesFollow, StatesKeepRules}
-use Rattle.rv_state.specs.Laws.{StatesSettle, StatesTellWaiting, StepsAlike, StepsMove}
+use Rattle.rv_state.specs.Laws.{IsMoveTo, MovesExist, MovesExistUnder, MovesStep, MovesStepUnder, OneFuture}
+use Rattle.rv_state.specs.Laws.{StatesAgree, StatesFollow, StatesKeepRules, StatesSettle, StatesTellWaiting}
+use Rattle.rv_state.specs.Laws.{StepsAlike, StepsAlikeUnder, StepsMove, StepsMoveUnder, TicksMove, TicksStep}
 use Rattle.rv_state.specs.Follows.{FollowsState}
-use Rattle.rv_state.specs.Moves.{StateNext}
+use Rattle.rv_state.specs.Moves.{StateNextUnder, Ticked, ticked_at}
 use Rattle.rv_state.specs.Settling.{SettlesEach}
 use Rattle.rv_state.proofs.Agreed.{agreed, state_pushed}
 use Rattle.rv_state.proofs.EntrySays.{says_of_entry}
 use Rattle.rv_state.proofs.FollowsBoth.{account_to_state, state_to_account}
-use Rattle.rv_state.proofs.MoveRuns.{Runs, move_runs, settles_by}
+use Rattle.rv_state.proofs.MoveRuns.{Runs, move_runs, settles_by, ticked_runs}
 use Rattle.rv_state.proofs.MovesBoth.{move_to_next, next_to_move}
 use Rattle.rv_state.proofs.WhoWaits.{tells_waiting}
 use Rattle.rv_state.proofs.MovesThere.{move_there}
+use Rattle.rv_state.proofs.TicksBoth.{ticks_from, ticks_to}
 use Rattle.rv_state.proofs.RulesKept.{rules_agree}
 
 pub states_agree : StatesAgree
@@ -87,43 +89,57 @@ state_of_entries a b es epoch opened entries =
     ∙ ap (fold state_after (opening a.epoch a.opened)) entries
     ∙ fold-append state_after (opening a.epoch a.opened) a.entries es
 
+-- the second account is the first with some entries more, and legal; its state and whom they settle are these
+record LeadsTo (a b : Account) (entries : List Entry) (after : State) (settles : List Settled) : Type 0 where
+  state : state_of b ≡ after
+  each : SettlesEach a.entries entries settles
+
+leads_to : (a b : Account) (entries : List Entry) (after : State) (settles : List Settled)
+    → Runs (state_of a) entries after settles → b.epoch ≡ a.epoch → b.opened ≡ a.opened
+    → b.entries ≡ a.entries ++ entries → Legal b → LeadsTo a b entries after settles
+leads_to a b entries after settles runs epoch opened are legal =
+    let same : b ≡ with_entries a entries =
+    λ i. record { epoch = epoch i; opened = opened i; entries = are i } in
+    record {
+      state = state_of_entries a b entries epoch opened are ∙ sym runs.after_is;
+      each = subst (SettlesEach a.entries entries) (sym runs.settles_are)
+          (settles_all a entries (subst Legal same legal));
+    }
+
 -- a move's entries lead to the account that has its state, and settle whom it says
-is_move : (a b : Account) (now : ℕ) (m : Message) (move : Move)
-    → Runs (state_of a) move.entries move.after move.settles
+is_move : (a b : Account) (move : Move) → Runs (state_of a) move.entries move.after move.settles
     → b.epoch ≡ a.epoch → b.opened ≡ a.opened → b.entries ≡ a.entries ++ move.entries → Legal b
     → IsMoveTo a b move
-is_move a b now m move runs epoch opened entries legal =
-    let same : b ≡ with_entries a move.entries =
-    λ i. record { epoch = epoch i; opened = opened i; entries = entries i } in
+is_move a b move runs epoch opened entries legal =
+    let leads = leads_to a b move.entries move.after move.settles runs epoch opened entries legal in
     record {
       epoch = epoch;
       opened = opened;
       entries = entries;
       legal = legal;
-      state = state_of_entries a b move.entries epoch opened entries ∙ sym runs.after_is;
-      settles = subst (SettlesEach a.entries move.entries) (sym runs.settles_are)
-          (settles_all a move.entries (subst Legal same legal));
+      state = leads.state;
+      settles = leads.each;
     }
 
-pub steps_move : StepsMove
-steps_move a b now m answer legal next =
-    let moves = next_to_move a b (state_of a) now m answer legal (agreed a legal) next in
-    let runs = move_runs (state_of a) now m moves.move moves.steps in
+pub steps_move_under : (limits : StepLimits) → StepsMoveUnder limits
+steps_move_under limits a b now m answer legal next =
+    let moves = next_to_move limits a b (state_of a) now m answer legal (agreed a legal) next in
+    let runs = move_runs limits (state_of a) now m moves.move moves.steps in
     record {
       move = moves.move;
       moves = moves.steps;
       answers = moves.is.answer;
-      is = is_move a b now m moves.move runs moves.is.epoch moves.is.opened moves.is.entries moves.is.legal;
+      is = is_move a b moves.move runs moves.is.epoch moves.is.opened moves.is.entries moves.is.legal;
     }
 
-pub moves_step : MovesStep
-moves_step a now m move legal moves =
-    let next = move_to_next a (state_of a) now m move legal (agreed a legal) moves in
-    let runs = move_runs (state_of a) now m move moves in
+pub moves_step_under : (limits : StepLimits) → MovesStepUnder limits
+moves_step_under limits a now m move legal moves =
+    let next = move_to_next limits a (state_of a) now m move legal (agreed a legal) moves in
+    let runs = move_runs limits (state_of a) now m move moves in
     record {
       after = next.after;
-      next = subst (Next a now m next.after) next.is.answer next.next;
-      is = is_move a next.after now m move runs next.is.epoch next.is.opened next.is.entries next.is.legal;
+      next = subst (NextUnder limits a now m next.after) next.is.answer next.next;
+      is = is_move a next.after move runs next.is.epoch next.is.opened next.is.entries next.is.legal;
     }
 
 pub one_future : OneFuture
@@ -134,14 +150,14 @@ one_future a b e legal other same =
       λ follows. first.1 (subst (λ s. FollowsState s e) (sym same) (second.0 follows)),
     )
 
-pub steps_alike : StepsAlike
-steps_alike a b after now m answer legal other same next =
-    let moves = steps_move a after now m answer legal next in
-    let there = subst (λ s. StateNext s now m moves.move) same moves.moves in
-    let steps = moves_step b now m moves.move other there in
+pub steps_alike_under : (limits : StepLimits) → StepsAlikeUnder limits
+steps_alike_under limits a b after now m answer legal other same next =
+    let moves = steps_move_under limits a after now m answer legal next in
+    let there = subst (λ s. StateNextUnder limits s now m moves.move) same moves.moves in
+    let steps = moves_step_under limits b now m moves.move other there in
     record {
       after_there = steps.after;
-      next = subst (Next b now m steps.after) (sym moves.answers) steps.next;
+      next = subst (NextUnder limits b now m steps.after) (sym moves.answers) steps.next;
       more = moves.move.entries;
       adds = moves.is.entries;
       adds_there = steps.is.entries;
@@ -151,5 +167,49 @@ steps_alike a b after now m answer legal other same next =
       same = steps.is.state ∙ sym moves.is.state;
     }
 
+pub moves_exist_under : (limits : StepLimits) → MovesExistUnder limits
+moves_exist_under limits s now m = move_there limits s now m
+
+-- ---- under a book's limits
+
+pub steps_move : StepsMove
+steps_move = steps_move_under book_limits
+
+pub moves_step : MovesStep
+moves_step = moves_step_under book_limits
+
+pub steps_alike : StepsAlike
+steps_alike = steps_alike_under book_limits
+
 pub moves_exist : MovesExist
-moves_exist s now m = move_there s now m
+moves_exist = moves_exist_under book_limits
+
+-- ---- time-outs alone
+
+pub ticks_move : TicksMove
+ticks_move a b moment legal not_before ticks =
+    let state = agreed a legal in
+    let same : (state_of a).moment ≡ own_moment a = state.moment in
+    let made : Ticked = ticked_at (state_of a) moment in
+    let to = ticks_to a b (state_of a) moment legal state (omega arith) ticks in
+    let leads = leads_to a b made.entries made.after made.settles
+    (ticked_runs (state_of a) moment (due_at (state_of a) moment)) to.epoch to.opened to.entries to.legal in
+    record {
+      epoch = to.epoch;
+      opened = to.opened;
+      entries = to.entries;
+      legal = to.legal;
+      state = leads.state;
+      settles = leads.each;
+    }
+
+pub ticks_step : TicksStep
+ticks_step a moment legal not_before =
+    let state = agreed a legal in
+    let same : (state_of a).moment ≡ own_moment a = state.moment in
+    let found = ticks_from a (state_of a) moment legal state (omega arith) in
+    record {
+      after = found.0;
+      ticks = found.1;
+      is = ticks_move a found.0 moment legal not_before found.1;
+    }

@@ -7,14 +7,15 @@ use Rattle.rv_text.specs.declared.answer.Answer.TheVariants.{Refused, Welcome}
 use Rattle.rv_text.specs.declared.answer.Refusal.TheVariants.{NoMemory}
 use Rattle.rv_text.specs.declared.message.Message.TheVariants.{Cancel, Hello, Request}
 use Rattle.rv_account.specs.Calls.{need_of}
-use Rattle.rv_rules.specs.Steps.{Adds, EntersOrNoMemory, NextAt, Refuses, Replies}
+use Rattle.rv_rules.specs.StepLimits.{StepLimits}
+use Rattle.rv_rules.specs.Steps.{Adds, EntersOrNoMemory, NextAtUnder, Refuses, Replies}
 use Rattle.rv_state.specs.Follows.{IsNewIncarnation}
-use Rattle.rv_state.specs.Moves.{EntersMove, HasSessionOf, RefusesMove, StateNextAt, answer_after}
+use Rattle.rv_state.specs.Moves.{EntersMove, HasSessionOf, RefusesMove, StateNextAtUnder, answer_after}
 use Rattle.rv_state.proofs.AtLast.{call_from, call_to, repeats_from, repeats_to}
 use Rattle.rv_state.proofs.CarriedLines.{Done, carried_condition, carried_refusal}
 use Rattle.rv_state.proofs.Coming.{Comes}
 use Rattle.rv_state.proofs.EntersBoth.{Entered, adds_own, comes_adds, own_comes, own_entry}
-use Rattle.rv_state.proofs.KeyLinesBoth.{key_lines_from, key_lines_to}
+use Rattle.rv_state.proofs.KeyLinesBoth.{key_lines_from, key_lines_to, place_line_from, place_line_to}
 use Rattle.rv_state.proofs.ClientParts.{session_to_account}
 use Rattle.rv_state.proofs.Leading.{IsMoveTo, entered_legal, entering_leads, staying_leads}
 use Rattle.rv_state.proofs.NumbersBoth.{next_to_account, waits_to_account, waits_to_state}
@@ -24,7 +25,8 @@ use Rattle.rv_state.proofs.RefusalsBoth.{clients_from, clients_to, full_from, fu
 use Rattle.rv_state.proofs.RefusalsBoth.{incarnation_from, incarnation_to, version_from, version_to}
 use Rattle.rv_account.specs.declared.entry.Act.TheVariants as act
 
-module _ (a : Account) (s : State) (moment : ℕ) (legal : Legal a) (state : IsStateOf a s) where
+module _ (limits : StepLimits) (a : Account) (s : State) (moment : ℕ) (legal : Legal a)
+    (state : IsStateOf a s) where
   -- ---- from the account to its state
 
   module _ (b : Account) (answer : Answer) where
@@ -73,7 +75,8 @@ module _ (a : Account) (s : State) (moment : ℕ) (legal : Legal a) (state : IsS
         one_told b key (Replied key Cancelled) answer (entered_legal a b s moment (act.Cancel key) entered)
         said (inl replies) ∙ sym (cancel_answer s moment key)
 
-    pub next_at_to : (m : Message) → NextAt a moment m b answer → ToMove (StateNextAt s moment m)
+    pub next_at_to : (m : Message) → NextAtUnder limits a moment m b answer
+        → ToMove (StateNextAtUnder limits s moment m)
     next_at_to (Hello client incarnation version) lines =
         let W = IsMoveTo a b answer in
         carried_refusal Move W _ _ (Refuses a b answer) _ (RefusesMove s) _
@@ -91,9 +94,10 @@ module _ (a : Account) (s : State) (moment : ℕ) (legal : Legal a) (state : IsS
               (same.1 ∙ ap (λ n. Welcome n client incarnation version) (sym state.epoch));
         }) (λ new_one.
         carried_refusal Move W _ _ (Refuses a b answer) _ (RefusesMove s) _
-        (clients_to a s legal state client) (clients_from a s legal state client) refused_to (λ few.
-        carried_refusal Move W _ _ (Refuses a b answer) _ (RefusesMove s) _ (full_to a s legal state 1)
-        (full_from a s legal state 1) refused_to (λ room.
+        (clients_to a s legal state limits client) (clients_from a s legal state limits client) refused_to
+        (λ few.
+        carried_refusal Move W _ _ (Refuses a b answer) _ (RefusesMove s) _ (full_to a s legal state limits 1)
+        (full_from a s legal state limits 1) refused_to (λ room.
         entered_to (act.Hello client incarnation version) (Welcome s.epoch client incarnation version)
         (answer ≡ Welcome a.epoch client incarnation version)
         (λ entered same. same ∙ ap (λ n. Welcome n client incarnation version) (sym state.epoch)))))))
@@ -105,10 +109,12 @@ module _ (a : Account) (s : State) (moment : ℕ) (legal : Legal a) (state : IsS
         (call_to a s key legal state at call) (call_from a s key legal state at call) refused_to
         (λ same. repeats_to a s key legal state at b answer))
         (λ next. carried_refusal Move W _ _ (Refuses a b answer) _ (RefusesMove s) _
-        (full_to a s legal state (need_of call)) (full_from a s legal state (need_of call)) refused_to
-        (λ room.
+        (full_to a s legal state limits (need_of call)) (full_from a s legal state limits (need_of call))
+        refused_to (λ room.
+        place_line_to Move W a s legal state call (Refuses a b answer) (RefusesMove s) _ _ refused_to
+        limits.open_places (
         entered_to (act.Arrive key call) (answer_after s moment key (act.Arrive key call))
-        (Answers b key answer) (request_answer key call)))
+        (Answers b key answer) (request_answer key call))))
         lines
     next_at_to (Cancel key) lines =
         let W = IsMoveTo a b answer in
@@ -122,7 +128,7 @@ module _ (a : Account) (s : State) (moment : ℕ) (legal : Legal a) (state : IsS
               (adds_own a b s moment (act.Cancel key) legal state ends.0) ends.1;
         }) (λ idle. repeats_to a s key legal state at b answer))
         (λ next. carried_refusal Move W _ _ (Refuses a b answer) _ (RefusesMove s) _
-        (full_to a s legal state 1) (full_from a s legal state 1) refused_to (λ room.
+        (full_to a s legal state limits 1) (full_from a s legal state limits 1) refused_to (λ room.
         entered_to (act.Cancel key) (answer_after s moment key (act.Cancel key)) (Replies b key answer)
         (cancel_told key next)))
         lines
@@ -212,8 +218,8 @@ module _ (a : Account) (s : State) (moment : ℕ) (legal : Legal a) (state : IsS
           ]
         ]
 
-    pub next_at_from : (m : Message) → StateNextAt s moment m move
-        → Done Outcome Led (λ x. NextAt a moment m x.0 x.1)
+    pub next_at_from : (m : Message) → StateNextAtUnder limits s moment m move
+        → Done Outcome Led (λ x. NextAtUnder limits a moment m x.0 x.1)
     next_at_from (Hello client incarnation version) lines =
         carried_refusal Outcome Led _ _ (RefusesMove s move) _ (λ x. Refuses a x.0 x.1) _
         (incarnation_from a s legal state client incarnation)
@@ -225,9 +231,10 @@ module _ (a : Account) (s : State) (moment : ℕ) (legal : Legal a) (state : IsS
         (has_to a s legal state client incarnation)
         (λ has is. welcomed client incarnation version is) (λ new_one.
         carried_refusal Outcome Led _ _ (RefusesMove s move) _ (λ x. Refuses a x.0 x.1) _
-        (clients_from a s legal state client) (clients_to a s legal state client) refused_from (λ few.
+        (clients_from a s legal state limits client) (clients_to a s legal state limits client) refused_from
+        (λ few.
         carried_refusal Outcome Led _ _ (RefusesMove s move) _ (λ x. Refuses a x.0 x.1) _
-        (full_from a s legal state 1) (full_to a s legal state 1) refused_from (λ room.
+        (full_from a s legal state limits 1) (full_to a s legal state limits 1) refused_from (λ room.
         let above : IsNewIncarnation s client incarnation = is_above client incarnation no_newer new_one in
         let comes = own_comes a s moment (act.Hello client incarnation version) legal state
         (record { not_before = not_before; due = none }) above in
@@ -242,13 +249,15 @@ module _ (a : Account) (s : State) (moment : ℕ) (legal : Legal a) (state : IsS
         (call_from a s key legal state at call) (call_to a s key legal state at call) refused_from
         (λ same. repeats_from a s key legal state at move))
         (λ next. carried_refusal Outcome Led _ _ (RefusesMove s move) _ (λ x. Refuses a x.0 x.1) _
-        (full_from a s legal state (need_of call)) (full_to a s legal state (need_of call)) refused_from
-        (λ room.
+        (full_from a s legal state limits (need_of call)) (full_to a s legal state limits (need_of call))
+        refused_from (λ room.
+        place_line_from Outcome Led a s legal state call (RefusesMove s move) (λ x. Refuses a x.0 x.1) _ _
+        refused_from limits.open_places (
         let comes = own_comes a s moment (act.Arrive key call) legal state
         (record { not_before = not_before; due = none }) next in
         entered_from (act.Arrive key call) (answer_after s moment key (act.Arrive key call))
         (λ x. Answers x.0 key x.1) comes
-        (own_answers a s (own_entry s moment (act.Arrive key call)) key call comes refl)))
+        (own_answers a s (own_entry s moment (act.Arrive key call)) key call comes refl))))
         lines
     next_at_from (Cancel key) lines =
         key_lines_from Outcome Led a s legal state key (RefusesMove s move) (λ x. Refuses a x.0 x.1) _ _ _ _
@@ -260,7 +269,7 @@ module _ (a : Account) (s : State) (moment : ℕ) (legal : Legal a) (state : IsS
         (record { not_before = not_before; due = none }) (inl waits)) is)
         (λ idle. repeats_from a s key legal state at move))
         (λ next. carried_refusal Outcome Led _ _ (RefusesMove s move) _ (λ x. Refuses a x.0 x.1) _
-        (full_from a s legal state 1) (full_to a s legal state 1) refused_from (λ room.
+        (full_from a s legal state limits 1) (full_to a s legal state limits 1) refused_from (λ room.
         entered_from (act.Cancel key) (answer_after s moment key (act.Cancel key)) (λ x. Replies x.0 key x.1)
         (own_comes a s moment (act.Cancel key) legal state (record { not_before = not_before; due = none })
         (inr next)) (cancel_replies key next)))

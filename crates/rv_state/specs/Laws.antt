@@ -1,19 +1,23 @@
 -- The laws of states: what a state says is what its account says, and what follows one follows the other.
-use Rattle.std.specs.Prelude.{◌≡◌, ◌≢◌, ◌↔◌, ◌++◌, ℕ, List, Some, None}
+use Rattle.std.specs.Prelude.{◌≡◌, ◌≢◌, ◌↔◌, ◌≤◌, ◌+◌, ◌++◌, ℕ, List, Some, None, length, max}
 use Rattle.rv_text.specs.declared.message.Key.{Key}
 use Rattle.rv_text.specs.declared.message.Message.{Message}
 use Rattle.rv_text.specs.declared.answer.Answer.{Answer}
 use Rattle.rv_text.specs.declared.answer.Answer.TheVariants.{Refused}
-use Rattle.rv_text.specs.declared.answer.Refusal.TheVariants.{NoMemory}
+use Rattle.rv_text.specs.declared.answer.Refusal.TheVariants.{ClientsFull, EpochFull, NoMemory}
 use Rattle.rv_account.specs.declared.entry.Entry.{Entry}
-use Rattle.rv_account.specs.Account.{Account, key_in, with_entry}
+use Rattle.rv_account.specs.Account.{Account, key_in, own_moment, with_entry}
 use Rattle.rv_rules.specs.Legal.{Legal, MayFollow}
-use Rattle.rv_rules.specs.Steps.{Next}
+use Rattle.rv_rules.specs.Counting.{NumberOf}
+use Rattle.rv_rules.specs.Sessions.{SaidHello}
+use Rattle.rv_rules.specs.StepLimits.{AreAtMost, StepLimits, book_limits}
+use Rattle.rv_rules.specs.Steps.{NextUnder, Ticks}
+use Rattle.rv_rules.specs.Waiting.{Open, Waiting}
 use Rattle.rv_state.specs.State.{State}
 use Rattle.rv_state.specs.After.{Following, Settled, following, state_of}
 use Rattle.rv_state.specs.Follows.{FollowsState}
 use Rattle.rv_state.specs.Kept.{RulesAgree}
-use Rattle.rv_state.specs.Moves.{Move, StateNext}
+use Rattle.rv_state.specs.Moves.{Move, StateNextUnder, Ticked, ticked_at}
 use Rattle.rv_state.specs.Agreement.{IsStateOf, TellsWaiting}
 use Rattle.rv_state.specs.Settling.{SettlesEach, SettlesAt, ToldOwn}
 
@@ -57,34 +61,36 @@ pub record IsMoveTo (a b : Account) (move : Move) : Type 0 where
   pub settles : SettlesEach a.entries move.entries move.settles
 
 -- each step of a legal account is a move of its state
-pub record MovesTo (a b : Account) (now : ℕ) (m : Message) (answer : Answer) : Type 0 where
+pub record MovesToUnder (limits : StepLimits) (a b : Account) (now : ℕ) (m : Message) (answer : Answer) :
+    Type 0 where
   pub move : Move
-  pub moves : StateNext (state_of a) now m move
+  pub moves : StateNextUnder limits (state_of a) now m move
   pub answers : answer ≡ move.answer
   pub is : IsMoveTo a b move
 
-abbrev pub StepsMove : Type 0
-StepsMove = (a b : Account) (now : ℕ) (m : Message) (answer : Answer) → Legal a → Next a now m b answer
-    → MovesTo a b now m answer
+abbrev pub StepsMoveUnder : StepLimits → Type 0
+StepsMoveUnder limits = (a b : Account) (now : ℕ) (m : Message) (answer : Answer) → Legal a
+    → NextUnder limits a now m b answer → MovesToUnder limits a b now m answer
 
 -- and each move of its state is a step of the account, which so has one
-pub record StepsTo (a : Account) (now : ℕ) (m : Message) (move : Move) : Type 0 where
-  pub after : Account
-  pub next : Next a now m after move.answer
-  pub is : IsMoveTo a after move
+pub record StepsToUnder (limits : StepLimits) (a : Account) (now : ℕ) (m : Message) (move : Move) : Type 0
+  where
+    pub after : Account
+    pub next : NextUnder limits a now m after move.answer
+    pub is : IsMoveTo a after move
 
-abbrev pub MovesStep : Type 0
-MovesStep = (a : Account) (now : ℕ) (m : Message) (move : Move) → Legal a → StateNext (state_of a) now m move
-    → StepsTo a now m move
+abbrev pub MovesStepUnder : StepLimits → Type 0
+MovesStepUnder limits = (a : Account) (now : ℕ) (m : Message) (move : Move) → Legal a
+    → StateNextUnder limits (state_of a) now m move → StepsToUnder limits a now m move
 
 -- whatever the state, there is a move for each moment and message, where no growth is refused
-pub record HasMove (s : State) (now : ℕ) (m : Message) : Type 0 where
+pub record HasMoveUnder (limits : StepLimits) (s : State) (now : ℕ) (m : Message) : Type 0 where
   pub move : Move
-  pub moves : StateNext s now m move
+  pub moves : StateNextUnder limits s now m move
   pub in_memory : move.answer ≢ Refused NoMemory
 
-abbrev pub MovesExist : Type 0
-MovesExist = (s : State) (now : ℕ) (m : Message) → HasMove s now m
+abbrev pub MovesExistUnder : StepLimits → Type 0
+MovesExistUnder limits = (s : State) (now : ℕ) (m : Message) → HasMoveUnder limits s now m
 
 -- of two legal accounts with one state, an entry may follow the one exactly where it may follow the other
 abbrev pub OneFuture : Type 0
@@ -93,9 +99,10 @@ OneFuture = (a b : Account) (e : Entry) → Legal a → Legal b → state_of a �
 
 -- the second account goes on as the first does: by a step with the same answer, the same entries, the same
 -- that they settle, and the same state after
-pub record GoesOnAlike (a b after : Account) (now : ℕ) (m : Message) (answer : Answer) : Type 0 where
+pub record GoesOnAlikeUnder (limits : StepLimits) (a b after : Account) (now : ℕ) (m : Message)
+    (answer : Answer) : Type 0 where
   pub after_there : Account
-  pub next : Next b now m after_there answer
+  pub next : NextUnder limits b now m after_there answer
   pub more : List Entry
   pub adds : after.entries ≡ a.entries ++ more
   pub adds_there : after_there.entries ≡ b.entries ++ more
@@ -105,6 +112,71 @@ pub record GoesOnAlike (a b after : Account) (now : ℕ) (m : Message) (answer :
   pub same : state_of after_there ≡ state_of after
 
 -- and each step of the one is a step of the other
+abbrev pub StepsAlikeUnder : StepLimits → Type 0
+StepsAlikeUnder limits = (a b after : Account) (now : ℕ) (m : Message) (answer : Answer) → Legal a → Legal b
+    → state_of a ≡ state_of b → NextUnder limits a now m after answer
+    → GoesOnAlikeUnder limits a b after now m answer
+
+-- ---- under a book's limits
+
+abbrev pub StepsMove : Type 0
+StepsMove = StepsMoveUnder book_limits
+
+abbrev pub MovesStep : Type 0
+MovesStep = MovesStepUnder book_limits
+
+abbrev pub MovesExist : Type 0
+MovesExist = MovesExistUnder book_limits
+
 abbrev pub StepsAlike : Type 0
-StepsAlike = (a b after : Account) (now : ℕ) (m : Message) (answer : Answer) → Legal a → Legal b
-    → state_of a ≡ state_of b → Next a now m after answer → GoesOnAlike a b after now m answer
+StepsAlike = StepsAlikeUnder book_limits
+
+-- ---- time-outs alone
+
+-- the second account is the first with the entries of time-outs, and legal; its state and whom they settle
+-- are theirs
+pub record IsTickedTo (a b : Account) (made : Ticked) : Type 0 where
+  pub epoch : b.epoch ≡ a.epoch
+  pub opened : b.opened ≡ a.opened
+  pub entries : b.entries ≡ a.entries ++ made.entries
+  pub legal : Legal b
+  pub state : state_of b ≡ made.after
+  pub settles : SettlesEach a.entries made.entries made.settles
+
+-- at its own moment and at each later one, the time-outs of a legal account are those of its state
+abbrev pub TicksMove : Type 0
+TicksMove = (a b : Account) (moment : ℕ) → Legal a → own_moment a ≤ moment → Ticks a moment b
+    → IsTickedTo a b (ticked_at (state_of a) moment)
+
+-- and those of its state are time-outs of the account, which so has some
+pub record TicksTo (a : Account) (moment : ℕ) : Type 0 where
+  pub after : Account
+  pub ticks : Ticks a moment after
+  pub is : IsTickedTo a after (ticked_at (state_of a) moment)
+
+abbrev pub TicksStep : Type 0
+TicksStep = (a : Account) (moment : ℕ) → Legal a → own_moment a ≤ moment → TicksTo a moment
+
+-- ---- limits
+
+-- limits only refuse: a step that isn't refused for want of room for clients or entries is a step under all
+-- limits that are no less
+abbrev pub LimitsOnlyRefuse : Type 0
+LimitsOnlyRefuse = (limits greater : StepLimits) (a b : Account) (now : ℕ) (m : Message) (answer : Answer)
+    → AreAtMost limits greater → NextUnder limits a now m b answer → answer ≢ Refused ClientsFull
+    → answer ≢ Refused EpochFull → NextUnder greater a now m b answer
+
+-- what limits bound is at most its limit behind a step, or at most what it was before: the entries with those
+-- that wait, the clients, and what is open
+pub record StaysWithin (limits : StepLimits) (a b : Account) : Type 0 where
+  pub entries : (before after : ℕ) → NumberOf (Waiting a.entries) before
+      → NumberOf (Waiting b.entries) after
+      → length b.entries + after ≤ max limits.entries (length a.entries + before)
+  pub clients : (before after : ℕ) → NumberOf (SaidHello a.entries) before
+      → NumberOf (SaidHello b.entries) after → after ≤ max limits.clients before
+  pub places : (most before after : ℕ) → limits.open_places ≡ Some most
+      → NumberOf (Open a.entries) before → NumberOf (Open b.entries) after → after ≤ max most before
+
+abbrev pub LimitsHold : Type 0
+LimitsHold = (limits : StepLimits) (a b : Account) (now : ℕ) (m : Message) (answer : Answer)
+    → NextUnder limits a now m b answer → StaysWithin limits a b

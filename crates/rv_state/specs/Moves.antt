@@ -1,5 +1,6 @@
--- One step of a state: the rules of a step of an account in their order, each asked of the state alone.
-use Rattle.std.specs.Prelude.{◌≡◌, ◌≢◌, ◌⊎◌, ◌<◌, ◌≤◌, ◌+◌, ℕ, max, List, [], ◌∷◌, ◌++◌}
+-- One step of a state, under any limits and under a book's: the rules of a step of an account in their order,
+-- each asked of the state alone.
+use Rattle.std.specs.Prelude.{◌≡◌, ◌≢◌, ◌⊎◌, ◌<◌, ◌≤◌, ◌+◌, ℕ, max, List, [], ◌∷◌, ◌++◌, length}
 use Rattle.std.specs.Prelude.{Option, Some, None}
 use Rattle.std.specs.FinMap.{len}
 use Rattle.rv_text.specs.declared.version.Version.{Version}
@@ -20,10 +21,11 @@ use Rattle.rv_account.specs.declared.entry.Entry.{Entry}
 use Rattle.rv_account.specs.declared.entry.Act.{Act}
 use Rattle.rv_account.specs.declared.entry.Act.TheVariants as act
 use Rattle.rv_account.specs.Account.{entry}
-use Rattle.rv_account.specs.Calls.{need_of}
-use Rattle.rv_rules.specs.Steps.{RefuseOr, WhereElse, capped_moment, max_clients, max_entries}
+use Rattle.rv_account.specs.Calls.{Stays, need_of}
+use Rattle.rv_rules.specs.StepLimits.{StepLimits, book_limits}
+use Rattle.rv_rules.specs.Steps.{RefuseOr, WhereElse, capped_moment}
 use Rattle.rv_state.specs.State.{OpenPlace, LastRequest, ClientState, State, client_at}
-use Rattle.rv_state.specs.State.{place_waiting, waiting_count}
+use Rattle.rv_state.specs.State.{opposites, place_waiting, waiting_count}
 use Rattle.rv_session.specs.declared.client.LastRequest.TheVariants.{Fresh, Waits, RepliedTo, CancelledUnseen}
 use Rattle.rv_state.specs.After.{Following, Settled, due_at, following}
 use Rattle.rv_state.specs.Follows.{IsNewIncarnation, NumberWaits, partners_of}
@@ -90,16 +92,30 @@ pub record NumberAbove (s : State) (key : Key) (refusal : Refusal) : Type 0 wher
   pub above : session.last + 1 < key.number
   pub is : refusal ≡ Gap session.last
 
--- the client is new, and there are as many as an epoch can have
-pub record NoClientMore (s : State) (client : ℕ) (refusal : Refusal) : Type 0 where
+-- the client is new, and there are as many as there may be
+pub record NoClientMoreUnder (limits : StepLimits) (s : State) (client : ℕ) (refusal : Refusal) : Type 0 where
   pub is_new : client_at s client ≡ None
-  pub full : max_clients ≤ len s.clients
+  pub full : limits.clients ≤ len s.clients
   pub is : refusal ≡ ClientsFull
 
 -- the entries, those that the waiting requests may come to need and those that are needed now are too many
-pub record NoEntryMore (s : State) (need : ℕ) (refusal : Refusal) : Type 0 where
-  pub full : max_entries < s.length + waiting_count s + need
+pub record NoEntryMoreUnder (limits : StepLimits) (s : State) (need : ℕ) (refusal : Refusal) : Type 0 where
+  pub full : limits.entries < s.length + waiting_count s + need
   pub is : refusal ≡ EpochFull
+
+-- an arrival with this call would stay, with nobody there to meet, and as many places are open as may be
+pub record NoPlaceMore (most : ℕ) (s : State) (call : Call) (refusal : Refusal) : Type 0 where
+  pub stays : Stays call
+  pub alone : opposites s call ≡ []
+  pub full : most ≤ length s.open_places
+  pub is : refusal ≡ EpochFull
+
+-- under a book's limits
+abbrev pub NoClientMore : State → ℕ → Refusal → Type 0
+NoClientMore = NoClientMoreUnder book_limits
+
+abbrev pub NoEntryMore : State → ℕ → Refusal → Type 0
+NoEntryMore = NoEntryMoreUnder book_limits
 
 -- ---- the lines of a step, of which the first that applies decides
 
@@ -121,22 +137,30 @@ StateKeyLines s key refuses at_last above =
     (RefuseOr (NumberAbove s key) refuses
     above))))))
 
+-- the line of a bound on open places, where there is one
+abbrev pub StatePlaceLine : Option ℕ → State → Call → (Refusal → Type 0) → Type 0 → Type 0
+StatePlaceLine None s call refuses enters = enters
+StatePlaceLine (Some most) s call refuses enters = RefuseOr (NoPlaceMore most s call) refuses enters
+
 -- the lines for a request: also what happens where it is a repeat
-abbrev pub StateRequestLines : State → Key → Call → (Refusal → Type 0) → Type 0 → Type 0 → Type 0
-StateRequestLines s key call refuses repeats enters =
+abbrev pub StateRequestLinesUnder : StepLimits → State → Key → Call → (Refusal → Type 0) → Type 0 → Type 0
+    → Type 0
+StateRequestLinesUnder limits s key call refuses repeats enters =
     StateKeyLines s key refuses
     (RefuseOr (CallDiffers s key call) refuses
     repeats)
-    (RefuseOr (NoEntryMore s (need_of call)) refuses
-    enters)
+    (RefuseOr (NoEntryMoreUnder limits s (need_of call)) refuses
+    (StatePlaceLine limits.open_places s call refuses
+    enters))
 
 -- the lines for a cancel: also what happens where its request waits, and where the last number has a reply
-abbrev pub StateCancelLines : State → Key → (Refusal → Type 0) → Type 0 → Type 0 → Type 0 → Type 0
-StateCancelLines s key refuses ends repeats enters =
+abbrev pub StateCancelLinesUnder : StepLimits → State → Key → (Refusal → Type 0) → Type 0 → Type 0 → Type 0
+    → Type 0
+StateCancelLinesUnder limits s key refuses ends repeats enters =
     StateKeyLines s key refuses
     (WhereElse (NumberWaits s key) ends
     repeats)
-    (RefuseOr (NoEntryMore s 1) refuses
+    (RefuseOr (NoEntryMoreUnder limits s 1) refuses
     enters)
 
 -- the client has a session of this incarnation
@@ -146,14 +170,25 @@ pub record HasSessionOf (s : State) (client incarnation : ℕ) : Type 0 where
   pub same : session.incarnation ≡ incarnation
 
 -- the lines for a hello: also what happens where it is a repeat
-abbrev pub StateHelloLines : State → ℕ → ℕ → Version → (Refusal → Type 0) → Type 0 → Type 0 → Type 0
-StateHelloLines s client incarnation version refuses repeats enters =
+abbrev pub StateHelloLinesUnder : StepLimits → State → ℕ → ℕ → Version → (Refusal → Type 0) → Type 0 → Type 0
+    → Type 0
+StateHelloLinesUnder limits s client incarnation version refuses repeats enters =
     RefuseOr (IncarnationOld s client incarnation) refuses
     (RefuseOr (VersionDiffers s client incarnation version) refuses
     (WhereElse (HasSessionOf s client incarnation) repeats
-    (RefuseOr (NoClientMore s client) refuses
-    (RefuseOr (NoEntryMore s 1) refuses
+    (RefuseOr (NoClientMoreUnder limits s client) refuses
+    (RefuseOr (NoEntryMoreUnder limits s 1) refuses
     enters))))
+
+-- the lines under a book's limits
+abbrev pub StateRequestLines : State → Key → Call → (Refusal → Type 0) → Type 0 → Type 0 → Type 0
+StateRequestLines = StateRequestLinesUnder book_limits
+
+abbrev pub StateCancelLines : State → Key → (Refusal → Type 0) → Type 0 → Type 0 → Type 0 → Type 0
+StateCancelLines = StateCancelLinesUnder book_limits
+
+abbrev pub StateHelloLines : State → ℕ → ℕ → Version → (Refusal → Type 0) → Type 0 → Type 0 → Type 0
+StateHelloLines = StateHelloLinesUnder book_limits
 
 -- ---- what a step makes
 
@@ -212,18 +247,18 @@ abbrev pub answer_after : State → ℕ → Key → Act → Answer
 answer_after s moment key does = answer_told key (following s moment does).reply
 
 -- the move of a message at a moment
-abbrev pub StateNextAt : State → ℕ → Message → Move → Type 0
-StateNextAt s moment (Hello client incarnation version) move =
-    StateHelloLines s client incarnation version (RefusesMove s move)
+abbrev pub StateNextAtUnder : StepLimits → State → ℕ → Message → Move → Type 0
+StateNextAtUnder limits s moment (Hello client incarnation version) move =
+    StateHelloLinesUnder limits s client incarnation version (RefusesMove s move)
     (move ≡ staying s (Welcome s.epoch client incarnation version))
     (EntersMove s moment (act.Hello client incarnation version) move
     (Welcome s.epoch client incarnation version))
-StateNextAt s moment (Request key call) move =
-    StateRequestLines s key call (RefusesMove s move)
+StateNextAtUnder limits s moment (Request key call) move =
+    StateRequestLinesUnder limits s key call (RefusesMove s move)
     (RepeatsMove s key move)
     (EntersMove s moment (act.Arrive key call) move (answer_after s moment key (act.Arrive key call)))
-StateNextAt s moment (Cancel key) move =
-    StateCancelLines s key (RefusesMove s move)
+StateNextAtUnder limits s moment (Cancel key) move =
+    StateCancelLinesUnder limits s key (RefusesMove s move)
     (move ≡ entering s moment (act.Cancel key) (Replied key Cancelled))
     (RepeatsMove s key move)
     (EntersMove s moment (act.Cancel key) move (answer_after s moment key (act.Cancel key)))
@@ -255,10 +290,19 @@ abbrev pub ticked_at : State → ℕ → Ticked
 ticked_at s moment = ticked_if s moment (due_at s moment)
 
 -- one step of a state: the moment that is handed in, the message, and what it makes
-pub record StateNext (s : State) (now : ℕ) (m : Message) (move : Move) : Type 0 where
-  pub then : Move
-  pub steps : StateNextAt (ticked_at s (state_moment s now)).after (state_moment s now) m then
-  pub entries : move.entries ≡ (ticked_at s (state_moment s now)).entries ++ then.entries
-  pub answer : move.answer ≡ then.answer
-  pub settles : move.settles ≡ (ticked_at s (state_moment s now)).settles ++ then.settles
-  pub after : move.after ≡ then.after
+pub record StateNextUnder (limits : StepLimits) (s : State) (now : ℕ) (m : Message) (move : Move) : Type 0
+  where
+    pub then : Move
+    pub steps : StateNextAtUnder limits (ticked_at s (state_moment s now)).after (state_moment s now) m then
+    pub entries : move.entries ≡ (ticked_at s (state_moment s now)).entries ++ then.entries
+    pub answer : move.answer ≡ then.answer
+    pub settles : move.settles ≡ (ticked_at s (state_moment s now)).settles ++ then.settles
+    pub after : move.after ≡ then.after
+
+-- ---- a step under a book's limits
+
+abbrev pub StateNextAt : State → ℕ → Message → Move → Type 0
+StateNextAt = StateNextAtUnder book_limits
+
+abbrev pub StateNext : State → ℕ → Message → Move → Type 0
+StateNext = StateNextUnder book_limits

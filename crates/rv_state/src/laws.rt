@@ -1,7 +1,10 @@
 //! Laws of states: each function is its contract, over the definitions alone.
-ghost use Rattle.rv_state.specs.Laws.{MovesExist, MovesStep, OneFuture, StatesAgree, StatesFollow};
-ghost use Rattle.rv_state.specs.Laws.{StatesKeepRules, StatesSettle, StatesTellWaiting, StepsAlike};
-ghost use Rattle.rv_state.specs.Laws.{StepsMove};
+ghost use Rattle.rv_rules.specs.StepLimits.{AreStepLimits, StepLimits, book_limits};
+ghost use Rattle.rv_state.specs.Laws.{LimitsHold, LimitsOnlyRefuse, MovesExist, MovesExistUnder};
+ghost use Rattle.rv_state.specs.Laws.{MovesStep, MovesStepUnder, OneFuture};
+ghost use Rattle.rv_state.specs.Laws.{StatesAgree, StatesFollow, StatesKeepRules, StatesSettle};
+ghost use Rattle.rv_state.specs.Laws.{StatesTellWaiting, StepsAlike, StepsAlikeUnder, StepsMove};
+ghost use Rattle.rv_state.specs.Laws.{StepsMoveUnder, TicksMove, TicksStep};
 
 /// Each part of the state of a legal account says what the formulas over its places say.
 pub fn states_agree()
@@ -57,4 +60,54 @@ pub fn steps_alike()
 /// Whatever the state, there is a move for each moment and message that isn't for want of memory.
 pub fn moves_exist()
     ensures { MovesExist }
+{}
+
+/// Under whatever limits each step of a legal account is a move of its state, with the same entries, answer,
+/// settled requests and state after.
+pub fn steps_move_under()
+    ensures { (limits : StepLimits) → StepsMoveUnder limits }
+{}
+
+/// Under whatever limits each move of the state of a legal account is a step of the account.
+pub fn moves_step_under()
+    ensures { (limits : StepLimits) → MovesStepUnder limits }
+{}
+
+/// Under whatever limits each step of one of two legal accounts with one state is a step of the other, with
+/// the same answer, entries, settled requests and state after.
+pub fn steps_alike_under()
+    ensures { (limits : StepLimits) → StepsAlikeUnder limits }
+{}
+
+/// Whatever the limits and the state, there is a move for each moment and message that isn't for want of
+/// memory.
+pub fn moves_exist_under()
+    ensures { (limits : StepLimits) → MovesExistUnder limits }
+{}
+
+/// The time-outs of a legal account, at its own moment or later, are those of its state, with the same
+/// entries, settled requests and state after.
+pub fn ticks_move()
+    ensures { TicksMove }
+{}
+
+/// The time-outs of the state of a legal account, at its own moment or later, are time-outs of the account.
+pub fn ticks_step()
+    ensures { TicksStep }
+{}
+
+/// A book's limits are limits that a step may have.
+pub fn book_limits_fit()
+    ensures { AreStepLimits book_limits }
+{}
+
+/// A step under some limits that isn't refused for want of room for clients or entries is a step under all
+/// that are no less.
+pub fn limits_only_refuse()
+    ensures { LimitsOnlyRefuse }
+{}
+
+/// What limits bound is at most its limit behind a step, or at most what it was before.
+pub fn limits_hold()
+    ensures { LimitsHold }
 {}

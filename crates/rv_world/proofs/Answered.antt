@@ -2,15 +2,13 @@
 -- the message's own request.
 use Rattle.rv_world.proofs.Words.{◌≡◌, ◌⊎◌, ◌∙◌, inl, inr, ℕ, Some, None, refl, sym, ap, subst, none-some}
 use Rattle.rv_world.proofs.Words.{same_Some, Version, Key, Message, Call, Reply, Answer, Act, Entry, Account}
-use Rattle.rv_world.proofs.Words.{call_in, need_of, Legal, HasReply, Adds, Next, Ticks, step_moment}
-use Rattle.rv_world.proofs.Words.{same_or_not}
+use Rattle.rv_world.proofs.Words.{call_in, Legal, HasReply, Adds, Next, Ticks, step_moment, same_or_not}
 use Rattle.rv_text.specs.declared.message.Message.TheVariants.{Cancel, Hello, Request}
 use Rattle.rv_text.specs.declared.answer.Refusal.{Refusal}
 use Rattle.rv_text.specs.declared.answer.Answer.TheVariants.{Refused, Replied, Waiting, Welcome}
 use Rattle.rv_account.specs.Account.{act_at, just, with_entry}
 use Rattle.rv_book.specs.Legal.{WaitsUnder}
-use Rattle.rv_book.specs.Steps.{Answers, ClientsFullDue, EntersOrNoMemory, EpochFullDue, KeyLines, NextAt}
-use Rattle.rv_book.specs.Steps.{RefuseOr, Refuses, Replies}
+use Rattle.rv_book.specs.Steps.{Answers, EntersOrNoMemory, KeyLines, NextAt, RefuseOr, Refuses, Replies}
 use Rattle.rv_rules.proofs.Growing.{act_read, reads_back}
 use Rattle.rv_rules.proofs.Legality.{follows_itself}
 use Rattle.rv_rules.proofs.Lines.{RefuseOr-elim, WhereElse-elim}
@@ -60,26 +58,9 @@ pub record IsToldReply (m : Message) (b : Account) (key : Key) (told : Reply) : 
   pub epoch : key.epoch ≡ b.epoch
   pub has : HasReply b.entries key told
 
--- the account has room for so many entries more
-abbrev pub HasRoom : Account → ℕ → Type 0
-HasRoom a need = (refusal : Refusal) → ¬ EpochFullDue a need refusal
-
--- for all that the message may come to need, and for the client of a hello; the cancel of a request that
--- waits needs nothing further
-abbrev pub HasRoomToHandle : Account → Message → Type 0
-HasRoomToHandle a (Hello client incarnation version) = HasRoom a 1 × ((refusal : Refusal) → ¬ ClientsFullDue a
-    client refusal)
-HasRoomToHandle a (Request key call) = HasRoom a (need_of call)
-HasRoomToHandle a (Cancel key) = WaitsUnder a.entries key ⊎ HasRoom a 1
-
--- the message has its own entry, for which there was room
-pub record IsEntered (a : Account) (moment : ℕ) (m : Message) (b : Account) : Type 0 where
-  pub adds : Adds a moment (act_of m) b
-  pub room : HasRoomToHandle a m
-
 -- what a step leaves: the account as it was or with the message's own entry, and what it tells
 pub record Became (a : Account) (moment : ℕ) (m : Message) (b : Account) (x : Answer) : Type 0 where
-  pub account : (b ≡ a) ⊎ IsEntered a moment m b
+  pub account : (b ≡ a) ⊎ Adds a moment (act_of m) b
   pub told : (key : Key) (told : Reply) → x ≡ Replied key told → IsToldReply m b key told
 
 one_reply : (own key : Key) (is told : Reply) → Replied own is ≡ Replied key told → (own ≡ key) × (is ≡ told)
@@ -155,22 +136,22 @@ module _ (a b : Account) (moment : ℕ) (m : Message) (x : Answer) where
     told = λ key reply is. subst (λ (c : Account). IsToldReply m c key reply) (sym same) (told key reply is);
   }
 
-  entered_became : (T : Type 0) → HasRoomToHandle a m
+  entered_became : (T : Type 0)
       → (Adds a moment (act_of m) b → T → (key : Key) (told : Reply) → x ≡ Replied key told → IsToldReply m b
       key told)
       → EntersOrNoMemory a moment (act_of m) b x T → Became a moment m b x
-  entered_became T room told (inl refuses) = refused_became _ refuses
-  entered_became T room told (inr entered) =
-      record { account = inr (record { adds = entered.0; room = room }); told = told entered.0 entered.1 }
+  entered_became T told (inl refuses) = refused_became _ refuses
+  entered_became T told (inr entered) =
+      record { account = inr entered.0; told = told entered.0 entered.1 }
 
   -- where there is room for what the message needs
-  room_became : (T : Type 0) (need : ℕ) → (HasRoom a need → HasRoomToHandle a m)
+  room_became : (T : Type 0) (due : Refusal → Type 0)
       → (Adds a moment (act_of m) b → T → (key : Key) (told : Reply) → x ≡ Replied key told → IsToldReply m b
       key told)
-      → RefuseOr (EpochFullDue a need) (Refuses a b x) (EntersOrNoMemory a moment (act_of m) b x T)
-      → Became a moment m b x
-  room_became T need room told (inl refused) = refused_became refused.refusal refused.refuses_it
-  room_became T need room told (inr enters) = entered_became T (room enters.0) told enters.1
+      → RefuseOr due (Refuses a b x) (EntersOrNoMemory a moment (act_of m) b x T) → Became a moment m b x
+  room_became T due told =
+      RefuseOr-elim due _ _ (Became a moment m b x) (λ refusal is_due. refused_became refusal)
+      (entered_became T told)
 
 -- a cancel has no partner
 cancel_alone : (a : Account) (e : Entry) (key : Key) → Legal (with_entry a e) → e.act ≡ act.Cancel key
@@ -192,19 +173,6 @@ ended_tells a b moment key added waits =
     subst (λ (c : Account). Replies c key (Replied key reply.Cancelled)) (sym added.follows)
     (waiting_replies a e key says alone waits)
 
--- where there is room for the client of a hello
-hello_became : (a b : Account) (moment client incarnation : ℕ) (version : Version) (x : Answer)
-    → RefuseOr (ClientsFullDue a client) (Refuses a b x) (RefuseOr (EpochFullDue a 1) (Refuses a b x)
-    (EntersOrNoMemory a moment (act.Hello client incarnation version) b x (x ≡ Welcome a.epoch client
-    incarnation version)))
-    → Became a moment (Hello client incarnation version) b x
-hello_became a b moment client incarnation version x (inl refused) = refused_became a b moment
-    (Hello client incarnation version) x refused.refusal refused.refuses_it
-hello_became a b moment client incarnation version x (inr enters) =
-    let m : Message = Hello client incarnation version in
-    room_became a b moment m x _ 1 (λ room. (room, enters.0)) (λ added. welcome_tells m b a.epoch client
-    incarnation version x) enters.1
-
 pub became_at : (a b : Account) (moment : ℕ) (m : Message) (x : Answer) → NextAt a moment m b x
     → Became a moment m b x
 became_at a b moment (Hello client incarnation version) x next =
@@ -213,7 +181,8 @@ became_at a b moment (Hello client incarnation version) x next =
     (RefuseOr-elim _ _ _ (Became a moment m b x) (λ refusal due. refused_became a b moment m x refusal)
     (WhereElse-elim _ _ _ (Became a moment m b x) (λ has again. stays_became a b moment m x again.0
     (welcome_tells m a a.epoch client incarnation version x again.1))
-    (hello_became a b moment client incarnation version x))) next
+    (RefuseOr-elim _ _ _ (Became a moment m b x) (λ refusal due. refused_became a b moment m x refusal)
+    (room_became a b moment m x _ _ (λ added. welcome_tells m b a.epoch client incarnation version x))))) next
 became_at a b moment (Request key call) x next =
     let m : Message = Request key call in
     let asks : AsksFor m key = inl (call, refl) in
@@ -222,7 +191,7 @@ became_at a b moment (Request key call) x next =
     refusal)
     (λ again. stays_became a b moment m x again.account (λ other told. answers_tell m a key other x told asks
     epoch again.answers)))
-    (λ epoch. room_became a b moment m x _ (need_of call) (λ room. room)
+    (λ epoch. room_became a b moment m x _ _
     (λ added answers other told. answers_tell m b key other x told asks
     (epoch ∙ sym (added_epoch a b moment _ added)) answers)) next
 became_at a b moment (Cancel key) x next =
@@ -233,13 +202,13 @@ became_at a b moment (Cancel key) x next =
     key_lines (Refuses a b x) _ _ (Became a moment m b x) a key (refused_became a b moment m x)
     (λ epoch. WhereElse-elim _ _ _ (Became a moment m b x)
     (λ waits ends. record {
-      account = inr (record { adds = ends.0; room = inl waits });
+      account = inr ends.0;
       told = λ other told is. replies_tell m b key other x told asks (own ends.0 epoch) (subst (Replies b key)
           (sym ends.1) (ended_tells a b moment key ends.0 waits)) is;
     })
     (λ again. stays_became a b moment m x again.account (λ other told. answers_tell m a key other x told asks
     epoch again.answers)))
-    (λ epoch. room_became a b moment m x _ 1 (λ room. inr room)
+    (λ epoch. room_became a b moment m x _ _
     (λ added replies other told. replies_tell m b key other x told asks (own added epoch) replies)) next
 
 -- ---- the time-outs before it
@@ -273,7 +242,7 @@ next_legal a b now m x legal next =
     let before = ticked a next.ticked (step_moment a now) next.ticks in
     elim (became_at next.ticked b (step_moment a now) m x next.steps).account [
       | inl same ↦ subst Legal (sym same) (before.legal legal)
-      | inr entered ↦ entered.adds.legal
+      | inr added ↦ added.legal
     ]
 
 pub next_told : (a b : Account) (now : ℕ) (m : Message) (key : Key) (told : Reply)
@@ -292,8 +261,8 @@ next_arrives a b now m x r key call next arrived =
     elim (became_at t b (step_moment a now) m x next.steps).account [
       | inl same ↦ inl (before.arrives r key call (subst (λ (c : Account). act_at c.entries r ≡ Some
           (act.Arrive key call)) same arrived))
-      | inr entered ↦
-          let when = added_arrives t b (step_moment a now) (act_of m) r key call entered.adds arrived in
+      | inr added ↦
+          let when = added_arrives t b (step_moment a now) (act_of m) r key call added arrived in
           elim when [
             | inl there ↦ inl (before.arrives r key call there)
             | inr new ↦ inr (arrival_of m key call new)

@@ -15,12 +15,14 @@ use Rattle.rv_book.specs.Limits.{FitsAccount}
 use Rattle.rv_book.specs.Waiting.{Waiting}
 use Rattle.rv_rules.proofs.Counting.{number_below}
 use Rattle.rv_rules.proofs.FewClients.{few_none}
+use Rattle.rv_rules.proofs.WaitingBehind.{waiting_below}
+use Rattle.rv_rules.specs.StepLimits.{max_clients}
 use Rattle.rv_text.specs.Members.{max_identifier}
 use Rattle.rv_world.specs.Events.{IsTold}
 use Rattle.rv_world.specs.Limits.{FitsEvent}
 use Rattle.rv_world.specs.Sound.{FitsProcess}
 use Rattle.rv_world.proofs.Listing.{stands_at}
-use Rattle.rv_world.proofs.Roomy.{next_fits, waiting_below}
+use Rattle.rv_world.proofs.Roomy.{next_fits}
 use Rattle.rv_text.specs.declared.answer.Answer.TheVariants as answers
 use Rattle.rv_world.specs.declared.event.Event.TheVariants as event
 
@@ -148,7 +150,7 @@ empty_fits epoch fits = record {
   opened = omega arith;
   entries = λ r e there. absurd (none-some e there);
   room = λ n count. let none : n ≤ 0 = number_below (Waiting []) n 0 (waiting_below []) count in omega arith;
-  clients = few_none [] refl;
+  clients = few_none max_clients [] refl;
 }
 
 nothing_there : {X : Type 0} (x : X) → Contains [] x → ⊥
