@@ -111,7 +111,7 @@ all_passed a n legal none = subst (λ (es : List Entry). Legal (record {
 
 -- the next entry may be passed
 pub may_pass : (front : Front) (e : Entry) → IsFront front
-    → slice_get front.account.now.account.entries (length front.met.items) ≡ Some e
+    → slice_get front.account.now.account.entries (length front.taken.items) ≡ Some e
     → BreaksNone (passed_account front) e → MayPass front e
 may_pass front e is there none = record {
   there = there;
@@ -122,20 +122,20 @@ may_pass front e is there none = record {
 -- ---- what a front tells, at the place that comes next
 
 module _ (front : Front) (a : Stored) (n : ℕ) (is : IsFront front) (same : front.account.now ≡ a)
-    (at : n ≡ length front.met.items) where
+    (at : n ≡ length front.taken.items) where
   next_there : (e : Entry) → Some e ≡ slice_get a.account.entries n
-      → slice_get front.account.now.account.entries (length front.met.items) ≡ Some e
+      → slice_get front.account.now.account.entries (length front.taken.items) ≡ Some e
   next_there e there =
-      ap (λ (s : Stored). slice_get s.account.entries (length front.met.items)) same
+      ap (λ (s : Stored). slice_get s.account.entries (length front.taken.items)) same
       ∙ ap (slice_get a.account.entries) (sym at) ∙ sym there
 
-  pub fault_told : (e : Entry) (rule : Rule) (place : ℕ) → place ≡ length front.met.items
+  pub fault_told : (e : Entry) (rule : Rule) (place : ℕ) → place ≡ length front.taken.items
       → Some e ≡ slice_get a.account.entries n → BreaksFirst (passed_account front) e rule
       → FirstFault a.account place rule
   fault_told e rule place here there first =
       subst (λ m. FirstFault a.account m rule) (sym here)
-      (subst (λ (s : Stored). FirstFault s.account (length front.met.items) rule) same
-      (first_fault front.account.now.account (length front.met.items) e rule is.legal (next_there e there)
+      (subst (λ (s : Stored). FirstFault s.account (length front.taken.items) rule) same
+      (first_fault front.account.now.account (length front.taken.items) e rule is.legal (next_there e there)
       first))
 
   pub next_may : (e : Entry) → Some e ≡ slice_get a.account.entries n → BreaksNone (passed_account front) e
@@ -144,11 +144,11 @@ module _ (front : Front) (a : Stored) (n : ℕ) (is : IsFront front) (same : fro
 
   pub legal_told : None ≡ slice_get a.account.entries n → Legal a.account
   legal_told none =
-      let past : slice_get front.account.now.account.entries (length front.met.items) ≡ None =
-      ap (λ (s : Stored). slice_get s.account.entries (length front.met.items)) same
+      let past : slice_get front.account.now.account.entries (length front.taken.items) ≡ None =
+      ap (λ (s : Stored). slice_get s.account.entries (length front.taken.items)) same
       ∙ ap (slice_get a.account.entries) (sym at) ∙ sym none in
       subst (λ (s : Stored). Legal s.account) same (all_passed front.account.now.account
-      (length front.met.items) is.legal past)
+      (length front.taken.items) is.legal past)
 
 -- ---- what is told
 

@@ -1,25 +1,24 @@
 -- What one test on an audit's tables tells, of what the rules ask.
-use Rattle.rv_audit.proofs.Words.{◌≡◌, ◌≢◌, ◌⊎◌, ◌+◌, ◌-◌, ◌<◌, ◌≤◌, ◌∙◌, inl, inr, ℕ, Bool, true, false, not}
+use Rattle.rv_audit.proofs.Words.{◌≡◌, ◌≢◌, ◌+◌, ◌-◌, ◌<◌, ◌≤◌, ◌∙◌, inl, inr, ℕ, Bool, true, false, not}
 use Rattle.rv_audit.proofs.Words.{nat_eq, List, length, take, Option, Some, None, IfSome, IfNone}
-use Rattle.rv_audit.proofs.Words.{option_and_then, refl, sym, ap, subst, arith, IsTrue, cases_lt, false≢true}
+use Rattle.rv_audit.proofs.Words.{option_and_then, refl, sym, ap, subst, arith, IsTrue, false≢true}
 use Rattle.rv_audit.proofs.Words.{nat_tests, same_Some, Version, Key, Call, Side, side_of, Entry, Arrive}
 use Rattle.rv_audit.proofs.Words.{Hello, Tick, Account, Among, act_at, key_in, may_name, opposite, HasWaiting}
-use Rattle.rv_audit.proofs.Words.{IsOpenOpposite, Legal, SomethingDue, WaitsUnder, NamesKey, Met, OpenAt}
+use Rattle.rv_audit.proofs.Words.{IsOpenOpposite, Legal, SomethingDue, WaitsUnder, NamesKey, OpenAt}
 use Rattle.rv_audit.proofs.Words.{Waiting, read_front, read_whole, act_read, call_read, one_side, one_waits}
-use Rattle.rv_audit.proofs.Words.{IsNoFreePlace, IsOutOfOrder, IsPaired, MeetsWrongly, MissesPartner}
-use Rattle.rv_audit.proofs.Words.{NamesTaken, PassesOver, StartsNoNewer, HasAmong, IsPassedBy, WaitsOf}
+use Rattle.rv_audit.proofs.Words.{IsOutOfOrder, IsPaired, MeetsWrongly, MissesPartner}
+use Rattle.rv_audit.proofs.Words.{NamesTaken, PassesOver, StartsNoNewer, HasAmong, IsPassedBy, ClientWaitsAt}
 use Rattle.rv_audit.proofs.Words.{is_any, AuditSession}
 use Rattle.std.proofs.Common.{nat_lt, nat_le, is_some}
-use Rattle.rv_rules.specs.Sessions.{LastNumber, SaidHello}
+use Rattle.rv_rules.specs.Sessions.{HasIncarnation, LastNumber, SaidHello}
 use Rattle.rv_rules.specs.Waiting.{SideAt}
-use Rattle.rv_rules.proofs.Histories.{hellos_at_most, one_last_number}
+use Rattle.rv_rules.proofs.Histories.{hellos_at_most, one_incarnation, one_last_number}
 use Rattle.rv_audit.specs.Breaking.{ArrivesAs, ArrivesToMeet, CountsTo, IsNotNext}
 use Rattle.rv_audit.specs.Breaking.{TicksForNothing}
-use Rattle.rv_audit.specs.Passed.{ArrivesWith, FindsOne, HasOlder, HasOne, IsAuditSession, IsOldestBeside}
+use Rattle.rv_audit.specs.Passed.{ArrivesWith, FindsOne, HasOlder, HasOne, IsOfSessionOf, IsOldestBeside}
+use Rattle.rv_audit.proofs.Saying.{IsKnown}
 use Rattle.rv_audit.specs.Passed.{LeavesPartner, Misses}
 use Rattle.rv_audit.proofs.Named.{any_among, some_among}
-use Rattle.rv_audit.proofs.RulesKept.{named_is_met}
-use Rattle.rv_audit.proofs.RulesSuffice.{met_is_named}
 
 abbrev pub Iff : Type 0 → Type 0 → Type 0
 Iff A B = (A → B) × (B → A)
@@ -188,32 +187,6 @@ module _ (Is : Side → Type 0) (es : List Entry) (e : Entry) (call : Call) (b :
         ),
   )
 
--- a place that isn't free is none of an earlier entry, or is in a pair or swap, in a legal account
-pub no_free_met : (a : Account) (p : ℕ) → Legal a → IsNoFreePlace a.entries p
-    → (length a.entries ≤ p) ⊎ Met a.entries p
-no_free_met a p legal (inl past) = inl past
-no_free_met a p legal (inr named) = inr (named_is_met a p legal named)
-
-pub taken : (a : Account) (p : ℕ) (b : Bool) → Legal a → ((Met a.entries p) ⊎ (Met a.entries p → ⊥))
-    → Iff (IsTrue b) ((p < length a.entries) × (Met a.entries p → ⊥))
-    → Iff (IsTrue (not b)) (IsNoFreePlace a.entries p)
-taken a p true legal met free = (
-  λ t. absurd (false≢true t),
-  λ no_free. elim (no_free_met a p legal no_free) [
-    | inl past ↦ let inside : p < length a.entries = (free.0 refl).0 in absurd (omega arith)
-    | inr is ↦ absurd ((free.0 refl).1 is)
-  ],
-)
-taken a p false legal met free = (λ t. by_met met, λ no_free. refl)
-  where
-    past : (p < length a.entries) ⊎ (length a.entries ≤ p) → (Met a.entries p → ⊥) → IsNoFreePlace a.entries p
-    past (inl inside) unmet = absurd (false≢true (free.1 (inside, unmet)))
-    past (inr outside) unmet = inl outside
-
-    by_met : (Met a.entries p) ⊎ (Met a.entries p → ⊥) → IsNoFreePlace a.entries p
-    by_met (inl is) = inr (met_is_named a.entries p is)
-    by_met (inr unmet) = past (cases_lt p (length a.entries)) unmet
-
 pub who_meets_not : (es : List Entry) (e : Entry) → (ArrivesToMeet e → ⊥)
     → Iff (IsTrue (is_any e.partners)) (NamesTaken es e)
 who_meets_not es e meets_not = (
@@ -241,8 +214,47 @@ for_nothing es e false ticks due = (
 
 -- ---- sessions
 
+pub of_session : (a : Account) (key : Key) (t : AuditSession) → IsKnown a.entries key.client t
+    → key.epoch ≡ a.epoch → Iff (IsTrue (nat_eq key.incarnation t.incarnation)) (IsOfSessionOf a key)
+of_session a key t is own = (
+  λ same. (
+    own,
+    subst (HasIncarnation a.entries key.client) (let eq : t.incarnation ≡ key.incarnation =
+        grind (arith, nat_tests) in eq) is.incarnation,
+  ),
+  λ has.
+      let same : t.incarnation ≡ key.incarnation = one_incarnation a.entries key.client
+      t.incarnation key.incarnation is.incarnation has.1 in
+      grind (arith, nat_tests),
+)
+
+pub no_session : (a : Account) (key : Key) → (SaidHello a.entries key.client → ⊥)
+    → Iff (IsTrue false) (IsOfSessionOf a key)
+no_session a key none = never (IsOfSessionOf a key) (λ has. none (
+  has.1.0,
+  key.incarnation,
+  has.1.1.version,
+  has.1.1.hello,
+))
+
+pub none_reached : (es : List Entry) (client incarnation : ℕ) (version : Version) → (SaidHello es client → ⊥)
+    → Iff (IsTrue false) (StartsNoNewer es (Hello client incarnation version))
+none_reached es client incarnation version none = never (StartsNoNewer es (Hello client incarnation version))
+    (λ starts. none (
+      starts.place,
+      starts.reached,
+      starts.earlier_version,
+      subst (λ c. act_at es starts.place ≡ Some (Hello c starts.reached starts.earlier_version))
+          (sym (one_hello client incarnation starts.client starts.incarnation version starts.version
+          starts.hello))
+          starts.earlier,
+    ))
+  where
+    one_hello : (c i d j : ℕ) (v w : Version) → Hello c i v ≡ Hello d j w → c ≡ d
+    one_hello c i d j v w e = cc
+
 pub reached : (a : Account) (client incarnation : ℕ) (version : Version) (s : AuditSession) (b : Bool)
-    → nat_le incarnation s.incarnation ≡ b → Legal a → IsAuditSession a.entries client s
+    → nat_le incarnation s.incarnation ≡ b → Legal a → IsKnown a.entries client s
     → Iff (IsTrue b) (StartsNoNewer a.entries (Hello client incarnation version))
 reached a client incarnation version s true most legal is = (
   λ t. record {
@@ -290,7 +302,7 @@ none_count es client n none (inl last) = absurd (none (
 ))
 none_count es client n none (inr is) = is.1
 
-pub not_next : (es : List Entry) (key : Key) (s : AuditSession) (b : Bool) → IsAuditSession es key.client s
+pub not_next : (es : List Entry) (key : Key) (s : AuditSession) (b : Bool) → IsKnown es key.client s
     → (b ≡ true → key.number ≢ s.last + 1) → (b ≡ false → key.number ≡ s.last + 1)
     → Iff (IsTrue b) (IsNotNext es key)
 not_next es key s true is other own = (
@@ -329,7 +341,7 @@ not_first es key false none other own = (
       absurd (breaks.other (own refl ∙ ap (λ n. n + 1) (sym same))),
 )
 
-pub not_next_low : (es : List Entry) (key : Key) (s : AuditSession) → IsAuditSession es key.client s
+pub not_next_low : (es : List Entry) (key : Key) (s : AuditSession) → IsKnown es key.client s
     → key.number ≤ s.last → Iff (IsTrue (nat_le key.number s.last)) (IsNotNext es key)
 not_next_low es key s is low = not_next es key s (nat_le key.number s.last) is (λ t same. omega arith)
     (λ f. absurd (let over : s.last < key.number = grind (arith, nat_tests) in omega arith))
@@ -344,7 +356,7 @@ agrees n f = by_value (nat_eq n 1) refl f
     by_value true is f = grind (arith, nat_tests)
     by_value false is f = absurd (false≢true (sym f))
 
-pub not_next_high : (es : List Entry) (key : Key) (s : AuditSession) → IsAuditSession es key.client s
+pub not_next_high : (es : List Entry) (key : Key) (s : AuditSession) → IsKnown es key.client s
     → s.last < key.number → Iff (IsTrue (not (nat_eq (key.number - s.last) 1))) (IsNotNext es key)
 not_next_high es key s is high = not_next es key s (not (nat_eq (key.number - s.last) 1)) is
     (λ t same. differs (key.number - s.last) t (omega arith))
@@ -359,7 +371,7 @@ not_one es key none = not_first es key (not (nat_eq key.number 1)) none (differs
 
 pub out_of_turn : (es : List Entry) (key : Key) (b : Bool) → b ≡ false → Iff (IsTrue b) (IsNotNext es key)
     → (o : Option ℕ)
-    → IfSome o (WaitsOf es key.client) → IfNone o (HasWaiting es key.client → ⊥)
+    → IfSome o (ClientWaitsAt es key.client) → IfNone o (HasWaiting es key.client → ⊥)
     → Iff (IsTrue (is_some o)) (IsOutOfOrder es key)
 out_of_turn es key b low next (Some place) some none =
     (λ t. inr (record { place = place; key = some.key; waits = some.waits; names = some.names }), λ out. refl)
@@ -372,7 +384,7 @@ out_of_turn es key b low next None some none = (
 )
 
 pub under_some : (whole : List Entry) (a : Account) (n place : ℕ) (key : Key) (b : Bool)
-    → a.entries ≡ take n whole → Legal a → WaitsOf a.entries key.client place
+    → a.entries ≡ take n whole → Legal a → ClientWaitsAt a.entries key.client place
     → Iff (IsTrue b) (ArrivesWith whole key place) → Iff (IsTrue b) (WaitsUnder a.entries key)
 under_some whole a n place key b front legal waits has = (
   λ t.

@@ -1,18 +1,17 @@
 //! The tables in which an audit keeps the entries that it has read so far.
-ghost use Rattle.std.specs.Prelude.{◌≡◌, ◌↔◌, ◌<◌, ◌^◌, ℕ, Some, None, true, false};
+ghost use Rattle.std.specs.Prelude.{◌≡◌, ◌↔◌, ◌<◌, ℕ};
 ghost use Rattle.std.specs.Prelude.{option_and_then, length, IfNone, IfSome, IsTrue, OnOk};
-ghost use Rattle.rv_audit.specs.Words.{Among, AreTables, AreWithin, ArrivesWith, Flags, FrontOf, HasOlder};
-ghost use Rattle.rv_audit.specs.Words.{HasOne, HasPassed, HasWaiting, Hello, IsArrivalOf, IsArrived};
-ghost use Rattle.rv_audit.specs.Words.{IsFitting, IsFront, IsLookedUp, IsNotNext, IsOfSessionOf};
-ghost use Rattle.rv_audit.specs.Words.{IsOldestBeside, IsReadyFor, IsTakingOut, IsUnderway, MayFollow};
-ghost use Rattle.rv_audit.specs.Words.{MayPass, Met, NoneUntil, OpenAt, SameRest, SetsFlags, Side, SideAt};
-ghost use Rattle.rv_audit.specs.Words.{SomethingDue, StartsNoNewer, TakesEach, TakesOutPlace, TakesTouched};
-ghost use Rattle.rv_audit.specs.Words.{Version, Waiting, WaitsOf, WaitsUnder, WaitsWith, count_of, gone_at};
-ghost use Rattle.rv_audit.specs.Words.{limit_at, own_moment, passed_account, session_in};
+ghost use Rattle.rv_audit.specs.Words.{Among, AreWithin, ArrivesWith, ClientWaitsAt, ClosesEach};
+ghost use Rattle.rv_audit.specs.Words.{ClosesGone, Flags, HasOlder, HasOne, HasPassed, HasWaiting};
+ghost use Rattle.rv_audit.specs.Words.{Hello, IsArrivalOf, IsFront, IsLookedUp, IsNoFreePlace};
+ghost use Rattle.rv_audit.specs.Words.{IsNotNext, IsOfSessionOf, IsOldestBeside, IsReadyFor, MayFollow};
+ghost use Rattle.rv_audit.specs.Words.{MayPass, OpenAt, SameRest, SetsFlags, Side, SideAt};
+ghost use Rattle.rv_audit.specs.Words.{SomethingDue, StartsNoNewer, Version, WaitsUnder, client_waits};
+ghost use Rattle.rv_audit.specs.Words.{just_open, own_moment, passed_account, passed_state, place_list};
+ghost use Rattle.rv_audit.specs.Words.{session_in};
 
-use crate::brings::{limit_of, opening, session_after, waiting_until};
-use crate::lines::{OpenLines, close_line, open_line};
-use crate::marks::{Marks, add_limit, drop_limit};
+use crate::brings::{opening, session_after};
+use crate::opens::Opens;
 use crate::sessions::{AuditSessions, enter_session};
 use rv_account::{Account, Act, Entry, Place};
 use rv_text::{Call, Key, NoMemory, Side};
@@ -24,11 +23,9 @@ pub(crate) struct Front<'a> {
     account: &'a Account,
     // The moment of the last entry, or the opening moment.
     moment: u64,
-    // Of each place whether its arrival is in a pair or swap.
-    met: Vec<bool>,
-    lines: OpenLines,
-    // The places of those that wait, each under its limit, as far as a limit is below 2^64.
-    limits: Marks,
+    // Of each place whether its entry was named as a partner or names one.
+    taken: Vec<bool>,
+    opens: Opens,
     sessions: AuditSessions,
 }
 
@@ -50,22 +47,22 @@ fn is_arrival_of(act: &Act, key: &Key) -> bool
 }
 
 // Sets the flags of these places.
-fn set_flags(met: &mut Vec<bool>, places: &[Place])
-    requires { AreWithin places.now (length met.old.items) }
-    ensures { SetsFlags (Among places.now) met.old.items met.new.items }
+fn set_flags(taken: &mut Vec<bool>, places: &[Place])
+    requires { AreWithin places.now (length taken.old.items) }
+    ensures { SetsFlags (Among places.now) taken.old.items taken.new.items }
 {
     for place in places {
-        met[*place] = true;
+        taken[*place] = true;
     }
 }
 
 // Flags the partners, and the entry that names them, if there are any.
-fn flag(met: &mut Vec<bool>, partners: &[Place]) -> Result<(), NoMemory>
-    requires { AreWithin partners.now (length met.old.items) }
-    ensures { OnOk result (Flags met.old.items met.new.items partners.now) }
+fn flag(taken: &mut Vec<bool>, partners: &[Place]) -> Result<(), NoMemory>
+    requires { AreWithin partners.now (length taken.old.items) }
+    ensures { OnOk result (Flags taken.old.items taken.new.items partners.now) }
 {
-    set_flags(met, partners);
-    met.push(!partners.is_empty()).map_err(AllocError::from)
+    set_flags(taken, partners);
+    taken.push(!partners.is_empty()).map_err(AllocError::from)
 }
 
 impl<'a> Front<'a> {
@@ -77,18 +74,17 @@ impl<'a> Front<'a> {
         Front {
             account,
             moment: account.opened(),
-            met: Vec::new(alloc),
-            lines: OpenLines::empty(alloc),
-            limits: Marks::empty(alloc),
+            taken: Vec::new(alloc),
+            opens: Opens::empty(alloc),
             sessions: AuditSessions::empty(alloc),
         }
     }
 
     // How many entries were passed.
     pub(crate) fn len(&self) -> usize
-        ensures { result ≡ length self.now.met.items }
+        ensures { result ≡ length self.now.taken.items }
     {
-        self.met.len()
+        self.taken.len()
     }
 
     // The moment of the last entry, or the opening moment.
@@ -104,16 +100,18 @@ impl<'a> Front<'a> {
         requires { IsFront self.now }
         ensures { IsTrue result ↔ SomethingDue (passed_account self.now).entries moment }
     {
-        self.limits.least_until(moment).is_some()
+        self.opens.due(moment).is_some()
     }
 
-    // Whether an entry was passed at the place that is in no pair or swap.
-    pub(crate) fn is_free(&self, place: Place) -> bool
+    // Whether no entry was passed at the place, or it was named as a partner or names one.
+    pub(crate) fn is_taken(&self, place: Place) -> bool
         requires { IsFront self.now }
-        ensures { IsTrue result ↔ ((place < length (passed_account self.now).entries)
-            × (¬ Met (passed_account self.now).entries place)) }
+        ensures { IsTrue result ↔ IsNoFreePlace (passed_account self.now).entries place }
     {
-        self.met.get(place) == Some(&false)
+        match self.taken.get(place) {
+            Some(taken) => *taken,
+            None => true,
+        }
     }
 
     // Whether an open arrival of the side stands at the place.
@@ -121,7 +119,7 @@ impl<'a> Front<'a> {
         requires { IsFront self.now }
         ensures { IsTrue result ↔ OpenAt (passed_account self.now).entries side place }
     {
-        self.lines.has(side, place)
+        self.opens.has(side, place)
     }
 
     // The oldest open arrival of the side that is none of these.
@@ -131,21 +129,10 @@ impl<'a> Front<'a> {
         ensures none { IfNone result ((place : ℕ)
             → OpenAt (passed_account self.now).entries side place → Among places.now place) }
     {
-        self.lines.oldest_beside(side, places)
+        self.opens.oldest_beside(side, places)
     }
 
-    // Whether a request waits at the place.
-    fn is_waiting(&self, place: Place) -> bool
-        requires { IsFront self.now }
-        ensures { IsTrue result ↔ Waiting (passed_account self.now).entries place }
-    {
-        match self.account.call(place) {
-            Some(call) => call.wait().is_some() && self.lines.has(call.side(), place),
-            None => false,
-        }
-    }
-
-    // Where the last request of the client arrived, if that may wait.
+    // Where the last request of the client arrived, if it had one.
     fn request(&self, client: u64) -> Option<Place>
         ensures { result ≡ option_and_then (λ s. s.request) (session_in self.now.sessions client) }
     {
@@ -155,13 +142,11 @@ impl<'a> Front<'a> {
     // Where the request of the client waits, if one does.
     pub(crate) fn waiting(&self, client: u64) -> Option<Place>
         requires { IsFront self.now }
-        ensures some { IfSome result (WaitsOf (passed_account self.now).entries client) }
+        ensures some { IfSome result (ClientWaitsAt (passed_account self.now).entries client) }
         ensures none { IfNone result (¬ HasWaiting (passed_account self.now).entries client) }
     {
-        match self.request(client) {
-            Some(place) => self.is_waiting(place).then_some(place),
-            None => None,
-        }
+        let place = self.request(client)?;
+        (self.opens.client(place) == Some(client)).then_some(place)
     }
 
     // Whether a request waits that has this key.
@@ -225,7 +210,7 @@ impl<'a> Front<'a> {
         ensures some { IfSome result (λ side. SideAt (passed_account self.now).entries side place) }
         ensures none { IfNone result ((side : Side) → ¬ SideAt (passed_account self.now).entries side place) }
     {
-        if place >= self.met.len() {
+        if place >= self.taken.len() {
             return None;
         }
         self.account.call(place).map(Call::side)
@@ -283,104 +268,30 @@ impl<'a> Front<'a> {
         self.oldest_beside(side, places).is_some()
     }
 
-    // The limit of the request that arrived at a place, if it has one that fits a moment.
-    fn limit(&self, place: Place) -> Option<u64>
-        ensures { IsFitting (limit_at self.now.account.now.account.entries place) result }
-    {
-        self.account.entry(place).and_then(limit_of)
-    }
-
-    // Takes the arrival at a place out of the lines and the limits.
-    fn close(&mut self, place: Place)
-        requires { IsArrived (passed_account self.old).entries place }
-        ensures { TakesOutPlace self.old self.new place }
-    {
-        let side = self.side(place);
-        let limit = self.limit(place);
-        close_line(&mut self.lines, side, place);
-        drop_limit(&mut self.limits, limit, place);
-    }
-
-    // Takes out a request that is due at a moment, and tells whether there was one.
-    fn close_next(&mut self, moment: u64) -> bool
-        requires { IsUnderway self.old moment }
-        ensures step { (start : FrontOf) → IsTakingOut start self.old moment
-            → IsTakingOut start self.new moment }
-        ensures fewer { result ≡ true → count_of self.new.limits < count_of self.old.limits }
-        ensures none { result ≡ false → NoneUntil self.new.limits moment }
-    {
-        match self.limits.least_until(moment) {
-            Some((_, place)) => {
-                self.close(place);
-                true
-            }
-            None => false,
-        }
-    }
-
-    // Takes out all requests that are due at a moment.
-    fn close_due(&mut self, moment: u64)
+    // Closes the place at which the request of the client waits, if one does.
+    fn close_waiting(&mut self, client: u64)
         requires { IsFront self.old }
-        ensures out { IsTakingOut self.old self.new moment }
-        ensures none { NoneUntil self.new.limits moment }
-        ensures fits { moment < 2 ^ 64 }
-    {
-        while self.close_next(moment) {}
-    }
-
-    // Takes out the arrival at a place, if one is handed in.
-    fn close_if(&mut self, place: Option<Place>)
-        requires front { IsFront self.old }
-        requires arrived { IfSome place (IsArrived (passed_account self.old).entries) }
         ensures rest { SameRest self.old self.new }
-        ensures tables { AreTables (passed_account self.old) (gone_at place) self.new }
+        ensures closes { ClosesEach self.old.opens self.new.opens
+            (place_list (just_open (client_waits (passed_state self.old) client))) }
     {
-        match place {
-            Some(place) => self.close(place),
-            None => {}
+        if let Some(place) = self.waiting(client) {
+            self.opens.close(place);
         }
     }
 
-    // Takes out the arrivals at these places.
-    fn close_each(&mut self, places: &[Place])
-        requires front { IsFront self.old }
-        requires arrived { (p : ℕ) → Among places.now p → IsArrived (passed_account self.old).entries p }
-        ensures { TakesEach (Among places.now) self.old self.new }
-    {
-        for place in places {
-            self.close(*place);
-        }
-    }
-
-    // Where the request waits that has this key, if one does.
-    fn cancelled(&self, key: &Key) -> Option<Place>
-        requires { IsFront self.now }
-        ensures some { IfSome result (WaitsWith (passed_account self.now).entries key.now) }
-        ensures none { IfNone result (¬ WaitsUnder (passed_account self.now).entries key.now) }
-    {
-        match self.waiting(key.client) {
-            Some(place) => self.has_key(place, key).then_some(place),
-            None => None,
-        }
-    }
-
-    // Takes out all that an entry names or stops.
-    fn close_touched(&mut self, entry: &Entry)
+    // Closes what an entry names or stops.
+    fn close_gone(&mut self, entry: &Entry)
         requires front { IsFront self.old }
         requires follows { MayFollow (passed_account self.old) entry.now }
-        ensures { TakesTouched self.old self.new entry.now }
+        ensures rest { SameRest self.old self.new }
+        ensures closes { ClosesGone self.old self.new entry.now }
     {
         match &entry.act {
-            Act::Tick => self.close_due(entry.moment),
-            Act::Arrive { .. } => self.close_each(entry.partners.as_slice()),
-            Act::Hello { client, .. } => {
-                let waiting = self.waiting(*client);
-                self.close_if(waiting);
-            }
-            Act::Cancel { key } => {
-                let cancelled = self.cancelled(key);
-                self.close_if(cancelled);
-            }
+            Act::Tick => self.opens.close_due(entry.moment),
+            Act::Arrive { .. } => self.opens.close_each(entry.partners.as_slice()),
+            Act::Hello { client, .. } => self.close_waiting(*client),
+            Act::Cancel { key } => self.close_waiting(key.client),
         }
     }
 
@@ -389,11 +300,11 @@ impl<'a> Front<'a> {
         requires { IsReadyFor self.old entry.now }
         ensures { OnOk result (HasPassed self.old self.new) }
     {
-        let place = self.met.len();
-        flag(&mut self.met, entry.partners.as_slice())?;
-        open_line(&mut self.lines, opening(entry), place)?;
-        add_limit(&mut self.limits, waiting_until(entry), place)?;
-        enter_session(&mut self.sessions, session_after(&entry.act, place))?;
+        let place = self.taken.len();
+        flag(&mut self.taken, entry.partners.as_slice())?;
+        self.opens.open_if(place, opening(entry))?;
+        let session = session_after(&self.sessions, &entry.act, place);
+        enter_session(&mut self.sessions, session)?;
         self.moment = entry.moment;
         Ok(())
     }
@@ -404,7 +315,7 @@ impl<'a> Front<'a> {
         requires may { MayPass self.old entry.now }
         ensures { OnOk result (HasPassed self.old self.new) }
     {
-        self.close_touched(entry);
+        self.close_gone(entry);
         self.join(entry)
     }
 }

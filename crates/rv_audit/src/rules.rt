@@ -9,6 +9,7 @@ ghost use Rattle.rv_audit.specs.Words.{NamesTaken, NamesTooMany, NamesWrongly, P
 ghost use Rattle.rv_audit.specs.Words.{Side, StartsNoNewer, TicksForNothing, call_in, may_name, opposite};
 ghost use Rattle.rv_audit.specs.Words.{passed_account};
 
+use crate::brings::opposite;
 use crate::front::{Front, Looked};
 use crate::rule::Rule;
 use rv_account::{Act, Entry, Place, may_name};
@@ -128,18 +129,6 @@ fn is_swapped(side: Side) -> bool
     }
 }
 
-// The side whose arrivals one of this side meets.
-fn opposite(side: Side) -> Option<Side>
-    ensures { result ≡ opposite side }
-{
-    match side {
-        Side::Gives(queue) => Some(Side::Takes(queue)),
-        Side::Takes(queue) => Some(Side::Gives(queue)),
-        Side::Looks(_) => None,
-        Side::Exchanges(exchanger) => Some(Side::Exchanges(exchanger)),
-    }
-}
-
 // The same, or the side itself if its arrivals meet nobody.
 fn met_by(side: Side) -> Side
     ensures { (met : Side) → opposite side ≡ Some met → result ≡ met }
@@ -157,21 +146,13 @@ fn meets(entry: &Entry) -> bool
     }
 }
 
-// Whether the place isn't that of an earlier entry which was not named and names nobody.
-fn is_taken(front: &Front<'_>, place: Place) -> bool
-    requires { IsFront front.now }
-    ensures { IsTrue result ↔ IsNoFreePlace (passed_account front.now).entries place }
-{
-    !front.is_free(place)
-}
-
 // Whether one of these places is taken.
 fn any_taken(front: &Front<'_>, places: &[Place]) -> bool
     requires { IsFront front.now }
     ensures { IsTrue result ↔ HasAmong (IsNoFreePlace (passed_account front.now).entries) places.now }
 {
     for place in places {
-        if is_taken(front, *place) {
+        if front.is_taken(*place) {
             return true;
         }
     }
