@@ -4,12 +4,14 @@ use Rattle.rv_audit.proofs.Words.{false}
 use Rattle.rv_audit.proofs.Words.{List, [], length, take, not, nat_eq, Option, Some, None, refl, sym, ap}
 use Rattle.rv_audit.proofs.Words.{subst}
 use Rattle.rv_audit.proofs.Words.{arith, slice_get, false≢true, nat_tests, none-some, same_Some}
-use Rattle.rv_audit.proofs.Words.{Account, Act, Among, AreWithin, Arrive, Call, Cancel, ClientWaitsAt, Entry}
+use Rattle.rv_audit.proofs.Words.{Account, Act, Among, Arrive, Call, Cancel, ClientWaitsAt, Entry}
 use Rattle.rv_audit.proofs.Words.{Front, HasWaiting, Hello, IsFront, Key, Legal, MayFollow}
-use Rattle.rv_audit.proofs.Words.{Opens, SetsFlags, Tick, before, call_read, is_any}
+use Rattle.rv_audit.proofs.Words.{Opens, Tick, before, call_read, is_any}
 use Rattle.rv_audit.proofs.Words.{passed_account, side_of, opposite}
 use Rattle.std.proofs.Common.{append-nil, ◌++◌, ◌&&◌, ◌||◌, cond, find, is_some, length-append, option_map}
 use Rattle.std.specs.List.{list_any}
+use Rattle.std.proofs.lemmas.Option.{slice_get-get_or}
+use Rattle.rv_audit.proofs.Words.{get_or}
 use Rattle.std.specs.FinMap.{get-empty}
 use Rattle.std.specs.Ordering.{nat_cmp}
 use Rattle.rv_text.specs.declared.call.Wait.{Wait}
@@ -56,6 +58,16 @@ map_any : (gone : List OpenPlace) (r : ℕ) → is_among (place_list gone) r
     ≡ list_any (λ (o : OpenPlace). nat_eq o.place r) gone
 map_any [] r = refl
 map_any (o ∷ gone) r = ap (λ b. nat_eq o.place r || b) (map_any gone r)
+
+any_of : (places : List ℕ) (r : ℕ) → Among places r → is_among places r ≡ true
+any_of places r among = get_any (λ p. nat_eq p r) places among.0 r among.1
+    (let own : nat_eq r r ≡ true = grind (arith, nat_tests) in own)
+
+among_any : (places : List ℕ) (r : ℕ) → is_among places r ≡ true → Among places r
+among_any places r any =
+    let found = any_get (λ p. nat_eq p r) places any in
+    let here : found.1 ≡ r = grind (arith, nat_tests) in
+    (found.0, found.2 ∙ ap Some here)
 
 -- what is found among those that are left
 left_by : (o : OpenPlace) (all gone : List OpenPlace) (r : ℕ)
@@ -163,8 +175,7 @@ module _ (a : Account) (legal : Legal a) where
             has = is;
             elapsed = grind (arith, nat_tests);
           }) in
-          get_any (λ p. nat_eq p r) (place_list (due_at known moment)) among.0 r among.1
-          (let own : nat_eq r r ≡ true = grind (arith, nat_tests) in own)
+          any_of (place_list (due_at known moment)) r among
 
       come_of : is_among (place_list (due_at known moment)) r ≡ true
           → has_come moment (fitting there.limit) ≡ true
@@ -347,43 +358,58 @@ module _ (a : Account) (e : Entry) (legal : Legal a) (follows : MayFollow a e) w
     | inr own ↦ inr (inr (own.0, any_among e.partners names.0 own.1))
   ]
 
-  taken_with : (old flags : List Bool) → AreTaken es old → SetsFlags (Among e.partners) old flags
-      → AreTaken (es ++ e ∷ []) (flags ++ is_any e.partners ∷ [])
-  taken_with old flags are sets = record {
-    count = let all = count in let n = length-append flags (is_any e.partners ∷ []) in
-        let m = length-append es (e ∷ []) in omega arith;
-    flags = λ r. (
-      λ there. elim (get-append_cases flags (is_any e.partners) true r there) [
-        | inl inside ↦ elim ((sets.flags r).0 inside.1) [
-          | inl was ↦ taken_on r ((are.flags r).0 was)
-          | inr named ↦ inl (length es, NamesAt-last es e r named)
-        ]
-        | inr last ↦
-            let one = some_among e.partners last.1 in
-            subst (IsTaken (es ++ e ∷ [])) (sym (last.0 ∙ count)) (inr (one.0, NamesAt-last es e one.0 one.1))
-      ],
-      λ taken. elim (taken_back r taken) [
-        | inl was ↦ kept r ((sets.flags r).1 (inl ((are.flags r).1 was)))
-        | inr new ↦ elim new [
-          | inl named ↦ kept r ((sets.flags r).1 (inr named))
-          | inr own ↦ ap (slice_get (flags ++ is_any e.partners ∷ [])) (own.0 ∙ sym count)
-              ∙ get-append_end flags (is_any e.partners) ∙ ap Some own.1
-        ]
-      ],
-    );
-  }
-    where
-      count : length flags ≡ length es
-      count = sets.count ∙ are.count
+  set_flag : (o : Option Bool) (b : Bool) → option_map (λ flag. flag || b) o ≡ Some true
+      → (o ≡ Some true) ⊎ (b ≡ true)
+  set_flag None b is = absurd (none-some true is)
+  set_flag (Some true) b is = inl refl
+  set_flag (Some false) b is = inr (same_Some _ _ is)
 
-      kept : (r : ℕ) → slice_get flags r ≡ Some true
-          → slice_get (flags ++ is_any e.partners ∷ []) r ≡ Some true
-      kept r is = get-append flags (is_any e.partners ∷ []) r true is
+  flag_set : (o : Option Bool) (b : Bool) (flag : Bool) → o ≡ Some flag → (flag ≡ true) ⊎ (b ≡ true)
+      → option_map (λ flag. flag || b) o ≡ Some true
+  flag_set o b true is set = ap (option_map (λ flag. flag || b)) is
+  flag_set o b false is (inl was) = absurd (false≢true was)
+  flag_set o b false is (inr set) = ap (option_map (λ flag. flag || b)) is ∙ ap Some set
 
   pub taken_joined : (old new : List Bool) → AreTaken es old → Flags old new e.partners
       → AreTaken (es ++ e ∷ []) new
   taken_joined old new are is = subst (λ (l : List Bool). AreTaken (es ++ e ∷ []) l) (sym is.one_more)
-      (taken_with old is.flags are is.sets)
+      (record {
+        count = let all = count in let n = length-append is.flags (is_any e.partners ∷ []) in
+            let m = length-append es (e ∷ []) in omega arith;
+        flags = λ r. (
+          λ there. elim (get-append_cases is.flags (is_any e.partners) true r there) [
+            | inl inside ↦ elim (set_flag (slice_get old r) (is_among e.partners r) (sym (is.sets.flags r)
+                ∙ inside.1)) [
+                  | inl was ↦ taken_on r ((are.flags r).0 was)
+                  | inr any ↦ inl (length es, NamesAt-last es e r (among_any e.partners r any))
+                ]
+            | inr last ↦
+                let one = some_among e.partners last.1 in
+                subst (IsTaken (es ++ e ∷ [])) (sym (last.0 ∙ count)) (inr (one.0, NamesAt-last es e one.0 one.1))
+          ],
+          λ taken. elim (taken_back r taken) [
+            | inl was ↦ kept r (is.sets.flags r ∙ flag_set _ (is_among e.partners r) true ((are.flags r).1 was)
+                (inl refl))
+            | inr new ↦ elim new [
+              | inl named ↦
+                  let inside : r < length old = let below = (follows.pairs.names_free_partners.free r
+                  named).earlier in
+                  let same = are.count in omega arith in
+                  kept r (is.sets.flags r ∙ flag_set _ (is_among e.partners r) (get_or old r false)
+                  (slice_get-get_or old r false inside) (inr (any_of e.partners r named)))
+              | inr own ↦ ap (slice_get (is.flags ++ is_any e.partners ∷ [])) (own.0 ∙ sym count)
+                  ∙ get-append_end is.flags (is_any e.partners) ∙ ap Some own.1
+            ]
+          ],
+        );
+      })
+    where
+      count : length is.flags ≡ length es
+      count = is.sets.count ∙ are.count
+
+      kept : (r : ℕ) → slice_get is.flags r ≡ Some true
+          → slice_get (is.flags ++ is_any e.partners ∷ []) r ≡ Some true
+      kept r there = get-append is.flags (is_any e.partners ∷ []) r true there
 
 closed_is : (s : State) (moment : ℕ) (does : Act) → closed_by s moment does ≡ gone_by s moment does
 closed_is s moment (Hello client incarnation version) = refl
@@ -420,14 +446,6 @@ next_free front e place ready at =
     ready.closes.opens place
     ∙ ap (option_map opening_of) (free_there (passed_account start) ready.is_front.legal
     (closed_by (passed_state start) e.moment e.act) place (at ∙ count))
-
-pub partner_within : (front : Front) (e : Entry) → IsReadyFor front e
-    → AreWithin e.partners (length front.taken.items)
-partner_within front e ready p names =
-    let inside = (ready.may.follows.pairs.names_free_partners.free p names).earlier in
-    let count : length front.taken.items ≡ length (passed_account ready.start).entries =
-    ap (λ (f : Front). length f.taken.items) ready.rest ∙ ready.is_front.taken.count in
-    omega arith
 
 module _ (old new : Front) (e : Entry) (place : ℕ) (ready : IsReadyFor old e)
     (at : place ≡ length old.taken.items) (account : new.account ≡ old.account)

@@ -1,11 +1,11 @@
 -- What the tables of an audit say of the account that was passed, by its state.
-use Rattle.rv_audit.proofs.Words.{then_some}
+use Rattle.rv_audit.proofs.Words.{Call, then_some, not, WaitsUnder, IsOpenOpposite}
 use Rattle.rv_audit.proofs.Words.{◌≡◌, ◌<◌, ◌≤◌, ◌∙◌, ℕ, Bool, true, false, nat_eq, List, Option, Some}
 use Rattle.rv_audit.proofs.Words.{None, IsSome, refl, sym, ap, subst, arith, option_and_then, false≢true}
 use Rattle.rv_audit.proofs.Words.{nat_tests}
 use Rattle.rv_audit.proofs.Words.{none-some, same_Some, Key, Side, Gives, Takes, Looks, Exchanges, side_of}
 use Rattle.rv_audit.proofs.Words.{Entry}
-use Rattle.rv_audit.proofs.Words.{Account, Among, Front, IsFront, IsOpenable, OpenAt, SomethingDue, Waiting}
+use Rattle.rv_audit.proofs.Words.{Account, Front, IsFront, IsOpenable, OpenAt, SomethingDue, Waiting}
 use Rattle.rv_audit.proofs.Words.{AuditSession, ClientWaitsAt, HasWaiting, IfNone, IfSome, IsTrue}
 use Rattle.rv_audit.proofs.Words.{NoneUntil, one_side, opposite, passed_account, stands_in, call_in, key_in}
 use Rattle.std.proofs.Common.{◌↔◌, ◌^◌, cond, nat_lt, is_some, option_map}
@@ -20,16 +20,18 @@ use Rattle.rv_state.specs.State.{same_side}
 use Rattle.rv_state.specs.After.{state_of, waiter_of}
 use Rattle.rv_state.specs.Agreement.{IsArrival, IsStateOf, TellsWaiting}
 use Rattle.rv_state.proofs.Agreed.{agreed}
-use Rattle.rv_state.proofs.ClientParts.{client_known, client_new, session_incarnation}
+use Rattle.rv_state.proofs.ClientParts.{account_to_session, client_known, client_new, session_incarnation}
 use Rattle.rv_state.proofs.Due.{due_of_place}
 use Rattle.rv_state.proofs.Filtered.{chained_there, find_get, mapped_there}
+use Rattle.rv_state.specs.Follows.{InSession}
+use Rattle.rv_state.proofs.NumbersBoth.{none_waits, waits_to_account, waits_to_state}
 use Rattle.rv_state.proofs.Sessions.{found_open, open_found}
 use Rattle.rv_state.proofs.SideLines.{same_side_is, same_side_itself}
 use Rattle.rv_state.proofs.StateLaws.{states_tell_waiting}
 use Rattle.rv_audit.specs.Lines.{IsFirstBeside, NobodyBeside}
 use Rattle.rv_audit.specs.Marks.{IsUntil}
 use Rattle.rv_audit.specs.Opens.{Opening, ends_at, is_limit, is_on, opening_at}
-use Rattle.rv_audit.specs.Passed.{IsAuditedIf, IsOldestBeside, fitting, opening_of}
+use Rattle.rv_audit.specs.Passed.{IsAuditedIf, IsOldestOpposite, IsOfSessionOf, fitting, opening_of}
 use Rattle.rv_audit.specs.Sessions.{session_in}
 
 -- ---- sides
@@ -48,6 +50,12 @@ open_meets es side r there =
     let own = there.is_open in
     let same : own.call ≡ there.of_side.call = same_Some _ _ (sym own.arrived ∙ there.of_side.arrived) in
     subst (λ t. IsSome (opposite t)) (ap side_of same ∙ there.of_side.is) own.stays.0
+
+-- and the other side that a call meets
+opposed_at : (es : List Entry) (call : Call) (side : Side) (r : ℕ) → opposite (side_of call) ≡ Some side
+    → IsOpenOpposite es call r → OpenAt es side r
+opposed_at es call side r opposes there =
+    subst (λ t. OpenAt es t r) (same_Some _ _ (sym there.opposes ∙ opposes)) there.there
 
 -- ---- limits
 
@@ -126,20 +134,18 @@ module _ (front : Front) (is : IsFront front) where
   )
   lines_say (Exchanges exchanger) r = line_says (Exchanges exchanger) r tt
 
-  module _ (side : Side) (places : List ℕ) where
-    pub oldest_there : (first : Option ℕ) → IfSome first (IsFirstBeside front.opens.lines side places)
-        → IfSome first (IsOldestBeside a.entries side places)
-    oldest_there None some = tt
-    oldest_there (Some p) some = record {
-      there = (lines_say side p).0 some.there;
-      beside = some.beside;
-      oldest = λ r less there. some.lowest r less ((lines_say side r).1 there);
-    }
-
-    pub nobody_there : (first : Option ℕ) → IfNone first (NobodyBeside front.opens.lines side places)
-        → IfNone first ((r : ℕ) → OpenAt a.entries side r → Among places r)
-    nobody_there (Some p) none = tt
-    nobody_there None none = λ r there. none r ((lines_say side r).1 there)
+  pub oldest_said : (call : Call) (places : List ℕ) (side : Side) (first : Option ℕ)
+      → opposite (side_of call) ≡ Some side → IfSome first (IsFirstBeside front.opens.lines side places)
+      → IfNone first (NobodyBeside front.opens.lines side places)
+      → IsOldestOpposite a.entries call places first
+  oldest_said call places side None opposes some none = λ r there.
+      none r ((lines_say side r).1 (opposed_at a.entries call side r opposes there))
+  oldest_said call places side (Some p) opposes some none = (
+    record { side = side; opposes = opposes; there = (lines_say side p).0 some.there },
+    some.beside,
+    λ r less there. some.lowest r less ((lines_say side r).1 (opposed_at a.entries call side r opposes
+        there)),
+  )
 
   -- ---- limits
 
@@ -300,6 +306,62 @@ known_by a s client (Some c) (Some t) stated there audited = record {
   number = subst (LastNumber a.entries client) (sym audited.last) (client_known a s client c stated
       there).last;
 }
+
+pub same_last : (o : Option ClientState) (u : Option AuditSession) (c : ClientState) (t : AuditSession)
+    → IsAuditedIf o u → o ≡ Some c → u ≡ Some t → t.last ≡ c.last
+same_last None u c t audited there is = absurd (none-some c there)
+same_last (Some d) None c t audited there is = absurd audited
+same_last (Some d) (Some e) c t audited there is =
+    ap (λ (x : AuditSession). x.last) (sym (same_Some _ _ is)) ∙ audited.last
+    ∙ ap (λ (x : ClientState). x.last) (same_Some _ _ there)
+
+-- whether the key is that of the request which waits in its session
+pub otherwise : (front : Front) (key : Key) (t : AuditSession) → IsFront front
+    → IsOfSessionOf (passed_account front) key → HasWaiting (passed_account front).entries key.client
+    → session_in front.sessions key.client ≡ Some t
+    → IsTrue (not (nat_eq key.number t.last)) ↔ (WaitsUnder (passed_account front).entries key → ⊥)
+otherwise front key t is of w session = by_test (nat_eq key.number t.last) refl
+  where
+    own : (c : ClientState) × InSession (state_of (passed_account front)) key c
+    own = account_to_session (passed_account front) (state_of (passed_account front)) key
+        (agreed (passed_account front) is.legal) of.0 of.1
+
+    last : t.last ≡ own.0.last
+    last = same_last (client_at (state_of (passed_account front)) key.client) (session_in front.sessions
+        key.client) own.0 t
+        (is.sessions key.client) own.1.there session
+
+    waits_with : (o : Option ℕ) → place_waiting own.0.request ≡ o → key.number ≡ t.last
+        → WaitsUnder (passed_account front).entries key
+    waits_with None idle same = absurd (none_waits (passed_account front) (state_of (passed_account front))
+        key.client own.0 is.legal (agreed (passed_account front) is.legal) own.1.there
+        idle w)
+    waits_with (Some p) waits same = waits_to_account (passed_account front) (state_of (passed_account front))
+        key is.legal (agreed (passed_account front) is.legal) (record {
+          session = own.0;
+          of_session = own.1;
+          last = same ∙ last;
+          place = p;
+          waits = waits;
+        })
+
+    under : WaitsUnder (passed_account front).entries key → key.number ≡ t.last
+    under waits =
+        let number = waits_to_state (passed_account front) (state_of (passed_account front)) key is.legal
+        (agreed (passed_account front) is.legal) waits in
+        let same = same_Some _ _ (sym number.of_session.there ∙ own.1.there) in
+        number.last ∙ ap (λ (c : ClientState). c.last) same ∙ sym last
+
+    by_test : (b : Bool) → nat_eq key.number t.last ≡ b
+        → IsTrue (not b) ↔ (WaitsUnder (passed_account front).entries key → ⊥)
+    by_test true same = (
+      λ t. absurd (false≢true t),
+      λ other. absurd (other (waits_with (place_waiting own.0.request) refl (grind (arith, nat_tests)))),
+    )
+    by_test false apart = (
+      λ t waits. let same = under waits in grind (arith, nat_tests),
+      λ other. refl,
+    )
 
 pub known : (front : Front) (client : ℕ) → IsFront front
     → IsKnownIf (passed_account front).entries client (session_in front.sessions client)

@@ -16,7 +16,7 @@ pub use Rattle.rv_audit.specs.Breaking.{BreaksBehind, IsNoFreePlace, IsOutOfOrde
 pub use Rattle.rv_audit.specs.Breaking.{MissesPartner, NamesTaken, PassesOver, StartsNoNewer}
 pub use Rattle.rv_audit.specs.Lines.{IsOpenable, stands_in}
 pub use Rattle.rv_audit.specs.Marks.{IsFirstBehind, NoneBehind, NoneUntil, is_marked_under}
-pub use Rattle.rv_audit.specs.Passed.{AmongFirst, AreTables, AreWithin, HasAmong, IsFront, IsPassedBy}
+pub use Rattle.rv_audit.specs.Passed.{AreTables, HasAmong, IsFront}
 pub use Rattle.rv_audit.specs.Passed.{NoneBefore, SetsFlags, is_any, passed_account}
 pub use Rattle.rv_audit.specs.declared.front.Front.{Front}
 pub use Rattle.rv_audit.specs.declared.lines.OpenLines.{OpenLines}

@@ -1,7 +1,7 @@
 -- What an audit's tables are to the entries that it has passed.
-use Rattle.std.specs.Prelude.{◌≡◌, ◌⊎◌, ◌↔◌, ◌<◌, ◌+◌, ◌++◌, ◌∷◌, ◌&&◌, [], ◌^◌, ℕ, Bool, true, cond}
+use Rattle.std.specs.Prelude.{◌≡◌, ◌⊎◌, ◌↔◌, ◌<◌, ◌+◌, ◌++◌, ◌∷◌, ◌&&◌, ◌||◌, [], ◌^◌, ℕ, Bool, true, cond}
 use Rattle.std.specs.Prelude.{nat_eq, nat_lt, not, find, is_some, option_map}
-use Rattle.std.specs.Prelude.{List, length, Option, Some, None, IfNone, IfSome, slice_get}
+use Rattle.std.specs.Prelude.{List, length, Option, Some, None, slice_get}
 use Rattle.rv_text.specs.declared.message.Key.{Key}
 use Rattle.rv_text.specs.declared.call.Side.{Side}
 use Rattle.rv_text.specs.declared.call.Call.{Call}
@@ -9,22 +9,21 @@ use Rattle.rv_text.specs.Calls.{side_of, wait_of}
 use Rattle.rv_account.specs.declared.entry.Act.{Act}
 use Rattle.rv_account.specs.declared.entry.Act.TheVariants.{Arrive, Cancel, Hello, Tick}
 use Rattle.rv_account.specs.declared.entry.Entry.{Entry}
-use Rattle.rv_account.specs.Account.{Account, Among, act_at}
+use Rattle.rv_account.specs.Account.{Account, Among}
 use Rattle.rv_account.specs.Calls.{limit_of, may_name, opposite}
 use Rattle.rv_rules.specs.Sessions.{HasIncarnation}
 use Rattle.rv_rules.specs.Legal.{IsOpenOpposite, Legal, MayFollow, before}
 use Rattle.rv_rules.specs.Steps.{own_moment}
-use Rattle.rv_rules.specs.Waiting.{OpenAt, SideAt}
 use Rattle.rv_state.specs.State.{ClientState, OpenPlace, State, client_at, client_waits, place_waiting}
 use Rattle.rv_state.specs.After.{but, due_at, just_open, lasts_by, met_by, state_of}
 use Rattle.rv_audit.specs.Breaking.{BreaksBehind, IsPaired, IsSwapped, NamesOne, WasNamed, rank_of}
 use Rattle.rv_audit.specs.declared.rule.Rule.{Rule}
+use Rattle.rv_audit.specs.declared.rule.Rule.TheVariants.{M1, M2, M3, N1, N2, N3, P1, P2, P3, P4, S1, S2}
 use Rattle.rv_audit.specs.declared.rules.MeetingKind.{MeetingKind}
 use Rattle.rv_audit.specs.declared.rules.MeetingKind.TheVariants as kinds
-use Rattle.rv_audit.specs.Opens.{AreIndexed, Opening, opening_at}
+use Rattle.rv_audit.specs.Opens.{AreIndexed, Opening, is_among, opening_at}
 use Rattle.rv_audit.specs.Sessions.{session_in}
 use Rattle.rv_audit.specs.declared.front.Front.{Front}
-use Rattle.rv_audit.specs.declared.front.Looked.{Looked}
 use Rattle.rv_audit.specs.declared.opens.Opens.{Opens}
 use Rattle.rv_audit.specs.declared.sessions.AuditSession.{AuditSession}
 use Rattle.rv_audit.specs.declared.sessions.AuditSessions.{AuditSessions}
@@ -98,39 +97,16 @@ IsFront front = AreTables (passed_account front) front
 
 -- ---- what is asked of them
 
--- the act is the arrival of a request with this key
-abbrev pub IsArrivalOf : Act → Key → Type 0
-IsArrivalOf does key = (call : Call) × (does ≡ Arrive key call)
-
--- the arrival at a place has this key
-abbrev pub ArrivesWith : List Entry → Key → ℕ → Type 0
-ArrivesWith entries key r = (call : Call) × (act_at entries r ≡ Some (Arrive key call))
-
 -- the key has the account's epoch and its client's incarnation
 abbrev pub IsOfSessionOf : Account → Key → Type 0
 IsOfSessionOf a key = (key.epoch ≡ a.epoch) × HasIncarnation a.entries key.client key.incarnation
 
--- the place is that of the oldest open arrival of the side that is none of these places
-pub record IsOldestBeside (entries : List Entry) (side : Side) (places : List ℕ) (place : ℕ) : Type 0 where
-  pub there : OpenAt entries side place
-  pub beside : ¬ Among places place
-  pub oldest : (r : ℕ) → r < place → OpenAt entries side r → Among places r
-
--- what was looked up is the oldest open arrival of its side that is none of these places, or that none is
-pub record IsLookedUp (entries : List Entry) (places : List ℕ) (looked : Looked) : Type 0 where
-  pub some : IfSome looked.oldest (IsOldestBeside entries looked.side places)
-  pub none : IfNone looked.oldest ((r : ℕ) → OpenAt entries looked.side r → Among places r)
-
--- an open arrival of the side that is none of these stands before the place; one stands anywhere
-abbrev pub HasOlder : List Entry → Side → List ℕ → ℕ → Type 0
-HasOlder entries side places place = (r : ℕ) × (r < place) × OpenAt entries side r × (¬ Among places r)
-
-abbrev pub HasOne : List Entry → Side → List ℕ → Type 0
-HasOne entries side places = (r : ℕ) × OpenAt entries side r × (¬ Among places r)
-
--- who may meet the call is open somewhere beside these
-abbrev pub FindsOne : List Entry → Call → List ℕ → Type 0
-FindsOne entries call places = (r : ℕ) × IsOpenOpposite entries call r × (¬ Among places r)
+-- the place is that of the oldest open arrival that the call might meet and that is none of these places; or
+-- none is
+abbrev pub IsOldestOpposite : List Entry → Call → List ℕ → Option ℕ → Type 0
+IsOldestOpposite entries call places None = (r : ℕ) → IsOpenOpposite entries call r → Among places r
+IsOldestOpposite entries call places (Some place) = IsOpenOpposite entries call place × (¬ Among places place)
+    × ((r : ℕ) → r < place → IsOpenOpposite entries call r → Among places r)
 
 -- the side is of those that meet in this way
 abbrev pub IsOf : MeetingKind → Side → Type 0
@@ -155,11 +131,14 @@ pub record LeavesPartner (entries : List Entry) (call : Call) (partners : List �
   pub there : IsOpenOpposite entries call other
   pub unnamed : ¬ Among partners other
 
--- before the place, which is that of one that gives or takes, an open arrival of its side stands that is none
--- of these partners
-abbrev pub IsPassedBy : List Entry → List ℕ → ℕ → Type 0
-IsPassedBy entries partners place = (side : Side) × IsPaired side × SideAt entries side place
-    × HasOlder entries side partners place
+-- one that it might meet, and that is none of them, stands before one of them
+pub record LeavesOlder (entries : List Entry) (call : Call) (partners : List ℕ) : Type 0 where
+  pub partner : ℕ
+  pub named : Among partners partner
+  pub older : ℕ
+  pub earlier : older < partner
+  pub there : IsOpenOpposite entries call older
+  pub unnamed : ¬ Among partners older
 
 -- ---- what an entry closes
 
@@ -193,14 +172,10 @@ pub record ClosesGone (old new : Front) (e : Entry) : Type 0 where
 
 -- ---- what an entry brings
 
--- the first of these places, up to a number of them
-abbrev pub AmongFirst : List ℕ → ℕ → ℕ → Type 0
-AmongFirst places n p = (i : ℕ) × (i < n) × (slice_get places i ≡ Some p)
-
--- those flags are set that were, and those of such places
-pub record SetsFlags (Is : ℕ → Type 0) (old new : List Bool) : Type 0 where
+-- those flags are set that were, and those of these places
+pub record SetsFlags (old new : List Bool) (places : List ℕ) : Type 0 where
   pub count : length new ≡ length old
-  pub flags : (r : ℕ) → (slice_get new r ≡ Some true) ↔ ((slice_get old r ≡ Some true) ⊎ Is r)
+  pub flags : (r : ℕ) → slice_get new r ≡ option_map (λ flag. flag || is_among places r) (slice_get old r)
 
 -- whether there are any
 abbrev pub is_any : List ℕ → Bool
@@ -209,12 +184,8 @@ is_any places = not (nat_eq (length places) 0)
 -- the flags of these places were set, and one more stands at the end: whether there are any of them
 pub record Flags (old new : List Bool) (places : List ℕ) : Type 0 where
   pub flags : List Bool
-  pub sets : SetsFlags (Among places) old flags
+  pub sets : SetsFlags old flags places
   pub one_more : new ≡ flags ++ is_any places ∷ []
-
--- these places are flagged already, or have a flag to be set
-abbrev pub AreWithin : List ℕ → ℕ → Type 0
-AreWithin places n = (p : ℕ) → Among places p → p < n
 
 -- what an arrival with this key and call opens at a moment, if it names nobody
 abbrev pub opening_of_call : ℕ → Key → Call → Option Opening
@@ -269,20 +240,18 @@ pub record HasPassed (old new : Front) : Type 0 where
 
 -- ---- which rule an entry breaks first
 
--- of a list of rules the entry breaks this one, and none before it
-pub record BreaksFirstOf (rules : List Rule) (a : Account) (e : Entry) (rule : Rule) : Type 0 where
-  pub rank : ℕ
-  pub there : slice_get rules rank ≡ Some rule
-  pub broken : BreaksBehind rule a e
-  pub first : (r : ℕ) (other : Rule) → r < rank → slice_get rules r ≡ Some other → ¬ BreaksBehind other a e
+-- the rules in their order
+abbrev pub all_rules : List Rule
+all_rules = M1 ∷ M2 ∷ M3 ∷ N1 ∷ N2 ∷ N3 ∷ P1 ∷ P2 ∷ P3 ∷ P4 ∷ S1 ∷ S2 ∷ []
 
-abbrev pub BreaksNoneOf : List Rule → Account → Entry → Type 0
-BreaksNoneOf rules a e = (r : ℕ) (rule : Rule) → slice_get rules r ≡ Some rule → ¬ BreaksBehind rule a e
+-- the entry breaks none of so many
+abbrev pub KeepsBefore : ℕ → Account → Entry → Type 0
+KeepsBefore n a e = (other : Rule) → rank_of other < n → ¬ BreaksBehind other a e
 
 -- the entry breaks this rule, and none before it in the order in which they are asked
 pub record BreaksFirst (a : Account) (e : Entry) (rule : Rule) : Type 0 where
   pub broken : BreaksBehind rule a e
-  pub first : (other : Rule) → rank_of other < rank_of rule → ¬ BreaksBehind other a e
+  pub first : KeepsBefore (rank_of rule) a e
 
 abbrev pub BreaksNone : Account → Entry → Type 0
 BreaksNone a e = (rule : Rule) → ¬ BreaksBehind rule a e

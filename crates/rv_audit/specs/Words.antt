@@ -16,11 +16,11 @@ pub use Rattle.rv_state.specs.State.{client_waits, place_list}
 pub use Rattle.rv_state.specs.After.{just_open}
 pub use Rattle.rv_state.specs.Agreement.{ClientWaitsAt}
 pub use Rattle.rv_audit.specs.Sessions.{session_in}
-pub use Rattle.rv_audit.specs.Passed.{AreWithin, ArrivesWith, ClosesGone, FindsOne, Flags, HasAmong}
-pub use Rattle.rv_audit.specs.Passed.{HasOlder, HasOne, HasPassed, IsArrivalOf, IsFront, IsLookedUp, IsOf}
-pub use Rattle.rv_audit.specs.Passed.{IsOfSessionOf, IsOldestBeside, IsPassedBy, IsReadyFor, LeavesPartner}
-pub use Rattle.rv_audit.specs.Passed.{MayPass, Misses, SameRest, SetsFlags, passed_account}
-pub use Rattle.rv_audit.specs.Passed.{passed_state}
+pub use Rattle.rv_audit.specs.Passed.{ClosesGone, Flags, HasAmong, HasPassed, IsFront, IsOf, IsOfSessionOf}
+pub use Rattle.rv_audit.specs.Passed.{IsOldestOpposite, IsReadyFor, KeepsBefore, LeavesOlder, LeavesPartner}
+pub use Rattle.rv_audit.specs.Passed.{MayPass, Misses, SameRest, SetsFlags, passed_account, passed_state}
+pub use Rattle.rv_audit.specs.Breaking.{rank_of}
+pub use Rattle.rv_rules.specs.Legal.{IsOfSession, NamesFreePartners}
 pub use Rattle.rv_text.specs.declared.message.Key.{Key}
 pub use Rattle.rv_text.specs.declared.call.Call.{Call}
 pub use Rattle.rv_account.specs.Calls.{may_name, opposite}

@@ -1,16 +1,15 @@
 //! The tables in which an audit keeps the entries that it has read so far.
-ghost use Rattle.std.specs.Prelude.{◌≡◌, ◌↔◌, ◌<◌, ℕ};
+ghost use Rattle.std.specs.Prelude.{◌≡◌, ◌↔◌, ◌∷◌, [], ℕ};
 ghost use Rattle.std.specs.Prelude.{option_and_then, length, IfNone, IfSome, IsTrue, OnOk};
-ghost use Rattle.rv_audit.specs.Words.{Among, AreWithin, ArrivesWith, ClientWaitsAt, ClosesEach};
-ghost use Rattle.rv_audit.specs.Words.{ClosesGone, Flags, HasOlder, HasOne, HasPassed, HasWaiting};
-ghost use Rattle.rv_audit.specs.Words.{Hello, IsArrivalOf, IsFront, IsLookedUp, IsNoFreePlace};
-ghost use Rattle.rv_audit.specs.Words.{IsNotNext, IsOfSessionOf, IsOldestBeside, IsReadyFor, MayFollow};
-ghost use Rattle.rv_audit.specs.Words.{MayPass, OpenAt, SameRest, SetsFlags, Side, SideAt};
-ghost use Rattle.rv_audit.specs.Words.{SomethingDue, StartsNoNewer, Version, WaitsUnder, client_waits};
-ghost use Rattle.rv_audit.specs.Words.{just_open, own_moment, passed_account, passed_state, place_list};
+ghost use Rattle.rv_audit.specs.Words.{ClientWaitsAt, ClosesEach, ClosesGone, Flags, HasPassed};
+ghost use Rattle.rv_audit.specs.Words.{HasWaiting, Hello, IsFront, IsNoFreePlace, IsNotNext};
+ghost use Rattle.rv_audit.specs.Words.{IsOfSessionOf, IsOldestOpposite, IsReadyFor, MayFollow, MayPass};
+ghost use Rattle.rv_audit.specs.Words.{OpenAt, SameRest, SetsFlags, SideAt, Side, SomethingDue};
+ghost use Rattle.rv_audit.specs.Words.{StartsNoNewer, Version, WaitsUnder, client_waits, just_open};
+ghost use Rattle.rv_audit.specs.Words.{own_moment, passed_account, passed_state, place_list};
 ghost use Rattle.rv_audit.specs.Words.{session_in};
 
-use crate::brings::{opening, session_after};
+use crate::brings::{opening, opposite, session_after};
 use crate::opens::Opens;
 use crate::sessions::{AuditSessions, enter_session};
 use rv_account::{Account, Act, Entry, Place};
@@ -29,36 +28,26 @@ pub(crate) struct Front<'a> {
     sessions: AuditSessions,
 }
 
-// The result of a look at one side: its oldest open arrival that is none of some places.
-#[derive(Clone, Copy)]
-pub(crate) struct Looked {
-    side: Side,
-    oldest: Option<Place>,
-}
-
-// Whether the act is the arrival of a request with this key.
-fn is_arrival_of(act: &Act, key: &Key) -> bool
-    ensures { IsTrue result ↔ IsArrivalOf act.now key.now }
+// Sets the flag of a place, if it has one.
+fn set_flag(taken: &mut Vec<bool>, place: Place)
+    ensures { SetsFlags taken.old.items taken.new.items (place ∷ []) }
 {
-    match act {
-        Act::Arrive { key: other, .. } => other == key,
-        Act::Hello { .. } | Act::Cancel { .. } | Act::Tick => false,
+    if place < taken.len() {
+        taken[place] = true;
     }
 }
 
 // Sets the flags of these places.
 fn set_flags(taken: &mut Vec<bool>, places: &[Place])
-    requires { AreWithin places.now (length taken.old.items) }
-    ensures { SetsFlags (Among places.now) taken.old.items taken.new.items }
+    ensures { SetsFlags taken.old.items taken.new.items places.now }
 {
     for place in places {
-        taken[*place] = true;
+        set_flag(taken, *place);
     }
 }
 
 // Flags the partners, and the entry that names them, if there are any.
 fn flag(taken: &mut Vec<bool>, partners: &[Place]) -> Result<(), NoMemory>
-    requires { AreWithin partners.now (length taken.old.items) }
     ensures { OnOk result (Flags taken.old.items taken.new.items partners.now) }
 {
     set_flags(taken, partners);
@@ -122,16 +111,6 @@ impl<'a> Front<'a> {
         self.opens.has(side, place)
     }
 
-    // The oldest open arrival of the side that is none of these.
-    fn oldest_beside(&self, side: Side, places: &[Place]) -> Option<Place>
-        requires { IsFront self.now }
-        ensures some { IfSome result (IsOldestBeside (passed_account self.now).entries side places.now) }
-        ensures none { IfNone result ((place : ℕ)
-            → OpenAt (passed_account self.now).entries side place → Among places.now place) }
-    {
-        self.opens.oldest_beside(side, places)
-    }
-
     // Where the last request of the client arrived, if it had one.
     fn request(&self, client: u64) -> Option<Place>
         ensures { result ≡ option_and_then (λ s. s.request) (session_in self.now.sessions client) }
@@ -147,27 +126,6 @@ impl<'a> Front<'a> {
     {
         let place = self.request(client)?;
         (self.opens.client(place) == Some(client)).then_some(place)
-    }
-
-    // Whether a request waits that has this key.
-    pub(crate) fn waits_under(&self, key: &Key) -> bool
-        requires { IsFront self.now }
-        ensures { IsTrue result ↔ WaitsUnder (passed_account self.now).entries key.now }
-    {
-        match self.waiting(key.client) {
-            Some(place) => self.has_key(place, key),
-            None => false,
-        }
-    }
-
-    // Whether the arrival at a place has this key.
-    fn has_key(&self, place: Place, key: &Key) -> bool
-        ensures { IsTrue result ↔ ArrivesWith self.now.account.now.account.entries key.now place }
-    {
-        match self.account.entry(place) {
-            Some(entry) => is_arrival_of(&entry.act, key),
-            None => false,
-        }
     }
 
     // Whether the client said a hello of this incarnation or a greater one.
@@ -196,76 +154,35 @@ impl<'a> Front<'a> {
 
     // Whether the key's number isn't its session's last plus one.
     pub(crate) fn is_not_next(&self, key: &Key) -> bool
-        requires { IsFront self.now }
+        requires front { IsFront self.now }
+        requires session { IsOfSessionOf (passed_account self.now) key.now }
         ensures { IsTrue result ↔ IsNotNext (passed_account self.now).entries key.now }
     {
         match self.sessions.of(key.client) {
             Some(session) => key.number <= session.last || key.number - session.last != 1,
-            None => key.number != 1,
-        }
-    }
-
-    // The side of the arrival at a place, if one was passed there.
-    pub(crate) fn side(&self, place: Place) -> Option<Side>
-        ensures some { IfSome result (λ side. SideAt (passed_account self.now).entries side place) }
-        ensures none { IfNone result ((side : Side) → ¬ SideAt (passed_account self.now).entries side place) }
-    {
-        if place >= self.taken.len() {
-            return None;
-        }
-        self.account.call(place).map(Call::side)
-    }
-
-    // Looks once for the oldest open arrival of the side that is none of these.
-    pub(crate) fn look_beside(&self, side: Side, places: &[Place]) -> Looked
-        requires { IsFront self.now }
-        ensures { IsLookedUp (passed_account self.now).entries places.now result }
-    {
-        Looked {
-            side,
-            oldest: self.oldest_beside(side, places),
-        }
-    }
-
-    // The oldest open arrival of the side that is none of these. It is known if that side was looked at.
-    fn oldest_by(&self, looked: Looked, side: Side, places: &[Place]) -> Option<Place>
-        requires front { IsFront self.now }
-        requires looked { IsLookedUp (passed_account self.now).entries places.now looked }
-        ensures some { IfSome result (IsOldestBeside (passed_account self.now).entries side places.now) }
-        ensures none { IfNone result ((place : ℕ)
-            → OpenAt (passed_account self.now).entries side place → Among places.now place) }
-    {
-        if looked.side == side {
-            looked.oldest
-        } else {
-            self.oldest_beside(side, places)
-        }
-    }
-
-    // Whether an open arrival of the side that is none of these stands before the place.
-    pub(crate) fn has_older(
-        &self,
-        looked: Looked,
-        side: Side,
-        places: &[Place],
-        place: Place,
-    ) -> bool
-        requires front { IsFront self.now }
-        requires looked { IsLookedUp (passed_account self.now).entries places.now looked }
-        ensures { IsTrue result ↔ HasOlder (passed_account self.now).entries side places.now place }
-    {
-        match self.oldest_by(looked, side, places) {
-            Some(first) => first < place,
             None => false,
         }
     }
 
-    // Whether an arrival of the side that is none of these is open anywhere.
-    pub(crate) fn has_one(&self, side: Side, places: &[Place]) -> bool
-        requires { IsFront self.now }
-        ensures { IsTrue result ↔ HasOne (passed_account self.now).entries side places.now }
+    // Whether the key isn't that of the request which waits in its session.
+    pub(crate) fn waits_otherwise(&self, key: &Key) -> bool
+        requires front { IsFront self.now }
+        requires session { IsOfSessionOf (passed_account self.now) key.now }
+        requires waits { HasWaiting (passed_account self.now).entries key.now.client }
+        ensures { IsTrue result ↔ (¬ WaitsUnder (passed_account self.now).entries key.now) }
     {
-        self.oldest_beside(side, places).is_some()
+        match self.sessions.of(key.client) {
+            Some(session) => key.number != session.last,
+            None => false,
+        }
+    }
+
+    // The oldest that is open, none of these, and one that the call might meet.
+    pub(crate) fn oldest_opposite(&self, call: &Call, places: &[Place]) -> Option<Place>
+        requires { IsFront self.now }
+        ensures { IsOldestOpposite (passed_account self.now).entries call.now places.now result }
+    {
+        self.opens.oldest_beside(opposite(call.side())?, places)
     }
 
     // Closes the place at which the request of the client waits, if one does.

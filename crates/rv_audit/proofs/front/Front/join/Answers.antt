@@ -1,13 +1,9 @@
-use Rattle.rv_audit.proofs.Words.{◌∙◌, ℕ, List, length, refl, sym, subst, AreWithin}
-use Rattle.rv_audit.proofs.Passing.{all_joined, next_free, partner_within}
+use Rattle.rv_audit.proofs.Words.{◌∙◌, ℕ, List, refl, subst}
+use Rattle.rv_audit.proofs.Passing.{all_joined, next_free}
 use Rattle.rv_audit.specs.Opens.{OpensIf}
 use Rattle.rv_audit.specs.Passed.{Flags}
 use Rattle.rv_audit.specs.Sessions.{EntersIf}
 use Rattle.rv_audit.proofs.front.Front.join.Goals as goal
-
-pub flag-requires : goal.flag-requires
-flag-requires c = subst (λ (places : List ℕ). AreWithin places (length c.args.self.now.taken.items))
-    (sym c.as_slice.ensures) (partner_within c.args.self.now c.args.entry.now c.requires)
 
 pub open_if-requires-clause-free : goal.open_if-requires-clause-free
 open_if-requires-clause-free c = next_free c.args.self.now c.args.entry.now c.len-place.result c.requires
