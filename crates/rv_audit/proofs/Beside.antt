@@ -1,39 +1,43 @@
 -- Of the places under a number those that are none of some others: one looks from each to the next.
-use Rattle.rv_audit.proofs.Words.{◌≡◌, ◌⊎◌, ◌-◌, ◌<◌, ◌∙◌, inl, inr, ℕ, true, List, Option, Some, None}
-use Rattle.rv_audit.proofs.Words.{IfSome, IfNone, sym, subst, arith, cases_lt, false≢true, Among, same_or_not}
-use Rattle.rv_audit.proofs.Words.{IsNextMark, NoneBehind, is_marked_under, Marks}
-use Rattle.rv_audit.specs.Marks.{GoesOnAt}
+use Rattle.rv_audit.proofs.Words.{◌≡◌, ◌-◌, ◌<◌, ◌∙◌, inl, inr, ℕ, true, List, Option, Some, None}
+use Rattle.rv_audit.proofs.Words.{sym, subst, arith, cases_lt, false≢true, Among, same_or_not}
+use Rattle.rv_audit.proofs.Words.{IsFirstBehind, NoneBehind, is_marked_under, Marks}
+use Rattle.rv_audit.specs.Marks.{AreNamedTo, IsBehind, IsLowestBeside, NoneBeside}
 
 -- how many places are left to be looked at
 abbrev pub left_from : Option ℕ → ℕ
-left_from None = 0
+left_from None = 18446744073709551617
 left_from (Some p) = 18446744073709551616 - p
 
-module _ (m : Marks) (number : ℕ) (places : List ℕ) where
-  module _ (place : ℕ) (at : GoesOnAt m number places (Some place)) (own : Among places place) where
-    up_to : (p : ℕ) → is_marked_under m number p ≡ true → Among places p ⊎ (place < p)
-    up_to p there = elim (cases_lt p place) [
-      | inl below ↦ inl (at.1 p below there)
-      | inr above ↦ elim (same_or_not p place) [
-        | inl same ↦ inl (subst (Among places) (sym same) own)
-        | inr apart ↦ inr (elim (cases_lt place p) [
-          | inl behind ↦ behind
-          | inr most ↦ absurd
-              (apart (omega arith))
-        ])
-      ]
-    ]
+pub fewer_left : (last : Option ℕ) (place : ℕ) → IsBehind last place → place < 18446744073709551616
+    → left_from (Some place) < left_from last
+fewer_left None place behind fits = omega arith
+fewer_left (Some last) place behind fits = let less : last < place = behind in omega arith
 
-    pub goes_on : (found : Option ℕ) → IfSome found (IsNextMark m number place)
-        → IfNone found (NoneBehind m number place) → GoesOnAt m number places found
-    goes_on None some none = λ p there. elim (up_to p there) [
+module _ (m : Marks) (number : ℕ) (places : List ℕ) (last : Option ℕ) (named : AreNamedTo m number places
+    last)
+  where
+    pub all_named : NoneBehind m number last → NoneBeside m number places
+    all_named none p there = elim (named p there) [
       | inl among ↦ among
       | inr behind ↦ absurd (false≢true (sym (none p behind) ∙ there))
     ]
-    goes_on (Some q) some none = (
-      some.there,
-      λ p less there. elim (up_to p there) [
+
+    module _ (place : ℕ) (first : IsFirstBehind m number last place) where
+      below : (p : ℕ) → p < place → is_marked_under m number p ≡ true → Among places p
+      below p less there = elim (named p there) [
         | inl among ↦ among
-        | inr behind ↦ absurd (false≢true (sym (some.next p behind less) ∙ there))
-      ],
-    )
+        | inr behind ↦ absurd (false≢true (sym (first.lowest p behind less) ∙ there))
+      ]
+
+      pub found_beside : (Among places place → ⊥) → IsLowestBeside m number places place
+      found_beside beside = record { there = first.there; beside = beside; lowest = below }
+
+      pub named_on : Among places place → AreNamedTo m number places (Some place)
+      named_on own p there = elim (cases_lt place p) [
+        | inl behind ↦ inr behind
+        | inr most ↦ elim (same_or_not p place) [
+          | inl same ↦ inl (subst (Among places) (sym same) own)
+          | inr apart ↦ inl (below p (omega arith) there)
+        ]
+      ]

@@ -1,12 +1,13 @@
 -- An account is legal exactly where no rule is broken at any place, and an audit tells one thing of it.
-use Rattle.rv_audit.proofs.Words.{◌≡◌, ◌<◌, ◌∷◌, ◌∙◌, inl, inr, ℕ, zero, suc, List, [], Some, refl, sym, ap}
-use Rattle.rv_audit.proofs.Words.{subst, arith, slice_get, cases_lt, same_Some, Entry, Account, before, Legal}
-use Rattle.rv_audit.proofs.Words.{MayFollow, read_whole, Rule, M1, M2, M3, N1, N2, N3, P1, P2, P3, P4, S1, S2}
+use Rattle.rv_audit.proofs.Words.{◌≡◌, ◌<◌, ◌∙◌, inl, inr, ℕ, zero, suc, List, Some, refl, sym, ap}
+use Rattle.rv_audit.proofs.Words.{subst, arith, slice_get, cases_lt, Entry, Account, before, Legal}
+use Rattle.rv_audit.proofs.Words.{MayFollow, read_whole, Rule}
 use Rattle.std.proofs.lemmas.Bool.{cases_order}
 use Rattle.std.proofs.lemmas.List.{take-take}
 use Rattle.rv_rules.proofs.Fronts.{Legal-before}
 use Rattle.rv_audit.specs.Breaking.{FirstFault, KeepsRules, rank_of}
 use Rattle.rv_audit.specs.Laws.{LegalByRules, OneAudit}
+use Rattle.rv_audit.proofs.Firsts.{one_rank}
 use Rattle.rv_audit.proofs.RulesKept.{breaks_nothing}
 use Rattle.rv_audit.proofs.RulesSuffice.{may_follow}
 use Rattle.rv_audit.specs.declared.rule.Audit.TheVariants as tells
@@ -49,28 +50,6 @@ legal_by_rules a = (
 )
 
 -- ---- one audit
-
--- the rules in their order
-rules : List Rule
-rules = M1 ∷ M2 ∷ M3 ∷ N1 ∷ N2 ∷ N3 ∷ P1 ∷ P2 ∷ P3 ∷ P4 ∷ S1 ∷ S2 ∷ []
-
-stands_at : (rule : Rule) → slice_get rules (rank_of rule) ≡ Some rule
-unfolding rules
-stands_at M1 = refl
-stands_at M2 = refl
-stands_at M3 = refl
-stands_at N1 = refl
-stands_at N2 = refl
-stands_at N3 = refl
-stands_at P1 = refl
-stands_at P2 = refl
-stands_at P3 = refl
-stands_at P4 = refl
-stands_at S1 = refl
-stands_at S2 = refl
-
-one_rank : (r s : Rule) → rank_of r ≡ rank_of s → r ≡ s
-one_rank r s same = same_Some _ _ (sym (stands_at r) ∙ ap (slice_get rules) same ∙ stands_at s)
 
 one_place : (a : Account) (p q : ℕ) (r s : Rule) → FirstFault a p r → FirstFault a q s → p ≡ q
 one_place a p q r s first second = elim (cases_order p q) [

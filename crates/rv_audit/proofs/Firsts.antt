@@ -1,6 +1,6 @@
 -- From the first rule that an entry breaks to an account's first fault.
-use Rattle.rv_audit.proofs.Words.{◌≡◌, ◌<◌, ◌∷◌, ◌∙◌, ℕ, zero, suc, List, [], length, take, Option, Some}
-use Rattle.rv_audit.proofs.Words.{None, IfSome, IfNone, refl, sym, ap, subst, arith, slice_get, none-some}
+use Rattle.rv_audit.proofs.Words.{◌≡◌, ◌<◌, ◌∷◌, ◌∙◌, ℕ, zero, suc, List, [], length, take, Some}
+use Rattle.rv_audit.proofs.Words.{None, refl, sym, ap, subst, arith, slice_get, none-some}
 use Rattle.rv_audit.proofs.Words.{same_Some, Entry, Account, Legal, MayFollow, before, BreaksBehind, IsFront}
 use Rattle.rv_audit.proofs.Words.{passed_account, Front, Rule, M1, M2, M3, N1, N2, N3, P1, P2, P3, P4, S1, S2}
 use Rattle.std.proofs.lemmas.List.{take-take}
@@ -8,16 +8,13 @@ use Rattle.rv_account.specs.Account.{Stored}
 use Rattle.rv_rules.proofs.Fronts.{Legal-before}
 use Rattle.rv_rules.proofs.Places.{get-take}
 use Rattle.rv_audit.specs.Breaking.{FirstFault, KeepsRules, rank_of}
-use Rattle.rv_audit.specs.Passed.{BreaksFirst, BreaksFirstOf, BreaksNone, BreaksNoneOf, MayPass}
+use Rattle.rv_audit.specs.Passed.{BreaksFirst, BreaksNone, MayPass, all_rules}
 use Rattle.rv_audit.proofs.RulesKept.{breaks_nothing}
 use Rattle.rv_audit.proofs.RulesSuffice.{may_follow}
 use Rattle.rv_audit.specs.declared.rule.Audit.TheVariants as tells
 
--- the rules in their order
-abbrev pub rules : List Rule
-rules = M1 ∷ M2 ∷ M3 ∷ N1 ∷ N2 ∷ N3 ∷ P1 ∷ P2 ∷ P3 ∷ P4 ∷ S1 ∷ S2 ∷ []
-
-stands_at : (rule : Rule) → slice_get rules (rank_of rule) ≡ Some rule
+-- the rule of each rank stands at that place
+stands_at : (rule : Rule) → slice_get all_rules (rank_of rule) ≡ Some rule
 stands_at M1 = refl
 stands_at M2 = refl
 stands_at M3 = refl
@@ -31,40 +28,8 @@ stands_at P4 = refl
 stands_at S1 = refl
 stands_at S2 = refl
 
--- a place of the list has the rule of that rank
-rank_at : (n : ℕ) (rule : Rule) → slice_get rules n ≡ Some rule → rank_of rule ≡ n
-rank_at zero rule is = ap rank_of (sym (same_Some _ _ is))
-rank_at (suc zero) rule is = ap rank_of (sym (same_Some _ _ is))
-rank_at (suc (suc zero)) rule is = ap rank_of (sym (same_Some _ _ is))
-rank_at (suc (suc (suc zero))) rule is = ap rank_of (sym (same_Some _ _ is))
-rank_at (suc (suc (suc (suc zero)))) rule is = ap rank_of (sym (same_Some _ _ is))
-rank_at (suc (suc (suc (suc (suc zero))))) rule is = ap rank_of (sym (same_Some _ _ is))
-rank_at (suc (suc (suc (suc (suc (suc zero)))))) rule is = ap rank_of (sym (same_Some _ _ is))
-rank_at (suc (suc (suc (suc (suc (suc (suc zero))))))) rule is = ap rank_of (sym (same_Some _ _ is))
-rank_at (suc (suc (suc (suc (suc (suc (suc (suc zero)))))))) rule is = ap rank_of (sym (same_Some _ _ is))
-rank_at (suc (suc (suc (suc (suc (suc (suc (suc (suc zero))))))))) rule is =
-    ap rank_of (sym (same_Some _ _ is))
-rank_at (suc (suc (suc (suc (suc (suc (suc (suc (suc (suc zero)))))))))) rule is =
-    ap rank_of (sym (same_Some _ _ is))
-rank_at (suc (suc (suc (suc (suc (suc (suc (suc (suc (suc (suc zero))))))))))) rule is =
-    ap rank_of (sym (same_Some _ _ is))
-rank_at (suc (suc (suc (suc (suc (suc (suc (suc (suc (suc (suc (suc n)))))))))))) rule is =
-    absurd (none-some rule is)
-
-pub first_by_rank : (a : Account) (e : Entry) (o : Option Rule) → IfSome o (BreaksFirstOf rules a e)
-    → IfSome o (BreaksFirst a e)
-first_by_rank a e None some = tt
-first_by_rank a e (Some rule) some = record {
-  broken = some.broken;
-  first = λ other less breaks.
-      let rank : rank_of rule ≡ some.rank = rank_at some.rank rule some.there in
-      some.first (rank_of other) other (omega arith) (stands_at other) breaks;
-}
-
-pub none_by_rank : (a : Account) (e : Entry) (o : Option Rule) → IfNone o (BreaksNoneOf rules a e)
-    → IfNone o (BreaksNone a e)
-none_by_rank a e (Some rule) none = tt
-none_by_rank a e None none = λ rule breaks. none (rank_of rule) rule (stands_at rule) breaks
+pub one_rank : (r s : Rule) → rank_of r ≡ rank_of s → r ≡ s
+one_rank r s same = same_Some _ _ (sym (stands_at r) ∙ ap (slice_get all_rules) same ∙ stands_at s)
 
 -- ---- one place after the other
 
@@ -111,7 +76,7 @@ all_passed a n legal none = subst (λ (es : List Entry). Legal (record {
 
 -- the next entry may be passed
 pub may_pass : (front : Front) (e : Entry) → IsFront front
-    → slice_get front.account.now.account.entries (length front.met.items) ≡ Some e
+    → slice_get front.account.now.account.entries (length front.taken.items) ≡ Some e
     → BreaksNone (passed_account front) e → MayPass front e
 may_pass front e is there none = record {
   there = there;
@@ -122,20 +87,20 @@ may_pass front e is there none = record {
 -- ---- what a front tells, at the place that comes next
 
 module _ (front : Front) (a : Stored) (n : ℕ) (is : IsFront front) (same : front.account.now ≡ a)
-    (at : n ≡ length front.met.items) where
+    (at : n ≡ length front.taken.items) where
   next_there : (e : Entry) → Some e ≡ slice_get a.account.entries n
-      → slice_get front.account.now.account.entries (length front.met.items) ≡ Some e
+      → slice_get front.account.now.account.entries (length front.taken.items) ≡ Some e
   next_there e there =
-      ap (λ (s : Stored). slice_get s.account.entries (length front.met.items)) same
+      ap (λ (s : Stored). slice_get s.account.entries (length front.taken.items)) same
       ∙ ap (slice_get a.account.entries) (sym at) ∙ sym there
 
-  pub fault_told : (e : Entry) (rule : Rule) (place : ℕ) → place ≡ length front.met.items
+  pub fault_told : (e : Entry) (rule : Rule) (place : ℕ) → place ≡ length front.taken.items
       → Some e ≡ slice_get a.account.entries n → BreaksFirst (passed_account front) e rule
       → FirstFault a.account place rule
   fault_told e rule place here there first =
       subst (λ m. FirstFault a.account m rule) (sym here)
-      (subst (λ (s : Stored). FirstFault s.account (length front.met.items) rule) same
-      (first_fault front.account.now.account (length front.met.items) e rule is.legal (next_there e there)
+      (subst (λ (s : Stored). FirstFault s.account (length front.taken.items) rule) same
+      (first_fault front.account.now.account (length front.taken.items) e rule is.legal (next_there e there)
       first))
 
   pub next_may : (e : Entry) → Some e ≡ slice_get a.account.entries n → BreaksNone (passed_account front) e
@@ -144,11 +109,11 @@ module _ (front : Front) (a : Stored) (n : ℕ) (is : IsFront front) (same : fro
 
   pub legal_told : None ≡ slice_get a.account.entries n → Legal a.account
   legal_told none =
-      let past : slice_get front.account.now.account.entries (length front.met.items) ≡ None =
-      ap (λ (s : Stored). slice_get s.account.entries (length front.met.items)) same
+      let past : slice_get front.account.now.account.entries (length front.taken.items) ≡ None =
+      ap (λ (s : Stored). slice_get s.account.entries (length front.taken.items)) same
       ∙ ap (slice_get a.account.entries) (sym at) ∙ sym none in
       subst (λ (s : Stored). Legal s.account) same (all_passed front.account.now.account
-      (length front.met.items) is.legal past)
+      (length front.taken.items) is.legal past)
 
 -- ---- what is told
 

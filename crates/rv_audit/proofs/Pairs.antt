@@ -1,17 +1,20 @@
 -- Pairs of a number and a place, in a set that is ordered by the number and then by the place.
 use Rattle.rv_audit.proofs.Words.{◌≡◌, ◌≢◌, ◌⊎◌, ◌<◌, ◌≤◌, ◌∷◌, ◌∙◌, inl, inr, ℕ, arith, Bool, true, false}
+use Rattle.rv_audit.proofs.Words.{cases_lt}
 use Rattle.rv_audit.proofs.Words.{nat_eq, List, [], IfSome, IfNone, refl, sym, ap, subst, then_some}
-use Rattle.rv_audit.proofs.Words.{nat_tests, false≢true, Marks, IsTrue, IsLeast, IsLowest, IsNextMark}
-use Rattle.rv_audit.proofs.Words.{NoneBehind, NoneUnder, NoneUntil}
+use Rattle.rv_audit.proofs.Words.{nat_tests, false≢true, Marks, IsTrue, IsFirstBehind, NoneBehind, Option}
+use Rattle.rv_audit.proofs.Words.{None, Some}
+use Rattle.rv_audit.proofs.Words.{NoneUntil, is_marked_under}
 use Rattle.std.proofs.Common.{cond, nat_le}
 use Rattle.std.specs.declared.cmp.Ordering.{Ordering}
 use Rattle.std.specs.declared.cmp.Ordering.TheVariants.{Less, Equal, Greater}
 use Rattle.std.specs.Ordering.{nat_cmp, ordering_then, is_eq, is_gt}
-use Rattle.std.specs.BTreeSet.{BTreeSet, contains, IsKeyInRange, IsKeyRangeOf}
-use Rattle.std.specs.declared.ops.Bound.TheVariants.{Excluded, Included, Unbounded}
+use Rattle.std.specs.BTreeMap.Range.{IsInRange}
+use Rattle.std.specs.BTreeSet.{BTreeSet, contains, IsKeyRangeOf}
+use Rattle.std.specs.declared.ops.Bound.TheVariants.{Unbounded}
 use Rattle.std.specs.Cmp.{IsTotalOrder, nat_cmp_total, then_total, on_total, ranked, Equal-is}
 use Rattle.std.specs.Cmp.{eq_by_cmp_equiv}
-use Rattle.rv_audit.specs.Marks.{Gains, Loses}
+use Rattle.rv_audit.specs.Marks.{Gains, IsBehind, IsUntil, Loses, bound_behind}
 
 abbrev pub Pair : Type 0
 Pair = ℕ × ℕ
@@ -82,205 +85,128 @@ not_above_by x y Greater b f s e = absurd (false≢true (sym e))
 pub not_above : (x y : Pair) → is_gt (pair_cmp x y) ≡ false → (x.0 < y.0) ⊎ ((x.0 ≡ y.0) × (x.1 ≤ y.1))
 not_above x y e = not_above_by x y (nat_cmp x.0 y.0) (nat_cmp x.1 y.1) refl refl e
 
--- the first place under a number is above no other
-pub from_first : (n p : ℕ) → is_gt (pair_cmp (n, 0) (n, p)) ≡ false
-from_first n p = by_place (nat_cmp n n) (nat_cmp 0 p) refl refl
-  where
-    by_place : (a b : Ordering) → a ≡ nat_cmp n n → b ≡ nat_cmp 0 p → is_gt (ordering_then a b) ≡ false
-    by_place Less b f s = absurd (let less : n < n = ranked n n Less f in omega arith)
-    by_place Equal Less f s = refl
-    by_place Equal Equal f s = refl
-    by_place Equal Greater f s = absurd (let less : p < 0 = ranked 0 p Greater s in omega arith)
-    by_place Greater b f s = absurd (let less : n < n = ranked n n Greater f in omega arith)
-
 pub true_or_false : (b : Bool) → (IsTrue b → ⊥) → b ≡ false
 true_or_false true = λ no. absurd (no refl)
 true_or_false false = λ no. refl
 
--- the least from the first place under a number on is the lowest place under it, or none is under it
-pub is_lowest : (s : BTreeSet Pair) (n : ℕ) (k : Pair) → IsTrue (contains pair_cmp s k)
-    → ((q : Pair) → is_gt (pair_cmp (n, 0) q) ≡ false → IsTrue (contains pair_cmp s q)
-    → is_gt (pair_cmp k q) ≡ false)
-    → k.0 ≡ n → IsLowest (as_marks s) n k.1
-is_lowest s n k there least is = record {
-  there = subst (λ m. contains pair_cmp s (m, k.1) ≡ true) is there;
-  lowest = λ p less. true_or_false _ (λ other.
-      let above = not_above k (n, p) (least (n, p) (from_first n p) other) in
-      elim above [
-        | inl under ↦ omega arith
-        | inr same ↦ let most : k.1 ≤ p = same.1 in omega arith
-      ]);
-}
+-- ---- behind a place
 
-pub none_under : (s : BTreeSet Pair) (n : ℕ) (k : Pair) → is_gt (pair_cmp (n, 0) k) ≡ false
-    → ((q : Pair) → is_gt (pair_cmp (n, 0) q) ≡ false → IsTrue (contains pair_cmp s q)
-    → is_gt (pair_cmp k q) ≡ false)
-    → (k.0 ≡ n → ⊥) → NoneUnder (as_marks s) n
-none_under s n k from least apart p = true_or_false _ (λ other. elim (not_above (n, 0) k from) [
-  | inl above ↦ elim (not_above k (n, p) (least (n, p) (from_first n p) other)) [
-    | inl under ↦ let one : n < k.0 = above in let two : k.0 < n = under in omega arith
-    | inr same ↦ apart same.0
-  ]
-  | inr same ↦ apart (sym same.0)
-])
+-- pairs of one number are as their places are
+one_number : (n p q : ℕ) → pair_cmp (n, p) (n, q) ≡ nat_cmp p q
+one_number n p q = ap (λ o. ordering_then o (nat_cmp p q)) ((Equal-is (nat_cmp n n)).0 (own_number n))
+  where
+    own_number : (n : ℕ) → is_eq (nat_cmp n n) ≡ true
+    own_number n = (eq_by_cmp_equiv nat_cmp_total).refl n
 
--- where the least is above a limit, none is marked up to it
-pub none_until : (s : BTreeSet Pair) (limit : ℕ) (k : Pair)
-    → ((q : Pair) → IsTrue (contains pair_cmp s q) → is_gt (pair_cmp k q) ≡ false) → limit < k.0
-    → NoneUntil (as_marks s) limit
-none_until s limit k least above n p until = true_or_false _
-    (λ other. elim (not_above k (n, p) (least (n, p) other)) [
-      | inl under ↦ let less : k.0 < n = under in omega arith
-      | inr same ↦ let equal : k.0 ≡ n = same.0 in omega arith
-    ])
+abbrev RangeBehind : BTreeSet Pair → ℕ → Option ℕ → List Pair → Type 0
+RangeBehind s n last r = IsKeyRangeOf pair_cmp (bound_behind n last) Unbounded s r
 
--- where the least is at or below a limit, no number below its own has a mark, and its number none below its
--- place
-pub found_least_until : (s : BTreeSet Pair) (limit : ℕ) (k : Pair) (b : Bool) → IsTrue (contains pair_cmp s k)
+-- what is in the range has the number and stands behind the place, or has a greater number
+least_zero : (p : ℕ) (o : Ordering) → o ≡ nat_cmp 0 p → is_gt o ≡ false
+least_zero p Less is = refl
+least_zero p Equal is = refl
+least_zero p Greater is = absurd (let less : p < 0 = ranked 0 p Greater is in omega arith)
+
+less_is : (m n : ℕ) (o : Ordering) → o ≡ nat_cmp m n → m < n → o ≡ Less
+less_is m n Less is less = refl
+less_is m n Equal is less = absurd (let same : m ≡ n = ranked m n Equal is in omega arith)
+less_is m n Greater is less = absurd (let more : n < m = ranked m n Greater is in omega arith)
+
+in_range : (n p : ℕ) (last : Option ℕ) → IsBehind last p
+    → IsInRange pair_cmp (bound_behind n last) Unbounded (n, p)
+in_range n p None behind = (ap is_gt (one_number n 0 p) ∙ least_zero p (nat_cmp 0 p) refl, tt)
+in_range n p (Some last) behind = (one_number n last p ∙ less_is last p (nat_cmp last p) refl behind, tt)
+
+from_range : (n : ℕ) (k : Pair) (last : Option ℕ) → IsInRange pair_cmp (bound_behind n last) Unbounded k
+    → (n < k.0) ⊎ ((n ≡ k.0) × IsBehind last k.1)
+from_range n k None at = elim (not_above (n, 0) k at.0) [
+  | inl above ↦ inl above
+  | inr here ↦ inr (here.0, tt)
+]
+from_range n k (Some last) at = elim (not_above (n, last) k (ap is_gt at.0)) [
+  | inl above ↦ inl above
+  | inr here ↦ inr (
+    here.0,
+    elim (cases_lt last k.1) [
+      | inl less ↦ less
+      | inr most ↦
+          let same : last ≡ k.1 = let at_most : last ≤ k.1 = here.1 in omega arith in
+          absurd (let no : Equal ≡ Less =
+          sym (one_equal n last) ∙ ap (pair_cmp (n, last)) (pair_is n last k here.0 same) ∙ at.0 in cc)
+    ],
+  )
+]
+  where
+    pair_is : (n p : ℕ) (k : Pair) → n ≡ k.0 → p ≡ k.1 → (n, p) ≡ k
+    pair_is n p k same is = ap (λ m. (m, p)) same ∙ ap (λ q. (k.0, q)) is
+
+    one_equal : (n p : ℕ) → pair_cmp (n, p) (n, p) ≡ Equal
+    one_equal n p = (Equal-is (pair_cmp (n, p) (n, p))).0 (own_pair (n, p))
+
+pub nothing_found : (s : BTreeSet Pair) (n : ℕ) (last : Option ℕ) (r : List Pair) → RangeBehind s n last r
+    → r ≡ [] → NoneBehind (as_marks s) n last
+nothing_found s n last r range none p behind = range.5 none (n, p) (in_range n p last behind)
+
+-- what is found is above nothing that stands there
+module _ (s : BTreeSet Pair) (n : ℕ) (last : Option ℕ) (rest : List Pair) (k : Pair)
+    (range : RangeBehind s n last (k ∷ rest)) where
+  not_below : (p : ℕ) → IsBehind last p → is_marked_under (as_marks s) n p ≡ true
+      → (k.0 < n) ⊎ ((k.0 ≡ n) × (k.1 ≤ p))
+  not_below p behind there = not_above k (n, p) (range.2 (n, p) (in_range n p last behind) there)
+
+  first_found : (b : Bool) → nat_eq k.0 n ≡ b → IfSome (then_some b k.1) (IsFirstBehind (as_marks s) n last)
+      × IfNone (then_some b k.1) (NoneBehind (as_marks s) n last)
+  first_found true is = (
+    let same : k.0 ≡ n = grind (arith, nat_tests) in
+        record {
+          there = subst (λ m. contains pair_cmp s (m, k.1) ≡ true) same range.1.1;
+          behind = elim (from_range n k last range.1.0) [
+            | inl above ↦ let more : n < k.0 = above in absurd (omega arith)
+            | inr here ↦ here.1
+          ];
+          lowest = λ p behind less. true_or_false _ (λ there. elim (not_below p behind there) [
+            | inl under ↦ omega arith
+            | inr here ↦ let at : k.1 ≤ p = here.1 in omega arith
+          ]);
+        },
+    tt,
+  )
+  first_found false is = (
+    tt,
+    λ p behind. true_or_false _ (λ there. elim (not_below p behind there) [
+      | inl under ↦ elim (from_range n k last range.1.0) [
+        | inl above ↦ let one : n < k.0 = above in let two : k.0 < n = under in omega arith
+        | inr here ↦ apart (sym here.0)
+      ]
+      | inr here ↦ apart here.0
+    ]),
+  )
+    where
+      apart : k.0 ≡ n → ⊥
+      apart same = grind (arith, nat_tests)
+
+pub found : (s : BTreeSet Pair) (n : ℕ) (last : Option ℕ) (r rest : List Pair) (k : Pair)
+    → RangeBehind s n last r
+    → r ≡ k ∷ rest → IfSome (then_some (nat_eq k.0 n) k.1) (IsFirstBehind (as_marks s) n last)
+    × IfNone (then_some (nat_eq k.0 n) k.1) (NoneBehind (as_marks s) n last)
+found s n last r rest k range is =
+    first_found s n last rest k (subst (RangeBehind s n last) is range) _ refl
+
+-- ---- up to a limit
+
+pub until_found : (s : BTreeSet Pair) (limit : ℕ) (k : Pair) (b : Bool) → IsTrue (contains pair_cmp s k)
     → ((q : Pair) → IsTrue (contains pair_cmp s q) → is_gt (pair_cmp k q) ≡ false) → nat_le k.0 limit ≡ b
-    → IfSome (then_some b k) (IsLeast (as_marks s) limit)
-found_least_until s limit k true there least until = record {
-  there = there;
-  until = grind (arith, nat_tests);
-  least = λ n p less. true_or_false _ (λ other. elim (not_above k (n, p) (least (n, p) other)) [
-    | inl under ↦ let above : k.0 < n = under in omega arith
-    | inr same ↦ let equal : k.0 ≡ n = same.0 in omega arith
-  ]);
-  lowest = λ p less. true_or_false _ (λ other. elim (not_above k (k.0, p) (least (k.0, p) other)) [
-    | inl under ↦ let above : k.0 < k.0 = under in omega arith
-    | inr same ↦ let most : k.1 ≤ p = same.1 in omega arith
-  ]);
-}
-found_least_until s limit k false there least until = tt
-
--- ---- what is found
-
-abbrev RangeFrom : BTreeSet Pair → ℕ → List Pair → Type 0
-RangeFrom s n r = IsKeyRangeOf pair_cmp (Included (n, 0)) Unbounded s r
-
-pub nothing_found : (s : BTreeSet Pair) (n : ℕ) (r : List Pair) → RangeFrom s n r → r ≡ []
-    → NoneUnder (as_marks s) n
-nothing_found s n r range none p = range.5 none (n, p) (from_first n p, tt)
-
-found_least : (s : BTreeSet Pair) (n : ℕ) (r rest : List Pair) (k : Pair) → RangeFrom s n r → r ≡ k ∷ rest
-    → (q : Pair) → is_gt (pair_cmp (n, 0) q) ≡ false → IsTrue (contains pair_cmp s q)
-    → is_gt (pair_cmp k q) ≡ false
-found_least s n r rest k range is q from there = (subst (RangeFrom s n) is range).2 q (from, tt) there
-
-found_in : (s : BTreeSet Pair) (n : ℕ) (r rest : List Pair) (k : Pair) → RangeFrom s n r → r ≡ k ∷ rest
-    → IsKeyInRange pair_cmp (Included (n, 0)) Unbounded s k
-found_in s n r rest k range is = (subst (RangeFrom s n) is range).1
-
-pub found_lowest : (s : BTreeSet Pair) (n : ℕ) (r rest : List Pair) (k : Pair) (b : Bool) → RangeFrom s n r
-    → r ≡ k ∷ rest → nat_eq k.0 n ≡ b
-    → IfSome (then_some b k.1) (IsLowest (as_marks s) n)
-found_lowest s n r rest k true range is same = is_lowest s n k (found_in s n r rest k range is).1
-    (found_least s n r rest k range is) (grind (arith, nat_tests))
-found_lowest s n r rest k false range is same = tt
-
-pub found_none : (s : BTreeSet Pair) (n : ℕ) (r rest : List Pair) (k : Pair) (b : Bool) → RangeFrom s n r
-    → r ≡ k ∷ rest → nat_eq k.0 n ≡ b
-    → IfNone (then_some b k.1) (NoneUnder (as_marks s) n)
-found_none s n r rest k true range is same = tt
-found_none s n r rest k false range is apart =
-    none_under s n k (found_in s n r rest k range is).0.0 (found_least s n r rest k range is)
-    (λ same. differ apart same)
+    → IfSome (then_some b k.1) (IsUntil (as_marks s) limit)
+    × IfNone (then_some b k.1) (NoneUntil (as_marks s) limit)
+until_found s limit k true there least until = ((k.0, there, grind (arith, nat_tests)), tt)
+until_found s limit k false there least above = (
+  tt,
+  λ n p most. true_or_false _ (λ other.
+      elim (not_above k (n, p) (least (n, p) other)) [
+        | inl under ↦ let less : k.0 < n = under in let over : limit < k.0 = beyond in omega arith
+        | inr here ↦ let same : k.0 ≡ n = here.0 in let over : limit < k.0 = beyond in omega arith
+      ]),
+)
   where
-    differ : nat_eq k.0 n ≡ false → k.0 ≡ n → ⊥
-    differ apart same = grind (arith, nat_tests)
-
-pub found_until : (s : BTreeSet Pair) (limit : ℕ) (k : Pair) (b : Bool)
-    → ((q : Pair) → IsTrue (contains pair_cmp s q) → is_gt (pair_cmp k q) ≡ false) → nat_le k.0 limit ≡ b
-    → IfNone (then_some b k) (NoneUntil (as_marks s) limit)
-found_until s limit k true least until = tt
-found_until s limit k false least above = none_until s limit k least (grind (arith, nat_tests))
-
--- ---- what is found behind a place
-
-abbrev RangeBehind : BTreeSet Pair → ℕ → ℕ → List Pair → Type 0
-RangeBehind s n last r = IsKeyRangeOf pair_cmp (Excluded (n, last)) Unbounded s r
-
--- a place under a number is below each place behind it, and below nothing else that has the number
-pub behind_less : (n last p : ℕ) → last < p → pair_cmp (n, last) (n, p) ≡ Less
-behind_less n last p less = by_order (nat_cmp n n) (nat_cmp last p) refl refl
-  where
-    by_order : (a b : Ordering) → a ≡ nat_cmp n n → b ≡ nat_cmp last p → ordering_then a b ≡ Less
-    by_order Less b f s = absurd (let low : n < n = ranked n n Less f in omega arith)
-    by_order Equal Less f s = refl
-    by_order Equal Equal f s = absurd (let same : last ≡ p = ranked last p Equal s in omega arith)
-    by_order Equal Greater f s = absurd (let more : p < last = ranked last p Greater s in omega arith)
-    by_order Greater b f s = absurd (let low : n < n = ranked n n Greater f in omega arith)
-
-less_by : (x y : Pair) (a b : Ordering) → a ≡ nat_cmp x.0 y.0 → b ≡ nat_cmp x.1 y.1 → ordering_then a b ≡ Less
-    → (x.0 < y.0) ⊎ ((x.0 ≡ y.0) × (x.1 < y.1))
-less_by x y Less b f s e = inl (ranked x.0 y.0 Less f)
-less_by x y Equal Less f s e = let less : x.1 < y.1 = ranked x.1 y.1 Less s in
-    inr (ranked x.0 y.0 Equal f, less)
-less_by x y Equal Equal f s e = absurd (cc)
-less_by x y Equal Greater f s e = absurd (cc)
-less_by x y Greater b f s e = absurd (cc)
-
-pub is_below : (x y : Pair) → pair_cmp x y ≡ Less → (x.0 < y.0) ⊎ ((x.0 ≡ y.0) × (x.1 < y.1))
-is_below x y e = less_by x y (nat_cmp x.0 y.0) (nat_cmp x.1 y.1) refl refl e
-
-least_behind : (s : BTreeSet Pair) (n last : ℕ) (r rest : List Pair) (k : Pair) → RangeBehind s n last r
-    → r ≡ k ∷ rest
-    → (q : Pair) → pair_cmp (n, last) q ≡ Less → IsTrue (contains pair_cmp s q) → is_gt (pair_cmp k q) ≡ false
-least_behind s n last r rest k range is q from there = (subst (RangeBehind s n last) is range).2 q (from, tt)
-    there
-
-found_behind : (s : BTreeSet Pair) (n last : ℕ) (r rest : List Pair) (k : Pair) → RangeBehind s n last r
-    → r ≡ k ∷ rest → IsKeyInRange pair_cmp (Excluded (n, last)) Unbounded s k
-found_behind s n last r rest k range is = (subst (RangeBehind s n last) is range).1
-
-pub nothing_behind : (s : BTreeSet Pair) (n last : ℕ) (r : List Pair) → RangeBehind s n last r → r ≡ []
-    → NoneBehind (as_marks s) n last
-nothing_behind s n last r range none p less = range.5 none (n, p) (behind_less n last p less, tt)
-
-is_next : (s : BTreeSet Pair) (n last : ℕ) (k : Pair)
-    → IsKeyInRange pair_cmp (Excluded (n, last)) Unbounded s k
-    → ((q : Pair) → pair_cmp (n, last) q ≡ Less → IsTrue (contains pair_cmp s q) → is_gt (pair_cmp k q) ≡
-    false)
-    → k.0 ≡ n → IsNextMark (as_marks s) n last k.1
-is_next s n last k there least is = record {
-  there = subst (λ m. contains pair_cmp s (m, k.1) ≡ true) is there.1;
-  behind = elim (is_below (n, last) k there.0.0) [
-    | inl under ↦ let less : n < k.0 = under in absurd (omega arith)
-    | inr same ↦ same.1
-  ];
-  next = λ p after less. true_or_false _
-      (λ other. elim (not_above k (n, p) (least (n, p) (behind_less n last p after) other)) [
-        | inl under ↦ let low : k.0 < n = under in omega arith
-        | inr same ↦ let most : k.1 ≤ p = same.1 in omega arith
-      ]);
-}
-
-none_behind : (s : BTreeSet Pair) (n last : ℕ) (k : Pair) → pair_cmp (n, last) k ≡ Less
-    → ((q : Pair) → pair_cmp (n, last) q ≡ Less → IsTrue (contains pair_cmp s q) → is_gt (pair_cmp k q) ≡
-    false)
-    → (k.0 ≡ n → ⊥) → NoneBehind (as_marks s) n last
-none_behind s n last k from least apart p after = true_or_false _ (λ other. elim (is_below (n, last) k from) [
-  | inl above ↦ elim (not_above k (n, p) (least (n, p) (behind_less n last p after) other)) [
-    | inl under ↦ let one : n < k.0 = above in let two : k.0 < n = under in omega arith
-    | inr same ↦ apart same.0
-  ]
-  | inr same ↦ apart (sym same.0)
-])
-
-pub found_next : (s : BTreeSet Pair) (n last : ℕ) (r rest : List Pair) (k : Pair) (b : Bool)
-    → RangeBehind s n last r → r ≡ k ∷ rest → nat_eq k.0 n ≡ b
-    → IfSome (then_some b k.1) (IsNextMark (as_marks s) n last)
-found_next s n last r rest k true range is same = is_next s n last k (found_behind s n last r rest k range is)
-    (least_behind s n last r rest k range is) (grind (arith, nat_tests))
-found_next s n last r rest k false range is same = tt
-
-pub found_none_next : (s : BTreeSet Pair) (n last : ℕ) (r rest : List Pair) (k : Pair) (b : Bool)
-    → RangeBehind s n last r → r ≡ k ∷ rest → nat_eq k.0 n ≡ b
-    → IfNone (then_some b k.1) (NoneBehind (as_marks s) n last)
-found_none_next s n last r rest k true range is same = tt
-found_none_next s n last r rest k false range is apart =
-    none_behind s n last k (found_behind s n last r rest k range is).0.0 (least_behind s n last r rest k range
-    is) (λ same. differ apart same)
-  where
-    differ : nat_eq k.0 n ≡ false → k.0 ≡ n → ⊥
-    differ apart same = grind (arith, nat_tests)
+    beyond : limit < k.0
+    beyond = grind (arith, nat_tests)

@@ -1,12 +1,12 @@
 -- An entry that breaks no rule behind those of a legal account may follow them: of each rule what it gives.
-use Rattle.rv_audit.proofs.Words.{◌≡◌, ◌≢◌, ◌⊎◌, ◌+◌, ◌<◌, ◌∷◌, ◌∙◌, inl, inr, ℕ, List, [], length, take}
+use Rattle.rv_audit.proofs.Words.{◌≡◌, ◌≢◌, ◌⊎◌, ◌+◌, ◌<◌, ◌∷◌, ◌∙◌, inl, inr, ℕ, List, [], length}
 use Rattle.rv_audit.proofs.Words.{Option, Some, None, IsSome, refl, sym, ap, subst, arith, slice_get}
 use Rattle.rv_audit.proofs.Words.{cases_lt, none-some, same_Some, Version, Key, Call, Side, Gives, Takes}
 use Rattle.rv_audit.proofs.Words.{Looks, Exchanges, side_of, Entry, Act, Hello, Arrive, Cancel, Tick, Account}
-use Rattle.rv_audit.proofs.Words.{Names, act_at, call_in, key_in, may_name, opposite, Met, OpenAt, Waiting}
+use Rattle.rv_audit.proofs.Words.{Among, Names, call_in, key_in, may_name, opposite, Met, OpenAt}
 use Rattle.rv_audit.proofs.Words.{IsNextNumber, IsOpenOpposite, Legal, MayFollow, NamesFreePartners}
-use Rattle.rv_audit.proofs.Words.{SomethingDue, WaitsUnder, own_moment, read_front, act_read, call_read}
-use Rattle.rv_audit.proofs.Words.{act_called, same_or_not, one_side, Rule, M1, M2, M3, N1, N2, N3, P1, P2, P3}
+use Rattle.rv_audit.proofs.Words.{SomethingDue, own_moment, read_front, call_read}
+use Rattle.rv_audit.proofs.Words.{same_or_not, one_side, Rule, M1, M2, M3, N1, N2, N3, P1, P2, P3}
 use Rattle.rv_audit.proofs.Words.{P4, S1, S2, BreaksBehind, IsOutOfOrder, IsPaired, MeetsWrongly}
 use Rattle.rv_audit.proofs.Words.{MissesPartner, NamesTaken, PassesOver, StartsNoNewer}
 use Rattle.std.specs.Prelude.{is_some}
@@ -19,20 +19,21 @@ use Rattle.rv_rules.specs.Sessions.{HasIncarnation}
 use Rattle.rv_rules.specs.Legal.{CancelsInTurn, CountsUp, IsFreePartner, IsOfSession, KeepsLimits, KeepsTime}
 use Rattle.rv_rules.specs.Legal.{NothingDue, PairsOldest, PairsOpposites, PairsWherePossible}
 use Rattle.rv_rules.specs.Legal.{RaisesIncarnation}
-use Rattle.rv_rules.proofs.Deciding.{find_hello, find_last, key_or_other, open_by, waits_or_not}
+use Rattle.rv_rules.proofs.Deciding.{find_last, open_by}
 use Rattle.rv_state.specs.After.{state_of}
 use Rattle.rv_state.proofs.Agreed.{agreed}
 use Rattle.rv_state.proofs.Due.{nothing_due}
+use Rattle.rv_state.proofs.DueDecided.{session_decided, waits_decided}
+use Rattle.rv_state.proofs.NumbersBoth.{waits_to_account, waits_to_state}
+use Rattle.rv_state.proofs.RefusalsBoth.{has_from, has_to}
 use Rattle.rv_state.proofs.MomentsBoth.{some_to_due}
 use Rattle.rv_state.proofs.OwnMoment.{later_keeps_time}
 use Rattle.rv_rules.proofs.Fronts.{open_in_front}
-use Rattle.rv_rules.proofs.Growing.{read_there, reads_within}
-use Rattle.rv_rules.proofs.Histories.{one_incarnation}
-use Rattle.rv_rules.proofs.Naming.{among_none, among_or_not}
-use Rattle.rv_rules.proofs.Numbers.{first_below}
+use Rattle.rv_rules.proofs.Growing.{read_there}
+use Rattle.rv_rules.proofs.Naming.{among_or_not}
 use Rattle.rv_rules.proofs.Opposites.{looks_alone}
 use Rattle.rv_audit.specs.Breaking.{BreaksCount, FallsBack, IsOfNoSession, IsSwapped, NamesOne, NamesWrongly}
-use Rattle.rv_audit.specs.Breaking.{WasNamed}
+use Rattle.rv_audit.specs.Breaking.{ArrivesAs, WasNamed}
 
 -- ---- moments
 
@@ -82,25 +83,20 @@ raises_incarnation es does newer client incarnation version hello r reached earl
       }))
     ]
 
-incarnation_or_not : (es : List Entry) (client incarnation : ℕ)
-    → HasIncarnation es client incarnation ⊎ (HasIncarnation es client incarnation → ⊥)
-incarnation_or_not es client incarnation = elim (find_hello es client) [
-  | inr none ↦ inr (λ has. none has.0 incarnation has.1.version has.1.hello)
-  | inl found ↦ elim (same_or_not found.0 incarnation) [
-    | inl same ↦ inl (subst (HasIncarnation es client) same found.1)
-    | inr other ↦ inr (λ has. other (one_incarnation es client found.0 incarnation found.1 has))
-  ]
-]
-
-pub of_session : (a : Account) (does : Act) → (IsOfNoSession a does → ⊥) → IsOfSession a does
-of_session a does known key names = (
+pub of_session : (a : Account) (does : Act) → Legal a → (IsOfNoSession a does → ⊥) → IsOfSession a does
+of_session a does legal known key names = (
   elim (same_or_not key.epoch a.epoch) [
     | inl same ↦ same
     | inr other ↦ absurd (known (record { key = key; names = names; no_session = inl other }))
   ],
-  elim (incarnation_or_not a.entries key.client key.incarnation) [
-    | inl has ↦ has
-    | inr none ↦ absurd (known (record { key = key; names = names; no_session = inr none }))
+  elim (session_decided (state_of a) key.client key.incarnation) [
+    | inl has ↦ has_from a (state_of a) legal (agreed a legal) key.client key.incarnation has
+    | inr none ↦ absurd (known (record {
+      key = key;
+      names = names;
+      no_session = inr (λ has. none (has_to a (state_of a) legal (agreed a legal) key.client key.incarnation
+          has));
+    }))
   ],
 )
 
@@ -123,43 +119,13 @@ counts_up a does session keeps key call arrives =
     in_turn a.entries key (session key (ap key_in arrives)).1 (λ out. keeps (subst (BreaksCount a.entries)
     (sym arrives) out))
 
--- the request with this key arrived at r, and it waits
-abbrev WaitsUnderAt : List Entry → Key → ℕ → Type 0
-WaitsUnderAt es key r = (call : Call) × (act_at es r ≡ Some (Arrive key call)) × Waiting es r
-
-one_key : (key other : Key) (call more : Call) → Some (Arrive key call) ≡ Some (Arrive other more)
-    → key ≡ other
-one_key key other call more is = cc
-
-waits_under_at : (es : List Entry) (key : Key) (r : ℕ) → WaitsUnderAt es key r ⊎ (WaitsUnderAt es key r → ⊥)
-waits_under_at es key r = elim (waits_or_not es r) [
-  | inr goes ↦ inr (λ h. goes h.2)
-  | inl waits ↦
-      let own = act_called (act_at es r) waits.is_open.call waits.is_open.arrived in
-      elim (key_or_other own.0 key) [
-        | inl same ↦ inl (
-          waits.is_open.call,
-          subst (λ (k : Key). act_at es r ≡ Some
-              (Arrive k waits.is_open.call)) same own.1,
-          waits,
-        )
-        | inr other ↦ inr (λ h. other (one_key own.0 key waits.is_open.call h.0 (sym own.1 ∙ h.1)))
-      ]
-]
-
-pub waits_under_or_not : (es : List Entry) (key : Key) → WaitsUnder es key ⊎ (WaitsUnder es key → ⊥)
-waits_under_or_not es key = elim (first_below (WaitsUnderAt es key) (waits_under_at es key) (length es)) [
-  | inl found ↦ inl (record { place = found.0; call = found.2.0; arrived = found.2.1; waits = found.2.2 })
-  | inr none ↦ inr (λ h. none h.place (reads_within act_read refl es h.place (Arrive key h.call) h.arrived)
-      (h.call, h.arrived, h.waits))
-]
-
-pub cancels_in_turn : (a : Account) (does : Act) → IsOfSession a does → (BreaksCount a.entries does → ⊥)
-    → CancelsInTurn a.entries does
-cancels_in_turn a does session keeps key cancels = elim (waits_under_or_not a.entries key) [
-  | inl waits ↦ inl waits
+pub cancels_in_turn : (a : Account) (does : Act) → Legal a → IsOfSession a does
+    → (BreaksCount a.entries does → ⊥) → CancelsInTurn a.entries does
+cancels_in_turn a does legal session keeps key cancels = elim (waits_decided (state_of a) key) [
+  | inl waits ↦ inl (waits_to_account a (state_of a) key legal (agreed a legal) waits)
   | inr none ↦ inr (in_turn a.entries key (session key (ap key_in cancels)).1
-      (λ out. keeps (subst (BreaksCount a.entries) (sym cancels) (none, out))))
+      (λ out. keeps (subst (BreaksCount a.entries) (sym cancels)
+      (λ under. none (waits_to_state a (state_of a) key legal (agreed a legal) under), out))))
 ]
 
 -- ---- partners
@@ -253,51 +219,51 @@ pub opposite_or_not : (es : List Entry) (call : Call) (p : ℕ)
     → IsOpenOpposite es call p ⊎ (IsOpenOpposite es call p → ⊥)
 opposite_or_not es call p = opposite_by es call p (opposite (side_of call)) refl
 
+-- who is named by one that meets rightly
+pub opposites_of : (Is : Side → Type 0) (es : List Entry) (e : Entry) → (MeetsWrongly Is es e → ⊥)
+    → (call : Call) → ArrivesAs Is e call → (p : ℕ) → Names e p → IsOpenOpposite es call p
+opposites_of Is es e rightly call arrives p names = elim (opposite_or_not es call p) [
+  | inl is ↦ is
+  | inr none ↦ absurd (rightly (record {
+    call = call;
+    arrives = arrives;
+    partner = p;
+    names = names;
+    no_opposite = none;
+  }))
+]
+
 pub pairs_opposites : (es : List Entry) (e : Entry) → (MeetsWrongly IsPaired es e → ⊥)
     → (MeetsWrongly IsSwapped es e → ⊥) → PairsOpposites es e
-pairs_opposites es e pairs swaps p call names arrives meets = elim (opposite_or_not es call p) [
-  | inl is ↦ is
-  | inr none ↦ elim (paired_or_swapped (side_of call) meets) [
-    | inl paired ↦ absurd (pairs (record {
-      call = call;
-      arrives = record { arrives = arrives; is = paired };
-      partner = p;
-      names = names;
-      no_opposite = none;
-    }))
-    | inr swapped ↦ absurd (swaps (record {
-      call = call;
-      arrives = record { arrives = arrives; is = swapped };
-      partner = p;
-      names = names;
-      no_opposite = none;
-    }))
-  ]
+pairs_opposites es e pairs swaps p call names arrives meets = elim (paired_or_swapped (side_of call) meets) [
+  | inl paired ↦ opposites_of IsPaired es e pairs call (record { arrives = arrives; is = paired }) p names
+  | inr swapped ↦ opposites_of IsSwapped es e swaps call (record { arrives = arrives; is = swapped }) p names
+]
+
+-- who is left by one that misses nobody
+all_of : (Is : Side → Type 0) (es : List Entry) (e : Entry) → (MissesPartner Is es e → ⊥)
+    → (call : Call) → ArrivesAs Is e call → (r : ℕ) → length e.partners < may_name call
+    → IsOpenOpposite es call r → Names e r
+all_of Is es e misses call arrives r fewer there = elim (among_or_not e.partners r) [
+  | inl named ↦ named
+  | inr unnamed ↦ absurd (misses (record {
+    call = call;
+    arrives = arrives;
+    fewer = fewer;
+    other = r;
+    opposite_there = there;
+    unnamed = unnamed;
+  }))
 ]
 
 pub pairs_where_possible : (es : List Entry) (e : Entry) → (MissesPartner IsPaired es e → ⊥)
     → (MissesPartner IsSwapped es e → ⊥) → PairsWherePossible es e
-pairs_where_possible es e pairs swaps r call arrives fewer there = elim (among_or_not e.partners r) [
-  | inl named ↦ named
-  | inr unnamed ↦ elim (paired_or_swapped (side_of call) (ap is_some there.opposes)) [
-    | inl paired ↦ absurd (pairs (record {
-      call = call;
-      arrives = record { arrives = arrives; is = paired };
-      fewer = fewer;
-      other = r;
-      opposite_there = there;
-      unnamed = unnamed;
-    }))
-    | inr swapped ↦ absurd (swaps (record {
-      call = call;
-      arrives = record { arrives = arrives; is = swapped };
-      fewer = fewer;
-      other = r;
-      opposite_there = there;
-      unnamed = unnamed;
-    }))
-  ]
-]
+pairs_where_possible es e pairs swaps r call arrives fewer there =
+    elim (paired_or_swapped (side_of call) (ap is_some there.opposes)) [
+      | inl paired ↦ all_of IsPaired es e pairs call (record { arrives = arrives; is = paired }) r fewer there
+      | inr swapped ↦ all_of IsSwapped es e swaps call (record { arrives = arrives; is = swapped }) r fewer
+          there
+    ]
 
 -- who exchanges names one partner at most
 one_partner : (call : Call) → IsSwapped (side_of call) → may_name call ≡ 1
@@ -306,63 +272,43 @@ one_partner _ swapped = refl
 
 -- ---- the oldest
 
--- at the later of two that are open at one exchanger stands an entry that names no partner, and none that
--- names one
-module _ (a : Account) (side : Side) (r s : ℕ) (first : OpenAt a.entries side r) (second : OpenAt a.entries
-    side s) (less : r < s) where
-  named_there : (e : Entry) (q : ℕ) → slice_get a.entries s ≡ Some e → Names e q → ⊥
-  named_there e q there named =
-      let own = second.is_open in
-      own.unmet (record {
-        later = s;
-        earlier = q;
-        names = record {
-          call = own.call;
-          arrived = own.arrived;
-          meets = own.stays.0;
-          named =
-              record { entry = e; there = there; names = named };
+-- in a legal account one at most is open at an exchanger: where the later came it would have met the earlier
+pub one_at_exchanger : (a : Account) (side : Side) (r s : ℕ) → OpenAt a.entries side r
+    → OpenAt a.entries side s
+    → r < s → Legal a → IsSwapped side → ⊥
+one_at_exchanger a side r s first second less legal swapped =
+    let own = second.is_open in
+    let here = second.of_side in
+    let at = read_there call_read refl (slice_get a.entries s) here.call here.arrived in
+    let nobody : (q : ℕ) → Names at.0 q → ⊥ = λ q names. own.unmet (record {
+      later = s;
+      earlier = q;
+      names = record {
+        call = own.call;
+        arrived = own.arrived;
+        meets = own.stays.0;
+        named = record { entry = at.0; there = at.1; names = names };
+      };
+      part = inl refl;
+    }) in
+    let one : may_name here.call ≡ 1 = one_partner here.call (subst IsSwapped (sym here.is) swapped) in
+    let none : length at.0.partners ≡ 0 = no_places at.0.partners nobody in
+    nobody r ((legal s at.0 at.1).pairs.pairs_where_possible r here.call at.2 (omega arith) (record {
+      side = side;
+      opposes = ap opposite here.is ∙ swapped_opposite side swapped;
+      there = record {
+        of_side = record {
+          call = first.of_side.call;
+          arrived = read_front call_read a.entries s r first.of_side.call less first.of_side.arrived;
+          is = first.of_side.is;
         };
-        part = inl refl;
-      })
-
-  open_before : OpenAt (take s a.entries) side r
-  open_before = record {
-    of_side = record {
-      call = first.of_side.call;
-      arrived = read_front call_read a.entries s r first.of_side.call less first.of_side.arrived;
-      is = first.of_side.is;
-    };
-    is_open = open_in_front a.entries s r less first.is_open;
-  }
-
-  alone_there : (e : Entry) → IsSwapped side
-      → MayFollow (record { epoch = a.epoch; opened = a.opened; entries = take s a.entries }) e
-      → call_in e.act ≡ Some second.of_side.call → e.partners ≡ [] → ⊥
-  alone_there e swapped follows arrives alone =
-      let one : may_name second.of_side.call ≡ 1 = one_partner second.of_side.call
-      (subst IsSwapped (sym second.of_side.is) swapped) in
-      let none : length e.partners ≡ 0 = ap length alone in
-      among_none e.partners r alone (follows.pairs.pairs_where_possible r second.of_side.call arrives
-      (omega arith) (record {
-        side = side;
-        opposes = ap opposite second.of_side.is ∙ swapped_opposite side swapped;
-        there = open_before;
-      }))
-
-  one_at_exchanger_by : (e : Entry) (places : List ℕ) → IsSwapped side
-      → MayFollow (record { epoch = a.epoch; opened = a.opened; entries = take s a.entries }) e
-      → slice_get a.entries s ≡ Some e
-      → call_in e.act ≡ Some second.of_side.call → e.partners ≡ places → ⊥
-  one_at_exchanger_by e [] swapped follows there arrives are = alone_there e swapped follows arrives are
-  one_at_exchanger_by e (q ∷ qs) swapped follows there arrives are = named_there e q there
-      (0, ap (λ l. slice_get l 0) are)
-
-  -- in a legal account one at most is open at an exchanger
-  pub one_at_exchanger : Legal a → IsSwapped side → ⊥
-  one_at_exchanger legal swapped =
-      let at = read_there call_read refl (slice_get a.entries s) second.of_side.call second.of_side.arrived in
-      one_at_exchanger_by at.0 at.0.partners swapped (legal s at.0 at.1) at.1 at.2 refl
+        is_open = open_in_front a.entries s r less first.is_open;
+      };
+    }))
+  where
+    no_places : (places : List ℕ) → ((q : ℕ) → Among places q → ⊥) → length places ≡ 0
+    no_places [] none = refl
+    no_places (q ∷ rest) none = absurd (none q (0, refl))
 
 -- an open arrival that stands before a partner, on its side, is a partner too
 pub pairs_oldest : (a : Account) (e : Entry) → Legal a → NamesFreePartners a.entries e
@@ -401,7 +347,7 @@ pairs_oldest a e legal names_free pairs passes p r side names of_side less there
 pub may_follow : (a : Account) (e : Entry) → Legal a → ((rule : Rule) → BreaksBehind rule a e → ⊥)
     → MayFollow a e
 may_follow a e legal keeps =
-    let session : IsOfSession a e.act = of_session a e.act (keeps N2) in
+    let session : IsOfSession a e.act = of_session a e.act legal (keeps N2) in
     let free : NamesFreePartners a.entries e = names_free_partners a.entries e (keeps P1) in
     let opposites : PairsOpposites a.entries e = pairs_opposites a.entries e (keeps P2) (keeps S1) in
     record {
@@ -415,7 +361,7 @@ may_follow a e legal keeps =
         raises_incarnation = raises_incarnation a.entries e.act (keeps N1);
         of_session = session;
         counts_up = counts_up a e.act session (keeps N3);
-        cancels = cancels_in_turn a e.act session (keeps N3);
+        cancels = cancels_in_turn a e.act legal session (keeps N3);
       };
       pairs = record {
         names_free_partners = free;

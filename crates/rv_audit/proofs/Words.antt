@@ -14,19 +14,18 @@ pub use Rattle.rv_account.specs.declared.entry.Act.TheVariants.{Arrive, Cancel, 
 pub use Rattle.rv_account.specs.declared.entry.Entry.{Entry}
 pub use Rattle.rv_audit.specs.Breaking.{BreaksBehind, IsNoFreePlace, IsOutOfOrder, IsPaired, MeetsWrongly}
 pub use Rattle.rv_audit.specs.Breaking.{MissesPartner, NamesTaken, PassesOver, StartsNoNewer}
-pub use Rattle.rv_audit.specs.Lines.{stands_in}
-pub use Rattle.rv_audit.specs.Marks.{IsLeast, IsLowest, IsNextMark, NoneBehind, NoneUnder, NoneUntil}
-pub use Rattle.rv_audit.specs.Marks.{is_marked_under}
-pub use Rattle.rv_audit.specs.Passed.{AmongFirst, AreLimits, AreLines, AreTables, AreWithin, EntersIf, Gone}
-pub use Rattle.rv_audit.specs.Passed.{HasAmong, IsAuditSessionOf, IsFront, IsPassedBy, IsTakingOut}
-pub use Rattle.rv_audit.specs.Passed.{NoneBefore, SetsFlags, TakesEach, WaitsOf, gone_at, is_any, none_gone}
-pub use Rattle.rv_audit.specs.Passed.{passed_account, with_gone}
+pub use Rattle.rv_audit.specs.Lines.{IsOpenable, stands_in}
+pub use Rattle.rv_audit.specs.Marks.{IsFirstBehind, NoneBehind, NoneUntil, is_marked_under}
+pub use Rattle.rv_audit.specs.Passed.{AreTables, HasAmong, IsFront}
+pub use Rattle.rv_audit.specs.Passed.{NoneBefore, SetsFlags, is_any, passed_account}
 pub use Rattle.rv_audit.specs.declared.front.Front.{Front}
 pub use Rattle.rv_audit.specs.declared.lines.OpenLines.{OpenLines}
 pub use Rattle.rv_audit.specs.declared.marks.Marks.{Marks}
+pub use Rattle.rv_audit.specs.declared.opens.Opens.{Opens}
 pub use Rattle.rv_audit.specs.declared.rule.Rule.{Rule}
 pub use Rattle.rv_audit.specs.declared.rule.Rule.TheVariants.{M1, M2, M3, N1, N2, N3, P1, P2, P3, P4, S1, S2}
 pub use Rattle.rv_audit.specs.declared.sessions.AuditSession.{AuditSession}
+pub use Rattle.rv_state.specs.Agreement.{ClientWaitsAt}
 pub use Rattle.rv_rules.specs.Legal.{HasWaiting, IsNextNumber, IsOpenOpposite, Legal, MayFollow}
 pub use Rattle.rv_rules.specs.Legal.{NamesFreePartners, SomethingDue, WaitsUnder, before}
 pub use Rattle.rv_rules.specs.Sessions.{NamesKey}

@@ -4,6 +4,7 @@ pub mod Laws
 -- What only private clauses and proofs cite.
 pub mod Marks
 pub mod Lines
+pub mod Opens
 pub mod Sessions
 pub mod Passed
 pub mod Words

@@ -1,5 +1,5 @@
 -- Who is open on each side, as a table keeps it: who stands there, and what changes when one comes or goes.
-use Rattle.std.specs.Prelude.{◌≡◌, ◌⊎◌, ◌≢◌, ◌<◌, ℕ, Bool, true, false, List, Option, None, Some}
+use Rattle.std.specs.Prelude.{◌≡◌, ◌⊎◌, ◌≢◌, ◌<◌, ℕ, Bool, true, false, List}
 use Rattle.rv_text.specs.declared.call.Side.{Side}
 use Rattle.rv_text.specs.declared.call.Side.TheVariants.{Gives, Takes, Looks, Exchanges}
 use Rattle.rv_account.specs.Account.{Among}
@@ -38,12 +38,3 @@ pub record IsFirstBeside (lines : OpenLines) (side : Side) (places : List ℕ) (
 
 abbrev pub NobodyBeside : OpenLines → Side → List ℕ → Type 0
 NobodyBeside lines side places = (p : ℕ) → stands_in lines side p ≡ true → Among places p
-
--- the same of a side, if one is handed in
-abbrev pub OpensIf : OpenLines → OpenLines → Option Side → ℕ → Type 0
-OpensIf old new None place = new ≡ old
-OpensIf old new (Some side) place = Opens old new side place
-
-abbrev pub ClosesIf : OpenLines → OpenLines → Option Side → ℕ → Type 0
-ClosesIf old new None place = new ≡ old
-ClosesIf old new (Some side) place = Closes old new side place

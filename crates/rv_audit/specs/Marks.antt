@@ -1,7 +1,9 @@
 -- Sets of places, each under a number: what one has marked, and what one more or one less changes.
 use Rattle.std.specs.Prelude.{◌≡◌, ◌⊎◌, ◌≢◌, ◌≤◌, ◌<◌, ℕ, Bool, true, false, List, Option, None, Some}
 use Rattle.std.specs.Ordering.{ordering_then, nat_cmp}
-use Rattle.std.specs.BTreeSet.{btree_set_len, contains}
+use Rattle.std.specs.declared.ops.Bound.{Bound}
+use Rattle.std.specs.declared.ops.Bound.TheVariants.{Excluded, Included}
+use Rattle.std.specs.BTreeSet.{contains}
 use Rattle.rv_account.specs.Account.{Among}
 use Rattle.rv_audit.specs.declared.marks.Marks.{Marks}
 
@@ -9,10 +11,6 @@ use Rattle.rv_audit.specs.declared.marks.Marks.{Marks}
 abbrev pub is_marked_under : Marks → ℕ → ℕ → Bool
 is_marked_under m number place =
     contains (λ (x y : ℕ × ℕ). ordering_then (nat_cmp x.0 y.0) (nat_cmp x.1 y.1)) m.marks (number, place)
-
--- how many are marked
-abbrev pub count_of : Marks → ℕ
-count_of m = btree_set_len m.marks
 
 -- one more is marked
 pub record Gains (old new : Marks) (number place : ℕ) : Type 0 where
@@ -28,22 +26,24 @@ pub record Loses (old new : Marks) (number place : ℕ) : Type 0 where
   pub own : is_marked_under new number place ≡ false
   pub others : (n p : ℕ) → (n ≢ number) ⊎ (p ≢ place) → is_marked_under new n p ≡ is_marked_under old n p
 
--- the place is the lowest that is marked under the number; none is marked there
-pub record IsLowest (m : Marks) (number place : ℕ) : Type 0 where
+-- the place stands behind another, if one is handed in
+abbrev pub IsBehind : Option ℕ → ℕ → Type 0
+IsBehind None place = Unit {0}
+IsBehind (Some last) place = last < place
+
+-- where these begin, in their order
+abbrev pub bound_behind : ℕ → Option ℕ → Bound (ℕ × ℕ)
+bound_behind number None = Included (number, 0)
+bound_behind number (Some last) = Excluded (number, last)
+
+-- the place is the lowest there that is marked under the number; none is marked there
+pub record IsFirstBehind (m : Marks) (number : ℕ) (last : Option ℕ) (place : ℕ) : Type 0 where
   pub there : is_marked_under m number place ≡ true
-  pub lowest : (p : ℕ) → p < place → is_marked_under m number p ≡ false
+  pub behind : IsBehind last place
+  pub lowest : (p : ℕ) → IsBehind last p → p < place → is_marked_under m number p ≡ false
 
-abbrev pub NoneUnder : Marks → ℕ → Type 0
-NoneUnder m number = (p : ℕ) → is_marked_under m number p ≡ false
-
--- the same of those behind a place
-pub record IsNextMark (m : Marks) (number last place : ℕ) : Type 0 where
-  pub there : is_marked_under m number place ≡ true
-  pub behind : last < place
-  pub next : (p : ℕ) → last < p → p < place → is_marked_under m number p ≡ false
-
-abbrev pub NoneBehind : Marks → ℕ → ℕ → Type 0
-NoneBehind m number last = (p : ℕ) → last < p → is_marked_under m number p ≡ false
+abbrev pub NoneBehind : Marks → ℕ → Option ℕ → Type 0
+NoneBehind m number last = (p : ℕ) → IsBehind last p → is_marked_under m number p ≡ false
 
 -- the same of those that are none of these places
 pub record IsLowestBeside (m : Marks) (number : ℕ) (places : List ℕ) (place : ℕ) : Type 0 where
@@ -54,18 +54,14 @@ pub record IsLowestBeside (m : Marks) (number : ℕ) (places : List ℕ) (place 
 abbrev pub NoneBeside : Marks → ℕ → List ℕ → Type 0
 NoneBeside m number places = (p : ℕ) → is_marked_under m number p ≡ true → Among places p
 
--- the place, or none, is where those under the number go on that may be no one of these places
-abbrev pub GoesOnAt : Marks → ℕ → List ℕ → Option ℕ → Type 0
-GoesOnAt m number places None = NoneBeside m number places
-GoesOnAt m number places (Some place) = (is_marked_under m number place ≡ true)
-    × ((p : ℕ) → p < place → is_marked_under m number p ≡ true → Among places p)
+-- those that are marked under the number are of these places as far as a place
+abbrev pub AreNamedTo : Marks → ℕ → List ℕ → Option ℕ → Type 0
+AreNamedTo m number places last = (p : ℕ) → is_marked_under m number p ≡ true
+    → Among places p ⊎ IsBehind last p
 
--- the place is the lowest that is marked under the least number, which is at or below the limit
-pub record IsLeast (m : Marks) (limit : ℕ) (mark : ℕ × ℕ) : Type 0 where
-  pub there : is_marked_under m mark.0 mark.1 ≡ true
-  pub until : mark.0 ≤ limit
-  pub least : (n p : ℕ) → n < mark.0 → is_marked_under m n p ≡ false
-  pub lowest : (p : ℕ) → p < mark.1 → is_marked_under m mark.0 p ≡ false
+-- the place is marked under a number that is at or below the limit; none is
+abbrev pub IsUntil : Marks → ℕ → ℕ → Type 0
+IsUntil m limit place = (n : ℕ) × (is_marked_under m n place ≡ true) × (n ≤ limit)
 
 abbrev pub NoneUntil : Marks → ℕ → Type 0
 NoneUntil m limit = (n p : ℕ) → n ≤ limit → is_marked_under m n p ≡ false

@@ -11,15 +11,16 @@ pub use Rattle.rv_audit.specs.Breaking.{IsNoFreePlace, IsNotNext, IsOfNoSession,
 pub use Rattle.rv_audit.specs.Breaking.{IsSwapped, MeetsWrongly, MissesPartner, NamesTaken, NamesTooMany}
 pub use Rattle.rv_audit.specs.Breaking.{NamesWrongly, PassesLimit, PassesOver, StartsNoNewer}
 pub use Rattle.rv_audit.specs.Breaking.{TicksForNothing}
-pub use Rattle.rv_audit.specs.Marks.{NoneUntil, count_of}
+pub use Rattle.rv_audit.specs.Opens.{ClosesEach}
+pub use Rattle.rv_state.specs.State.{client_waits, place_list}
+pub use Rattle.rv_state.specs.After.{just_open}
+pub use Rattle.rv_state.specs.Agreement.{ClientWaitsAt}
 pub use Rattle.rv_audit.specs.Sessions.{session_in}
-pub use Rattle.rv_audit.specs.Passed.{AreTables, AreWithin, ArrivesWith, FindsOne, Flags, HasAmong, HasOlder}
-pub use Rattle.rv_audit.specs.Passed.{HasOne, HasPassed, IsArrivalOf, IsArrived, IsFitting, IsFront}
-pub use Rattle.rv_audit.specs.Passed.{IsLookedUp, IsOf, IsOfSessionOf, IsOldestBeside, IsPassedBy}
-pub use Rattle.rv_audit.specs.Passed.{IsReadyFor, IsTakingOut, IsUnderway, LeavesPartner, MayPass, Misses}
-pub use Rattle.rv_audit.specs.Passed.{SameRest, SetsFlags, TakesEach, TakesOutPlace, TakesTouched, WaitsOf}
-pub use Rattle.rv_audit.specs.Passed.{WaitsWith, gone_at, passed_account}
-pub use Rattle.rv_audit.specs.declared.front.Front.{Front as FrontOf}
+pub use Rattle.rv_audit.specs.Passed.{ClosesGone, Flags, HasAmong, HasPassed, IsFront, IsOf, IsOfSessionOf}
+pub use Rattle.rv_audit.specs.Passed.{IsOldestOpposite, IsReadyFor, KeepsBefore, LeavesOlder, LeavesPartner}
+pub use Rattle.rv_audit.specs.Passed.{MayPass, Misses, SameRest, SetsFlags, passed_account, passed_state}
+pub use Rattle.rv_audit.specs.Breaking.{rank_of}
+pub use Rattle.rv_rules.specs.Legal.{IsOfSession, NamesFreePartners}
 pub use Rattle.rv_text.specs.declared.message.Key.{Key}
 pub use Rattle.rv_text.specs.declared.call.Call.{Call}
 pub use Rattle.rv_account.specs.Calls.{may_name, opposite}

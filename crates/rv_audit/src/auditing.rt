@@ -2,7 +2,7 @@
 ghost use Rattle.std.specs.Prelude.{◌≡◌, ◌↔◌, IfNone, IfOk, IfSome};
 ghost use Rattle.rv_rules.specs.Legal.{Legal};
 ghost use Rattle.rv_audit.specs.Breaking.{IsToldOf};
-ghost use Rattle.rv_audit.specs.Passed.{BreaksFirst, BreaksFirstOf, BreaksNone, BreaksNoneOf};
+ghost use Rattle.rv_audit.specs.Passed.{BreaksFirst, BreaksNone, all_rules};
 ghost use Rattle.rv_audit.specs.Passed.{IsFront, passed_account};
 ghost use Rattle.rv_audit.specs.declared.rule.Audit.TheVariants as tells;
 
@@ -13,11 +13,12 @@ use rv_account::{Account, Entry};
 use rv_text::NoMemory;
 use std::alloc::Global;
 
-// The first of these rules that the entry breaks.
+// The first of these rules, which are all of them in their order, that the entry breaks.
 fn first_of(front: &Front<'_>, rules: &[Rule], entry: &Entry) -> Option<Rule>
-    requires { IsFront front.now }
-    ensures some { IfSome result (BreaksFirstOf rules.now (passed_account front.now) entry.now) }
-    ensures none { IfNone result (BreaksNoneOf rules.now (passed_account front.now) entry.now) }
+    requires front { IsFront front.now }
+    requires rules { rules.now ≡ all_rules }
+    ensures some { IfSome result (BreaksFirst (passed_account front.now) entry.now) }
+    ensures none { IfNone result (BreaksNone (passed_account front.now) entry.now) }
 {
     for rule in rules {
         if breaks(front, *rule, entry) {

@@ -10,6 +10,7 @@ mod front;
 pub mod laws;
 mod lines;
 mod marks;
+mod opens;
 mod rule;
 mod rules;
 mod sessions;

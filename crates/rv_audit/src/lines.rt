@@ -1,7 +1,6 @@
 //! The places of the open arrivals of each side.
 ghost use Rattle.std.specs.Prelude.{◌≡◌, ℕ, false, IfNone, IfSome, OnOk};
 ghost use Rattle.rv_text.specs.declared.call.Side.{Side};
-ghost use Rattle.rv_audit.specs.Lines.{ClosesIf, OpensIf};
 
 use crate::marks::Marks;
 use rv_account::Place;
@@ -77,28 +76,5 @@ impl OpenLines {
             Side::Looks(_) => {}
             Side::Exchanges(exchanger) => self.exchangers.remove(exchanger, place),
         }
-    }
-}
-
-// The place, if a side is handed in, is open on that side no more.
-pub(crate) fn close_line(lines: &mut OpenLines, side: Option<Side>, place: Place)
-    ensures { ClosesIf lines.old lines.new side place }
-{
-    if let Some(side) = side {
-        lines.close(side, place);
-    }
-}
-
-// The place opens on the side, if one is handed in.
-pub(crate) fn open_line(
-    lines: &mut OpenLines,
-    side: Option<Side>,
-    place: Place,
-) -> Result<(), NoMemory>
-    ensures { OnOk result (OpensIf lines.old lines.new side place) }
-{
-    match side {
-        Some(side) => lines.open(side, place),
-        None => Ok(()),
     }
 }

@@ -1,16 +1,26 @@
 //! Sets of places, each under a number: that of a queue, of an exchanger, or a limit.
-ghost use Rattle.std.specs.Prelude.{◌≡◌, ◌↔◌, ◌<◌, ℕ, Some, false, true};
+ghost use Rattle.std.specs.Prelude.{◌≡◌, ◌↔◌, ◌<◌, ◌^◌, ℕ, false};
 ghost use Rattle.std.specs.Prelude.{IfNone, IfSome, IsTrue, OnErr, OnOk};
 ghost use Rattle.rv_account.specs.Account.{Among};
-ghost use Rattle.rv_audit.specs.Marks.{Gains, GainsIf, IsLeast, IsLowest, IsLowestBeside, IsNextMark};
-ghost use Rattle.rv_audit.specs.Marks.{Loses, LosesIf, NoneBehind, NoneBeside};
-ghost use Rattle.rv_audit.specs.Marks.{NoneUnder, NoneUntil, SameMarks, count_of, is_marked_under};
+ghost use Rattle.rv_audit.specs.Marks.{Gains, GainsIf, IsFirstBehind, IsLowestBeside, IsUntil, Loses};
+ghost use Rattle.rv_audit.specs.Marks.{LosesIf, NoneBehind, NoneBeside, NoneUntil, SameMarks};
+ghost use Rattle.rv_audit.specs.Marks.{bound_behind, is_marked_under};
 
 use rv_account::Place;
 use rv_text::NoMemory;
 use std::alloc::{AllocError, Global};
 use std::collections::BTreeSet;
 use std::ops::Bound;
+
+// Where the places begin that are marked under the number, behind another if one is handed in.
+fn bound_behind(number: u64, last: Option<Place>) -> Bound<(u64, Place)>
+    ensures { result ≡ bound_behind number last }
+{
+    match last {
+        Some(last) => Bound::Excluded((number, last)),
+        None => Bound::Included((number, 0)),
+    }
+}
 
 // Places, each under a number.
 #[derive(Drop)]
@@ -48,27 +58,18 @@ impl Marks {
 
     // The place is no longer marked under the number.
     pub(crate) fn remove(&mut self, number: u64, place: Place)
-        ensures loses { Loses self.old self.new number place }
-        ensures fewer { is_marked_under self.old number place ≡ true → count_of self.new < count_of self.old }
+        ensures { Loses self.old self.new number place }
     {
         self.marks.remove(&(number, place));
     }
 
-    // The lowest place that is marked under the number.
-    fn lowest(&self, number: u64) -> Option<Place>
-        ensures some { IfSome result (IsLowest self.now number) }
-        ensures none { IfNone result (NoneUnder self.now number) }
-    {
-        let (least, place) = *self.marks.range((number, 0)..).next()?;
-        (least == number).then_some(place)
-    }
-
-    // The lowest place behind another that is marked under the number.
-    fn next(&self, number: u64, last: Place) -> Option<Place>
-        ensures some { IfSome result (IsNextMark self.now number last) }
+    // The lowest place that is marked under the number, behind another if one is handed in.
+    fn first_behind(&self, number: u64, last: Option<Place>) -> Option<Place>
+        ensures some { IfSome result (IsFirstBehind self.now number last) }
         ensures none { IfNone result (NoneBehind self.now number last) }
+        ensures fits { IfSome result (λ place. place < 2 ^ 64) }
     {
-        let behind = (Bound::Excluded((number, last)), Bound::Unbounded);
+        let behind = (bound_behind(number, last), Bound::Unbounded);
         let (least, place) = *self.marks.range(behind).next()?;
         (least == number).then_some(place)
     }
@@ -79,25 +80,25 @@ impl Marks {
         ensures some { IfSome result (IsLowestBeside self.now number places.now) }
         ensures none { IfNone result (NoneBeside self.now number places.now) }
     {
-        let mut found = self.lowest(number);
+        let mut last = None;
         let mut at: usize = 0;
-        while let Some(place) = found {
+        while let Some(place) = self.first_behind(number, last) {
             if !is_named(places, at, place) {
                 return Some(place);
             }
-            found = self.next(number, place);
+            last = Some(place);
             at = at.saturating_add(1);
         }
         None
     }
 
-    // The least number under which a place is marked, with the lowest such place, if it is at most the limit.
-    pub(crate) fn least_until(&self, limit: u64) -> Option<(u64, Place)>
-        ensures some { IfSome result (IsLeast self.now limit) }
+    // A place that is marked under the least number, if that is at most the limit.
+    pub(crate) fn until(&self, limit: u64) -> Option<Place>
+        ensures some { IfSome result (IsUntil self.now limit) }
         ensures none { IfNone result (NoneUntil self.now limit) }
     {
         let (number, place) = *self.marks.first()?;
-        (number <= limit).then_some((number, place))
+        (number <= limit).then_some(place)
     }
 }
 
@@ -110,9 +111,7 @@ fn is_named(places: &[Place], at: usize, place: Place) -> bool
 
 // The place is no longer marked under the number, if one is handed in.
 pub(crate) fn drop_limit(limits: &mut Marks, limit: Option<u64>, place: Place)
-    ensures loses { LosesIf limits.old limits.new limit place }
-    ensures fewer { (n : ℕ) → limit ≡ Some n → is_marked_under limits.old n place ≡ true
-        → count_of limits.new < count_of limits.old }
+    ensures { LosesIf limits.old limits.new limit place }
 {
     if let Some(limit) = limit {
         limits.remove(limit, place);

@@ -1,18 +1,19 @@
 //! Whether an entry breaks a rule, behind the entries that an audit has read so far.
-ghost use Rattle.std.specs.Prelude.{◌≡◌, ◌↔◌, IfNone, IfSome, IsTrue, Some, option_map};
+ghost use Rattle.std.specs.Prelude.{◌≡◌, ◌↔◌, IfNone, IfSome, IsTrue, option_map};
 ghost use Rattle.std.specs.List.Sorted.{IsStrictlyIncreasing};
 ghost use Rattle.rv_audit.specs.Words.{ArrivesAs, ArrivesToMeet, BreaksBehind, BreaksCount, Call, FallsBack};
-ghost use Rattle.rv_audit.specs.Words.{FindsOne, HasAmong, IsFront, IsLookedUp, IsNoFreePlace, IsOf};
-ghost use Rattle.rv_audit.specs.Words.{IsOfNoSession, IsOpenOpposite, IsOutOfOrder, IsPaired, IsPassedBy};
-ghost use Rattle.rv_audit.specs.Words.{IsSwapped, Key, LeavesPartner, MeetsWrongly, Misses, MissesPartner};
+ghost use Rattle.rv_audit.specs.Words.{HasAmong, IsFront, IsNoFreePlace, IsOf, IsOfNoSession, IsOfSession};
+ghost use Rattle.rv_audit.specs.Words.{IsOpenOpposite, IsPaired, IsSwapped, KeepsBefore, LeavesOlder};
+ghost use Rattle.rv_audit.specs.Words.{LeavesPartner, MeetsWrongly, Misses, MissesPartner, NamesFreePartners};
 ghost use Rattle.rv_audit.specs.Words.{NamesTaken, NamesTooMany, NamesWrongly, PassesLimit, PassesOver};
-ghost use Rattle.rv_audit.specs.Words.{Side, StartsNoNewer, TicksForNothing, call_in, may_name, opposite};
-ghost use Rattle.rv_audit.specs.Words.{passed_account};
+ghost use Rattle.rv_audit.specs.Words.{StartsNoNewer, TicksForNothing, call_in, may_name, passed_account};
+ghost use Rattle.rv_audit.specs.Words.{rank_of};
 
-use crate::front::{Front, Looked};
+use crate::brings::opposite;
+use crate::front::Front;
 use crate::rule::Rule;
 use rv_account::{Act, Entry, Place, may_name};
-use rv_text::{Call, Key, Side};
+use rv_text::{Call, Side};
 
 // ---- moments
 
@@ -70,21 +71,20 @@ fn is_of_no_session(front: &Front<'_>, act: &Act) -> bool
     }
 }
 
-// Whether the key's number isn't its session's next, or a request of the session waits.
-fn is_out_of_turn(front: &Front<'_>, key: &Key) -> bool
-    requires { IsFront front.now }
-    ensures { IsTrue result ↔ IsOutOfOrder (passed_account front.now).entries key.now }
-{
-    front.is_not_next(key) || front.waiting(key.client).is_some()
-}
-
 fn breaks_count(front: &Front<'_>, act: &Act) -> bool
-    requires { IsFront front.now }
+    requires front { IsFront front.now }
+    requires session { IsOfSession (passed_account front.now) act.now }
     ensures { IsTrue result ↔ BreaksCount (passed_account front.now).entries act.now }
 {
     match act {
-        Act::Arrive { key, .. } => is_out_of_turn(front, key),
-        Act::Cancel { key } => !front.waits_under(key) && is_out_of_turn(front, key),
+        Act::Arrive { key, .. } => match front.waiting(key.client) {
+            Some(_) => true,
+            None => front.is_not_next(key),
+        },
+        Act::Cancel { key } => match front.waiting(key.client) {
+            Some(_) => front.waits_otherwise(key),
+            None => front.is_not_next(key),
+        },
         Act::Hello { .. } | Act::Tick => false,
     }
 }
@@ -128,25 +128,6 @@ fn is_swapped(side: Side) -> bool
     }
 }
 
-// The side whose arrivals one of this side meets.
-fn opposite(side: Side) -> Option<Side>
-    ensures { result ≡ opposite side }
-{
-    match side {
-        Side::Gives(queue) => Some(Side::Takes(queue)),
-        Side::Takes(queue) => Some(Side::Gives(queue)),
-        Side::Looks(_) => None,
-        Side::Exchanges(exchanger) => Some(Side::Exchanges(exchanger)),
-    }
-}
-
-// The same, or the side itself if its arrivals meet nobody.
-fn met_by(side: Side) -> Side
-    ensures { (met : Side) → opposite side ≡ Some met → result ≡ met }
-{
-    opposite(side).unwrap_or(side)
-}
-
 // Whether the entry gives, takes or exchanges.
 fn meets(entry: &Entry) -> bool
     ensures { IsTrue result ↔ ArrivesToMeet entry.now }
@@ -157,21 +138,13 @@ fn meets(entry: &Entry) -> bool
     }
 }
 
-// Whether the place isn't that of an earlier entry which was not named and names nobody.
-fn is_taken(front: &Front<'_>, place: Place) -> bool
-    requires { IsFront front.now }
-    ensures { IsTrue result ↔ IsNoFreePlace (passed_account front.now).entries place }
-{
-    !front.is_free(place)
-}
-
 // Whether one of these places is taken.
 fn any_taken(front: &Front<'_>, places: &[Place]) -> bool
     requires { IsFront front.now }
     ensures { IsTrue result ↔ HasAmong (IsNoFreePlace (passed_account front.now).entries) places.now }
 {
     for place in places {
-        if is_taken(front, *place) {
+        if front.is_taken(*place) {
             return true;
         }
     }
@@ -252,17 +225,6 @@ fn may_meet(front: &Front<'_>, call: &Call, place: Place) -> bool
     }
 }
 
-// Whether one that the call may meet is open anywhere beside these places.
-fn finds_one(front: &Front<'_>, call: &Call, places: &[Place]) -> bool
-    requires { IsFront front.now }
-    ensures { IsTrue result ↔ FindsOne (passed_account front.now).entries call.now places.now }
-{
-    match opposite(call.side()) {
-        Some(side) => front.has_one(side, places),
-        None => false,
-    }
-}
-
 // Whether the call names a partner that it may not meet there.
 fn misses(front: &Front<'_>, call: &Call, partners: &[Place]) -> bool
     requires { IsFront front.now }
@@ -281,35 +243,23 @@ fn leaves(front: &Front<'_>, call: &Call, partners: &[Place]) -> bool
     requires { IsFront front.now }
     ensures { IsTrue result ↔ LeavesPartner (passed_account front.now).entries call.now partners.now }
 {
-    partners.len() < may_name(call) && finds_one(front, call, partners)
+    partners.len() < may_name(call) && front.oldest_opposite(call, partners).is_some()
 }
 
-// Whether the arrival at the place gives or takes, and an open arrival of its side that is none of these
-// partners stands before it.
-fn is_passed_by(front: &Front<'_>, looked: Looked, partners: &[Place], place: Place) -> bool
+// Whether one that the call might meet, and that is none of these partners, stands before one of them. They
+// rise, so it is the last that counts.
+fn leaves_older(front: &Front<'_>, call: &Call, partners: &[Place]) -> bool
     requires front { IsFront front.now }
-    requires looked { IsLookedUp (passed_account front.now).entries partners.now looked }
-    ensures { IsTrue result ↔ IsPassedBy (passed_account front.now).entries partners.now place }
+    requires rise { IsStrictlyIncreasing partners.now }
+    ensures { IsTrue result ↔ LeavesOlder (passed_account front.now).entries call.now partners.now }
 {
-    match front.side(place) {
-        Some(side) => is_paired(side) && front.has_older(looked, side, partners, place),
+    match front.oldest_opposite(call, partners) {
+        Some(first) => match partners.last() {
+            Some(last) => first < *last,
+            None => false,
+        },
         None => false,
     }
-}
-
-// Whether one of these partners is passed by. The side that they should be of is looked through once for all.
-fn any_passed(front: &Front<'_>, side: Side, partners: &[Place]) -> bool
-    requires { IsFront front.now }
-    ensures { IsTrue result
-        ↔ HasAmong (IsPassedBy (passed_account front.now).entries partners.now) partners.now }
-{
-    let looked = front.look_beside(side, partners);
-    for place in partners {
-        if is_passed_by(front, looked, partners, *place) {
-            return true;
-        }
-    }
-    false
 }
 
 fn meets_wrongly(front: &Front<'_>, kind: MeetingKind, entry: &Entry) -> bool
@@ -323,11 +273,13 @@ fn meets_wrongly(front: &Front<'_>, kind: MeetingKind, entry: &Entry) -> bool
 }
 
 fn passes_over(front: &Front<'_>, entry: &Entry) -> bool
-    requires { IsFront front.now }
+    requires front { IsFront front.now }
+    requires names { NamesFreePartners (passed_account front.now).entries entry.now }
+    requires meets { ¬ MeetsWrongly IsPaired (passed_account front.now).entries entry.now }
     ensures { IsTrue result ↔ PassesOver (passed_account front.now).entries entry.now }
 {
     match arrival(MeetingKind::Pair, entry) {
-        Some(call) => any_passed(front, met_by(call.side()), entry.partners.as_slice()),
+        Some(call) => leaves_older(front, call, entry.partners.as_slice()),
         None => false,
     }
 }
@@ -344,9 +296,10 @@ fn misses_partner(front: &Front<'_>, kind: MeetingKind, entry: &Entry) -> bool
 
 // ---- all rules
 
-// Whether the entry breaks the rule.
+// Whether the entry breaks the rule, if it breaks none before it.
 pub(crate) fn breaks(front: &Front<'_>, rule: Rule, entry: &Entry) -> bool
-    requires { IsFront front.now }
+    requires front { IsFront front.now }
+    requires before { KeepsBefore (rank_of rule) (passed_account front.now) entry.now }
     ensures { IsTrue result ↔ BreaksBehind rule (passed_account front.now) entry.now }
 {
     match rule {

@@ -13,7 +13,7 @@ pub(crate) struct AuditSession {
     pub(crate) incarnation: u64,
     // The greatest number of the incarnation, or 0 where it has none.
     pub(crate) last: u64,
-    // The place of its last request, or none if that was cancelled.
+    // The place of its last request, if it had one. That waits if a request is open there.
     pub(crate) request: Option<Place>,
 }
 

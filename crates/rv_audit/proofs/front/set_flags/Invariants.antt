@@ -1,5 +1,5 @@
-use Rattle.rv_audit.proofs.Words.{AmongFirst, SetsFlags}
+use Rattle.rv_audit.proofs.Words.{SetsFlags, take}
 use Rattle.rv_audit.proofs.front.set_flags.Given as goal
 
 abbrev pub invariant-loop-place : goal.invariant-loop-place
-invariant-loop-place l = SetsFlags (AmongFirst l.places l.place-index) l.initial.met.items l.met.items
+invariant-loop-place l = SetsFlags l.initial.taken.items l.taken.items (take l.place-index l.places)
