@@ -1,11 +1,11 @@
 """The comparison of states with accounts over random walks: steps, entries behind them, and accounts with one state."""
 from collections import Counter
-from contextlib import contextmanager
 
-from tests.model import state_steps, steps
-from tests.model.account import MAX_CLIENTS, MAX_ENTRIES, Entry
+from tests.model import state_steps
+from tests.model.account import Entry
 from tests.model.audit import RULES
 from tests.model.calls import KINDS
+from tests.model.limits import BOOK, Limits
 from tests.model.lines import account_text, entry_line
 from tests.model.state_after import Following, state_of
 from tests.model.state_formulas import follow_by_formulas, state_by_formulas, step_by_formulas
@@ -16,19 +16,15 @@ from tests.model.state_walks import Walk
 # How many changes of a walk's last account are tried, and how many steps two accounts with the same state go on together.
 CHANGES, TOGETHER = 4, 3
 CODES = [2, 3, 4, 5, 6, 7, 8, 9, 10, 12]
+# The refusals for want of room among clients and entries.
+FULL = (9, 10)
 WORDS = sorted({word for kind in KINDS.values() for word in (kind.met, kind.unmet) if word} | {"cancelled", "timedout"})
 
 
-@contextmanager
-def room_for(entries, clients):
-    """Within it an account has room for so many entries and clients."""
-    try:
-        for module in (steps, state_steps):
-            vars(module).update(MAX_ENTRIES=entries, MAX_CLIENTS=clients)
-        yield
-    finally:
-        for module in (steps, state_steps):
-            vars(module).update(MAX_ENTRIES=MAX_ENTRIES, MAX_CLIENTS=MAX_CLIENTS)
+def some_limits(chance):
+    """A book's limits, most often; or little room for entries, for clients or for what is open."""
+    entries, clients = chance.choice([BOOK.entries] * 9 + [9, 13]), chance.choice([BOOK.clients] * 9 + [1, 2])
+    return Limits(entries, clients, chance.choice([None] * 8 + [0, 1, 2, 4]))
 
 
 class Comparison:
@@ -50,10 +46,8 @@ class Comparison:
 
     def walk_fault(self, chance):
         """What differs in one random walk, if something does."""
-        entries, clients = chance.choice([MAX_ENTRIES] * 9 + [9, 13]), chance.choice([MAX_CLIENTS] * 9 + [1, 2])
-        with room_for(entries, clients):
-            walk = Walk(chance)
-            return self.steps_fault(walk) or self.twins_fault(walk)
+        walk = Walk(chance, some_limits(chance))
+        return self.steps_fault(walk) or self.twins_fault(walk)
 
     def steps_fault(self, walk):
         """What differs in the steps of a walk, and in entries that are tried beside them, if something does."""
@@ -61,9 +55,11 @@ class Comparison:
         while walk.left:
             now, message, before = walk.now(), walk.message(), walk.account
             wanted = walk.step(now, message)
-            got = state_steps.step(state, now, message)
+            got = state_steps.step(state, now, message, walk.limits)
             if seen(got) != wanted or got.state != walk.state:
                 return difference(before, (now, message), (*wanted, walk.state), got)
+            if got.answer.get("code") not in FULL and got != state_steps.step(state, now, message):
+                return difference(before, (now, message), "the same step under a book's limits", got)
             self.note(got)
             state = got.state
             fault = self.entry_fault(walk, state)
@@ -117,7 +113,7 @@ class Comparison:
         for _ in range(TOGETHER):
             (now, message), before = walk.probe(), walk.account
             one = walk.step(now, message)
-            after, other = step_by_formulas(twin, now, message)
+            after, other = step_by_formulas(twin, now, message, walk.limits)
             if one != other:
                 return difference(before, (now, message), one, other, twin)
             twin = after

@@ -4,6 +4,7 @@ from tests.model.account import (
     OTHER_SIDE, Hello, Key, Request, Tick, arrival_of, arrivals, incarnation, is_open, last_number, limit, reply, version,
     waiting)
 from tests.model.audit import broken_rule
+from tests.model.limits import BOOK
 from tests.model.state import CancelledFirst, ClientState, Fresh, OpenPlace, Replied, State, Waits
 from tests.model.state_after import CANCELLED
 from tests.model.state_rules import NOT_OPEN
@@ -66,9 +67,9 @@ def rank(before, after, r):
     return (0, ends, r) if of_tick else (1, 0, r)
 
 
-def step_by_formulas(account, now, message):
-    """The account after a step; with the step's entries, its answer and what it settles."""
-    after, answer = step(account, now, message)
+def step_by_formulas(account, now, message, limits=BOOK):
+    """The account after a step under these limits; with the step's entries, its answer and what it settles."""
+    after, answer = step(account, now, message, limits)
     return after, (after.entries[len(account.entries) :], answer, settled_by_formulas(account, after))
 
 

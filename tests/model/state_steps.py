@@ -2,7 +2,8 @@
 their order (docs/MODEL.md, section 9)."""
 from dataclasses import dataclass
 
-from tests.model.account import MAX_CLIENTS, MAX_ENTRIES, MAX_MOMENT, Cancel, Entry, Hello, Request, Tick, stays
+from tests.model.account import MAX_MOMENT, Cancel, Entry, Hello, Request, Tick, stays
+from tests.model.limits import BOOK
 from tests.model.state import CancelledFirst, State, Waits
 from tests.model.state_after import CANCELLED, followed_by
 from tests.model.steps import refused, replied, welcome
@@ -20,8 +21,8 @@ class Step:
     state: State
 
 
-def step(state, now, message):
-    """The step of a message that was handed in at a moment."""
+def step(state, now, message, limits=BOOK):
+    """The step of a message that was handed in at a moment, under these limits."""
     moment = max(state.moment, min(now, MAX_MOMENT))
     entries, settled = (), ()
     if state.due(moment):
@@ -29,7 +30,7 @@ def step(state, now, message):
         made = followed_by(state, *entries)
         state, settled = made.state, made.settled
     lines = hello_lines if isinstance(message, Hello) else key_lines
-    answer = lines(state, message) or full(state, message)
+    answer = lines(state, message) or full(state, message, limits)
     if answer:
         return Step(entries, answer, settled, state)
     entry = Entry(moment, message, partners_of(state, message))
@@ -78,19 +79,24 @@ def repeat_lines(client, message):
 def hello_lines(state, hello):
     """The answer to a hello that gets no entry of its own, room aside, if one of these lines applies."""
     client = state.clients.get(hello.client)
-    if client is None:
-        return refused(9) if len(state.clients) >= MAX_CLIENTS else None
+    if client is None or client.incarnation < hello.incarnation:
+        return None
     if client.incarnation > hello.incarnation:
         return refused(4, current=client.incarnation)
-    if client.incarnation < hello.incarnation:
-        return None
     return welcome(state, hello) if client.version == hello.version else refused(12, current=client.version)
 
 
-def full(state, message):
-    """The rule of room: the refusal of a message whose entry might leave no room for the ends of all that waits."""
+def full(state, message, limits):
+    """The rules of room: the refusal of a new client where there are as many as may be, of a message whose entry might
+    leave no room for the ends of all that waits, and of one that would stay where as much is open as may be."""
     if isinstance(message, Cancel) and state.waiting_of(message.key.client):
         return None
+    if isinstance(message, Hello) and message.client not in state.clients and len(state.clients) >= limits.clients:
+        return refused(9)
     may_wait = isinstance(message, Request) and not message.call.kind.rests and stays(message.call)
     need = 2 if may_wait else 1
-    return refused(10) if state.length + len(state.waiting()) + need > MAX_ENTRIES else None
+    if state.length + len(state.waiting()) + need > limits.entries:
+        return refused(10)
+    would_stay = isinstance(message, Request) and stays(message.call) and not state.opposites(message.call)
+    is_crowded = limits.open_places is not None and len(state.every_open()) >= limits.open_places
+    return refused(10) if would_stay and is_crowded else None

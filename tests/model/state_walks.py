@@ -4,6 +4,7 @@ from dataclasses import replace
 
 from tests.model.account import MAX_MOMENT, OTHER_SIDE, Account, Call, Cancel, Entry, Hello, Key, Request, Tick
 from tests.model.calls import KINDS
+from tests.model.limits import BOOK
 from tests.model.state import CancelledFirst, Fresh
 from tests.model.state_formulas import state_by_formulas, step_by_formulas
 from tests.model.texts import MAX_IDENTIFIER
@@ -23,10 +24,10 @@ FURTHER_CLIENT, FURTHER_PLACE = 9, 63
 
 
 class Walk:
-    """A random account and its state, from which steps go on; and how many there may be."""
+    """A random account and its state, from which steps go on under some limits; and how many there may be."""
 
-    def __init__(self, chance):
-        self.chance = chance
+    def __init__(self, chance, limits=BOOK):
+        self.chance, self.limits = chance, limits
         self.account = Account(chance.choice([1, 1, 1, 7]), chance.choice(OPENINGS))
         self.state = state_by_formulas(self.account)
         self.clients = range(1, 1 + chance.choice([1, 2, 2, 3, 4, 6]))
@@ -42,7 +43,7 @@ class Walk:
 
     def step(self, now, message):
         """Goes on by a step over accounts; gives its entries, its answer and what it settles."""
-        self.account, made = step_by_formulas(self.account, now, message)
+        self.account, made = step_by_formulas(self.account, now, message, self.limits)
         self.state = state_by_formulas(self.account) if made[0] else self.state
         self.left -= 1
         return made

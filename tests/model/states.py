@@ -3,7 +3,8 @@
 after each step of random walks through small accounts, for random entries that are mostly spoilt, and for pairs of
 accounts with the same state, which must go on alike.
 
-In some walks an account has room for few entries, or for few clients, so that the rules of room are met.
+In some walks there may be few entries or few clients, or little may be open, so that the rules of room are met; a step that they
+don't refuse is one under a book's limits.
 """
 import argparse
 import pathlib

@@ -2,9 +2,10 @@
 from itertools import combinations
 
 from tests.model.account import (
-    MAX_CLIENTS, MAX_ENTRIES, MAX_MOMENT, OTHER_SIDE, Cancel, Entry, Hello, Request, Tick, arrival_of, incarnation,
-    last_number, open_at, overdue, reply, stays, version, waiting, waiting_of)
+    MAX_MOMENT, OTHER_SIDE, Cancel, Entry, Hello, Request, Tick, arrival_of, arrivals, incarnation, is_open, last_number,
+    open_at, overdue, reply, stays, version, waiting, waiting_of)
 from tests.model.audit import broken_rule
+from tests.model.limits import BOOK
 from tests.model.texts import MAX_DRAIN, NoReading, members_of, read_line, written
 
 # Of so many places all lists are tried.
@@ -47,12 +48,12 @@ def ticked(account, now):
     return account.with_entry(Entry(moment, Tick())) if overdue(account.entries, moment) else account
 
 
-def step(account, now, message):
-    """The account after a message that was handed in at a moment, and the members of its answer."""
+def step(account, now, message, limits=BOOK):
+    """The account after a message that was handed in at a moment, and the members of its answer, under these limits."""
     moment = step_moment(account, now)
     account = ticked(account, now)
     lines = hello_lines if isinstance(message, Hello) else key_lines
-    answer = lines(account, message) or full(account, message)
+    answer = lines(account, message) or full(account, message, limits)
     if answer:
         return account, answer
     account = entered(account, moment, message)
@@ -102,20 +103,34 @@ def hello_lines(account, hello):
     if current == hello.incarnation:
         spoken = version(account.entries, hello.client)
         return welcome(account, hello) if spoken == hello.version else refused(12, current=spoken)
-    clients = {entry.act.client for entry in account.entries if isinstance(entry.act, Hello)}
-    if current is None and len(clients) >= MAX_CLIENTS:
-        return refused(9)
     return None
 
 
-def full(account, message):
-    """Line 14, the rule of room."""
+def full(account, message, limits):
+    """Lines 14 and 15, and that of a bound on what is open: the refusal of a message whose entry the limits forbid."""
     entries = account.entries
     if isinstance(message, Cancel) and waiting_of(entries, message.key.client):
         return None
+    clients = {entry.act.client for entry in entries if isinstance(entry.act, Hello)}
+    if isinstance(message, Hello) and message.client not in clients and len(clients) >= limits.clients:
+        return refused(9)
     may_wait = isinstance(message, Request) and message.call.word != "put" and stays(message.call)
     need = 2 if may_wait else 1
-    return refused(10) if len(entries) + len(waiting(entries)) + need > MAX_ENTRIES else None
+    if len(entries) + len(waiting(entries)) + need > limits.entries:
+        return refused(10)
+    return refused(10) if would_stay(entries, message) and is_crowded(entries, limits.open_places) else None
+
+
+def would_stay(entries, message):
+    """Whether a message is a request that would stay, and meets nobody."""
+    if not isinstance(message, Request) or not stays(message.call):
+        return False
+    return not open_at(entries, OTHER_SIDE[message.call.side], message.call.at)
+
+
+def is_crowded(entries, most):
+    """Whether so many places are open, if that is bounded."""
+    return most is not None and sum(is_open(entries, r) for r in arrivals(entries)) >= most
 
 
 def entered(account, moment, message):
