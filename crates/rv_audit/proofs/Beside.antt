@@ -1,6 +1,6 @@
 -- Of the places under a number those that are none of some others: one looks from each to the next.
-use Rattle.rv_audit.proofs.Words.{◌≡◌, ◌-◌, ◌<◌, ◌∙◌, inl, inr, ℕ, true, List, Option, Some, None}
-use Rattle.rv_audit.proofs.Words.{sym, subst, arith, cases_lt, false≢true, Among, same_or_not}
+use Rattle.rv_audit.proofs.Words.{◌≡◌, ◌-◌, ◌<◌, ℕ, true, List, Option, Some, None}
+use Rattle.rv_audit.proofs.Words.{arith, Among}
 use Rattle.rv_audit.proofs.Words.{IsFirstBehind, NoneBehind, is_marked_under, Marks}
 use Rattle.rv_audit.specs.Marks.{AreNamedTo, IsBehind, IsLowestBeside, NoneBeside}
 
@@ -18,26 +18,14 @@ module _ (m : Marks) (number : ℕ) (places : List ℕ) (last : Option ℕ) (nam
     last)
   where
     pub all_named : NoneBehind m number last → NoneBeside m number places
-    all_named none p there = elim (named p there) [
-      | inl among ↦ among
-      | inr behind ↦ absurd (false≢true (sym (none p behind) ∙ there))
-    ]
+    all_named none p there = grind arith
 
     module _ (place : ℕ) (first : IsFirstBehind m number last place) where
       below : (p : ℕ) → p < place → is_marked_under m number p ≡ true → Among places p
-      below p less there = elim (named p there) [
-        | inl among ↦ among
-        | inr behind ↦ absurd (false≢true (sym (first.lowest p behind less) ∙ there))
-      ]
+      below p less there = grind arith
 
       pub found_beside : (Among places place → ⊥) → IsLowestBeside m number places place
       found_beside beside = record { there = first.there; beside = beside; lowest = below }
 
       pub named_on : Among places place → AreNamedTo m number places (Some place)
-      named_on own p there = elim (cases_lt place p) [
-        | inl behind ↦ inr behind
-        | inr most ↦ elim (same_or_not p place) [
-          | inl same ↦ inl (subst (Among places) (sym same) own)
-          | inr apart ↦ inl (below p (omega arith) there)
-        ]
-      ]
+      named_on own p there = grind arith

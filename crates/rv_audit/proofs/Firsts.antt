@@ -29,7 +29,7 @@ stands_at S1 = refl
 stands_at S2 = refl
 
 pub one_rank : (r s : Rule) → rank_of r ≡ rank_of s → r ≡ s
-one_rank r s same = same_Some _ _ (sym (stands_at r) ∙ ap (slice_get all_rules) same ∙ stands_at s)
+one_rank r s same = grind arith
 
 -- ---- one place after the other
 
@@ -90,9 +90,7 @@ module _ (front : Front) (a : Stored) (n : ℕ) (is : IsFront front) (same : fro
     (at : n ≡ length front.taken.items) where
   next_there : (e : Entry) → Some e ≡ slice_get a.account.entries n
       → slice_get front.account.now.account.entries (length front.taken.items) ≡ Some e
-  next_there e there =
-      ap (λ (s : Stored). slice_get s.account.entries (length front.taken.items)) same
-      ∙ ap (slice_get a.account.entries) (sym at) ∙ sym there
+  next_there e there = grind arith
 
   pub fault_told : (e : Entry) (rule : Rule) (place : ℕ) → place ≡ length front.taken.items
       → Some e ≡ slice_get a.account.entries n → BreaksFirst (passed_account front) e rule

@@ -6,7 +6,6 @@ pub mod Closing
 pub mod Saying
 pub mod Audited
 pub mod Passing
-pub mod Flagged
 pub mod Named
 pub mod RulesKept
 pub mod RulesSuffice

@@ -1,7 +1,7 @@
 -- What is said of the places of a list, told one by one.
-use Rattle.rv_audit.proofs.Words.{◌≡◌, ◌+◌, ◌<◌, ◌≤◌, ◌∷◌, ◌∙◌, inl, inr, ℕ, suc, Bool, true}
+use Rattle.rv_audit.proofs.Words.{◌≡◌, ◌+◌, ◌<◌, ◌≤◌, ◌∷◌, ◌∙◌, inl, inr, ℕ, suc, true}
 use Rattle.rv_audit.proofs.Words.{false, not, nat_eq, List, [], length, get_or, Some, refl, sym, ap, subst}
-use Rattle.rv_audit.proofs.Words.{arith, slice_get, IsTrue, cases_lt, false≢true, nat_tests, Among}
+use Rattle.rv_audit.proofs.Words.{arith, slice_get, IsTrue, cases_lt, false≢true, Among}
 use Rattle.rv_audit.proofs.Words.{HasAmong, NoneBefore, is_any}
 use Rattle.std.proofs.lemmas.Option.{get_or_from_slice_get}
 use Rattle.rv_rules.proofs.Places.{within}
@@ -31,11 +31,7 @@ some_among [] any = absurd (false≢true any)
 some_among (p ∷ rest) any = (p, (0, refl))
 
 any_more : (n : ℕ) → not (nat_eq (suc n) 0) ≡ true
-any_more n = by_value (nat_eq (suc n) 0) refl
-  where
-    by_value : (b : Bool) → nat_eq (suc n) 0 ≡ b → not b ≡ true
-    by_value true is = absurd (let none : suc n ≡ 0 = grind (arith, nat_tests) in omega arith)
-    by_value false is = refl
+any_more n = grind arith
 
 pub any_among : (places : List ℕ) (p : ℕ) → Among places p → is_any places ≡ true
 any_among [] p among = let inside : among.0 < 0 = within [] among.0 p among.1 in absurd (omega arith)

@@ -35,9 +35,7 @@ then_equal Equal b e = (refl, e)
 then_equal Greater b e = absurd (cc)
 
 pub same_pair : (x y : Pair) → pair_cmp x y ≡ Equal → (x.0 ≡ y.0) × (x.1 ≡ y.1)
-same_pair x y e =
-    let both = then_equal (nat_cmp x.0 y.0) (nat_cmp x.1 y.1) e in
-    (ranked x.0 y.0 Equal (sym both.0), ranked x.1 y.1 Equal (sym both.1))
+same_pair x y e = grind arith
 
 own_pair : (x : Pair) → is_eq (pair_cmp x x) ≡ true
 own_pair x = (eq_by_cmp_equiv pair_cmp_total).refl x
@@ -93,10 +91,7 @@ true_or_false false = λ no. refl
 
 -- pairs of one number are as their places are
 one_number : (n p q : ℕ) → pair_cmp (n, p) (n, q) ≡ nat_cmp p q
-one_number n p q = ap (λ o. ordering_then o (nat_cmp p q)) ((Equal-is (nat_cmp n n)).0 (own_number n))
-  where
-    own_number : (n : ℕ) → is_eq (nat_cmp n n) ≡ true
-    own_number n = (eq_by_cmp_equiv nat_cmp_total).refl n
+one_number n p q = grind arith
 
 abbrev RangeBehind : BTreeSet Pair → ℕ → Option ℕ → List Pair → Type 0
 RangeBehind s n last r = IsKeyRangeOf pair_cmp (bound_behind n last) Unbounded s r

@@ -116,16 +116,7 @@ closes_places all gone old new are closes r =
     ∙ map_cond (is_among (place_list gone) r) (found_at all r))
 
 pub closes_one : (old new : Opens) (p : ℕ) → OpensAt old new p None → ClosesEach old new (p ∷ [])
-closes_one old new p closes = record { indexed = closes.indexed; are = λ r. by_place r (nat_eq p r) refl }
-  where
-    apart_from : (r : ℕ) → nat_eq p r ≡ false → r ≡ p → ⊥
-    apart_from r apart same = grind (arith, nat_tests)
-
-    by_place : (r : ℕ) (b : Bool) → nat_eq p r ≡ b
-        → opening_at new r ≡ cond (b || false) None (opening_at old r)
-    by_place r true at = let here : p ≡ r = grind (arith, nat_tests) in
-        ap (opening_at new) (sym here) ∙ closes.own
-    by_place r false apart = closes.others r (apart_from r apart)
+closes_one old new p closes = grind arith
 
 pub closes_none : (t : Opens) → AreIndexed t → ClosesEach t t []
 closes_none t indexed = record { indexed = indexed; are = λ r. refl }

@@ -1,14 +1,14 @@
 -- An entry that may follow those of a legal account breaks no rule behind them: of each rule what keeps it.
-use Rattle.rv_audit.proofs.Words.{◌≡◌, ◌≢◌, ◌⊎◌, ◌+◌, ◌-◌, ◌<◌, ◌≤◌, ◌∙◌, inl, inr, ℕ, List, length, Option}
+use Rattle.rv_audit.proofs.Words.{◌≡◌, ◌≢◌, ◌⊎◌, ◌+◌, ◌<◌, ◌≤◌, ◌∙◌, inl, inr, ℕ, List, length, Option}
 use Rattle.rv_audit.proofs.Words.{Some, None, IsSome, refl, ap, subst, arith, Key, Call, Side, Gives, Takes}
-use Rattle.rv_audit.proofs.Words.{Looks, Exchanges, side_of, Entry, Act, Hello, Arrive, Cancel, Tick, Account}
+use Rattle.rv_audit.proofs.Words.{Looks, Exchanges, Entry, Act, Hello, Arrive, Cancel, Tick, Account}
 use Rattle.rv_audit.proofs.Words.{call_in, may_name, opposite, Met, IsNextNumber, Legal, MayFollow}
-use Rattle.rv_audit.proofs.Words.{NamesFreePartners, SomethingDue, own_moment, call_read, Rule, M1, M2, M3}
+use Rattle.rv_audit.proofs.Words.{NamesFreePartners, SomethingDue, call_read, Rule, M1, M2, M3}
 use Rattle.rv_audit.proofs.Words.{N1, N2, N3, P1, P2, P3, P4, S1, S2, BreaksBehind, IsNoFreePlace}
 use Rattle.rv_audit.proofs.Words.{IsOutOfOrder, IsPaired, MeetsWrongly, MissesPartner, NamesTaken, PassesOver}
 use Rattle.rv_audit.proofs.Words.{StartsNoNewer}
 use Rattle.std.specs.Prelude.{unwrap_or}
-use Rattle.rv_account.specs.Account.{NamesAt, moment_at}
+use Rattle.rv_account.specs.Account.{NamesAt}
 use Rattle.rv_rules.specs.Waiting.{NamesPartner}
 use Rattle.rv_rules.specs.Legal.{CancelsInTurn, CountsUp, IsOfSession, KeepsLimits, KeepsTime, PairsOldest}
 use Rattle.rv_rules.specs.Legal.{PairsOpposites, PairsWherePossible, RaisesIncarnation}
@@ -24,10 +24,7 @@ own_at_most None opened moment least since = least
 own_at_most (Some earlier) opened moment least since = since earlier refl
 
 pub falls_not_back : (a : Account) (e : Entry) → KeepsTime a e.moment → FallsBack a e → ⊥
-falls_not_back a e time falls =
-    let most : own_moment a ≤ e.moment = own_at_most (moment_at a.entries (length a.entries - 1)) a.opened
-    e.moment time.opened (time.since (length a.entries - 1)) in
-    omega arith
+falls_not_back a e time falls = grind arith
 
 nothing_past : (es : List Entry) (moment : ℕ) (act : Act) → KeepsLimits es moment act → act ≢ Tick
     → SomethingDue es moment → ⊥
@@ -48,17 +45,10 @@ ticks_for_something es e keeps ticks =
 -- ---- numbers
 
 pub starts_newer : (es : List Entry) (does : Act) → RaisesIncarnation es does → StartsNoNewer es does → ⊥
-starts_newer es does raises starts =
-    let newer : starts.reached < starts.incarnation = raises starts.client starts.incarnation starts.version
-    starts.hello starts.place starts.reached starts.earlier_version starts.earlier in
-    let no_newer : starts.incarnation ≤ starts.reached = starts.no_newer in
-    omega arith
+starts_newer es does raises starts = grind arith
 
 pub is_of_session : (a : Account) (does : Act) → IsOfSession a does → IsOfNoSession a does → ⊥
-is_of_session a does session strange = elim strange.no_session [
-  | inl epoch ↦ epoch (session strange.key strange.names).0
-  | inr incarnation ↦ incarnation (session strange.key strange.names).1
-]
+is_of_session a does session strange = grind arith
 
 next_in_turn : (es : List Entry) (key : Key) → IsNextNumber es key → IsOutOfOrder es key → ⊥
 next_in_turn es key next (inl not_next) = elim not_next.counts_to [
@@ -131,10 +121,7 @@ names_free a e legal names wrongly =
 
 names_few : (e : Entry) → ((call : Call) → call_in e.act ≡ Some call → length e.partners ≤ may_name call)
     → NamesTooMany e → ⊥
-names_few e few too =
-    let most : length e.partners ≤ may_name too.call = few too.call too.arrives in
-    let many : may_name too.call < length e.partners = too.many in
-    omega arith
+names_few e few too = grind arith
 
 pub names_rightly : (a : Account) (e : Entry) → Legal a → NamesFreePartners a.entries e
     → NamesWrongly a.entries e → ⊥
@@ -157,10 +144,7 @@ swapped_meets (Exchanges exchanger) swapped = refl
 module _ (Is : Side → Type 0) (es : List Entry) (e : Entry) where
   pub meets_rightly : ((side : Side) → Is side → IsSome (opposite side)) → PairsOpposites es e
       → MeetsWrongly Is es e → ⊥
-  meets_rightly meets pairs wrongly =
-      let own = wrongly.arrives in
-      wrongly.no_opposite (pairs wrongly.partner wrongly.call wrongly.names own.arrives
-      (meets (side_of wrongly.call) own.is))
+  meets_rightly meets pairs wrongly = grind arith
 
   pub meets_somebody : PairsWherePossible es e → MissesPartner Is es e → ⊥
   meets_somebody possible nobody = nobody.unnamed (possible nobody.other nobody.call nobody.arrives.arrives

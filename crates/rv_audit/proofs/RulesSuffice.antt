@@ -10,10 +10,9 @@ use Rattle.rv_audit.proofs.Words.{same_or_not, one_side, Rule, M1, M2, M3, N1, N
 use Rattle.rv_audit.proofs.Words.{P4, S1, S2, BreaksBehind, IsOutOfOrder, IsPaired, MeetsWrongly}
 use Rattle.rv_audit.proofs.Words.{MissesPartner, NamesTaken, PassesOver, StartsNoNewer}
 use Rattle.std.specs.Prelude.{is_some}
-use Rattle.std.specs.List.{slice_index}
 use Rattle.std.specs.List.Sorted.{IsStrictlyIncreasing}
 use Rattle.rv_text.specs.declared.call.Call.TheVariants.{Drain}
-use Rattle.rv_account.specs.Account.{NamesAt, call_at}
+use Rattle.rv_account.specs.Account.{call_at}
 use Rattle.rv_account.specs.Calls.{MayMeet}
 use Rattle.rv_rules.specs.Sessions.{HasIncarnation}
 use Rattle.rv_rules.specs.Legal.{CancelsInTurn, CountsUp, IsFreePartner, IsOfSession, KeepsLimits, KeepsTime}
@@ -67,21 +66,7 @@ keeps_limits a moment Tick legal past idle =
 
 pub raises_incarnation : (es : List Entry) (does : Act) → (StartsNoNewer es does → ⊥)
     → RaisesIncarnation es does
-raises_incarnation es does newer client incarnation version hello r reached earlier_version earlier =
-    elim (cases_lt reached incarnation) [
-      | inl less ↦ less
-      | inr most ↦ absurd (newer (record {
-        client = client;
-        incarnation = incarnation;
-        version = version;
-        hello = hello;
-        place = r;
-        reached = reached;
-        earlier_version = earlier_version;
-        earlier = earlier;
-        no_newer = most;
-      }))
-    ]
+raises_incarnation es does newer client incarnation version hello r reached earlier_version earlier = grind arith
 
 pub of_session : (a : Account) (does : Act) → Legal a → (IsOfNoSession a does → ⊥) → IsOfSession a does
 of_session a does legal known key names = (
@@ -167,10 +152,7 @@ meets_or_not (Some call) = elim (side_meets (side_of call)) [
 
 -- who is in a pair or swap was named, or named a partner itself
 pub met_is_named : (es : List Entry) (p : ℕ) → Met es p → WasNamed es p ⊎ NamesOne es p
-met_is_named es p met = elim met.part [
-  | inl later ↦ inr (met.earlier, subst (λ r. NamesAt es r met.earlier) (sym later) met.names.named)
-  | inr earlier ↦ inl (met.later, subst (NamesAt es met.later) (sym earlier) met.names.named)
-]
+met_is_named es p met = grind arith
 
 names_free : (es : List Entry) (e : Entry) → (NamesTaken es e → ⊥) → (p : ℕ) → Names e p
     → IsFreePartner es e p
@@ -190,11 +172,7 @@ names_free es e rightly p names = elim (meets_or_not (call_in e.act)) [
 
 -- each place of a list is below the next, or at some place it is not
 rises : (xs : List ℕ) → ((IsStrictlyIncreasing xs → ⊥) → ⊥) → IsStrictlyIncreasing xs
-rises xs no_fall k within = elim (cases_lt (slice_index xs k) (slice_index xs (k + 1))) [
-  | inl less ↦ less
-  | inr most ↦ absurd (no_fall (λ rising. let less : slice_index xs k < slice_index xs (k + 1) =
-      rising k within in omega arith))
-]
+rises xs no_fall k within = grind arith
 
 pub names_free_partners : (es : List Entry) (e : Entry) → (NamesWrongly es e → ⊥) → NamesFreePartners es e
 names_free_partners es e rightly = record {

@@ -7,7 +7,7 @@ use Rattle.rv_audit.proofs.Words.{none-some, same_Some, Key, Side, Gives, Takes,
 use Rattle.rv_audit.proofs.Words.{Entry}
 use Rattle.rv_audit.proofs.Words.{Account, Front, IsFront, IsOpenable, OpenAt, SomethingDue, Waiting}
 use Rattle.rv_audit.proofs.Words.{AuditSession, ClientWaitsAt, HasWaiting, IfNone, IfSome, IsTrue}
-use Rattle.rv_audit.proofs.Words.{NoneUntil, one_side, opposite, passed_account, stands_in, call_in, key_in}
+use Rattle.rv_audit.proofs.Words.{NoneUntil, one_side, opposite, passed_account, stands_in, key_in}
 use Rattle.std.proofs.Common.{◌↔◌, ◌^◌, cond, nat_lt, is_some, option_map}
 use Rattle.std.specs.Option.{option_eq}
 use Rattle.rv_text.specs.declared.call.Wait.{Wait}
@@ -38,24 +38,16 @@ use Rattle.rv_audit.specs.Sessions.{session_in}
 
 side_there : (es : List Entry) (there : OpenPlace) (r : ℕ) → there.place ≡ r → IsArrival es there
     → SideAt es there.side r
-side_there es there r at is = subst (SideAt es there.side) at (record {
-  call = is.call;
-  arrived = ap (option_and_then call_in) is.arrived;
-  is = sym is.side;
-})
+side_there es there r at is = grind arith
 
 -- what is open meets another side
 pub open_meets : (es : List Entry) (side : Side) (r : ℕ) → OpenAt es side r → IsSome (opposite side)
-open_meets es side r there =
-    let own = there.is_open in
-    let same : own.call ≡ there.of_side.call = same_Some _ _ (sym own.arrived ∙ there.of_side.arrived) in
-    subst (λ t. IsSome (opposite t)) (ap side_of same ∙ there.of_side.is) own.stays.0
+open_meets es side r there = grind arith
 
 -- and the other side that a call meets
 opposed_at : (es : List Entry) (call : Call) (side : Side) (r : ℕ) → opposite (side_of call) ≡ Some side
     → IsOpenOpposite es call r → OpenAt es side r
-opposed_at es call side r opposes there =
-    subst (λ t. OpenAt es t r) (same_Some _ _ (sym there.opposes ∙ opposes)) there.there
+opposed_at es call side r opposes there = grind arith
 
 -- ---- limits
 
@@ -68,10 +60,7 @@ fits_back (Some m) n is = by_fit (nat_lt m 18446744073709551616) is
     by_fit false is = absurd (false≢true is)
 
 fits_on : (n : ℕ) → n < 18446744073709551616 → is_limit n (fitting (Some n)) ≡ true
-fits_on n fits =
-    let less : nat_lt n 18446744073709551616 ≡ true = grind (arith, nat_tests) in
-    let own : nat_eq n n ≡ true = grind (arith, nat_tests) in
-    ap (λ b. is_limit n (cond b (Some n) None)) less ∙ own
+fits_on n fits = grind arith
 
 -- ---- who waits
 

@@ -10,8 +10,8 @@ use Rattle.rv_audit.proofs.Words.{IsPaired, MeetsWrongly, MissesPartner}
 use Rattle.rv_audit.proofs.Words.{NamesTaken, PassesOver, StartsNoNewer}
 use Rattle.rv_audit.proofs.Words.{is_any, AuditSession}
 use Rattle.std.proofs.Common.{nat_lt, nat_le, is_some}
-use Rattle.rv_rules.specs.Sessions.{HasIncarnation, LastNumber, SaidHello}
-use Rattle.rv_rules.proofs.Histories.{hellos_at_most, one_incarnation, one_last_number}
+use Rattle.rv_rules.specs.Sessions.{LastNumber, SaidHello}
+use Rattle.rv_rules.proofs.Histories.{hellos_at_most, one_last_number}
 use Rattle.rv_audit.specs.Breaking.{ArrivesAs, ArrivesToMeet, CountsTo, IsNotNext}
 use Rattle.rv_audit.specs.Breaking.{TicksForNothing}
 use Rattle.rv_audit.specs.Passed.{IsOfSessionOf, IsOldestOpposite, LeavesOlder}
@@ -23,7 +23,7 @@ use Rattle.rv_rules.proofs.Places.{within}
 use Rattle.rv_audit.proofs.RulesSuffice.{opposites_of, paired_opposite}
 use Rattle.rv_audit.proofs.Words.{inl, inr, slice_get, cases_lt}
 use Rattle.rv_audit.proofs.Saying.{IsKnown}
-use Rattle.rv_audit.specs.Passed.{LeavesPartner, Misses}
+use Rattle.rv_audit.specs.Passed.{LeavesPartner}
 use Rattle.rv_audit.proofs.Named.{any_among, some_among}
 
 abbrev pub Iff : Type 0 → Type 0 → Type 0
@@ -154,25 +154,6 @@ module _ (Is : Side → Type 0) (es : List Entry) (e : Entry) (call : Call) (b :
         }),
   )
 
-  pub wrong_met : Iff (IsTrue b) (Misses es call e.partners) → Iff (IsTrue b) (MeetsWrongly Is es e)
-  wrong_met is = (
-    λ t. let has = is.0 t in record {
-      call = call;
-      arrives = arrives;
-      partner = has.0;
-      names = has.1;
-      no_opposite = has.2;
-    },
-    λ breaks.
-        let same = own_call breaks.call breaks.arrives in
-        is.1 (
-          breaks.partner,
-          breaks.names,
-          subst (λ c. IsOpenOpposite es c breaks.partner → ⊥) same
-              breaks.no_opposite,
-        ),
-  )
-
 pub who_meets_not : (es : List Entry) (e : Entry) → (ArrivesToMeet e → ⊥)
     → Iff (IsTrue (is_any e.partners)) (NamesTaken es e)
 who_meets_not es e meets_not = (
@@ -202,17 +183,7 @@ for_nothing es e false ticks due = (
 
 pub of_session : (a : Account) (key : Key) (t : AuditSession) → IsKnown a.entries key.client t
     → key.epoch ≡ a.epoch → Iff (IsTrue (nat_eq key.incarnation t.incarnation)) (IsOfSessionOf a key)
-of_session a key t is own = (
-  λ same. (
-    own,
-    subst (HasIncarnation a.entries key.client) (let eq : t.incarnation ≡ key.incarnation =
-        grind (arith, nat_tests) in eq) is.incarnation,
-  ),
-  λ has.
-      let same : t.incarnation ≡ key.incarnation = one_incarnation a.entries key.client
-      t.incarnation key.incarnation is.incarnation has.1 in
-      grind (arith, nat_tests),
-)
+of_session a key t is own = grind arith
 
 pub unknown : (a : Account) (key : Key) → IsOfSessionOf a key → (SaidHello a.entries key.client → ⊥) → ⊥
 unknown a key of none = none (of.1.0, key.incarnation, of.1.1.version, of.1.1.hello)
@@ -223,19 +194,7 @@ no_session a key none = never (IsOfSessionOf a key) (λ of. unknown a key of non
 
 pub none_reached : (es : List Entry) (client incarnation : ℕ) (version : Version) → (SaidHello es client → ⊥)
     → Iff (IsTrue false) (StartsNoNewer es (Hello client incarnation version))
-none_reached es client incarnation version none = never (StartsNoNewer es (Hello client incarnation version))
-    (λ starts. none (
-      starts.place,
-      starts.reached,
-      starts.earlier_version,
-      subst (λ c. act_at es starts.place ≡ Some (Hello c starts.reached starts.earlier_version))
-          (sym (one_hello client incarnation starts.client starts.incarnation version starts.version
-          starts.hello))
-          starts.earlier,
-    ))
-  where
-    one_hello : (c i d j : ℕ) (v w : Version) → Hello c i v ≡ Hello d j w → c ≡ d
-    one_hello c i d j v w e = cc
+none_reached es client incarnation version none = grind arith
 
 pub reached : (a : Account) (client incarnation : ℕ) (version : Version) (s : AuditSession) (b : Bool)
     → nat_le incarnation s.incarnation ≡ b → Legal a → IsKnown a.entries client s
@@ -306,11 +265,7 @@ differs : (n : ℕ) → not (nat_eq n 1) ≡ true → n ≢ 1
 differs n t same = grind (arith, nat_tests)
 
 agrees : (n : ℕ) → not (nat_eq n 1) ≡ false → n ≡ 1
-agrees n f = by_value (nat_eq n 1) refl f
-  where
-    by_value : (b : Bool) → nat_eq n 1 ≡ b → not b ≡ false → n ≡ 1
-    by_value true is f = grind (arith, nat_tests)
-    by_value false is f = absurd (false≢true (sym f))
+agrees n f = grind arith
 
 pub not_next_high : (es : List Entry) (key : Key) (s : AuditSession) → IsKnown es key.client s
     → s.last < key.number → Iff (IsTrue (not (nat_eq (key.number - s.last) 1))) (IsNotNext es key)
