@@ -11,8 +11,7 @@ left_from (Some p) = 18446744073709551616 - p
 
 pub fewer_left : (last : Option ℕ) (place : ℕ) → IsBehind last place → place < 18446744073709551616
     → left_from (Some place) < left_from last
-fewer_left None place behind fits = omega arith
-fewer_left (Some last) place behind fits = let less : last < place = behind in omega arith
+fewer_left = grind arith
 
 module _ (m : Marks) (number : ℕ) (places : List ℕ) (last : Option ℕ) (named : AreNamedTo m number places
     last)

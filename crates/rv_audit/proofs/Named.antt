@@ -1,4 +1,5 @@
 -- What is said of the places of a list, told one by one.
+use Rattle.std.proofs.lemmas.Grind.{common_steps}
 use Rattle.rv_audit.proofs.Words.{◌≡◌, ◌+◌, ◌<◌, ◌≤◌, ◌∷◌, ◌∙◌, inl, inr, ℕ, suc, true}
 use Rattle.rv_audit.proofs.Words.{false, not, nat_eq, List, [], length, get_or, Some, refl, sym, ap, subst}
 use Rattle.rv_audit.proofs.Words.{arith, slice_get, IsTrue, cases_lt, false≢true, Among}
@@ -34,5 +35,4 @@ any_more : (n : ℕ) → not (nat_eq (suc n) 0) ≡ true
 any_more n = grind arith
 
 pub any_among : (places : List ℕ) (p : ℕ) → Among places p → is_any places ≡ true
-any_among [] p among = let inside : among.0 < 0 = within [] among.0 p among.1 in absurd (omega arith)
-any_among (q ∷ rest) p among = any_more (length rest)
+any_among = grind (arith, common_steps)
