@@ -8,14 +8,10 @@ use Rattle.rv_account.specs.Account.{Stored}
 use Rattle.rv_rules.proofs.Fronts.{Legal-before}
 use Rattle.rv_rules.proofs.Places.{get-take}
 use Rattle.rv_audit.specs.Breaking.{FirstFault, KeepsRules, rank_of}
-use Rattle.rv_audit.specs.Passed.{BreaksFirst, BreaksNone, MayPass, all_rules}
+use Rattle.rv_audit.specs.Passed.{BreaksFirst, BreaksNone, MayPass}
 use Rattle.rv_audit.proofs.RulesKept.{breaks_nothing}
 use Rattle.rv_audit.proofs.RulesSuffice.{may_follow}
 use Rattle.rv_audit.specs.declared.rule.Audit.TheVariants as tells
-
--- the rule of each rank stands at that place
-stands_at : (rule : Rule) → slice_get all_rules (rank_of rule) ≡ Some rule
-stands_at = grind arith
 
 pub one_rank : (r s : Rule) → rank_of r ≡ rank_of s → r ≡ s
 one_rank r s same = grind arith

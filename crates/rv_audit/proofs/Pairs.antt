@@ -6,7 +6,6 @@ use Rattle.rv_audit.proofs.Words.{nat_tests, Marks, IsTrue, IsFirstBehind, NoneB
 use Rattle.rv_audit.proofs.Words.{NoneUntil, is_marked_under}
 use Rattle.std.proofs.Common.{cond, nat_le}
 use Rattle.std.specs.declared.cmp.Ordering.{Ordering}
-use Rattle.std.specs.declared.cmp.Ordering.TheVariants.{Less, Equal}
 use Rattle.std.specs.Ordering.{nat_cmp, ordering_then, is_eq, is_gt}
 use Rattle.std.specs.BTreeMap.Range.{IsInRange}
 use Rattle.std.specs.BTreeSet.{BTreeSet, contains, IsKeyRangeOf}
@@ -26,12 +25,6 @@ pair_cmp_total = search rules
 
 abbrev pub as_marks : BTreeSet Pair → Marks
 as_marks s = record { marks = s }
-
-then_equal : (a b : Ordering) → ordering_then a b ≡ Equal → (a ≡ Equal) × (b ≡ Equal)
-then_equal = grind arith
-
-pub same_pair : (x y : Pair) → pair_cmp x y ≡ Equal → (x.0 ≡ y.0) × (x.1 ≡ y.1)
-same_pair x y e = grind arith
 
 own_pair : (x : Pair) → is_eq (pair_cmp x x) ≡ true
 own_pair x = (eq_by_cmp_equiv pair_cmp_total).refl x
@@ -75,19 +68,8 @@ true_or_false false = λ no. refl
 
 -- ---- behind a place
 
--- pairs of one number are as their places are
-one_number : (n p q : ℕ) → pair_cmp (n, p) (n, q) ≡ nat_cmp p q
-one_number n p q = grind arith
-
 abbrev RangeBehind : BTreeSet Pair → ℕ → Option ℕ → List Pair → Type 0
 RangeBehind s n last r = IsKeyRangeOf pair_cmp (bound_behind n last) Unbounded s r
-
--- what is in the range has the number and stands behind the place, or has a greater number
-least_zero : (p : ℕ) (o : Ordering) → o ≡ nat_cmp 0 p → is_gt o ≡ false
-least_zero = grind arith
-
-less_is : (m n : ℕ) (o : Ordering) → o ≡ nat_cmp m n → m < n → o ≡ Less
-less_is = grind arith
 
 in_range : (n p : ℕ) (last : Option ℕ) → IsBehind last p
     → IsInRange pair_cmp (bound_behind n last) Unbounded (n, p)

@@ -15,14 +15,12 @@ use Rattle.std.proofs.lemmas.Option.{slice_get-get_or}
 use Rattle.rv_audit.proofs.Words.{get_or}
 use Rattle.std.specs.FinMap.{get-empty}
 use Rattle.std.specs.Ordering.{nat_cmp}
-use Rattle.rv_text.specs.declared.call.Wait.{Wait}
 use Rattle.rv_account.specs.Account.{limit_at, with_entry}
 use Rattle.rv_rules.proofs.Growing.{NamesAt-back, NamesAt-last, NamesAt-on, reads_within}
 use Rattle.rv_rules.proofs.Legality.{Legal-with_entry}
 use Rattle.rv_rules.proofs.Places.{get-append, get-append_cases, get-append_end}
-use Rattle.rv_state.specs.State.{OpenPlace, State, client_waits, Waiter, open_at, place_list}
-use Rattle.rv_state.specs.After.{but, due_at, just_open, opened_by, state_of, stays_open}
-use Rattle.rv_state.specs.After.{waiter_of}
+use Rattle.rv_state.specs.State.{OpenPlace, State, client_waits, open_at, place_list}
+use Rattle.rv_state.specs.After.{but, due_at, just_open, state_of}
 use Rattle.rv_state.specs.Follows.{partners_of}
 use Rattle.rv_state.proofs.Agreed.{agreed, state_pushed}
 use Rattle.rv_state.proofs.Due.{due_of_place}
@@ -225,20 +223,9 @@ gone_due old new e is ticks fits closes = record {
 
 -- ---- what is opened
 
-opened_client : (key : Key) (moment : ℕ) (wait : Option Wait)
-    → option_map (λ (w : Wait). key.client) wait
-    ≡ option_map (λ (w : Waiter). w.key.client) (waiter_of key moment wait)
-opened_client key moment None = refl
-opened_client key moment (Some wait) = refl
-
 abbrev pub first_of : List OpenPlace → Option OpenPlace
 first_of [] = None
 first_of (o ∷ rest) = Some o
-
-opens_said : (s : State) (moment : ℕ) (key : Key) (call : Call) (met : List OpenPlace)
-    → alone_opens (place_list met) moment (Arrive key call)
-    ≡ option_map opening_of (first_of (cond (stays_open call met) (opened_by s moment key call ∷ []) []))
-opens_said = grind arith
 
 opens_by_act : (s : State) (moment : ℕ) (partners : List ℕ) (does : Act) → partners ≡ partners_of s does
     → alone_opens partners moment does ≡ option_map opening_of (first_of (opens_by s moment does))
@@ -339,10 +326,12 @@ module _ (a : Account) (e : Entry) (legal : Legal a) (follows : MayFollow a e) w
                 ]
             | inr last ↦
                 let one = some_among e.partners last.1 in
-                subst (IsTaken (es ++ e ∷ [])) (sym (last.0 ∙ count)) (inr (one.0, NamesAt-last es e one.0 one.1))
+                subst (IsTaken (es ++ e ∷ [])) (sym (last.0 ∙ count))
+                (inr (one.0, NamesAt-last es e one.0 one.1))
           ],
           λ taken. elim (taken_back r taken) [
-            | inl was ↦ kept r (is.sets.flags r ∙ flag_set _ (is_among e.partners r) true ((are.flags r).1 was)
+            | inl was ↦ kept r (is.sets.flags r ∙ flag_set _ (is_among e.partners r) true
+                ((are.flags r).1 was)
                 (inl refl))
             | inr new ↦ elim new [
               | inl named ↦

@@ -1,5 +1,5 @@
 -- An entry that may follow those of a legal account breaks no rule behind them: of each rule what keeps it.
-use Rattle.rv_audit.proofs.Words.{◌≡◌, ◌≢◌, ◌⊎◌, ◌<◌, ◌≤◌, ◌∙◌, inl, inr, ℕ, List, length, Option}
+use Rattle.rv_audit.proofs.Words.{◌≡◌, ◌≢◌, ◌⊎◌, ◌<◌, ◌≤◌, ◌∙◌, inl, inr, ℕ, List, length}
 use Rattle.rv_audit.proofs.Words.{Some, IsSome, refl, ap, subst, arith, Key, Call, Side}
 use Rattle.rv_audit.proofs.Words.{Entry, Act, Hello, Arrive, Cancel, Tick, Account}
 use Rattle.rv_audit.proofs.Words.{call_in, may_name, opposite, Met, IsNextNumber, Legal, MayFollow}
@@ -7,7 +7,6 @@ use Rattle.rv_audit.proofs.Words.{NamesFreePartners, SomethingDue, call_read, Ru
 use Rattle.rv_audit.proofs.Words.{N1, N2, N3, P1, P2, P3, P4, S1, S2, BreaksBehind, IsNoFreePlace}
 use Rattle.rv_audit.proofs.Words.{IsOutOfOrder, IsPaired, MeetsWrongly, MissesPartner, NamesTaken, PassesOver}
 use Rattle.rv_audit.proofs.Words.{StartsNoNewer}
-use Rattle.std.specs.Prelude.{unwrap_or}
 use Rattle.rv_account.specs.Account.{NamesAt}
 use Rattle.rv_rules.specs.Waiting.{NamesPartner}
 use Rattle.rv_rules.specs.Legal.{CancelsInTurn, CountsUp, IsOfSession, KeepsLimits, KeepsTime, PairsOldest}
@@ -16,10 +15,6 @@ use Rattle.rv_audit.specs.Breaking.{BreaksCount, FallsBack, IsOfNoSession, IsSwa
 use Rattle.rv_audit.specs.Breaking.{NamesWrongly, PassesLimit, TicksForNothing, WasNamed}
 
 -- ---- moments
-
-own_at_most : (o : Option ℕ) (opened moment : ℕ) → opened ≤ moment
-    → ((earlier : ℕ) → o ≡ Some earlier → earlier ≤ moment) → unwrap_or o opened ≤ moment
-own_at_most = grind arith
 
 pub falls_not_back : (a : Account) (e : Entry) → KeepsTime a e.moment → FallsBack a e → ⊥
 falls_not_back a e time falls = grind arith

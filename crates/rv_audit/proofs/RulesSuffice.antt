@@ -66,7 +66,8 @@ keeps_limits a moment Tick legal past idle =
 
 pub raises_incarnation : (es : List Entry) (does : Act) → (StartsNoNewer es does → ⊥)
     → RaisesIncarnation es does
-raises_incarnation es does newer client incarnation version hello r reached earlier_version earlier = grind (arith, nat_tests)
+raises_incarnation es does newer client incarnation version hello r reached earlier_version earlier =
+    grind (arith, nat_tests)
 
 pub of_session : (a : Account) (does : Act) → Legal a → (IsOfNoSession a does → ⊥) → IsOfSession a does
 of_session a does legal known key names = (
