@@ -1,4 +1,6 @@
 -- The sessions of an audit after an entry are those of the state after it.
+use Rattle.std.proofs.lemmas.Grind.{common_steps}
+use Rattle.rv_audit.proofs.Words.{arith}
 use Rattle.rv_audit.proofs.Words.{◌≡◌, ◌⊎◌, ◌∷◌, ◌∙◌, inl, inr, ℕ, List, [], Option, Some}
 use Rattle.rv_audit.proofs.Words.{None, refl, sym, ap, subst, none-some, same_Some, same_or_not, Key, Call}
 use Rattle.rv_audit.proofs.Words.{Act}
@@ -8,7 +10,7 @@ use Rattle.std.specs.FinMap.{get, insert}
 use Rattle.rv_text.specs.declared.answer.Reply.{Reply}
 use Rattle.rv_text.specs.declared.answer.Reply.TheVariants as reply
 use Rattle.rv_state.proofs.Words.{CancelledUnseen, Fresh, LastRequest, RepliedTo, Waits}
-use Rattle.rv_state.specs.State.{ClientState, OpenPlace, State, client_at, client_waits, open_at}
+use Rattle.rv_state.specs.State.{ClientState, OpenPlace, State, client_at, client_waits}
 use Rattle.rv_state.specs.State.{place_waiting}
 use Rattle.rv_state.specs.After.{Settled, acted, cancelled, closed, met_by, parked, request_after}
 use Rattle.rv_state.specs.After.{settled_all, tell_all, told_own, told_partner, with_open}
@@ -17,7 +19,6 @@ use Rattle.rv_state.specs.Follows.{NumberFits, NumberIsNext, NumberWaits}
 use Rattle.rv_state.proofs.ToldClients.{get_other, get_own, get_tell_all, told_client, told_or_waits}
 use Rattle.rv_state.proofs.ToldClients.{told_request}
 use Rattle.rv_state.proofs.ToldClients.{told_still}
-use Rattle.rv_state.proofs.Filtered.{chained_there}
 use Rattle.rv_audit.specs.Passed.{AreAudited, IsAudited, IsAuditedIf, session_after, with_last}
 use Rattle.rv_audit.specs.Sessions.{EntersIf, EntersSession, session_in}
 use Rattle.rv_audit.specs.declared.sessions.AuditSessions.{AuditSessions}
@@ -96,8 +97,7 @@ asked_by s t old new xs key request session (Some e) are clients there d is ente
 
 asked_place : (n place r : ℕ) (call : Call) (own : Option Reply) → place ≡ n
     → place_waiting (request_after n call own) ≡ Some r → Some place ≡ Some r
-asked_place n place r call None same waits = ap Some same ∙ waits
-asked_place n place r call (Some told) same waits = absurd (none-some r waits)
+asked_place = grind (arith, common_steps)
 
 -- the session of the key that an act names
 record HasSession (s : State) (key : Key) : Type 0 where
@@ -106,23 +106,7 @@ record HasSession (s : State) (key : Key) : Type 0 where
   waits_last : (o : OpenPlace) → client_waits s key.client ≡ Some o → session.last ≡ key.number
 
 cancel_session : (s : State) (key : Key) → NumberWaits s key ⊎ NumberIsNext s key → HasSession s key
-cancel_session s key (inl waits) = record {
-  session = waits.session;
-  there = waits.of_session.there;
-  waits_last = λ o is. sym waits.last;
-}
-cancel_session s key (inr next) = record {
-  session = next.session;
-  there = next.of_session.there;
-  waits_last = λ o is.
-      let by = chained_there (open_at s) _ o is in
-      let asks = chained_there (λ (c : ClientState). place_waiting c.request) (client_at s key.client) by.0
-      by.1
-      in
-      let same = same_Some _ _ (sym asks.1 ∙ next.of_session.there) in
-      absurd (none-some by.0 (sym next.idle ∙ sym (ap (λ (c : ClientState). place_waiting c.request) same)
-      ∙ asks.2));
-}
+cancel_session = grind (arith, common_steps)
 
 module _ (s : State) (old new : AuditSessions) (are : AreAudited s old) where
   -- a cancel gives the session its number, and its last request stays

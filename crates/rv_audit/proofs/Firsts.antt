@@ -2,31 +2,16 @@
 use Rattle.rv_audit.proofs.Words.{◌≡◌, ◌<◌, ◌∷◌, ◌∙◌, ℕ, zero, suc, List, [], length, take, Some}
 use Rattle.rv_audit.proofs.Words.{None, refl, sym, ap, subst, arith, slice_get, none-some}
 use Rattle.rv_audit.proofs.Words.{same_Some, Entry, Account, Legal, MayFollow, before, BreaksBehind, IsFront}
-use Rattle.rv_audit.proofs.Words.{passed_account, Front, Rule, M1, M2, M3, N1, N2, N3, P1, P2, P3, P4, S1, S2}
+use Rattle.rv_audit.proofs.Words.{passed_account, Front, Rule}
 use Rattle.std.proofs.lemmas.List.{take-take}
 use Rattle.rv_account.specs.Account.{Stored}
 use Rattle.rv_rules.proofs.Fronts.{Legal-before}
 use Rattle.rv_rules.proofs.Places.{get-take}
 use Rattle.rv_audit.specs.Breaking.{FirstFault, KeepsRules, rank_of}
-use Rattle.rv_audit.specs.Passed.{BreaksFirst, BreaksNone, MayPass, all_rules}
+use Rattle.rv_audit.specs.Passed.{BreaksFirst, BreaksNone, MayPass}
 use Rattle.rv_audit.proofs.RulesKept.{breaks_nothing}
 use Rattle.rv_audit.proofs.RulesSuffice.{may_follow}
 use Rattle.rv_audit.specs.declared.rule.Audit.TheVariants as tells
-
--- the rule of each rank stands at that place
-stands_at : (rule : Rule) → slice_get all_rules (rank_of rule) ≡ Some rule
-stands_at M1 = refl
-stands_at M2 = refl
-stands_at M3 = refl
-stands_at N1 = refl
-stands_at N2 = refl
-stands_at N3 = refl
-stands_at P1 = refl
-stands_at P2 = refl
-stands_at P3 = refl
-stands_at P4 = refl
-stands_at S1 = refl
-stands_at S2 = refl
 
 pub one_rank : (r s : Rule) → rank_of r ≡ rank_of s → r ≡ s
 one_rank r s same = grind arith

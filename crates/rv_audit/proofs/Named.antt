@@ -1,6 +1,7 @@
 -- What is said of the places of a list, told one by one.
-use Rattle.rv_audit.proofs.Words.{◌≡◌, ◌+◌, ◌<◌, ◌≤◌, ◌∷◌, ◌∙◌, inl, inr, ℕ, suc, true}
-use Rattle.rv_audit.proofs.Words.{false, not, nat_eq, List, [], length, get_or, Some, refl, sym, ap, subst}
+use Rattle.std.proofs.lemmas.Grind.{common_steps}
+use Rattle.rv_audit.proofs.Words.{◌≡◌, ◌+◌, ◌<◌, ◌≤◌, ◌∷◌, ◌∙◌, inl, inr, ℕ, true}
+use Rattle.rv_audit.proofs.Words.{false, List, [], length, get_or, Some, refl, sym, ap, subst}
 use Rattle.rv_audit.proofs.Words.{arith, slice_get, IsTrue, cases_lt, false≢true, Among}
 use Rattle.rv_audit.proofs.Words.{HasAmong, NoneBefore, is_any}
 use Rattle.std.proofs.lemmas.Option.{get_or_from_slice_get}
@@ -30,9 +31,5 @@ pub some_among : (places : List ℕ) → is_any places ≡ true → (p : ℕ) ×
 some_among [] any = absurd (false≢true any)
 some_among (p ∷ rest) any = (p, (0, refl))
 
-any_more : (n : ℕ) → not (nat_eq (suc n) 0) ≡ true
-any_more n = grind arith
-
 pub any_among : (places : List ℕ) (p : ℕ) → Among places p → is_any places ≡ true
-any_among [] p among = let inside : among.0 < 0 = within [] among.0 p among.1 in absurd (omega arith)
-any_among (q ∷ rest) p among = any_more (length rest)
+any_among = grind (arith, common_steps)

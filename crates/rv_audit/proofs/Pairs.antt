@@ -1,18 +1,16 @@
 -- Pairs of a number and a place, in a set that is ordered by the number and then by the place.
+use Rattle.std.proofs.Common.{rules}
 use Rattle.rv_audit.proofs.Words.{◌≡◌, ◌≢◌, ◌⊎◌, ◌<◌, ◌≤◌, ◌∷◌, ◌∙◌, inl, inr, ℕ, arith, Bool, true, false}
-use Rattle.rv_audit.proofs.Words.{cases_lt}
 use Rattle.rv_audit.proofs.Words.{nat_eq, List, [], IfSome, IfNone, refl, sym, ap, subst, then_some}
-use Rattle.rv_audit.proofs.Words.{nat_tests, false≢true, Marks, IsTrue, IsFirstBehind, NoneBehind, Option}
-use Rattle.rv_audit.proofs.Words.{None, Some}
+use Rattle.rv_audit.proofs.Words.{nat_tests, Marks, IsTrue, IsFirstBehind, NoneBehind, Option}
 use Rattle.rv_audit.proofs.Words.{NoneUntil, is_marked_under}
 use Rattle.std.proofs.Common.{cond, nat_le}
 use Rattle.std.specs.declared.cmp.Ordering.{Ordering}
-use Rattle.std.specs.declared.cmp.Ordering.TheVariants.{Less, Equal, Greater}
 use Rattle.std.specs.Ordering.{nat_cmp, ordering_then, is_eq, is_gt}
 use Rattle.std.specs.BTreeMap.Range.{IsInRange}
 use Rattle.std.specs.BTreeSet.{BTreeSet, contains, IsKeyRangeOf}
 use Rattle.std.specs.declared.ops.Bound.TheVariants.{Unbounded}
-use Rattle.std.specs.Cmp.{IsTotalOrder, nat_cmp_total, then_total, on_total, ranked, Equal-is}
+use Rattle.std.specs.Cmp.{IsTotalOrder}
 use Rattle.std.specs.Cmp.{eq_by_cmp_equiv}
 use Rattle.rv_audit.specs.Marks.{Gains, IsBehind, IsUntil, Loses, bound_behind}
 
@@ -23,29 +21,16 @@ abbrev pub pair_cmp : Pair → Pair → Ordering
 pair_cmp x y = ordering_then (nat_cmp x.0 y.0) (nat_cmp x.1 y.1)
 
 pub pair_cmp_total : IsTotalOrder pair_cmp
-pair_cmp_total = then_total (on_total (λ (d : Pair). d.0) nat_cmp_total) (on_total (λ (d : Pair). d.1)
-    nat_cmp_total)
+pair_cmp_total = search rules
 
 abbrev pub as_marks : BTreeSet Pair → Marks
 as_marks s = record { marks = s }
-
-then_equal : (a b : Ordering) → ordering_then a b ≡ Equal → (a ≡ Equal) × (b ≡ Equal)
-then_equal Less b e = absurd (cc)
-then_equal Equal b e = (refl, e)
-then_equal Greater b e = absurd (cc)
-
-pub same_pair : (x y : Pair) → pair_cmp x y ≡ Equal → (x.0 ≡ y.0) × (x.1 ≡ y.1)
-same_pair x y e = grind arith
 
 own_pair : (x : Pair) → is_eq (pair_cmp x x) ≡ true
 own_pair x = (eq_by_cmp_equiv pair_cmp_total).refl x
 
 other_by : (x y : Pair) (b : Bool) → is_eq (pair_cmp x y) ≡ b → (y.0 ≢ x.0) ⊎ (y.1 ≢ x.1) → b ≡ false
-other_by x y true e (inl apart) = let both = same_pair x y ((Equal-is (pair_cmp x y)).0 e) in
-    absurd (apart (sym both.0))
-other_by x y true e (inr apart) = let both = same_pair x y ((Equal-is (pair_cmp x y)).0 e) in
-    absurd (apart (sym both.1))
-other_by x y false e apart = refl
+other_by = grind arith
 
 pub gains : (old new : BTreeSet Pair) (n p : ℕ)
     → ((q : Pair) → contains pair_cmp new q ≡ cond (is_eq (pair_cmp (n, p) q)) true (contains pair_cmp old q))
@@ -72,13 +57,7 @@ loses old new n p updates = record {
 not_above_by : (x y : Pair) (a b : Ordering) → a ≡ nat_cmp x.0 y.0 → b ≡ nat_cmp x.1 y.1
     → is_gt (ordering_then a b) ≡ false
     → (x.0 < y.0) ⊎ ((x.0 ≡ y.0) × (x.1 ≤ y.1))
-not_above_by x y Less b f s e = inl (ranked x.0 y.0 Less f)
-not_above_by x y Equal Less f s e = let less : x.1 < y.1 = ranked x.1 y.1 Less s in
-    inr (ranked x.0 y.0 Equal f, omega arith)
-not_above_by x y Equal Equal f s e = let same : x.1 ≡ y.1 = ranked x.1 y.1 Equal s in
-    inr (ranked x.0 y.0 Equal f, omega arith)
-not_above_by x y Equal Greater f s e = absurd (false≢true (sym e))
-not_above_by x y Greater b f s e = absurd (false≢true (sym e))
+not_above_by = grind arith
 
 pub not_above : (x y : Pair) → is_gt (pair_cmp x y) ≡ false → (x.0 < y.0) ⊎ ((x.0 ≡ y.0) × (x.1 ≤ y.1))
 not_above x y e = not_above_by x y (nat_cmp x.0 y.0) (nat_cmp x.1 y.1) refl refl e
@@ -89,54 +68,16 @@ true_or_false false = λ no. refl
 
 -- ---- behind a place
 
--- pairs of one number are as their places are
-one_number : (n p q : ℕ) → pair_cmp (n, p) (n, q) ≡ nat_cmp p q
-one_number n p q = grind arith
-
 abbrev RangeBehind : BTreeSet Pair → ℕ → Option ℕ → List Pair → Type 0
 RangeBehind s n last r = IsKeyRangeOf pair_cmp (bound_behind n last) Unbounded s r
 
--- what is in the range has the number and stands behind the place, or has a greater number
-least_zero : (p : ℕ) (o : Ordering) → o ≡ nat_cmp 0 p → is_gt o ≡ false
-least_zero p Less is = refl
-least_zero p Equal is = refl
-least_zero p Greater is = absurd (let less : p < 0 = ranked 0 p Greater is in omega arith)
-
-less_is : (m n : ℕ) (o : Ordering) → o ≡ nat_cmp m n → m < n → o ≡ Less
-less_is m n Less is less = refl
-less_is m n Equal is less = absurd (let same : m ≡ n = ranked m n Equal is in omega arith)
-less_is m n Greater is less = absurd (let more : n < m = ranked m n Greater is in omega arith)
-
 in_range : (n p : ℕ) (last : Option ℕ) → IsBehind last p
     → IsInRange pair_cmp (bound_behind n last) Unbounded (n, p)
-in_range n p None behind = (ap is_gt (one_number n 0 p) ∙ least_zero p (nat_cmp 0 p) refl, tt)
-in_range n p (Some last) behind = (one_number n last p ∙ less_is last p (nat_cmp last p) refl behind, tt)
+in_range = grind arith
 
 from_range : (n : ℕ) (k : Pair) (last : Option ℕ) → IsInRange pair_cmp (bound_behind n last) Unbounded k
     → (n < k.0) ⊎ ((n ≡ k.0) × IsBehind last k.1)
-from_range n k None at = elim (not_above (n, 0) k at.0) [
-  | inl above ↦ inl above
-  | inr here ↦ inr (here.0, tt)
-]
-from_range n k (Some last) at = elim (not_above (n, last) k (ap is_gt at.0)) [
-  | inl above ↦ inl above
-  | inr here ↦ inr (
-    here.0,
-    elim (cases_lt last k.1) [
-      | inl less ↦ less
-      | inr most ↦
-          let same : last ≡ k.1 = let at_most : last ≤ k.1 = here.1 in omega arith in
-          absurd (let no : Equal ≡ Less =
-          sym (one_equal n last) ∙ ap (pair_cmp (n, last)) (pair_is n last k here.0 same) ∙ at.0 in cc)
-    ],
-  )
-]
-  where
-    pair_is : (n p : ℕ) (k : Pair) → n ≡ k.0 → p ≡ k.1 → (n, p) ≡ k
-    pair_is n p k same is = ap (λ m. (m, p)) same ∙ ap (λ q. (k.0, q)) is
-
-    one_equal : (n p : ℕ) → pair_cmp (n, p) (n, p) ≡ Equal
-    one_equal n p = (Equal-is (pair_cmp (n, p) (n, p))).0 (own_pair (n, p))
+from_range = grind arith
 
 pub nothing_found : (s : BTreeSet Pair) (n : ℕ) (last : Option ℕ) (r : List Pair) → RangeBehind s n last r
     → r ≡ [] → NoneBehind (as_marks s) n last

@@ -1,29 +1,26 @@
 -- What an audit's tables are when one more entry was passed.
+use Rattle.std.proofs.lemmas.Grind.{common_steps}
 use Rattle.rv_audit.proofs.Words.{◌≡◌, ◌⊎◌, ◌+◌, ◌<◌, ◌≤◌, ◌∷◌, ◌∙◌, inl, inr, ℕ, zero, suc, Bool, true}
 use Rattle.rv_audit.proofs.Words.{false}
 use Rattle.rv_audit.proofs.Words.{List, [], length, take, not, nat_eq, Option, Some, None, refl, sym, ap}
 use Rattle.rv_audit.proofs.Words.{subst}
 use Rattle.rv_audit.proofs.Words.{arith, slice_get, false≢true, nat_tests, none-some, same_Some}
-use Rattle.rv_audit.proofs.Words.{Account, Act, Among, Arrive, Call, Cancel, ClientWaitsAt, Entry}
-use Rattle.rv_audit.proofs.Words.{Front, HasWaiting, Hello, IsFront, Key, Legal, MayFollow}
+use Rattle.rv_audit.proofs.Words.{Account, Act, Among, Arrive, Call, ClientWaitsAt, Entry}
+use Rattle.rv_audit.proofs.Words.{Front, HasWaiting, IsFront, Key, Legal, MayFollow}
 use Rattle.rv_audit.proofs.Words.{Opens, Tick, before, call_read, is_any}
-use Rattle.rv_audit.proofs.Words.{passed_account, side_of, opposite}
-use Rattle.std.proofs.Common.{append-nil, ◌++◌, ◌&&◌, ◌||◌, cond, find, is_some, length-append, option_map}
+use Rattle.rv_audit.proofs.Words.{passed_account}
+use Rattle.std.proofs.Common.{append-nil, ◌++◌, ◌||◌, cond, find, length-append, option_map}
 use Rattle.std.specs.List.{list_any}
 use Rattle.std.proofs.lemmas.Option.{slice_get-get_or}
 use Rattle.rv_audit.proofs.Words.{get_or}
 use Rattle.std.specs.FinMap.{get-empty}
 use Rattle.std.specs.Ordering.{nat_cmp}
-use Rattle.rv_text.specs.declared.call.Wait.{Wait}
-use Rattle.rv_text.specs.Calls.{wait_of}
 use Rattle.rv_account.specs.Account.{limit_at, with_entry}
-use Rattle.rv_account.specs.Calls.{limit_of}
 use Rattle.rv_rules.proofs.Growing.{NamesAt-back, NamesAt-last, NamesAt-on, reads_within}
 use Rattle.rv_rules.proofs.Legality.{Legal-with_entry}
 use Rattle.rv_rules.proofs.Places.{get-append, get-append_cases, get-append_end}
-use Rattle.rv_state.specs.State.{OpenPlace, State, client_waits, Waiter, open_at, place_list}
-use Rattle.rv_state.specs.After.{but, due_at, just_open, lasts_by, met_by, opened_by, state_of, stays_open}
-use Rattle.rv_state.specs.After.{waiter_of}
+use Rattle.rv_state.specs.State.{OpenPlace, State, client_waits, open_at, place_list}
+use Rattle.rv_state.specs.After.{but, due_at, just_open, state_of}
 use Rattle.rv_state.specs.Follows.{partners_of}
 use Rattle.rv_state.proofs.Agreed.{agreed, state_pushed}
 use Rattle.rv_state.proofs.Due.{due_of_place}
@@ -50,9 +47,7 @@ use Rattle.rv_audit.proofs.Named.{any_among, some_among}
 -- ---- what is closed
 
 same_bool : (b c : Bool) → (b ≡ true → c ≡ true) → (c ≡ true → b ≡ true) → b ≡ c
-same_bool true c to from = sym (to refl)
-same_bool false true to from = from refl
-same_bool false false to from = refl
+same_bool = grind arith
 
 map_any : (gone : List OpenPlace) (r : ℕ) → is_among (place_list gone) r
     ≡ list_any (λ (o : OpenPlace). nat_eq o.place r) gone
@@ -228,57 +223,20 @@ gone_due old new e is ticks fits closes = record {
 
 -- ---- what is opened
 
-opened_client : (key : Key) (moment : ℕ) (wait : Option Wait)
-    → option_map (λ (w : Wait). key.client) wait
-    ≡ option_map (λ (w : Waiter). w.key.client) (waiter_of key moment wait)
-opened_client key moment None = refl
-opened_client key moment (Some wait) = refl
-
 abbrev pub first_of : List OpenPlace → Option OpenPlace
 first_of [] = None
 first_of (o ∷ rest) = Some o
 
-opens_said : (s : State) (moment : ℕ) (key : Key) (call : Call) (met : List OpenPlace)
-    → alone_opens (place_list met) moment (Arrive key call)
-    ≡ option_map opening_of (first_of (cond (stays_open call met) (opened_by s moment key call ∷ []) []))
-opens_said s moment key call (o ∷ met) = refl
-opens_said s moment key call [] = by_stay (is_some (opposite (side_of call)) && lasts_by (wait_of call))
-  where
-    by_stay : (b : Bool) → cond b (Some (record {
-      side = side_of call;
-      limit = fitting (limit_of moment call);
-      client = option_map (λ (w : Wait). key.client) (wait_of call);
-    })) None
-        ≡ option_map opening_of (first_of (cond b (opened_by s moment key call ∷ []) []))
-    by_stay true = ap (λ c. Some (record {
-      side = side_of call;
-      limit = fitting (limit_of moment call);
-      client = c;
-    })) (opened_client key moment (wait_of call))
-    by_stay false = refl
-
 opens_by_act : (s : State) (moment : ℕ) (partners : List ℕ) (does : Act) → partners ≡ partners_of s does
     → alone_opens partners moment does ≡ option_map opening_of (first_of (opens_by s moment does))
-opens_by_act s moment partners (Hello client incarnation version) is =
-    ap (λ l. alone_opens l moment (Hello client incarnation version)) is
-opens_by_act s moment partners (Arrive key call) is =
-    ap (λ l. alone_opens l moment (Arrive key call)) is ∙ opens_said s moment key call (met_by s call)
-opens_by_act s moment partners (Cancel key) is = ap (λ l. alone_opens l moment (Cancel key)) is
-opens_by_act s moment partners Tick is = ap (λ l. alone_opens l moment Tick) is
+opens_by_act = grind (arith, nat_tests)
 
 -- at most one is opened, at the end
 abbrev pub IsLast : State → List OpenPlace → Type 0
 IsLast s opened = (opened ≡ []) ⊎ ((o : OpenPlace) × (opened ≡ o ∷ []) × (o.place ≡ s.length))
 
 opens_last : (s : State) (moment : ℕ) (does : Act) → IsLast s (opens_by s moment does)
-opens_last s moment (Hello client incarnation version) = inl refl
-opens_last s moment (Arrive key call) = by_stay (stays_open call (met_by s call))
-  where
-    by_stay : (b : Bool) → IsLast s (cond b (opened_by s moment key call ∷ []) [])
-    by_stay true = inr (opened_by s moment key call, refl, refl)
-    by_stay false = inl refl
-opens_last s moment (Cancel key) = inl refl
-opens_last s moment Tick = inl refl
+opens_last = grind arith
 
 push_by : (x : OpenPlace) (all : List OpenPlace) (o : OpenPlace) (r : ℕ)
     → (found_at all o.place ≡ None
@@ -287,11 +245,7 @@ push_by : (x : OpenPlace) (all : List OpenPlace) (o : OpenPlace) (r : ℕ)
     → cond b (Some x) (found_at all o.place) ≡ None
     → cond c (Some x) (found_at (all ++ o ∷ []) r)
     ≡ cond (nat_eq o.place r) (Some o) (cond c (Some x) (found_at all r))
-push_by x all o r rest true c at here none = absurd (none-some x (sym none))
-push_by x all o r rest false true apart here none =
-    let other : nat_eq o.place r ≡ false = grind (arith, nat_tests) in
-    sym (ap (λ b. cond b (Some o) (Some x)) other)
-push_by x all o r rest false false apart here none = rest none
+push_by = grind arith
 
 found_push : (all : List OpenPlace) (o : OpenPlace) (r : ℕ) → found_at all o.place ≡ None
     → found_at (all ++ o ∷ []) r ≡ cond (nat_eq o.place r) (Some o) (found_at all r)
@@ -351,15 +305,11 @@ module _ (a : Account) (e : Entry) (legal : Legal a) (follows : MayFollow a e) w
 
   set_flag : (o : Option Bool) (b : Bool) → option_map (λ flag. flag || b) o ≡ Some true
       → (o ≡ Some true) ⊎ (b ≡ true)
-  set_flag None b is = absurd (none-some true is)
-  set_flag (Some true) b is = inl refl
-  set_flag (Some false) b is = inr (same_Some _ _ is)
+  set_flag = grind arith
 
   flag_set : (o : Option Bool) (b : Bool) (flag : Bool) → o ≡ Some flag → (flag ≡ true) ⊎ (b ≡ true)
       → option_map (λ flag. flag || b) o ≡ Some true
-  flag_set o b true is set = ap (option_map (λ flag. flag || b)) is
-  flag_set o b false is (inl was) = absurd (false≢true was)
-  flag_set o b false is (inr set) = ap (option_map (λ flag. flag || b)) is ∙ ap Some set
+  flag_set = grind arith
 
   pub taken_joined : (old new : List Bool) → AreTaken es old → Flags old new e.partners
       → AreTaken (es ++ e ∷ []) new
@@ -376,10 +326,12 @@ module _ (a : Account) (e : Entry) (legal : Legal a) (follows : MayFollow a e) w
                 ]
             | inr last ↦
                 let one = some_among e.partners last.1 in
-                subst (IsTaken (es ++ e ∷ [])) (sym (last.0 ∙ count)) (inr (one.0, NamesAt-last es e one.0 one.1))
+                subst (IsTaken (es ++ e ∷ [])) (sym (last.0 ∙ count))
+                (inr (one.0, NamesAt-last es e one.0 one.1))
           ],
           λ taken. elim (taken_back r taken) [
-            | inl was ↦ kept r (is.sets.flags r ∙ flag_set _ (is_among e.partners r) true ((are.flags r).1 was)
+            | inl was ↦ kept r (is.sets.flags r ∙ flag_set _ (is_among e.partners r) true
+                ((are.flags r).1 was)
                 (inl refl))
             | inr new ↦ elim new [
               | inl named ↦
@@ -403,10 +355,7 @@ module _ (a : Account) (e : Entry) (legal : Legal a) (follows : MayFollow a e) w
       kept r there = get-append is.flags (is_any e.partners ∷ []) r true there
 
 closed_is : (s : State) (moment : ℕ) (does : Act) → closed_by s moment does ≡ gone_by s moment does
-closed_is s moment (Hello client incarnation version) = refl
-closed_is s moment (Arrive key call) = refl
-closed_is s moment (Cancel key) = refl
-closed_is s moment Tick = refl
+closed_is = grind arith
 
 take_next : {X : Type 0} (xs : List X) (n : ℕ) (x : X) → slice_get xs n ≡ Some x
     → take (suc n) xs ≡ take n xs ++ x ∷ []
@@ -451,11 +400,7 @@ module _ (old new : Front) (e : Entry) (place : ℕ) (ready : IsReadyFor old e)
   before_it = passed_state start
 
   counted : length new.taken.items ≡ length old.taken.items + 1
-  counted =
-      let both = ap length taken.one_more in
-      let n = length-append taken.flags (is_any e.partners ∷ []) in
-      let m = taken.sets.count in
-      omega arith
+  counted = grind (arith, common_steps)
 
   same_count : length old.taken.items ≡ length start.taken.items
   same_count = ap (λ (f : Front). length f.taken.items) ready.rest

@@ -1,27 +1,20 @@
 -- An entry that may follow those of a legal account breaks no rule behind them: of each rule what keeps it.
-use Rattle.rv_audit.proofs.Words.{◌≡◌, ◌≢◌, ◌⊎◌, ◌+◌, ◌<◌, ◌≤◌, ◌∙◌, inl, inr, ℕ, List, length, Option}
-use Rattle.rv_audit.proofs.Words.{Some, None, IsSome, refl, ap, subst, arith, Key, Call, Side, Gives, Takes}
-use Rattle.rv_audit.proofs.Words.{Looks, Exchanges, Entry, Act, Hello, Arrive, Cancel, Tick, Account}
+use Rattle.rv_audit.proofs.Words.{◌≡◌, ◌≢◌, ◌⊎◌, ◌<◌, ◌≤◌, ◌∙◌, inl, inr, ℕ, List, length}
+use Rattle.rv_audit.proofs.Words.{Some, IsSome, refl, ap, subst, arith, Key, Call, Side}
+use Rattle.rv_audit.proofs.Words.{Entry, Act, Hello, Arrive, Cancel, Tick, Account}
 use Rattle.rv_audit.proofs.Words.{call_in, may_name, opposite, Met, IsNextNumber, Legal, MayFollow}
 use Rattle.rv_audit.proofs.Words.{NamesFreePartners, SomethingDue, call_read, Rule, M1, M2, M3}
 use Rattle.rv_audit.proofs.Words.{N1, N2, N3, P1, P2, P3, P4, S1, S2, BreaksBehind, IsNoFreePlace}
 use Rattle.rv_audit.proofs.Words.{IsOutOfOrder, IsPaired, MeetsWrongly, MissesPartner, NamesTaken, PassesOver}
 use Rattle.rv_audit.proofs.Words.{StartsNoNewer}
-use Rattle.std.specs.Prelude.{unwrap_or}
 use Rattle.rv_account.specs.Account.{NamesAt}
 use Rattle.rv_rules.specs.Waiting.{NamesPartner}
 use Rattle.rv_rules.specs.Legal.{CancelsInTurn, CountsUp, IsOfSession, KeepsLimits, KeepsTime, PairsOldest}
 use Rattle.rv_rules.specs.Legal.{PairsOpposites, PairsWherePossible, RaisesIncarnation}
-use Rattle.rv_rules.proofs.Histories.{one_last_number}
 use Rattle.rv_audit.specs.Breaking.{BreaksCount, FallsBack, IsOfNoSession, IsSwapped, NamesOne, NamesTooMany}
 use Rattle.rv_audit.specs.Breaking.{NamesWrongly, PassesLimit, TicksForNothing, WasNamed}
 
 -- ---- moments
-
-own_at_most : (o : Option ℕ) (opened moment : ℕ) → opened ≤ moment
-    → ((earlier : ℕ) → o ≡ Some earlier → earlier ≤ moment) → unwrap_or o opened ≤ moment
-own_at_most None opened moment least since = least
-own_at_most (Some earlier) opened moment least since = since earlier refl
 
 pub falls_not_back : (a : Account) (e : Entry) → KeepsTime a e.moment → FallsBack a e → ⊥
 falls_not_back a e time falls = grind arith
@@ -51,17 +44,7 @@ pub is_of_session : (a : Account) (does : Act) → IsOfSession a does → IsOfNo
 is_of_session a does session strange = grind arith
 
 next_in_turn : (es : List Entry) (key : Key) → IsNextNumber es key → IsOutOfOrder es key → ⊥
-next_in_turn es key next (inl not_next) = elim not_next.counts_to [
-  | inl last ↦ not_next.other (next.next ∙ ap (λ n. n + 1) (one_last_number es key.client next.last
-      not_next.last next.is_last last))
-  | inr none ↦ none.0 (
-    next.is_last.h,
-    next.is_last.incarnation,
-    next.is_last.hello.version,
-    next.is_last.hello.hello,
-  )
-]
-next_in_turn es key next (inr waits) = next.idle waits
+next_in_turn = grind arith
 
 pub counts_in_turn : (es : List Entry) (does : Act) → CountsUp es does → CancelsInTurn es does
     → BreaksCount es does → ⊥
@@ -130,16 +113,10 @@ names_rightly a e legal names (inr (inl many)) = names_few e names.few many
 names_rightly a e legal names (inr (inr falls)) = falls names.rising
 
 pub paired_meets : (side : Side) → IsPaired side → IsSome (opposite side)
-paired_meets (Gives queue) paired = refl
-paired_meets (Takes queue) paired = refl
-paired_meets (Looks queue) paired = absurd paired
-paired_meets (Exchanges exchanger) paired = absurd paired
+paired_meets = grind arith
 
 pub swapped_meets : (side : Side) → IsSwapped side → IsSome (opposite side)
-swapped_meets (Gives queue) swapped = absurd swapped
-swapped_meets (Takes queue) swapped = absurd swapped
-swapped_meets (Looks queue) swapped = absurd swapped
-swapped_meets (Exchanges exchanger) swapped = refl
+swapped_meets = grind arith
 
 module _ (Is : Side → Type 0) (es : List Entry) (e : Entry) where
   pub meets_rightly : ((side : Side) → Is side → IsSome (opposite side)) → PairsOpposites es e

@@ -1,8 +1,9 @@
 -- An entry that breaks no rule behind those of a legal account may follow them: of each rule what it gives.
+use Rattle.rv_audit.proofs.Words.{nat_tests}
 use Rattle.rv_audit.proofs.Words.{◌≡◌, ◌≢◌, ◌⊎◌, ◌+◌, ◌<◌, ◌∷◌, ◌∙◌, inl, inr, ℕ, List, [], length}
 use Rattle.rv_audit.proofs.Words.{Option, Some, None, IsSome, refl, sym, ap, subst, arith, slice_get}
-use Rattle.rv_audit.proofs.Words.{cases_lt, none-some, same_Some, Version, Key, Call, Side, Gives, Takes}
-use Rattle.rv_audit.proofs.Words.{Looks, Exchanges, side_of, Entry, Act, Hello, Arrive, Cancel, Tick, Account}
+use Rattle.rv_audit.proofs.Words.{cases_lt, none-some, same_Some, Version, Key, Call, Side}
+use Rattle.rv_audit.proofs.Words.{side_of, Entry, Act, Hello, Arrive, Cancel, Tick, Account}
 use Rattle.rv_audit.proofs.Words.{Among, Names, call_in, key_in, may_name, opposite, Met, OpenAt}
 use Rattle.rv_audit.proofs.Words.{IsNextNumber, IsOpenOpposite, Legal, MayFollow, NamesFreePartners}
 use Rattle.rv_audit.proofs.Words.{SomethingDue, own_moment, read_front, call_read}
@@ -30,7 +31,6 @@ use Rattle.rv_state.proofs.OwnMoment.{later_keeps_time}
 use Rattle.rv_rules.proofs.Fronts.{open_in_front}
 use Rattle.rv_rules.proofs.Growing.{read_there}
 use Rattle.rv_rules.proofs.Naming.{among_or_not}
-use Rattle.rv_rules.proofs.Opposites.{looks_alone}
 use Rattle.rv_audit.specs.Breaking.{BreaksCount, FallsBack, IsOfNoSession, IsSwapped, NamesOne, NamesWrongly}
 use Rattle.rv_audit.specs.Breaking.{ArrivesAs, WasNamed}
 
@@ -66,7 +66,8 @@ keeps_limits a moment Tick legal past idle =
 
 pub raises_incarnation : (es : List Entry) (does : Act) → (StartsNoNewer es does → ⊥)
     → RaisesIncarnation es does
-raises_incarnation es does newer client incarnation version hello r reached earlier_version earlier = grind arith
+raises_incarnation es does newer client incarnation version hello r reached earlier_version earlier =
+    grind (arith, nat_tests)
 
 pub of_session : (a : Account) (does : Act) → Legal a → (IsOfNoSession a does → ⊥) → IsOfSession a does
 of_session a does legal known key names = (
@@ -117,30 +118,18 @@ cancels_in_turn a does legal session keeps key cancels = elim (waits_decided (st
 
 -- a side that meets another is one of pairs or one of swaps
 pub paired_or_swapped : (side : Side) → IsSome (opposite side) → IsPaired side ⊎ IsSwapped side
-paired_or_swapped (Gives queue) meets = inl tt
-paired_or_swapped (Takes queue) meets = inl tt
-paired_or_swapped (Looks queue) meets = absurd (looks_alone queue meets)
-paired_or_swapped (Exchanges exchanger) meets = inr tt
+paired_or_swapped = grind arith
 
 -- and so is the other
 pub paired_opposite : (side other : Side) → opposite side ≡ Some other → IsPaired side → IsPaired other
-paired_opposite (Gives queue) other opposes paired = subst IsPaired (same_Some _ _ opposes) tt
-paired_opposite (Takes queue) other opposes paired = subst IsPaired (same_Some _ _ opposes) tt
-paired_opposite (Looks queue) other opposes paired = absurd paired
-paired_opposite (Exchanges exchanger) other opposes paired = absurd paired
+paired_opposite = grind arith
 
 -- who exchanges meets its own side
 pub swapped_opposite : (side : Side) → IsSwapped side → opposite side ≡ Some side
-swapped_opposite (Gives queue) swapped = absurd swapped
-swapped_opposite (Takes queue) swapped = absurd swapped
-swapped_opposite (Looks queue) swapped = absurd swapped
-swapped_opposite (Exchanges exchanger) swapped = refl
+swapped_opposite = grind arith
 
 side_meets : (side : Side) → IsSome (opposite side) ⊎ (IsSome (opposite side) → ⊥)
-side_meets (Gives queue) = inl refl
-side_meets (Takes queue) = inl refl
-side_meets (Looks queue) = inr (looks_alone queue)
-side_meets (Exchanges exchanger) = inl refl
+side_meets = grind arith
 
 meets_or_not : (o : Option Call) → ((call : Call) × (o ≡ Some call) × MayMeet call)
     ⊎ ((call : Call) × (o ≡ Some call) × MayMeet call → ⊥)

@@ -8,7 +8,7 @@ use Rattle.rv_audit.proofs.Words.{Entry}
 use Rattle.rv_audit.proofs.Words.{Account, Front, IsFront, IsOpenable, OpenAt, SomethingDue, Waiting}
 use Rattle.rv_audit.proofs.Words.{AuditSession, ClientWaitsAt, HasWaiting, IfNone, IfSome, IsTrue}
 use Rattle.rv_audit.proofs.Words.{NoneUntil, one_side, opposite, passed_account, stands_in, key_in}
-use Rattle.std.proofs.Common.{◌↔◌, ◌^◌, cond, nat_lt, is_some, option_map}
+use Rattle.std.proofs.Common.{◌↔◌, ◌^◌, is_some, option_map}
 use Rattle.std.specs.Option.{option_eq}
 use Rattle.rv_text.specs.declared.call.Wait.{Wait}
 use Rattle.rv_account.specs.Account.{key_at, limit_at}
@@ -20,7 +20,7 @@ use Rattle.rv_state.specs.State.{same_side}
 use Rattle.rv_state.specs.After.{state_of, waiter_of}
 use Rattle.rv_state.specs.Agreement.{IsArrival, IsStateOf, TellsWaiting}
 use Rattle.rv_state.proofs.Agreed.{agreed}
-use Rattle.rv_state.proofs.ClientParts.{account_to_session, client_known, client_new, session_incarnation}
+use Rattle.rv_state.proofs.ClientParts.{account_to_session}
 use Rattle.rv_state.proofs.Due.{due_of_place}
 use Rattle.rv_state.proofs.Filtered.{chained_there, find_get, mapped_there}
 use Rattle.rv_state.specs.Follows.{InSession}
@@ -52,12 +52,7 @@ opposed_at es call side r opposes there = grind arith
 -- ---- limits
 
 fits_back : (limit : Option ℕ) (n : ℕ) → is_limit n (fitting limit) ≡ true → limit ≡ Some n
-fits_back None n is = absurd (false≢true is)
-fits_back (Some m) n is = by_fit (nat_lt m 18446744073709551616) is
-  where
-    by_fit : (b : Bool) → is_limit n (cond b (Some m) None) ≡ true → Some m ≡ Some n
-    by_fit true is = let same : m ≡ n = grind (arith, nat_tests) in ap Some same
-    by_fit false is = absurd (false≢true is)
+fits_back = grind arith
 
 fits_on : (n : ℕ) → n < 18446744073709551616 → is_limit n (fitting (Some n)) ≡ true
 fits_on n fits = grind arith
@@ -66,8 +61,7 @@ fits_on n fits = grind arith
 
 waiter_key : (key : Key) (moment : ℕ) (wait : Option Wait) (w : Waiter) → waiter_of key moment wait ≡ Some w
     → w.key ≡ key
-waiter_key key moment None w is = absurd (none-some w is)
-waiter_key key moment (Some wait) w is = ap (λ (x : Waiter). x.key) (sym (same_Some _ _ is))
+waiter_key = grind arith
 
 some_waiter : (o : Option Waiter) → IsSome o → (w : Waiter) × (o ≡ Some w)
 some_waiter None some = absurd (false≢true some)
@@ -212,10 +206,7 @@ module _ (front : Front) (is : IsFront front) where
   asked_at : (client q : ℕ) (c : ClientState) (o : Option ClientState) (t : Option AuditSession)
       → IsAuditedIf o t → o ≡ Some c → place_waiting c.request ≡ Some q
       → option_and_then (λ (x : AuditSession). x.request) t ≡ Some q
-  asked_at client q c None t audited there waits = absurd (none-some c there)
-  asked_at client q c (Some d) None audited there waits = absurd audited
-  asked_at client q c (Some d) (Some t) audited there waits = audited.alone q
-      (ap (λ (x : ClientState). place_waiting x.request) (same_Some _ _ there) ∙ waits)
+  asked_at = grind arith
 
   -- its session and its place say where a request waits
   pub waits_told : (client : ℕ) (w : HasWaiting a.entries client)
@@ -246,12 +237,10 @@ module _ (front : Front) (is : IsFront front) where
 
 -- where a request waits, by a test of that place
 is_one : (o : Option ℕ) (n : ℕ) → option_eq nat_eq o (Some n) ≡ true → o ≡ Some n
-is_one None n is = absurd (false≢true is)
-is_one (Some m) n is = let same : m ≡ n = grind (arith, nat_tests) in ap Some same
+is_one = grind arith
 
 one_is : (o : Option ℕ) (n : ℕ) → o ≡ Some n → option_eq nat_eq o (Some n) ≡ true
-one_is None n is = absurd (none-some n is)
-one_is (Some m) n is = let same : m ≡ n = same_Some _ _ is in grind (arith, nat_tests)
+one_is = grind arith
 
 pub waiting_some : (front : Front) (client r : ℕ) (o : Option ℕ) (b : Bool) → IsFront front
     → o ≡ option_and_then (λ (o : Opening). o.client) (opening_at front.opens r)
@@ -286,23 +275,11 @@ IsKnownIf entries client (Some t) = IsKnown entries client t
 
 known_by : (a : Account) (s : State) (client : ℕ) (o : Option ClientState) (t : Option AuditSession)
     → IsStateOf a s → client_at s client ≡ o → IsAuditedIf o t → IsKnownIf a.entries client t
-known_by a s client None None stated there audited = client_new a s client stated there
-known_by a s client None (Some t) stated there audited = absurd audited
-known_by a s client (Some c) None stated there audited = absurd audited
-known_by a s client (Some c) (Some t) stated there audited = record {
-  incarnation = subst (HasIncarnation a.entries client) (sym audited.incarnation)
-      (session_incarnation a s client c stated there);
-  number = subst (LastNumber a.entries client) (sym audited.last) (client_known a s client c stated
-      there).last;
-}
+known_by = grind arith
 
 pub same_last : (o : Option ClientState) (u : Option AuditSession) (c : ClientState) (t : AuditSession)
     → IsAuditedIf o u → o ≡ Some c → u ≡ Some t → t.last ≡ c.last
-same_last None u c t audited there is = absurd (none-some c there)
-same_last (Some d) None c t audited there is = absurd audited
-same_last (Some d) (Some e) c t audited there is =
-    ap (λ (x : AuditSession). x.last) (sym (same_Some _ _ is)) ∙ audited.last
-    ∙ ap (λ (x : ClientState). x.last) (same_Some _ _ there)
+same_last = grind arith
 
 -- whether the key is that of the request which waits in its session
 pub otherwise : (front : Front) (key : Key) (t : AuditSession) → IsFront front

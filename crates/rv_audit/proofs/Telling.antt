@@ -11,7 +11,7 @@ use Rattle.rv_audit.proofs.Words.{NamesTaken, PassesOver, StartsNoNewer}
 use Rattle.rv_audit.proofs.Words.{is_any, AuditSession}
 use Rattle.std.proofs.Common.{nat_lt, nat_le, is_some}
 use Rattle.rv_rules.specs.Sessions.{LastNumber, SaidHello}
-use Rattle.rv_rules.proofs.Histories.{hellos_at_most, one_last_number}
+use Rattle.rv_rules.proofs.Histories.{hellos_at_most}
 use Rattle.rv_audit.specs.Breaking.{ArrivesAs, ArrivesToMeet, CountsTo, IsNotNext}
 use Rattle.rv_audit.specs.Breaking.{TicksForNothing}
 use Rattle.rv_audit.specs.Passed.{IsOfSessionOf, IsOldestOpposite, LeavesOlder}
@@ -232,9 +232,7 @@ reached a client incarnation version s false above legal is = (
     same_hello_parts c i d j v w e = (let f : c ≡ d = cc in f, let f : i ≡ j = cc in f)
 
 one_count : (es : List Entry) (client m n : ℕ) → LastNumber es client m → CountsTo es client n → n ≡ m
-one_count es client m n is (inl last) = one_last_number es client n m last is
-one_count es client m n is (inr none) =
-    absurd (none.0 (is.h, is.incarnation, is.hello.version, is.hello.hello))
+one_count = grind arith
 
 pub not_next : (es : List Entry) (key : Key) (s : AuditSession) (b : Bool) → IsKnown es key.client s
     → (b ≡ true → key.number ≢ s.last + 1) → (b ≡ false → key.number ≡ s.last + 1)

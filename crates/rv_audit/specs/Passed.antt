@@ -18,7 +18,6 @@ use Rattle.rv_state.specs.State.{ClientState, OpenPlace, State, client_at, clien
 use Rattle.rv_state.specs.After.{but, due_at, just_open, lasts_by, met_by, state_of}
 use Rattle.rv_audit.specs.Breaking.{BreaksBehind, IsPaired, IsSwapped, NamesOne, WasNamed, rank_of}
 use Rattle.rv_audit.specs.declared.rule.Rule.{Rule}
-use Rattle.rv_audit.specs.declared.rule.Rule.TheVariants.{M1, M2, M3, N1, N2, N3, P1, P2, P3, P4, S1, S2}
 use Rattle.rv_audit.specs.declared.rules.MeetingKind.{MeetingKind}
 use Rattle.rv_audit.specs.declared.rules.MeetingKind.TheVariants as kinds
 use Rattle.rv_audit.specs.Opens.{AreIndexed, Opening, is_among, opening_at}
@@ -239,10 +238,6 @@ pub record HasPassed (old new : Front) : Type 0 where
   pub front : IsFront new
 
 -- ---- which rule an entry breaks first
-
--- the rules in their order
-abbrev pub all_rules : List Rule
-all_rules = M1 ∷ M2 ∷ M3 ∷ N1 ∷ N2 ∷ N3 ∷ P1 ∷ P2 ∷ P3 ∷ P4 ∷ S1 ∷ S2 ∷ []
 
 -- the entry breaks none of so many
 abbrev pub KeepsBefore : ℕ → Account → Entry → Type 0

@@ -2,7 +2,7 @@
 ghost use Rattle.std.specs.Prelude.{◌≡◌, ◌↔◌, IfNone, IfOk, IfSome};
 ghost use Rattle.rv_rules.specs.Legal.{Legal};
 ghost use Rattle.rv_audit.specs.Breaking.{IsToldOf};
-ghost use Rattle.rv_audit.specs.Passed.{BreaksFirst, BreaksNone, all_rules};
+ghost use Rattle.rv_audit.specs.Passed.{BreaksFirst, BreaksNone};
 ghost use Rattle.rv_audit.specs.Passed.{IsFront, passed_account};
 ghost use Rattle.rv_audit.specs.declared.rule.Audit.TheVariants as tells;
 
@@ -12,21 +12,6 @@ use crate::rules::breaks;
 use rv_account::{Account, Entry};
 use rv_text::NoMemory;
 use std::alloc::Global;
-
-// The first of these rules, which are all of them in their order, that the entry breaks.
-fn first_of(front: &Front<'_>, rules: &[Rule], entry: &Entry) -> Option<Rule>
-    requires front { IsFront front.now }
-    requires rules { rules.now ≡ all_rules }
-    ensures some { IfSome result (BreaksFirst (passed_account front.now) entry.now) }
-    ensures none { IfNone result (BreaksNone (passed_account front.now) entry.now) }
-{
-    for rule in rules {
-        if breaks(front, *rule, entry) {
-            return Some(*rule);
-        }
-    }
-    None
-}
 
 // The first rule that the entry breaks, in the order of the rules.
 fn first_broken(front: &Front<'_>, entry: &Entry) -> Option<Rule>
@@ -48,7 +33,12 @@ fn first_broken(front: &Front<'_>, entry: &Entry) -> Option<Rule>
         Rule::S1,
         Rule::S2,
     ];
-    first_of(front, &rules, entry)
+    for rule in &rules {
+        if breaks(front, *rule, entry) {
+            return Some(*rule);
+        }
+    }
+    None
 }
 
 /// Audits any account. It tells that the account is legal, or else the first place at which a rule is broken,
