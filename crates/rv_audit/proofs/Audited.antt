@@ -19,7 +19,7 @@ use Rattle.rv_state.specs.Follows.{NumberFits, NumberIsNext, NumberWaits}
 use Rattle.rv_state.proofs.ToldClients.{get_other, get_own, get_tell_all, told_client, told_or_waits}
 use Rattle.rv_state.proofs.ToldClients.{told_request}
 use Rattle.rv_state.proofs.ToldClients.{told_still}
-use Rattle.rv_audit.specs.Passed.{AreAudited, IsAudited, IsAuditedIf, session_after, with_last}
+use Rattle.rv_audit.specs.Passed.{AreAudited, IsAudited, IsAuditedIf, session_after, with_number}
 use Rattle.rv_audit.specs.Sessions.{EntersIf, EntersSession, session_in}
 use Rattle.rv_audit.specs.declared.sessions.AuditSessions.{AuditSessions}
 
@@ -112,7 +112,7 @@ module _ (s : State) (old new : AuditSessions) (are : AreAudited s old) where
   -- a cancel gives the session its number, and its last request stays
   cancel_by : (key : Key) (o : Option OpenPlace) → client_waits s key.client ≡ o → HasSession s key
       → (u : Option AuditSession) → session_in old key.client ≡ u
-      → EntersIf old new (with_last key.client key.number u)
+      → EntersIf old new (with_number key.client key.number u)
       → (c : ℕ) → IsAuditedIf (get (cancelled s key o).after.clients c) (session_in new c)
   cancel_by key o waits has None none enters c =
       absurd (subst (λ (u : Option AuditSession). IsAuditedIf (Some has.session) u) none

@@ -3,19 +3,19 @@ use Rattle.rv_audit.proofs.Words.{◌≡◌, ◌⊎◌, ◌≤◌, ◌∙◌, in
 use Rattle.rv_audit.proofs.Words.{refl, sym, ap, arith, false≢true, nat_eq, nat_tests, Opens}
 use Rattle.rv_audit.proofs.Words.{NoneUntil}
 use Rattle.std.proofs.Common.{cond, nat_lt}
-use Rattle.rv_audit.specs.Opens.{AreIndexed, ClosesUntil, Opening, ends_at, has_come, is_limit, left_after}
+use Rattle.rv_audit.specs.Opens.{AreFiled, ClosesUntil, OpenArrival, ends_at, has_come, is_limit, left_after}
 use Rattle.rv_audit.specs.Opens.{opening_at}
 
 -- some places were closed whose limit had come at a moment
 pub record ClosedSome (old new : Opens) (moment : ℕ) : Type 0 where
-  pub indexed : AreIndexed new
+  pub indexed : AreFiled new
   pub are : (r : ℕ) → (opening_at new r ≡ opening_at old r)
       ⊎ ((opening_at new r ≡ None) × (left_after moment (opening_at old r) ≡ None))
 
 -- what is left when no limit is left that has come
 module _ (old new : Opens) (moment : ℕ) (closed : ClosedSome old new moment)
     (none : NoneUntil new.limits moment) where
-  not_come : (r : ℕ) (there : Opening) (limit : Option ℕ) → there.limit ≡ limit
+  not_come : (r : ℕ) (there : OpenArrival) (limit : Option ℕ) → there.limit ≡ limit
       → opening_at new r ≡ Some there → has_come moment limit ≡ false
   not_come r there None is at = refl
   not_come r there (Some limit) is at = by_order (nat_lt moment limit) refl
@@ -28,7 +28,7 @@ module _ (old new : Opens) (moment : ℕ) (closed : ClosedSome old new moment)
           let own : nat_eq limit limit ≡ true = grind (arith, nat_tests) in
           absurd (false≢true (sym (none limit r most) ∙ marked ∙ own))
 
-  stays : (r : ℕ) (o : Option Opening) → opening_at new r ≡ o → o ≡ left_after moment o
+  stays : (r : ℕ) (o : Option OpenArrival) → opening_at new r ≡ o → o ≡ left_after moment o
   stays r None at = refl
   stays r (Some there) at = sym (ap (λ b. cond b None (Some there)) (not_come r there there.limit refl at))
 

@@ -33,12 +33,12 @@ use Rattle.rv_state.proofs.PlacesAfter.{places_acted}
 use Rattle.rv_state.proofs.Sessions.{found_open}
 use Rattle.rv_state.proofs.StateLaws.{states_tell_waiting}
 use Rattle.rv_state.proofs.Stated.{own_last}
-use Rattle.rv_audit.specs.Opens.{AreIndexed, ClosesEach, ClosesUntil, Opening, OpensAt, OpensIf, has_come}
+use Rattle.rv_audit.specs.Opens.{AreFiled, ClosesEach, ClosesUntil, OpenArrival, OpensAt, OpensIf, has_come}
 use Rattle.rv_audit.specs.Opens.{is_among, left_after}
 use Rattle.rv_audit.specs.Opens.{opening_at}
 use Rattle.rv_audit.specs.Passed.{alone_opens, AreAudited, IsAuditedIf, AreOpen, AreTables, AreTaken}
 use Rattle.rv_audit.specs.Passed.{closed_by, ClosesGone, fitting, Flags}
-use Rattle.rv_audit.specs.Passed.{found_at, HasPassed, IsReadyFor, IsTaken, open_beside, opening_by}
+use Rattle.rv_audit.specs.Passed.{open_among, HasPassed, IsReadyFor, IsTaken, open_beside, opening_by}
 use Rattle.rv_audit.specs.Passed.{opening_of, passed_state, session_after}
 use Rattle.rv_audit.specs.Sessions.{EntersIf, session_in}
 use Rattle.rv_audit.proofs.Audited.{audited_after}
@@ -66,13 +66,14 @@ among_any places r any =
 
 -- what is found among those that are left
 left_by : (o : OpenPlace) (all gone : List OpenPlace) (r : ℕ)
-    → found_at (but all gone) r ≡ cond (is_among (place_list gone) r) None (found_at all r) → (at went : Bool)
+    → open_among (but all gone) r ≡ cond (is_among (place_list gone) r) None (open_among all r)
+    → (at went : Bool)
     → nat_eq o.place r ≡ at → list_any (λ (other : OpenPlace). nat_eq other.place o.place) gone ≡ went
     → find (λ x. nat_eq x.place r) (cond (not went) (o ∷ but all gone) (but all gone))
-    ≡ cond (is_among (place_list gone) r) None (cond at (Some o) (found_at all r))
+    ≡ cond (is_among (place_list gone) r) None (cond at (Some o) (open_among all r))
 left_by o all gone r rest false true at went = rest
 left_by o all gone r rest false false at went =
-    ap (λ b. cond b (Some o) (found_at (but all gone) r)) at ∙ rest
+    ap (λ b. cond b (Some o) (open_among (but all gone) r)) at ∙ rest
 left_by o all gone r rest true went at is =
     let here : o.place ≡ r = grind (arith, nat_tests) in
     let any = map_any gone r ∙ ap (λ n. list_any (λ (x : OpenPlace). nat_eq x.place n) gone) (sym here)
@@ -82,16 +83,17 @@ left_by o all gone r rest true went at is =
     by_any : (b : Bool) → is_among (place_list gone) r ≡ b
         → find (λ x. nat_eq x.place r) (cond (not b) (o ∷ but all gone) (but all gone))
         ≡ cond (is_among (place_list gone) r) None (Some o)
-    by_any true any = rest ∙ ap (λ b. cond b None (found_at all r)) any ∙ sym (ap (λ b. cond b None (Some o))
+    by_any true any = rest ∙ ap (λ b. cond b None (open_among all r)) any
+        ∙ sym (ap (λ b. cond b None (Some o))
         any)
-    by_any false any = ap (λ b. cond b (Some o) (found_at (but all gone) r)) at
+    by_any false any = ap (λ b. cond b (Some o) (open_among (but all gone) r)) at
         ∙ sym (ap (λ b. cond b None (Some o)) any)
 
 but_found : (all gone : List OpenPlace) (r : ℕ)
-    → found_at (but all gone) r ≡ cond (is_among (place_list gone) r) None (found_at all r)
+    → open_among (but all gone) r ≡ cond (is_among (place_list gone) r) None (open_among all r)
 but_found [] gone r = nothing (is_among (place_list gone) r)
   where
-    nothing : (b : Bool) → None ≡ cond b None (found_at [] r)
+    nothing : (b : Bool) → None ≡ cond b None (open_among [] r)
     nothing true = refl
     nothing false = refl
 but_found (o ∷ all) gone r = left_by o all gone r (but_found all gone r) (nat_eq o.place r)
@@ -108,12 +110,12 @@ pub closes_places : (all gone : List OpenPlace) (old new : Opens) → AreOpen al
 closes_places all gone old new are closes r =
     closes.are r ∙ ap (cond (is_among (place_list gone) r) None) (are r)
     ∙ sym (ap (option_map opening_of) (but_found all gone r)
-    ∙ map_cond (is_among (place_list gone) r) (found_at all r))
+    ∙ map_cond (is_among (place_list gone) r) (open_among all r))
 
 pub closes_one : (old new : Opens) (p : ℕ) → OpensAt old new p None → ClosesEach old new (p ∷ [])
 closes_one old new p closes = grind arith
 
-pub closes_none : (t : Opens) → AreIndexed t → ClosesEach t t []
+pub closes_none : (t : Opens) → AreFiled t → ClosesEach t t []
 closes_none t indexed = record { indexed = indexed; are = λ r. refl }
 
 module _ (a : Account) (legal : Legal a) where
@@ -239,27 +241,27 @@ opens_last : (s : State) (moment : ℕ) (does : Act) → IsLast s (opens_by s mo
 opens_last = grind arith
 
 push_by : (x : OpenPlace) (all : List OpenPlace) (o : OpenPlace) (r : ℕ)
-    → (found_at all o.place ≡ None
-    → found_at (all ++ o ∷ []) r ≡ cond (nat_eq o.place r) (Some o) (found_at all r))
+    → (open_among all o.place ≡ None
+    → open_among (all ++ o ∷ []) r ≡ cond (nat_eq o.place r) (Some o) (open_among all r))
     → (b c : Bool) → nat_eq x.place o.place ≡ b → nat_eq x.place r ≡ c
-    → cond b (Some x) (found_at all o.place) ≡ None
-    → cond c (Some x) (found_at (all ++ o ∷ []) r)
-    ≡ cond (nat_eq o.place r) (Some o) (cond c (Some x) (found_at all r))
+    → cond b (Some x) (open_among all o.place) ≡ None
+    → cond c (Some x) (open_among (all ++ o ∷ []) r)
+    ≡ cond (nat_eq o.place r) (Some o) (cond c (Some x) (open_among all r))
 push_by = grind arith
 
-found_push : (all : List OpenPlace) (o : OpenPlace) (r : ℕ) → found_at all o.place ≡ None
-    → found_at (all ++ o ∷ []) r ≡ cond (nat_eq o.place r) (Some o) (found_at all r)
+found_push : (all : List OpenPlace) (o : OpenPlace) (r : ℕ) → open_among all o.place ≡ None
+    → open_among (all ++ o ∷ []) r ≡ cond (nat_eq o.place r) (Some o) (open_among all r)
 found_push [] o r none = refl
 found_push (x ∷ all) o r none = push_by x all o r (found_push all o r) (nat_eq x.place o.place)
     (nat_eq x.place r) refl refl none
 
 pub opens_joined : (all opened : List OpenPlace) (s : State) (place : ℕ) (old new : Opens)
-    (o : Option Opening)
+    (o : Option OpenArrival)
     → AreOpen all old → OpensIf old new place o → o ≡ option_map opening_of (first_of opened)
-    → IsLast s opened → place ≡ s.length → found_at all place ≡ None → AreOpen (all ++ opened) new
+    → IsLast s opened → place ≡ s.length → open_among all place ≡ None → AreOpen (all ++ opened) new
 opens_joined all opened s place old new None are same is (inl none) at free r =
     ap (λ (t : Opens). opening_at t r) same ∙ are r
-    ∙ ap (λ l. option_map opening_of (found_at l r)) (sym (append-nil all) ∙ ap (λ l. all ++ l) (sym none))
+    ∙ ap (λ l. option_map opening_of (open_among l r)) (sym (append-nil all) ∙ ap (λ l. all ++ l) (sym none))
 opens_joined all opened s place old new (Some there) are opens is (inl none) at free r =
     absurd (none-some there (sym (ap (λ l. option_map opening_of (first_of l)) none) ∙ sym is))
 opens_joined all opened s place old new None are same is (inr (o, one, last)) at free r =
@@ -268,15 +270,15 @@ opens_joined all opened s place old new (Some there) are opens is (inr (o, one, 
     let own : there ≡ opening_of o =
     same_Some _ _ (is ∙ ap (λ l. option_map opening_of (first_of l)) one) in
     let here : o.place ≡ place = last ∙ sym at in
-    let pushed = ap (λ l. option_map opening_of (found_at (all ++ l) r)) one
-    ∙ ap (option_map opening_of) (found_push all o r (ap (found_at all) here ∙ free)) in
+    let pushed = ap (λ l. option_map opening_of (open_among (all ++ l) r)) one
+    ∙ ap (option_map opening_of) (found_push all o r (ap (open_among all) here ∙ free)) in
     by_place (nat_eq o.place r) refl own here ∙ sym pushed
   where
     differ : nat_eq o.place r ≡ false → o.place ≡ place → r ≡ place → ⊥
     differ apart here same = grind (arith, nat_tests)
 
     by_place : (b : Bool) → nat_eq o.place r ≡ b → there ≡ opening_of o → o.place ≡ place
-        → opening_at new r ≡ option_map opening_of (cond b (Some o) (found_at all r))
+        → opening_at new r ≡ option_map opening_of (cond b (Some o) (open_among all r))
     by_place true at_r own here =
         let is_r : r ≡ place = grind (arith, nat_tests) in
         ap (opening_at new) is_r ∙ opens.own ∙ ap Some own
@@ -365,7 +367,7 @@ take_next (y ∷ ys) (suc n) x there = ap (λ zs. y ∷ zs) (take_next ys n x th
 
 -- at the next place nothing is open
 free_there : (a : Account) (legal : Legal a) (gone : List OpenPlace) (place : ℕ) → place ≡ length a.entries
-    → found_at (but (state_of a).open_places gone) place ≡ None
+    → open_among (but (state_of a).open_places gone) place ≡ None
 free_there a legal gone place at =
     but_found (state_of a).open_places gone place
     ∙ by_open (is_among (place_list gone) place) (open_at (state_of a) place) refl
@@ -453,15 +455,15 @@ module _ (old new : Front) (e : Entry) (place : ℕ) (ready : IsReadyFor old e)
         });
       }
     where
-      opens_indexed : (o : Option Opening) → OpensIf old.opens new.opens place o → AreIndexed new.opens
-      opens_indexed None same = subst AreIndexed (sym same) ready.closes.indexed
+      opens_indexed : (o : Option OpenArrival) → OpensIf old.opens new.opens place o → AreFiled new.opens
+      opens_indexed None same = subst AreFiled (sym same) ready.closes.indexed
       opens_indexed (Some there) opened = opened.indexed
 
 -- ---- nothing was passed
 
 -- before the first entry all tables are empty
 pub none_passed : (front : Front) → front.moment ≡ front.account.now.account.opened
-    → front.taken.items ≡ [] → AreIndexed front.opens → ((r : ℕ) → opening_at front.opens r ≡ None)
+    → front.taken.items ≡ [] → AreFiled front.opens → ((r : ℕ) → opening_at front.opens r ≡ None)
     → ((client : ℕ) → session_in front.sessions client ≡ None) → IsFront front
 none_passed front moment taken indexed opens sessions =
     subst (λ n. AreTables (before front.account.now.account n) front) (sym (ap length taken)) (record {

@@ -20,7 +20,7 @@ use Rattle.rv_audit.specs.Breaking.{BreaksBehind, IsPaired, IsSwapped, NamesOne,
 use Rattle.rv_audit.specs.declared.rule.Rule.{Rule}
 use Rattle.rv_audit.specs.declared.rules.MeetingKind.{MeetingKind}
 use Rattle.rv_audit.specs.declared.rules.MeetingKind.TheVariants as kinds
-use Rattle.rv_audit.specs.Opens.{AreIndexed, Opening, is_among, opening_at}
+use Rattle.rv_audit.specs.Opens.{AreFiled, OpenArrival, is_among, opening_at}
 use Rattle.rv_audit.specs.Sessions.{session_in}
 use Rattle.rv_audit.specs.declared.front.Front.{Front}
 use Rattle.rv_audit.specs.declared.opens.Opens.{Opens}
@@ -50,7 +50,7 @@ fitting None = None
 fitting (Some limit) = cond (nat_lt limit (2 ^ 64)) (Some limit) None
 
 -- what a table keeps of an open place
-abbrev pub opening_of : OpenPlace → Opening
+abbrev pub opening_of : OpenPlace → OpenArrival
 opening_of there =
     record {
       side = there.side;
@@ -59,12 +59,12 @@ opening_of there =
     }
 
 -- what is open among these at a place
-abbrev pub found_at : List OpenPlace → ℕ → Option OpenPlace
-found_at all place = find (λ o. nat_eq o.place place) all
+abbrev pub open_among : List OpenPlace → ℕ → Option OpenPlace
+open_among all place = find (λ o. nat_eq o.place place) all
 
 -- what is open at each place is open among these
 abbrev pub AreOpen : List OpenPlace → Opens → Type 0
-AreOpen all t = (r : ℕ) → opening_at t r ≡ option_map opening_of (found_at all r)
+AreOpen all t = (r : ℕ) → opening_at t r ≡ option_map opening_of (open_among all r)
 
 -- a client's session has its incarnation, its last number, and where alone its last request waits, if it does
 pub record IsAudited (state : ClientState) (s : AuditSession) : Type 0 where
@@ -86,7 +86,7 @@ pub record AreTables (a : Account) (front : Front) : Type 0 where
   pub legal : Legal a
   pub moment : front.moment ≡ own_moment a
   pub taken : AreTaken a.entries front.taken.items
-  pub indexed : AreIndexed front.opens
+  pub indexed : AreFiled front.opens
   pub opens : AreOpen (state_of a).open_places front.opens
   pub sessions : AreAudited (state_of a) front.sessions
 
@@ -166,7 +166,7 @@ open_beside s e = but s.open_places (closed_by s e.moment e.act)
 
 -- what the entry closes is open no more
 pub record ClosesGone (old new : Front) (e : Entry) : Type 0 where
-  pub indexed : AreIndexed new.opens
+  pub indexed : AreFiled new.opens
   pub opens : AreOpen (open_beside (passed_state old) e) new.opens
 
 -- ---- what an entry brings
@@ -187,7 +187,7 @@ pub record Flags (old new : List Bool) (places : List ℕ) : Type 0 where
   pub one_more : new ≡ flags ++ is_any places ∷ []
 
 -- what an arrival with this key and call opens at a moment, if it names nobody
-abbrev pub opening_of_call : ℕ → Key → Call → Option Opening
+abbrev pub opening_of_call : ℕ → Key → Call → Option OpenArrival
 opening_of_call moment key call =
     cond (is_some (opposite (side_of call)) && lasts_by (wait_of call))
     (Some (record {
@@ -197,17 +197,17 @@ opening_of_call moment key call =
     })) None
 
 -- what an entry opens, if it does
-abbrev pub alone_opens : List ℕ → ℕ → Act → Option Opening
+abbrev pub alone_opens : List ℕ → ℕ → Act → Option OpenArrival
 alone_opens [] moment (Arrive key call) = opening_of_call moment key call
 alone_opens _ moment does = None
 
-abbrev pub opening_by : Entry → Option Opening
+abbrev pub opening_by : Entry → Option OpenArrival
 opening_by e = alone_opens e.partners e.moment e.act
 
 -- what an act makes of its client's session
-abbrev pub with_last : ℕ → ℕ → Option AuditSession → Option (ℕ × AuditSession)
-with_last client number None = None
-with_last client number (Some s) =
+abbrev pub with_number : ℕ → ℕ → Option AuditSession → Option (ℕ × AuditSession)
+with_number client number None = None
+with_number client number (Some s) =
     Some (client, record { incarnation = s.incarnation; last = number; request = s.request })
 
 abbrev pub session_after : AuditSessions → Act → ℕ → Option (ℕ × AuditSession)
@@ -215,7 +215,7 @@ session_after t (Hello client incarnation version) place =
     Some (client, record { incarnation = incarnation; last = 0; request = None })
 session_after t (Arrive key call) place =
     Some (key.client, record { incarnation = key.incarnation; last = key.number; request = Some place })
-session_after t (Cancel key) place = with_last key.client key.number (session_in t key.client)
+session_after t (Cancel key) place = with_number key.client key.number (session_in t key.client)
 session_after t Tick place = None
 
 -- the entry may be passed next
