@@ -41,36 +41,17 @@ told_waits xs c r CancelledUnseen waits =
 
 told_if : (xs : List Settled) (c : ℕ) (o : Option ClientState) (t : Option AuditSession) → IsAuditedIf o t
     → IsAuditedIf (option_map (told_client xs c) o) t
-told_if xs c None None is = tt
-told_if xs c None (Some t) is = absurd is
-told_if xs c (Some d) None is = absurd is
-told_if xs c (Some d) (Some t) is = record {
-  incarnation = is.incarnation;
-  last = is.last;
-  alone = λ r waits. is.alone r (told_waits xs c r d.request waits);
-}
+told_if = grind (arith, told_waits)
 
 module _ (s : State) (old : AuditSessions) (are : AreAudited s old) (xs : List Settled) where
   told : (c : ℕ) → IsAuditedIf (get (tell_all s.clients xs) c) (session_in old c)
-  told c = subst (λ (o : Option ClientState). IsAuditedIf o (session_in old c))
-      (sym (get_tell_all xs s.clients c)) (told_if xs c (client_at s c) (session_in old c) (are c))
+  told = grind (arith, get_tell_all, told_if)
 
   -- one client has another session now
   entered : (new : AuditSessions) (client : ℕ) (d : ClientState) (t : AuditSession)
       → EntersSession old new client t → IsAudited d t
       → (c : ℕ) → IsAuditedIf (get (insert (tell_all s.clients xs) client d) c) (session_in new c)
-  entered new client d t enters is c = elim (same_or_not c client) [
-    | inl same ↦
-        subst (λ (o : Option ClientState). IsAuditedIf o (session_in new c))
-        (sym (get_own (tell_all s.clients xs) client d c same))
-        (subst (λ (o : Option AuditSession). IsAuditedIf (Some d) o)
-        (sym (ap (session_in new) same ∙ enters.own)) is)
-    | inr other ↦
-        subst (λ (o : Option ClientState). IsAuditedIf o (session_in new c))
-        (sym (get_other (tell_all s.clients xs) client d c other))
-        (subst (λ (o : Option AuditSession). IsAuditedIf (get (tell_all s.clients xs) c) o)
-        (sym (enters.others c other)) (told c))
-  ]
+  entered = grind (arith, get_other, get_own, same_or_not, told)
 
 -- ---- one that asks
 

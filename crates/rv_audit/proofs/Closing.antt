@@ -1,21 +1,21 @@
 -- What is open in a table when some places were closed, one after the other.
-use Rattle.rv_audit.proofs.Words.{◌≡◌, ◌⊎◌, ◌≤◌, ◌∙◌, inl, inr, ℕ, Bool, true, false, Option, Some, None}
+use Rattle.rv_audit.proofs.Words.{◌≡◌, ◌⊎◌, ◌≤◌, ◌∙◌, ℕ, Bool, true, false, Option, Some, None}
 use Rattle.rv_audit.proofs.Words.{refl, sym, ap, arith, false≢true, nat_eq, nat_tests, Opens}
 use Rattle.rv_audit.proofs.Words.{NoneUntil}
 use Rattle.std.proofs.Common.{cond, nat_lt}
-use Rattle.rv_audit.specs.Opens.{AreFiled, ClosesUntil, OpenArrival, ends_at, has_come, is_limit, left_after}
+use Rattle.rv_audit.specs.Opens.{AreTabled, ClosesUntil, AuditOpen, ends_at, has_come, is_limit, left_after}
 use Rattle.rv_audit.specs.Opens.{opening_at}
 
 -- some places were closed whose limit had come at a moment
 pub record ClosedSome (old new : Opens) (moment : ℕ) : Type 0 where
-  pub indexed : AreFiled new
+  pub indexed : AreTabled new
   pub are : (r : ℕ) → (opening_at new r ≡ opening_at old r)
       ⊎ ((opening_at new r ≡ None) × (left_after moment (opening_at old r) ≡ None))
 
 -- what is left when no limit is left that has come
 module _ (old new : Opens) (moment : ℕ) (closed : ClosedSome old new moment)
     (none : NoneUntil new.limits moment) where
-  not_come : (r : ℕ) (there : OpenArrival) (limit : Option ℕ) → there.limit ≡ limit
+  not_come : (r : ℕ) (there : AuditOpen) (limit : Option ℕ) → there.limit ≡ limit
       → opening_at new r ≡ Some there → has_come moment limit ≡ false
   not_come r there None is at = refl
   not_come r there (Some limit) is at = by_order (nat_lt moment limit) refl
@@ -28,15 +28,8 @@ module _ (old new : Opens) (moment : ℕ) (closed : ClosedSome old new moment)
           let own : nat_eq limit limit ≡ true = grind (arith, nat_tests) in
           absurd (false≢true (sym (none limit r most) ∙ marked ∙ own))
 
-  stays : (r : ℕ) (o : Option OpenArrival) → opening_at new r ≡ o → o ≡ left_after moment o
-  stays r None at = refl
-  stays r (Some there) at = sym (ap (λ b. cond b None (Some there)) (not_come r there there.limit refl at))
+  stays : (r : ℕ) (o : Option AuditOpen) → opening_at new r ≡ o → o ≡ left_after moment o
+  stays = grind (arith, not_come)
 
   pub closed_all : ClosesUntil old new moment
-  closed_all = record {
-    indexed = closed.indexed;
-    are = λ r. elim (closed.are r) [
-      | inl same ↦ stays r (opening_at new r) refl ∙ ap (left_after moment) same
-      | inr gone ↦ gone.0 ∙ sym gone.1
-    ];
-  }
+  closed_all = grind (arith, stays)

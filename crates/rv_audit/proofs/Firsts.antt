@@ -80,11 +80,7 @@ module _ (front : Front) (a : Stored) (n : ℕ) (is : IsFront front) (same : fro
   pub fault_told : (e : Entry) (rule : Rule) (place : ℕ) → place ≡ length front.taken.items
       → Some e ≡ slice_get a.account.entries n → BreaksFirst (passed_account front) e rule
       → FirstFault a.account place rule
-  fault_told e rule place here there first =
-      subst (λ m. FirstFault a.account m rule) (sym here)
-      (subst (λ (s : Stored). FirstFault s.account (length front.taken.items) rule) same
-      (first_fault front.account.now.account (length front.taken.items) e rule is.legal (next_there e there)
-      first))
+  fault_told = grind (arith, first_fault, next_there)
 
   pub next_may : (e : Entry) → Some e ≡ slice_get a.account.entries n → BreaksNone (passed_account front) e
       → MayPass front e
@@ -102,11 +98,7 @@ module _ (front : Front) (a : Stored) (n : ℕ) (is : IsFront front) (same : fro
 
 pub told_fault : (a : Account) (n : ℕ) (rule : Rule) → FirstFault a n rule
     → (tells.Fault n rule ≡ tells.Legal → Legal a) × (Legal a → tells.Fault n rule ≡ tells.Legal)
-told_fault a n rule fault = (
-  λ same. absurd (let no_way : ⊥ = cc in no_way),
-  λ legal. absurd
-      (no_fault a n rule legal fault),
-)
+told_fault = grind (arith, no_fault)
 
 pub told_legal : (a : Account) → Legal a
     → (tells.Legal ≡ tells.Legal → Legal a) × (Legal a → tells.Legal ≡ tells.Legal)

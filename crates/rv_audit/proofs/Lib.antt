@@ -1,7 +1,6 @@
 pub mod Words
 pub mod Pairs
 pub mod Beside
-pub mod Indexing
 pub mod Closing
 pub mod Saying
 pub mod Audited

@@ -1,7 +1,7 @@
 -- What is said of the places of a list, told one by one.
 use Rattle.std.proofs.lemmas.Grind.{common_steps}
-use Rattle.rv_audit.proofs.Words.{◌≡◌, ◌+◌, ◌<◌, ◌≤◌, ◌∷◌, ◌∙◌, inl, inr, ℕ, true}
-use Rattle.rv_audit.proofs.Words.{false, List, [], length, get_or, Some, refl, sym, ap, subst}
+use Rattle.rv_audit.proofs.Words.{◌≡◌, ◌+◌, ◌<◌, ◌≤◌, ◌∷◌, ◌∙◌, ℕ, true}
+use Rattle.rv_audit.proofs.Words.{false, List, [], length, get_or, Some, refl, sym, ap}
 use Rattle.rv_audit.proofs.Words.{arith, slice_get, IsTrue, cases_lt, false≢true, Among}
 use Rattle.rv_audit.proofs.Words.{HasAmong, NoneBefore, is_any}
 use Rattle.std.proofs.lemmas.Option.{get_or_from_slice_get}
@@ -14,10 +14,7 @@ module _ (places : List ℕ) (n : ℕ) where
   module _ (Is : ℕ → Type 0) where
     -- none before a place of the list, and not it
     pub none_next : (Is (get_or places n 0) → ⊥) → NoneBefore Is places n → NoneBefore Is places (n + 1)
-    none_next none before i p less at is = elim (cases_lt i n) [
-      | inl below ↦ before i p below at is
-      | inr above ↦ none (subst Is (sym (read_at i p (omega arith) at)) is)
-    ]
+    none_next = grind (arith, cases_lt, read_at)
 
     pub told_none : length places ≤ n → NoneBefore Is places n
         → (IsTrue false → HasAmong Is places) × (HasAmong Is places → IsTrue false)

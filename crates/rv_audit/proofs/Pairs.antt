@@ -1,7 +1,7 @@
 -- Pairs of a number and a place, in a set that is ordered by the number and then by the place.
 use Rattle.std.proofs.Common.{rules}
 use Rattle.rv_audit.proofs.Words.{◌≡◌, ◌≢◌, ◌⊎◌, ◌<◌, ◌≤◌, ◌∷◌, ◌∙◌, inl, inr, ℕ, arith, Bool, true, false}
-use Rattle.rv_audit.proofs.Words.{nat_eq, List, [], IfSome, IfNone, refl, sym, ap, subst, then_some}
+use Rattle.rv_audit.proofs.Words.{nat_eq, List, [], IfSome, IfNone, refl, ap, subst, then_some}
 use Rattle.rv_audit.proofs.Words.{nat_tests, Marks, IsTrue, IsFirstBehind, NoneBehind, Option}
 use Rattle.rv_audit.proofs.Words.{NoneUntil, is_marked_under}
 use Rattle.std.proofs.Common.{cond, nat_le}
@@ -92,34 +92,7 @@ module _ (s : BTreeSet Pair) (n : ℕ) (last : Option ℕ) (rest : List Pair) (k
 
   first_found : (b : Bool) → nat_eq k.0 n ≡ b → IfSome (then_some b k.1) (IsFirstBehind (as_marks s) n last)
       × IfNone (then_some b k.1) (NoneBehind (as_marks s) n last)
-  first_found true is = (
-    let same : k.0 ≡ n = grind (arith, nat_tests) in
-        record {
-          there = subst (λ m. contains pair_cmp s (m, k.1) ≡ true) same range.1.1;
-          behind = elim (from_range n k last range.1.0) [
-            | inl above ↦ let more : n < k.0 = above in absurd (omega arith)
-            | inr here ↦ here.1
-          ];
-          lowest = λ p behind less. true_or_false _ (λ there. elim (not_below p behind there) [
-            | inl under ↦ omega arith
-            | inr here ↦ let at : k.1 ≤ p = here.1 in omega arith
-          ]);
-        },
-    tt,
-  )
-  first_found false is = (
-    tt,
-    λ p behind. true_or_false _ (λ there. elim (not_below p behind there) [
-      | inl under ↦ elim (from_range n k last range.1.0) [
-        | inl above ↦ let one : n < k.0 = above in let two : k.0 < n = under in omega arith
-        | inr here ↦ apart (sym here.0)
-      ]
-      | inr here ↦ apart here.0
-    ]),
-  )
-    where
-      apart : k.0 ≡ n → ⊥
-      apart same = grind (arith, nat_tests)
+  first_found = grind (arith, from_range, not_below, true_or_false)
 
 pub found : (s : BTreeSet Pair) (n : ℕ) (last : Option ℕ) (r rest : List Pair) (k : Pair)
     → RangeBehind s n last r

@@ -33,10 +33,10 @@ use Rattle.rv_state.proofs.PlacesAfter.{places_acted}
 use Rattle.rv_state.proofs.Sessions.{found_open}
 use Rattle.rv_state.proofs.StateLaws.{states_tell_waiting}
 use Rattle.rv_state.proofs.Stated.{own_last}
-use Rattle.rv_audit.specs.Opens.{AreFiled, ClosesEach, ClosesUntil, OpenArrival, OpensAt, OpensIf, has_come}
+use Rattle.rv_audit.specs.Opens.{AreTabled, ClosesEach, ClosesUntil, AuditOpen, OpensAt, OpensIf, has_come}
 use Rattle.rv_audit.specs.Opens.{is_among, left_after}
 use Rattle.rv_audit.specs.Opens.{opening_at}
-use Rattle.rv_audit.specs.Passed.{alone_opens, AreAudited, IsAuditedIf, AreOpen, AreTables, AreTaken}
+use Rattle.rv_audit.specs.Passed.{alone_opens, AreAudited, AreOpen, AreTables, AreTaken}
 use Rattle.rv_audit.specs.Passed.{closed_by, ClosesGone, fitting, Flags}
 use Rattle.rv_audit.specs.Passed.{open_among, HasPassed, IsReadyFor, IsTaken, open_beside, opening_by}
 use Rattle.rv_audit.specs.Passed.{opening_of, passed_state, session_after}
@@ -55,14 +55,10 @@ map_any [] r = refl
 map_any (o ∷ gone) r = ap (λ b. nat_eq o.place r || b) (map_any gone r)
 
 any_of : (places : List ℕ) (r : ℕ) → Among places r → is_among places r ≡ true
-any_of places r among = get_any (λ p. nat_eq p r) places among.0 r among.1
-    (let own : nat_eq r r ≡ true = grind (arith, nat_tests) in own)
+any_of = grind (arith, get_any)
 
 among_any : (places : List ℕ) (r : ℕ) → is_among places r ≡ true → Among places r
-among_any places r any =
-    let found = any_get (λ p. nat_eq p r) places any in
-    let here : found.1 ≡ r = grind (arith, nat_tests) in
-    (found.0, found.2 ∙ ap Some here)
+among_any = grind (arith, any_get)
 
 -- what is found among those that are left
 left_by : (o : OpenPlace) (all gone : List OpenPlace) (r : ℕ)
@@ -71,23 +67,7 @@ left_by : (o : OpenPlace) (all gone : List OpenPlace) (r : ℕ)
     → nat_eq o.place r ≡ at → list_any (λ (other : OpenPlace). nat_eq other.place o.place) gone ≡ went
     → find (λ x. nat_eq x.place r) (cond (not went) (o ∷ but all gone) (but all gone))
     ≡ cond (is_among (place_list gone) r) None (cond at (Some o) (open_among all r))
-left_by o all gone r rest false true at went = rest
-left_by o all gone r rest false false at went =
-    ap (λ b. cond b (Some o) (open_among (but all gone) r)) at ∙ rest
-left_by o all gone r rest true went at is =
-    let here : o.place ≡ r = grind (arith, nat_tests) in
-    let any = map_any gone r ∙ ap (λ n. list_any (λ (x : OpenPlace). nat_eq x.place n) gone) (sym here)
-    ∙ is in
-    by_any went any
-  where
-    by_any : (b : Bool) → is_among (place_list gone) r ≡ b
-        → find (λ x. nat_eq x.place r) (cond (not b) (o ∷ but all gone) (but all gone))
-        ≡ cond (is_among (place_list gone) r) None (Some o)
-    by_any true any = rest ∙ ap (λ b. cond b None (open_among all r)) any
-        ∙ sym (ap (λ b. cond b None (Some o))
-        any)
-    by_any false any = ap (λ b. cond b (Some o) (open_among (but all gone) r)) at
-        ∙ sym (ap (λ b. cond b None (Some o)) any)
+left_by = grind (arith, list_any, map_any)
 
 but_found : (all gone : List OpenPlace) (r : ℕ)
     → open_among (but all gone) r ≡ cond (is_among (place_list gone) r) None (open_among all r)
@@ -107,15 +87,12 @@ map_cond false o = refl
 -- a table in which these places were closed
 pub closes_places : (all gone : List OpenPlace) (old new : Opens) → AreOpen all old
     → ClosesEach old new (place_list gone) → AreOpen (but all gone) new
-closes_places all gone old new are closes r =
-    closes.are r ∙ ap (cond (is_among (place_list gone) r) None) (are r)
-    ∙ sym (ap (option_map opening_of) (but_found all gone r)
-    ∙ map_cond (is_among (place_list gone) r) (open_among all r))
+closes_places = grind (arith, but_found, map_cond)
 
 pub closes_one : (old new : Opens) (p : ℕ) → OpensAt old new p None → ClosesEach old new (p ∷ [])
 closes_one old new p closes = grind arith
 
-pub closes_none : (t : Opens) → AreFiled t → ClosesEach t t []
+pub closes_none : (t : Opens) → AreTabled t → ClosesEach t t []
 closes_none t indexed = record { indexed = indexed; are = λ r. refl }
 
 module _ (a : Account) (legal : Legal a) where
@@ -256,33 +233,10 @@ found_push (x ∷ all) o r none = push_by x all o r (found_push all o r) (nat_eq
     (nat_eq x.place r) refl refl none
 
 pub opens_joined : (all opened : List OpenPlace) (s : State) (place : ℕ) (old new : Opens)
-    (o : Option OpenArrival)
+    (o : Option AuditOpen)
     → AreOpen all old → OpensIf old new place o → o ≡ option_map opening_of (first_of opened)
     → IsLast s opened → place ≡ s.length → open_among all place ≡ None → AreOpen (all ++ opened) new
-opens_joined all opened s place old new None are same is (inl none) at free r =
-    ap (λ (t : Opens). opening_at t r) same ∙ are r
-    ∙ ap (λ l. option_map opening_of (open_among l r)) (sym (append-nil all) ∙ ap (λ l. all ++ l) (sym none))
-opens_joined all opened s place old new (Some there) are opens is (inl none) at free r =
-    absurd (none-some there (sym (ap (λ l. option_map opening_of (first_of l)) none) ∙ sym is))
-opens_joined all opened s place old new None are same is (inr (o, one, last)) at free r =
-    absurd (none-some (opening_of o) (is ∙ ap (λ l. option_map opening_of (first_of l)) one))
-opens_joined all opened s place old new (Some there) are opens is (inr (o, one, last)) at free r =
-    let own : there ≡ opening_of o =
-    same_Some _ _ (is ∙ ap (λ l. option_map opening_of (first_of l)) one) in
-    let here : o.place ≡ place = last ∙ sym at in
-    let pushed = ap (λ l. option_map opening_of (open_among (all ++ l) r)) one
-    ∙ ap (option_map opening_of) (found_push all o r (ap (open_among all) here ∙ free)) in
-    by_place (nat_eq o.place r) refl own here ∙ sym pushed
-  where
-    differ : nat_eq o.place r ≡ false → o.place ≡ place → r ≡ place → ⊥
-    differ apart here same = grind (arith, nat_tests)
-
-    by_place : (b : Bool) → nat_eq o.place r ≡ b → there ≡ opening_of o → o.place ≡ place
-        → opening_at new r ≡ option_map opening_of (cond b (Some o) (open_among all r))
-    by_place true at_r own here =
-        let is_r : r ≡ place = grind (arith, nat_tests) in
-        ap (opening_at new) is_r ∙ opens.own ∙ ap Some own
-    by_place false apart own here = opens.others r (λ same. differ apart here same) ∙ are r
+opens_joined = grind (arith, append-nil, found_push, none-some, same_Some)
 
 -- ---- all tables
 
@@ -455,32 +409,14 @@ module _ (old new : Front) (e : Entry) (place : ℕ) (ready : IsReadyFor old e)
         });
       }
     where
-      opens_indexed : (o : Option OpenArrival) → OpensIf old.opens new.opens place o → AreFiled new.opens
-      opens_indexed None same = subst AreFiled (sym same) ready.closes.indexed
+      opens_indexed : (o : Option AuditOpen) → OpensIf old.opens new.opens place o → AreTabled new.opens
+      opens_indexed None same = subst AreTabled (sym same) ready.closes.indexed
       opens_indexed (Some there) opened = opened.indexed
 
 -- ---- nothing was passed
 
 -- before the first entry all tables are empty
 pub none_passed : (front : Front) → front.moment ≡ front.account.now.account.opened
-    → front.taken.items ≡ [] → AreFiled front.opens → ((r : ℕ) → opening_at front.opens r ≡ None)
+    → front.taken.items ≡ [] → AreTabled front.opens → ((r : ℕ) → opening_at front.opens r ≡ None)
     → ((client : ℕ) → session_in front.sessions client ≡ None) → IsFront front
-none_passed front moment taken indexed opens sessions =
-    subst (λ n. AreTables (before front.account.now.account n) front) (sym (ap length taken)) (record {
-      legal = λ j e there. absurd (none-some e there);
-      moment = moment;
-      taken = subst (AreTaken []) (sym taken) (record {
-        count = refl;
-        flags = λ r. (
-          λ there. absurd (none-some true there),
-          λ is. absurd (elim is [
-            | inl named ↦ none-some named.1.entry named.1.there
-            | inr names ↦ none-some names.1.entry names.1.there
-          ]),
-        );
-      });
-      indexed = indexed;
-      opens = λ r. opens r;
-      sessions = λ client. subst (λ o. IsAuditedIf o (session_in front.sessions client))
-          (sym (get-empty nat_cmp client)) (subst (IsAuditedIf None) (sym (sessions client)) tt);
-    })
+none_passed = grind (arith, get-empty, nat_cmp, none-some)

@@ -73,20 +73,7 @@ names_partner a r q legal named =
 -- so who was named, or named a partner itself, is in a pair or swap
 pub named_is_met : (a : Account) (p : ℕ) → Legal a → WasNamed a.entries p ⊎ NamesOne a.entries p
     → Met a.entries p
-named_is_met a p legal (inl named) = record {
-  later = named.0;
-  earlier = p;
-  names = names_partner a named.0 p
-      legal named.1;
-  part = inr refl;
-}
-named_is_met a p legal (inr names) = record {
-  later = p;
-  earlier = names.0;
-  names = names_partner a p names.0
-      legal names.1;
-  part = inl refl;
-}
+named_is_met = grind (arith, names_partner)
 
 names_free : (a : Account) (e : Entry) → Legal a → NamesFreePartners a.entries e → NamesTaken a.entries e → ⊥
 names_free a e legal names wrongly =

@@ -164,14 +164,7 @@ rises : (xs : List ℕ) → ((IsStrictlyIncreasing xs → ⊥) → ⊥) → IsSt
 rises xs no_fall k within = grind arith
 
 pub names_free_partners : (es : List Entry) (e : Entry) → (NamesWrongly es e → ⊥) → NamesFreePartners es e
-names_free_partners es e rightly = record {
-  rising = rises e.partners (λ falls. rightly (inr (inr falls)));
-  few = λ call arrives. elim (cases_lt (may_name call) (length e.partners)) [
-    | inl many ↦ absurd (rightly (inr (inl (record { call = call; arrives = arrives; many = many }))))
-    | inr most ↦ most
-  ];
-  free = names_free es e (λ taken. rightly (inl taken));
-}
+names_free_partners = grind (arith, cases_lt, names_free, rises)
 
 opposite_by : (es : List Entry) (call : Call) (p : ℕ) (o : Option Side) → opposite (side_of call) ≡ o
     → IsOpenOpposite es call p ⊎ (IsOpenOpposite es call p → ⊥)
@@ -202,10 +195,7 @@ opposites_of Is es e rightly call arrives p names = elim (opposite_or_not es cal
 
 pub pairs_opposites : (es : List Entry) (e : Entry) → (MeetsWrongly IsPaired es e → ⊥)
     → (MeetsWrongly IsSwapped es e → ⊥) → PairsOpposites es e
-pairs_opposites es e pairs swaps p call names arrives meets = elim (paired_or_swapped (side_of call) meets) [
-  | inl paired ↦ opposites_of IsPaired es e pairs call (record { arrives = arrives; is = paired }) p names
-  | inr swapped ↦ opposites_of IsSwapped es e swaps call (record { arrives = arrives; is = swapped }) p names
-]
+pairs_opposites = grind (arith, opposites_of, paired_or_swapped)
 
 -- who is left by one that misses nobody
 all_of : (Is : Side → Type 0) (es : List Entry) (e : Entry) → (MissesPartner Is es e → ⊥)

@@ -3,7 +3,7 @@ use Rattle.rv_audit.proofs.Words.{Call, then_some, not, WaitsUnder, IsOpenOpposi
 use Rattle.rv_audit.proofs.Words.{◌≡◌, ◌<◌, ◌≤◌, ◌∙◌, ℕ, Bool, true, false, nat_eq, List, Option, Some}
 use Rattle.rv_audit.proofs.Words.{None, IsSome, refl, sym, ap, subst, arith, option_and_then, false≢true}
 use Rattle.rv_audit.proofs.Words.{nat_tests}
-use Rattle.rv_audit.proofs.Words.{none-some, same_Some, Key, Side, Gives, Takes, Looks, Exchanges, side_of}
+use Rattle.rv_audit.proofs.Words.{none-some, same_Some, Key, Side, side_of}
 use Rattle.rv_audit.proofs.Words.{Entry}
 use Rattle.rv_audit.proofs.Words.{Account, Front, IsFront, IsOpenable, OpenAt, SomethingDue, Waiting}
 use Rattle.rv_audit.proofs.Words.{AuditSession, ClientWaitsAt, HasWaiting, IfNone, IfSome, IsTrue}
@@ -30,7 +30,7 @@ use Rattle.rv_state.proofs.SideLines.{same_side_is, same_side_itself}
 use Rattle.rv_state.proofs.StateLaws.{states_tell_waiting}
 use Rattle.rv_audit.specs.Lines.{IsFirstBeside, NobodyBeside}
 use Rattle.rv_audit.specs.Marks.{IsUntil}
-use Rattle.rv_audit.specs.Opens.{OpenArrival, ends_at, is_limit, is_on, opening_at}
+use Rattle.rv_audit.specs.Opens.{AuditOpen, ends_at, is_limit, is_on, opening_at}
 use Rattle.rv_audit.specs.Passed.{IsAuditedIf, IsOldestOpposite, IsOfSessionOf, fitting, opening_of}
 use Rattle.rv_audit.specs.Sessions.{session_in}
 
@@ -109,13 +109,7 @@ module _ (front : Front) (is : IsFront front) where
 
   pub lines_say : (side : Side) (r : ℕ) → (stands_in front.opens.lines side r ≡ true) ↔ OpenAt a.entries side
       r
-  lines_say (Gives queue) r = line_says (Gives queue) r tt
-  lines_say (Takes queue) r = line_says (Takes queue) r tt
-  lines_say (Looks queue) r = (
-    λ stands. absurd (false≢true stands),
-    λ opened. absurd (false≢true (open_meets a.entries (Looks queue) r opened)),
-  )
-  lines_say (Exchanges exchanger) r = line_says (Exchanges exchanger) r tt
+  lines_say = grind (arith, line_says, open_meets)
 
   pub oldest_said : (call : Call) (places : List ℕ) (side : Side) (first : Option ℕ)
       → opposite (side_of call) ≡ Some side → IfSome first (IsFirstBeside front.opens.lines side places)
@@ -178,10 +172,10 @@ module _ (front : Front) (is : IsFront front) where
   -- ---- who waits
 
   abbrev client_in : ℕ → Option ℕ
-  client_in r = option_and_then (λ (o : OpenArrival). o.client) (opening_at front.opens r)
+  client_in r = option_and_then (λ (o : AuditOpen). o.client) (opening_at front.opens r)
 
   waits_by : (client r : ℕ) (o : Option OpenPlace) → open_at s r ≡ o
-      → option_and_then (λ (o : OpenArrival). o.client) (option_map opening_of o) ≡ Some client
+      → option_and_then (λ (o : AuditOpen). o.client) (option_map opening_of o) ≡ Some client
       → ClientWaitsAt a.entries client r
   waits_by client r None at waits = absurd (none-some client waits)
   waits_by client r (Some there) at waits =
@@ -200,8 +194,7 @@ module _ (front : Front) (is : IsFront front) where
       })
 
   pub waits_said : (client r : ℕ) → client_in r ≡ Some client → ClientWaitsAt a.entries client r
-  waits_said client r waits = waits_by client r (open_at s r) refl
-      (sym (ap (option_and_then (λ (o : OpenArrival). o.client)) (is.opens r)) ∙ waits)
+  waits_said = grind (arith, waits_by)
 
   asked_at : (client q : ℕ) (c : ClientState) (o : Option ClientState) (t : Option AuditSession)
       → IsAuditedIf o t → o ≡ Some c → place_waiting c.request ≡ Some q
@@ -229,7 +222,7 @@ module _ (front : Front) (is : IsFront front) where
         asked_at client w.place asks.0 (client_at s client) (session_in front.sessions client)
             (is.sessions client) asks.1 (asks.2 ∙ ap Some here),
         ap (λ r. client_in r) (sym here)
-            ∙ ap (option_and_then (λ (o : OpenArrival). o.client)) (is.opens by.0
+            ∙ ap (option_and_then (λ (o : AuditOpen). o.client)) (is.opens by.0
             ∙ ap (option_map opening_of) by.2)
             ∙ ap (option_map (λ (x : Waiter). x.key.client)) waiter.1
             ∙ ap Some (ap (λ (k : Key). k.client) (own ∙ key) ∙ w.names.of_client),
@@ -243,16 +236,14 @@ one_is : (o : Option ℕ) (n : ℕ) → o ≡ Some n → option_eq nat_eq o (Som
 one_is = grind arith
 
 pub waiting_some : (front : Front) (client r : ℕ) (o : Option ℕ) (b : Bool) → IsFront front
-    → o ≡ option_and_then (λ (o : OpenArrival). o.client) (opening_at front.opens r)
+    → o ≡ option_and_then (λ (o : AuditOpen). o.client) (opening_at front.opens r)
     → b ≡ option_eq nat_eq o (Some client)
     → IfSome (then_some b r) (ClientWaitsAt (passed_account front).entries client)
-waiting_some front client r o true is at test = waits_said front is client r (sym at
-    ∙ is_one o client (sym test))
-waiting_some front client r o false is at test = tt
+waiting_some = grind (arith, is_one, waits_said)
 
 pub waiting_none : (front : Front) (client r : ℕ) (o : Option ℕ) (b : Bool) → IsFront front
     → Some r ≡ option_and_then (λ (x : AuditSession). x.request) (session_in front.sessions client)
-    → o ≡ option_and_then (λ (o : OpenArrival). o.client) (opening_at front.opens r)
+    → o ≡ option_and_then (λ (o : AuditOpen). o.client) (opening_at front.opens r)
     → b ≡ option_eq nat_eq o (Some client)
     → IfNone (then_some b r) (HasWaiting (passed_account front).entries client → ⊥)
 waiting_none front client r o true is there at test = tt
@@ -260,8 +251,7 @@ waiting_none front client r o false is there at test = λ w.
     let told = waits_told front is client w in
     let same : w.place ≡ r = same_Some _ _ (sym told.0 ∙ sym there) in
     false≢true (test ∙ one_is o client (at
-    ∙ ap (λ q. option_and_then (λ (o : OpenArrival). o.client) (opening_at front.opens q)) (sym same)
-    ∙ told.1))
+    ∙ ap (λ q. option_and_then (λ (o : AuditOpen). o.client) (opening_at front.opens q)) (sym same) ∙ told.1))
 
 -- ---- sessions
 

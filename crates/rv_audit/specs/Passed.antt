@@ -20,7 +20,7 @@ use Rattle.rv_audit.specs.Breaking.{BreaksBehind, IsPaired, IsSwapped, NamesOne,
 use Rattle.rv_audit.specs.declared.rule.Rule.{Rule}
 use Rattle.rv_audit.specs.declared.rules.MeetingKind.{MeetingKind}
 use Rattle.rv_audit.specs.declared.rules.MeetingKind.TheVariants as kinds
-use Rattle.rv_audit.specs.Opens.{AreFiled, OpenArrival, is_among, opening_at}
+use Rattle.rv_audit.specs.Opens.{AreTabled, AuditOpen, is_among, opening_at}
 use Rattle.rv_audit.specs.Sessions.{session_in}
 use Rattle.rv_audit.specs.declared.front.Front.{Front}
 use Rattle.rv_audit.specs.declared.opens.Opens.{Opens}
@@ -50,7 +50,7 @@ fitting None = None
 fitting (Some limit) = cond (nat_lt limit (2 ^ 64)) (Some limit) None
 
 -- what a table keeps of an open place
-abbrev pub opening_of : OpenPlace → OpenArrival
+abbrev pub opening_of : OpenPlace → AuditOpen
 opening_of there =
     record {
       side = there.side;
@@ -86,7 +86,7 @@ pub record AreTables (a : Account) (front : Front) : Type 0 where
   pub legal : Legal a
   pub moment : front.moment ≡ own_moment a
   pub taken : AreTaken a.entries front.taken.items
-  pub indexed : AreFiled front.opens
+  pub indexed : AreTabled front.opens
   pub opens : AreOpen (state_of a).open_places front.opens
   pub sessions : AreAudited (state_of a) front.sessions
 
@@ -166,7 +166,7 @@ open_beside s e = but s.open_places (closed_by s e.moment e.act)
 
 -- what the entry closes is open no more
 pub record ClosesGone (old new : Front) (e : Entry) : Type 0 where
-  pub indexed : AreFiled new.opens
+  pub indexed : AreTabled new.opens
   pub opens : AreOpen (open_beside (passed_state old) e) new.opens
 
 -- ---- what an entry brings
@@ -187,7 +187,7 @@ pub record Flags (old new : List Bool) (places : List ℕ) : Type 0 where
   pub one_more : new ≡ flags ++ is_any places ∷ []
 
 -- what an arrival with this key and call opens at a moment, if it names nobody
-abbrev pub opening_of_call : ℕ → Key → Call → Option OpenArrival
+abbrev pub opening_of_call : ℕ → Key → Call → Option AuditOpen
 opening_of_call moment key call =
     cond (is_some (opposite (side_of call)) && lasts_by (wait_of call))
     (Some (record {
@@ -197,11 +197,11 @@ opening_of_call moment key call =
     })) None
 
 -- what an entry opens, if it does
-abbrev pub alone_opens : List ℕ → ℕ → Act → Option OpenArrival
+abbrev pub alone_opens : List ℕ → ℕ → Act → Option AuditOpen
 alone_opens [] moment (Arrive key call) = opening_of_call moment key call
 alone_opens _ moment does = None
 
-abbrev pub opening_by : Entry → Option OpenArrival
+abbrev pub opening_by : Entry → Option AuditOpen
 opening_by e = alone_opens e.partners e.moment e.act
 
 -- what an act makes of its client's session

@@ -5,7 +5,7 @@ ghost use Rattle.rv_account.specs.Calls.{limit_of, opposite};
 ghost use Rattle.rv_state.specs.After.{lasts_by};
 ghost use Rattle.rv_audit.specs.Passed.{fitting, opening_by, opening_of_call, session_after};
 
-use crate::opens::OpenArrival;
+use crate::opens::AuditOpen;
 use crate::sessions::{AuditSession, AuditSessions};
 use rv_account::{Act, Entry, Place};
 use rv_text::{Call, Key, Side, Wait};
@@ -61,11 +61,11 @@ fn waiting_client(key: &Key, call: &Call) -> Option<u64>
 }
 
 // What an arrival at a moment opens, if it names nobody.
-fn opening_at(moment: u64, key: &Key, call: &Call) -> Option<OpenArrival>
+fn opening_at(moment: u64, key: &Key, call: &Call) -> Option<AuditOpen>
     ensures { result ≡ opening_of_call moment key.now call.now }
 {
     if stays(call) {
-        Some(OpenArrival {
+        Some(AuditOpen {
             side: call.side(),
             limit: limit_of(moment, call),
             client: waiting_client(key, call),
@@ -76,7 +76,7 @@ fn opening_at(moment: u64, key: &Key, call: &Call) -> Option<OpenArrival>
 }
 
 // What an entry opens, if it does.
-pub(crate) fn opening(entry: &Entry) -> Option<OpenArrival>
+pub(crate) fn opening(entry: &Entry) -> Option<AuditOpen>
     ensures { result ≡ opening_by entry.now }
 {
     if !entry.partners.as_slice().is_empty() {

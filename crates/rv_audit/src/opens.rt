@@ -3,8 +3,8 @@ ghost use Rattle.std.specs.Prelude.{◌≡◌, ◌<◌, ◌^◌, ℕ, None, Some
 ghost use Rattle.rv_text.specs.declared.call.Side.{Side};
 ghost use Rattle.rv_audit.specs.Lines.{IsFirstBeside, NobodyBeside, stands_in};
 ghost use Rattle.rv_audit.specs.Marks.{IsUntil, NoneUntil};
-ghost use Rattle.rv_audit.specs.Opens.{AreFiled, ClosesEach, ClosesUntil, OpensIf, count_of};
-ghost use Rattle.rv_audit.specs.Opens.{opening_at, OpensAt, OpenArrival};
+ghost use Rattle.rv_audit.specs.Opens.{AreTabled, ClosesEach, ClosesUntil, OpensIf, count_of};
+ghost use Rattle.rv_audit.specs.Opens.{opening_at, OpensAt, AuditOpen};
 
 use crate::lines::OpenLines;
 use crate::marks::{Marks, add_limit, drop_limit};
@@ -15,7 +15,7 @@ use std::collections::BTreeMap;
 
 // What is open at a place: its side, its limit if it has one below 2^64, and whose request waits there.
 #[derive(Clone, Copy)]
-pub(crate) struct OpenArrival {
+pub(crate) struct AuditOpen {
     pub(crate) side: Side,
     pub(crate) limit: Option<u64>,
     pub(crate) client: Option<u64>,
@@ -24,7 +24,7 @@ pub(crate) struct OpenArrival {
 // What is open.
 #[derive(Drop)]
 pub(crate) struct Opens {
-    places: BTreeMap<Place, OpenArrival>,
+    places: BTreeMap<Place, AuditOpen>,
     lines: OpenLines,
     limits: Marks,
 }
@@ -32,7 +32,7 @@ pub(crate) struct Opens {
 impl Opens {
     // Nothing is open. It takes no memory yet.
     pub(crate) fn empty(alloc: Global) -> Opens
-        ensures indexed { AreFiled result }
+        ensures indexed { AreTabled result }
         ensures none { (place : ℕ) → opening_at result place ≡ None }
     {
         Opens {
@@ -73,8 +73,8 @@ impl Opens {
     }
 
     // This is open at the place from now on.
-    fn open(&mut self, place: Place, there: OpenArrival) -> Result<(), NoMemory>
-        requires indexed { AreFiled self.old }
+    fn open(&mut self, place: Place, there: AuditOpen) -> Result<(), NoMemory>
+        requires indexed { AreTabled self.old }
         requires free { opening_at self.old place ≡ None }
         ensures { OnOk result (OpensAt self.old self.new place (Some there)) }
     {
@@ -86,12 +86,8 @@ impl Opens {
     }
 
     // This is open at the place from now on, if it is handed in.
-    pub(crate) fn open_if(
-        &mut self,
-        place: Place,
-        there: Option<OpenArrival>,
-    ) -> Result<(), NoMemory>
-        requires indexed { AreFiled self.old }
+    pub(crate) fn open_if(&mut self, place: Place, there: Option<AuditOpen>) -> Result<(), NoMemory>
+        requires indexed { AreTabled self.old }
         requires free { opening_at self.old place ≡ None }
         ensures { OnOk result (OpensIf self.old self.new place there) }
     {
@@ -103,9 +99,9 @@ impl Opens {
 
     // Nothing is open at the place from now on.
     pub(crate) fn close(&mut self, place: Place)
-        requires { AreFiled self.old }
+        requires { AreTabled self.old }
         ensures closes { OpensAt self.old self.new place None }
-        ensures fewer { (there : OpenArrival) → opening_at self.old place ≡ Some there
+        ensures fewer { (there : AuditOpen) → opening_at self.old place ≡ Some there
             → count_of self.new < count_of self.old }
     {
         if let Some(there) = self.places.remove(&place) {
@@ -116,7 +112,7 @@ impl Opens {
 
     // Closes these places.
     pub(crate) fn close_each(&mut self, places: &[Place])
-        requires { AreFiled self.old }
+        requires { AreTabled self.old }
         ensures { ClosesEach self.old self.new places.now }
     {
         for place in places {
@@ -126,7 +122,7 @@ impl Opens {
 
     // Closes each place whose limit has come at a moment.
     pub(crate) fn close_due(&mut self, moment: u64)
-        requires { AreFiled self.old }
+        requires { AreTabled self.old }
         ensures closes { ClosesUntil self.old self.new moment }
         ensures fits { moment < 2 ^ 64 }
     {
