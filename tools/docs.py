@@ -352,19 +352,14 @@ def commands():
 
 
 def sizes():
-    """ARCHITECTURE has a row for each crate, with the crates that crates.txt builds it on, and how many lines it may have: none
-    has more."""
-    wanted = ["Crate", "Stands on", "Lines at most"]
+    """ARCHITECTURE has a row for each crate, with how many lines it may have: none has more."""
+    wanted = ["Crate", "Lines at most"]
     rows = [dict(zip(header, row)) for header, rows in tables(ARCHITECTURE) if set(wanted) <= set(header) for row in rows]
     named = sorted(re.sub(r"\([^)]*\)|[\[\]]", "", row["Crate"]) for row in rows)
     crates = sorted(path.name for path in ROOT.glob("crates/rv_*"))
     check(named == crates, f"ARCHITECTURE: the rows are of {named}, and not of {crates}")
-    listed = re.findall(r"^(rv_\w+)[^:\n]*:(.*)", (ROOT / "crates.txt").read_text(), re.M)
-    below = {crate: sorted(re.findall(r"\brv_\w+", text)) for crate, text in listed}
     for row in rows:
         crate = re.sub(r"\([^)]*\)|[\[\]]", "", row["Crate"])
-        stands_on = sorted(re.findall(r"\brv_\w+", row["Stands on"]))
-        check(stands_on == below.get(crate), f"ARCHITECTURE: {crate} stands on {stands_on}, in crates.txt on {below.get(crate)}")
         lines = sum(len(path.read_text().split("\n")) - 1 for path in ROOT.glob(f"crates/{crate}/src/**/*.rt"))
         check(lines <= (greatest(row["Lines at most"]) or 0), f"{crate} has {lines} lines, and may have {row['Lines at most']}")
 
