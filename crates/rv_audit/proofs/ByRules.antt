@@ -7,7 +7,6 @@ use Rattle.std.proofs.lemmas.List.{take-take}
 use Rattle.rv_rules.proofs.Fronts.{Legal-before}
 use Rattle.rv_audit.specs.Breaking.{FirstFault, KeepsRules, rank_of}
 use Rattle.rv_audit.specs.Laws.{LegalByRules, OneAudit}
-use Rattle.rv_audit.proofs.Firsts.{one_rank}
 use Rattle.rv_audit.proofs.RulesKept.{breaks_nothing}
 use Rattle.rv_audit.proofs.RulesSuffice.{may_follow}
 use Rattle.rv_audit.specs.declared.rule.Audit.TheVariants as tells
@@ -50,6 +49,9 @@ legal_by_rules a = (
 )
 
 -- ---- one audit
+
+one_rank : (r s : Rule) → rank_of r ≡ rank_of s → r ≡ s
+one_rank r s same = grind arith
 
 one_place : (a : Account) (p q : ℕ) (r s : Rule) → FirstFault a p r → FirstFault a q s → p ≡ q
 one_place a p q r s first second = elim (cases_order p q) [

@@ -1,35 +1,28 @@
 -- From the first rule that an entry breaks to an account's first fault.
+use Rattle.rv_audit.proofs.ByRules.{keeps_rules}
 use Rattle.rv_audit.proofs.Words.{◌≡◌, ◌<◌, ◌∷◌, ◌∙◌, ℕ, zero, suc, List, [], length, take, Some}
 use Rattle.rv_audit.proofs.Words.{None, refl, sym, ap, subst, arith, slice_get, none-some}
-use Rattle.rv_audit.proofs.Words.{same_Some, Entry, Account, Legal, MayFollow, before, BreaksBehind, IsFront}
+use Rattle.rv_audit.proofs.Words.{same_Some, Entry, Account, Legal, before, BreaksBehind, IsFront}
 use Rattle.rv_audit.proofs.Words.{passed_account, Front, Rule}
 use Rattle.std.proofs.lemmas.List.{take-take}
 use Rattle.rv_account.specs.Account.{Stored}
-use Rattle.rv_rules.proofs.Fronts.{Legal-before}
 use Rattle.rv_rules.proofs.Places.{get-take}
-use Rattle.rv_audit.specs.Breaking.{FirstFault, KeepsRules, rank_of}
+use Rattle.rv_audit.specs.Breaking.{FirstFault, KeepsRules}
 use Rattle.rv_audit.specs.Passed.{BreaksFirst, BreaksNone, MayPass}
-use Rattle.rv_audit.proofs.RulesKept.{breaks_nothing}
 use Rattle.rv_audit.proofs.RulesSuffice.{may_follow}
 use Rattle.rv_audit.specs.declared.rule.Audit.TheVariants as tells
-
-pub one_rank : (r s : Rule) → rank_of r ≡ rank_of s → r ≡ s
-one_rank r s same = grind arith
 
 -- ---- one place after the other
 
 kept_before : (a : Account) (n r : ℕ) → Legal (before a n) → r < n → KeepsRules a r
 kept_before a n r legal less rule broken =
-    let there : slice_get (take n a.entries) r ≡ Some broken.entry = get-take a.entries n r less
-    ∙ broken.there in
-    let P : List Entry
-    → Type 0 = λ es. MayFollow (record { epoch = a.epoch; opened = a.opened; entries = es }) broken.entry
-    in
-    let same : take r (take n a.entries) ≡ take r a.entries = take-take r n a.entries (omega arith) in
-    let follows : MayFollow (before a r) broken.entry = subst P same (legal r broken.entry there) in
-    let Q : List Entry → Type 0 = λ es. Legal (record { epoch = a.epoch; opened = a.opened; entries = es }) in
-    let short : Legal (before a r) = subst Q same (Legal-before (before a n) r legal) in
-    breaks_nothing (before a r) broken.entry short follows rule broken.breaks
+    let P : List Entry → Type 0 = λ es. BreaksBehind rule
+    (record { epoch = a.epoch; opened = a.opened; entries = es }) broken.entry in
+    keeps_rules (before a n) legal r rule (record {
+      entry = broken.entry;
+      there = get-take a.entries n r less ∙ broken.there;
+      breaks = subst P (sym (take-take r n a.entries (omega arith))) broken.breaks;
+    })
 
 pub first_fault : (a : Account) (n : ℕ) (e : Entry) (rule : Rule) → Legal (before a n)
     → slice_get a.entries n ≡ Some e → BreaksFirst (before a n) e rule → FirstFault a n rule
@@ -41,10 +34,8 @@ first_fault a n e rule legal there first = record {
       first.first other less (subst (BreaksBehind other (before a n)) same broken.breaks);
 }
 
-pub no_fault : (a : Account) (n : ℕ) (rule : Rule) → Legal a → FirstFault a n rule → ⊥
-no_fault a n rule legal fault =
-    breaks_nothing (before a n) fault.broken.entry (Legal-before a n legal) (legal n fault.broken.entry
-    fault.broken.there) rule fault.broken.breaks
+no_fault : (a : Account) (n : ℕ) (rule : Rule) → Legal a → FirstFault a n rule → ⊥
+no_fault a n rule legal fault = keeps_rules a legal n rule fault.broken
 
 take_past : (es : List Entry) (n : ℕ) → slice_get es n ≡ None → take n es ≡ es
 take_past [] zero none = refl

@@ -1,4 +1,6 @@
 -- What one test on an audit's tables tells, of what the rules ask.
+use Rattle.rv_audit.specs.Passed.{AreTaken}
+use Rattle.rv_audit.proofs.Words.{Bool, List, ap, IsNoFreePlace}
 use Rattle.rv_audit.proofs.Words.{◌≡◌, ◌≢◌, ◌+◌, ◌-◌, ◌<◌, ◌≤◌, ◌∙◌, inl, inr, ℕ, Bool, true, false, not}
 use Rattle.rv_audit.proofs.Words.{nat_eq, List, length, Option, Some, None}
 use Rattle.rv_audit.proofs.Words.{refl, sym, ap, subst, arith, IsTrue, false≢true}
@@ -159,6 +161,20 @@ pub who_meets_not : (es : List Entry) (e : Entry) → (ArrivesToMeet e → ⊥)
 who_meets_not es e meets_not = (
   λ t. let one = some_among e.partners t in record { partner = one.0; names = one.1; wrong = inl meets_not },
   λ breaks. any_among e.partners breaks.partner breaks.names,
+)
+
+-- the flag of a place tells whether it is taken
+pub taken_there : (es : List Entry) (flags : List Bool) (place : ℕ) (flag : Bool) → AreTaken es flags
+    → slice_get flags place ≡ Some flag → Iff (IsTrue flag) (IsNoFreePlace es place)
+taken_there es flags place flag are at = (
+  λ t. inr ((are.flags place).0 (at ∙ ap Some t)),
+  λ taken. elim taken [
+    | inl past ↦
+        let inside = within flags place flag at in
+        let count = are.count in
+        absurd (omega arith)
+    | inr named ↦ same_Some _ _ (sym at ∙ (are.flags place).1 named)
+  ],
 )
 
 -- ---- moments
