@@ -1,7 +1,7 @@
 -- Where what the machine made of a message leads: nowhere, or to one entry that the account lacks.
 use Rattle.std.proofs.Common.{◌≡◌, ◌⊎◌, ◌<◌, ◌≤◌, ◌+◌, ◌∷◌, ◌++◌, ◌∙◌, inl, inr, ℕ, List, [], length, Some}
 use Rattle.std.proofs.Common.{None, refl}
-use Rattle.std.proofs.Common.{sym, ap, subst, arith, append-nil, length-append, option_to_list}
+use Rattle.std.proofs.Common.{sym, ap, subst, arith, append-nil, option_to_list}
 use Rattle.std.proofs.lemmas.Option.{none-some, same_Some}
 use Rattle.std.specs.FinMap.{get}
 use Rattle.rv_text.specs.declared.answer.Answer.{Answer}
@@ -17,9 +17,11 @@ use Rattle.rv_account.specs.Limits.{FitsAct, FitsEntry, max_moment}
 use Rattle.rv_rules.specs.Legal.{Legal, MayFollow}
 use Rattle.rv_rules.specs.Sessions.{SaidHello}
 use Rattle.rv_rules.specs.Limits.{FitsAccount}
-use Rattle.rv_rules.specs.StepLimits.{book_limits}
+use Rattle.rv_rules.specs.StepLimits.{StepLimits, book_limits, max_clients, max_entries}
 use Rattle.rv_rules.specs.Steps.{NextAt}
+use Rattle.rv_rules.proofs.FewClients.{ClientsAtMost}
 use Rattle.rv_rules.proofs.Legality.{follows_itself}
+use Rattle.rv_rules.proofs.RoomKept.{RoomAtMost, clients_behind, room_behind}
 use Rattle.rv_state.specs.Agreement.{IsStateOf}
 use Rattle.rv_state.specs.After.{Following, following}
 use Rattle.rv_state.specs.Follows.{partners_of}
@@ -43,7 +45,7 @@ use Rattle.rv_book.specs.Operations.{Becomes, HasRoomFor, IsAhead, IsQuiet, Make
 use Rattle.rv_book.specs.Saying.{answer_of}
 use Rattle.rv_book.specs.Tables.{IsSound, account_of, state_of_machine}
 use Rattle.rv_book.proofs.KnownToMachine.{has_said}
-use Rattle.rv_book.proofs.FitsBehind.{act_of_fits, few_behind, fits_behind}
+use Rattle.rv_book.proofs.FitsBehind.{act_of_fits, fits_behind}
 
 -- what a step becomes by what is said of it
 becomes_said : (a b : Account) (moment : ℕ) (m : Message) (x : Answer) (said : KeptAnswer)
@@ -54,13 +56,6 @@ becomes_said a b moment m x said next is = record { answer = x; is = is; step = 
 pub same_account : (a b : Account) → b.epoch ≡ a.epoch → b.opened ≡ a.opened → b.entries ≡ a.entries → b ≡ a
 same_account a b epoch opened entries =
     λ i. record { epoch = epoch i; opened = opened i; entries = entries i }
-
-pub longer_apart : (a : Account) (e : Entry) → with_entry a e ≡ a → ⊥
-longer_apart a e same =
-    let long : length (a.entries ++ e ∷ []) ≡ length a.entries = ap (λ (x : Account). length x.entries) same
-    in
-    let sum : length (a.entries ++ e ∷ []) ≡ length a.entries + 1 = length-append a.entries (e ∷ []) in
-    omega (arith, long, sum)
 
 -- the book with another machine
 abbrev pub with_machine : BookState → Machine → BookState
@@ -115,7 +110,7 @@ module _ (book : BookState) (moment : ℕ) (quiet : IsQuiet book moment) (m : Me
         omega (arith, zero, one)
 
     pub stays_so : move.entries ≡ [] → move.after ≡ s
-    stays_so none = elim (move_kinds s moment m move steps) [
+    stays_so none = elim (move_kinds book_limits s moment m move steps) [
       | inl stays ↦ ap (λ (x : Move). x.after) stays
       | inr enters ↦ absurd (some_entry move.entries _ none (ap (λ (x : Move). x.entries) enters))
     ]
@@ -133,7 +128,7 @@ module _ (book : BookState) (moment : ℕ) (quiet : IsQuiet book moment) (m : Me
     head_is x y same = cc
 
     pub enters : (e : Entry) → move.entries ≡ e ∷ [] → Enters e
-    enters e some = elim (move_kinds s moment m move steps) [
+    enters e some = elim (move_kinds book_limits s moment m move steps) [
       | inl stays ↦ absurd (some_entry move.entries e (ap (λ (x : Move). x.entries) stays) some)
       | inr does ↦ record {
         is = head_is own e (sym (ap (λ (x : Move). x.entries) does) ∙ some);
@@ -157,7 +152,11 @@ module _ (book : BookState) (moment : ℕ) (quiet : IsQuiet book moment) (m : Me
   -- ---- the book with the machine behind it
 
   module _ (new : Machine) (whole : IsWhole new) (numbered : AreNumbered (state_in new)) (made : HeardOf)
-      (heard : IsHearing book.machine new moment m made) where
+      (limits : StepLimits) (is_book : limits ≡ book_limits)
+      (under : IsHearing limits book.machine new moment m made) where
+    abbrev heard : IsHearing book_limits book.machine new moment m made
+    heard = subst (λ (l : StepLimits). IsHearing l book.machine new moment m made) is_book under
+
     abbrev move : Move
     move = heard.move
 
@@ -222,9 +221,13 @@ module _ (book : BookState) (moment : ℕ) (quiet : IsQuiet book moment) (m : Me
 
       account_fits : FitsAccount (with_entry a e)
       account_fits =
-          fits_behind a e (state_in new) quiet.sound.fits own_fits legal_there state_there whole.consistent
-          (few_behind a led.after e moment move.answer quiet.sound.fits.clients
-          (λ same. longer_apart a e (sym there ∙ same)) m led.next act_is)
+          fits_behind a e quiet.sound.fits own_fits
+          (subst (λ (x : Account). RoomAtMost max_entries x.entries) there
+          (room_behind book_limits max_entries a led.after moment m move.answer led.next (omega arith)
+          quiet.sound.fits.room))
+          (subst (λ (x : Account). ClientsAtMost max_clients x.entries) there
+          (clients_behind book_limits max_clients a led.after moment m move.answer led.next (omega arith)
+          quiet.sound.fits.clients))
 
       follows_so : (following s moment (act_of m)) ≡ (following s e.moment e.act)
       follows_so = ap (λ (x : Entry). following s x.moment x.act) entered.is

@@ -5,6 +5,7 @@ use Rattle.rv_text.specs.declared.message.Message.{Message}
 use Rattle.rv_account.specs.Account.{Account, Stored}
 use Rattle.rv_rules.specs.Legal.{Legal}
 use Rattle.rv_rules.specs.Limits.{FitsAccount}
+use Rattle.rv_rules.specs.StepLimits.{book_limits}
 use Rattle.rv_state.specs.Agreement.{IsStateOf}
 use Rattle.rv_state.specs.State.{waiting_count}
 use Rattle.rv_kept.specs.Keeping.{AreKept}
@@ -20,7 +21,7 @@ pub room_for_need : (book : BookState) (m : Message)
     → (IsHello m → 0 < book.kept.room) → HasRoomFor book m
 room_for_need book m enough more = record {
   entries = λ moment move steps.
-      let within = moves_within (state_of_machine book) moment m move steps in
+      let within = moves_within book_limits (state_of_machine book) moment m move steps in
       omega (arith, within, enough);
   client = λ hello. inr (more hello);
 }

@@ -10,7 +10,10 @@ use Rattle.rv_account.specs.Limits.{FitsEntry, max_moment}
 use Rattle.rv_rules.specs.Legal.{Legal}
 use Rattle.rv_rules.specs.Limits.{FitsAccount}
 use Rattle.rv_rules.specs.Steps.{Ticks, capped_moment, step_moment}
+use Rattle.rv_rules.specs.StepLimits.{max_clients, max_entries}
+use Rattle.rv_rules.proofs.FewClients.{ClientsAtMost}
 use Rattle.rv_rules.proofs.Legality.{follows_itself}
+use Rattle.rv_rules.proofs.RoomKept.{RoomAtMost, ticked_clients, ticked_room}
 use Rattle.rv_state.specs.Agreement.{IsStateOf}
 use Rattle.rv_state.specs.After.{Following, due_at, following}
 use Rattle.rv_state.specs.Moves.{Ticked, state_moment, ticked_at, ticked_if, ticking, unticked}
@@ -26,7 +29,7 @@ use Rattle.rv_machine.specs.declared.steps.TickMade.{TickMade}
 use Rattle.rv_book.specs.declared.state.BookState.{BookState}
 use Rattle.rv_book.specs.Operations.{IsAhead, IsQuiet}
 use Rattle.rv_book.specs.Tables.{IsSound, account_of, state_of_machine}
-use Rattle.rv_book.proofs.FitsBehind.{few_ticked, fits_behind}
+use Rattle.rv_book.proofs.FitsBehind.{fits_behind}
 use Rattle.rv_book.proofs.Heard.{same_account, with_machine}
 
 -- ---- the tick of a state
@@ -158,9 +161,11 @@ module _ (book : BookState) (now moment : ℕ) (sound : IsSound book)
 
       account_fits : FitsAccount (with_entry a e)
       account_fits =
-          fits_behind a e (state_in new) sound.fits
-          (subst FitsEntry own_is (fits, tt)) legal_there state_there whole.consistent
-          (few_ticked a.entries e (ap (λ (x : Entry). x.act) (sym own_is)) sound.fits.clients)
+          fits_behind a e sound.fits (subst FitsEntry own_is (fits, tt))
+          (subst (λ (x : Account). RoomAtMost max_entries x.entries) there
+          (ticked_room max_entries a found.0 moment found.1 sound.fits.room))
+          (subst (λ (x : Account). ClientsAtMost max_clients x.entries) there
+          (ticked_clients max_clients a found.0 moment found.1 sound.fits.clients))
 
       follows_so : following s moment Tick ≡ following s e.moment e.act
       follows_so = ap (λ (x : Entry). following s x.moment x.act) own_is

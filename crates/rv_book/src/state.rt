@@ -11,7 +11,7 @@ ghost use Rattle.rv_book.specs.Operations.{AreKnown, MayKeep, kept_after, kept_i
 use crate::verdict::KeptAnswer;
 use rv_account::{Account, Act, Entry};
 use rv_kept::{KeptReplies, kept_again, source};
-use rv_machine::{Heard, Machine, Said, TickMade, message_need};
+use rv_machine::{Heard, Limits, Machine, Said, TickMade, message_need};
 use rv_session::Place;
 use rv_text::{Message, NoMemory, Refusal, Side};
 use std::alloc::Global;
@@ -107,6 +107,7 @@ impl BookState {
     ghost use Rattle.rv_state.specs.State.{waiting_count};
     ghost use Rattle.rv_text.specs.declared.answer.Answer.{Answer};
     ghost use Rattle.rv_account.specs.Account.{with_entry};
+    ghost use Rattle.rv_rules.specs.StepLimits.{book_limits};
     ghost use Rattle.rv_machine.specs.Machines.{Says};
     ghost use Rattle.rv_machine.specs.Needing.{MayLackMemory, message_need};
     ghost use Rattle.rv_book.specs.Operations.{Becomes, BecomesAfterTicks, HasRoomFor, IsAhead, IsQuiet};
@@ -185,7 +186,8 @@ impl BookState {
         ensures sound { IsSound self.new }
         ensures step { Becomes (account_of self.old) moment message (account_of self.new) result }
     {
-        let Heard { entry, said } = self.machine.hear(moment, message);
+        let limits = Limits::book();
+        let Heard { entry, said } = self.machine.hear(&limits, moment, message);
         match entry {
             Some(entry) => {
                 self.record(entry);
@@ -234,16 +236,17 @@ impl BookState {
     // Makes room for a message that will enter an entry and lacks it. Only this can fail, and only room
     // changes.
     fn make_room(&mut self, message: &Message) -> Result<(), NoMemory>
-        requires { IsSound self.old }
+        requires sound { IsSound self.old }
+        requires fits { FitsMessage message.now }
         ensures same { IsSame self.old self.new }
         ensures sound { IsSound self.new }
         ensures room { OnOk result (HasRoomFor self.new message.now) }
-        ensures lacks { OnErr result (MayLackMemory (state_of_machine self.old) message.now) }
+        ensures lacks { OnErr result (MayLackMemory book_limits (state_of_machine self.old) message.now) }
     {
         if self.has_room(message) {
             return Ok(());
         }
-        if !self.machine.enters(message) {
+        if !self.machine.enters(&Limits::book(), message) {
             return Ok(());
         }
         self.grow(message)

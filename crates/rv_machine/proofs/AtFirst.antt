@@ -3,13 +3,14 @@ use Rattle.std.proofs.Common.{◌≡◌, ◌≤◌, ◌∙◌, ℕ, [], Some, sy
 use Rattle.std.specs.FinMap.{FinMap, empty, get, get-empty}
 use Rattle.std.specs.Ordering.{nat_cmp}
 use Rattle.std.specs.Prelude.{vec_len}
-use Rattle.rv_rules.specs.Steps.{max_clients, max_moment}
+use Rattle.rv_rules.specs.Steps.{max_moment}
 use Rattle.rv_state.specs.State.{ClientState, OpenPlace, client_at}
 use Rattle.rv_state.proofs.Words.{none-some}
 use Rattle.rv_machine.specs.declared.machine.Machine.{Machine}
+use Rattle.rv_machine.specs.Limiting.{most_known}
 use Rattle.rv_machine.specs.Machines.{IsWhole, state_in}
 use Rattle.rv_machine.specs.Numbering.{AreNumbered}
-use Rattle.rv_machine.specs.OpenMap.{count_waiting}
+use Rattle.rv_open.specs.OpenMap.{count_waiting}
 
 module _ (m : Machine) (none : m.table ≡ []) (nobody : m.clients.clients ≡ empty) where
   nothing : (i : ℕ) (one : OpenPlace) → slice_get m.table i ≡ Some one → ⊥
@@ -27,7 +28,7 @@ module _ (m : Machine) (none : m.table ≡ []) (nobody : m.clients.clients ≡ e
   none_waits : count_waiting m.table ≡ 0
   none_waits = ap count_waiting none
 
-  pub first_ready : m.moment ≤ max_moment → m.length ≡ 0 → m.clients.most ≡ max_clients
+  pub first_ready : m.moment ≤ max_moment → m.length ≡ 0 → m.clients.most ≡ most_known
       → vec_len m.settled ≡ 0 → IsWhole m
   first_ready time first most listed = record {
     consistent = record {

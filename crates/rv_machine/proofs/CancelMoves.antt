@@ -12,7 +12,7 @@ use Rattle.rv_text.specs.declared.answer.Reply.TheVariants.{Cancelled}
 use Rattle.rv_account.specs.Account.{entry}
 use Rattle.rv_account.specs.declared.entry.Act.{Act}
 use Rattle.rv_account.specs.declared.entry.Act.TheVariants as act
-use Rattle.rv_rules.specs.Steps.{max_entries}
+use Rattle.rv_rules.specs.StepLimits.{StepLimits}
 use Rattle.rv_session.specs.declared.client.LastRequest.{LastRequest}
 use Rattle.rv_session.specs.declared.client.LastRequest.TheVariants.{CancelledUnseen, Fresh, Waits}
 use Rattle.rv_session.specs.ClientMeanings.{AsksLast, AsksNext, RefusalSays}
@@ -29,7 +29,7 @@ use Rattle.rv_machine.specs.Ending.{EndsWaiting, counted}
 use Rattle.rv_machine.specs.Entering.{HasSpaceFor, WaitsForNothing, LastWaits}
 use Rattle.rv_machine.specs.Machines.{IsWhole, MovesBy, keys_settled, state_in}
 use Rattle.rv_machine.specs.Numbering.{AreNumbered, IsNumbered}
-use Rattle.rv_machine.specs.OpenMap.{count_waiting}
+use Rattle.rv_open.specs.OpenMap.{count_waiting}
 use Rattle.rv_machine.proofs.EndedLast.{found_waiting, idle_waits, known_after}
 use Rattle.rv_machine.proofs.KeyLines.{awaited_there, key_last, key_next, key_refused}
 use Rattle.rv_machine.proofs.SpaceLines.{has_space, lacks_space}
@@ -39,44 +39,47 @@ use Rattle.rv_machine.proofs.Told.{put_own}
 
 -- ---- where no entry is made
 
-module _ (m : Machine) (moment : ℕ) (key : Key) (numbered : AreNumbered (state_in m)) where
-  pub refuses_cancel : (refusal : Refusal) → RefusalSays m.clients key refusal
-      → MovesBy m m moment (Cancel key) [] (said.Refused refusal)
-  refuses_cancel refusal says =
-      moves_refused m m moment _ refl refl refusal (key_refused m key _ _ _ numbered refusal says refl)
+module _ (limits : StepLimits) (m : Machine) (moment : ℕ) (key : Key) (numbered : AreNumbered (state_in m))
+  where
+    pub refuses_cancel : (refusal : Refusal) → RefusalSays m.clients key refusal
+        → MovesBy limits m m moment (Cancel key) [] (said.Refused refusal)
+    refuses_cancel refusal says =
+        moves_refused limits m m moment _ refl refl refusal (key_refused m key _ _ _ numbered refusal says refl)
 
-  not_waiting : (request : LastRequest) → place_waiting request ≡ None
-      → (says : AsksLast m.clients key request)
-      → NumberWaits (state_in m) key → ⊥
-  not_waiting request idle says waits =
-      let same : waits.session ≡ says.state = same_Some _ _ (sym waits.of_session.there ∙ says.of_key.there)
-      in
-      none-some waits.place
-      (sym idle ∙ ap place_waiting (sym says.request_is)
-      ∙ ap (λ (x : ClientState). place_waiting x.request) (sym same) ∙ waits.waits)
+    not_waiting : (request : LastRequest) → place_waiting request ≡ None
+        → (says : AsksLast m.clients key request)
+        → NumberWaits (state_in m) key → ⊥
+    not_waiting request idle says waits =
+        let same : waits.session ≡ says.state = same_Some _ _ (sym waits.of_session.there ∙ says.of_key.there)
+        in
+        none-some waits.place
+        (sym idle ∙ ap place_waiting (sym says.request_is)
+        ∙ ap (λ (x : ClientState). place_waiting x.request) (sym same) ∙ waits.waits)
 
-  -- the last number has its reply
-  pub repeats_cancel : (request : LastRequest) → request ≢ Fresh → place_waiting request ≡ None
-      → AsksLast m.clients key request → MovesBy m m moment (Cancel key) [] (said.Told key)
-  repeats_cancel request asked idle says =
-      moves_staying m m moment _ refl refl (answer_told key (told_again says.state.request)) (said.Told key)
-      (says.state, says.of_key.there, refl)
-      (key_last m key _ _ _ numbered request asked says (inr (
-        not_waiting request idle says,
-        record { session = says.state; there = says.of_key.there; is = refl },
-      )))
+    -- the last number has its reply
+    pub repeats_cancel : (request : LastRequest) → request ≢ Fresh → place_waiting request ≡ None
+        → AsksLast m.clients key request → MovesBy limits m m moment (Cancel key) [] (said.Told key)
+    repeats_cancel request asked idle says =
+        moves_staying limits m m moment _ refl refl (answer_told key (told_again says.state.request))
+        (said.Told key)
+        (says.state, says.of_key.there, refl)
+        (key_last m key _ _ _ numbered request asked says (inr (
+          not_waiting request idle says,
+          record { session = says.state; there = says.of_key.there; is = refl },
+        )))
 
-  -- the next number finds no space
-  pub fills_cancel : AsksNext m.clients key → max_entries < m.length + count_waiting m.table + 1
-      → MovesBy m m moment (Cancel key) [] (said.Refused EpochFull)
-  fills_cancel says full =
-      moves_refused m m moment _ refl refl EpochFull
-      (key_next m key _ _ _ numbered says
-      (lacks_space (state_in m) 1 _ _ full refl))
+    -- the next number finds no space
+    pub fills_cancel : AsksNext m.clients key → limits.entries < m.length + count_waiting m.table + 1
+        → MovesBy limits m m moment (Cancel key) [] (said.Refused EpochFull)
+    fills_cancel says full =
+        moves_refused limits m m moment _ refl refl EpochFull
+        (key_next m key _ _ _ numbered says
+        (lacks_space limits (state_in m) 1 _ _ full refl))
 
 -- ---- where the last request waits
 
-module _ (old mid : Machine) (ready : IsWhole old) (numbered : AreNumbered (state_in old)) (moment : ℕ)
+module _ (limits : StepLimits) (old mid : Machine) (ready : IsWhole old) (numbered :
+    AreNumbered (state_in old)) (moment : ℕ)
     (key : Key)
     (place : ℕ) (last : LastWaits old key place) (ends : EndsWaiting old mid place Cancelled) where
   abbrev s : State
@@ -97,7 +100,7 @@ module _ (old mid : Machine) (ready : IsWhole old) (numbered : AreNumbered (stat
   told : answer_told key (told_again (answered Cancelled x.request)) ≡ Replied key Cancelled
   told = ap (λ (r : LastRequest). answer_told key (told_again (answered Cancelled r))) last.asks.request_is
 
-  pub ends_cancel : MovesBy old (counted mid moment) moment (Cancel key) (entry moment does [] ∷ [])
+  pub ends_cancel : MovesBy limits old (counted mid moment) moment (Cancel key) (entry moment does [] ∷ [])
       (said.Told key)
   ends_cancel = record {
     move = entering s moment does (Replied key Cancelled);
@@ -154,7 +157,8 @@ module _ (old : Machine) (moment : ℕ) (key : Key) (says : AsksNext old.clients
       ∙ ap (insert_known old.clients.clients key.client (λ x. with_last_number x key.number CancelledUnseen))
       says.of_key.there
 
-  module _ (mid : Machine) (numbered : AreNumbered (state_in old)) (space : HasSpaceFor old 1)
+  module _ (limits : StepLimits) (mid : Machine) (numbered : AreNumbered (state_in old)) (space :
+      HasSpaceFor limits old 1)
       (is : state_in mid ≡ with_client (state_in old) key.client buried)
       (kept : mid.settled.items ≡ old.settled.items) where
     abbrev t : State
@@ -172,11 +176,12 @@ module _ (old : Machine) (moment : ℕ) (key : Key) (says : AsksNext old.clients
     answers : answer_after t moment key enters ≡ Replied key Cancelled
     answers = ap (λ (o : Option OpenPlace). answer_told key (cancelled t key o).reply) none_waits
 
-    pub buries_cancel : MovesBy old (counted mid moment) moment (Cancel key) (entry moment enters [] ∷ [])
+    pub buries_cancel : MovesBy limits old (counted mid moment) moment (Cancel key) (entry moment enters []
+        ∷ [])
         (said.Told key)
     buries_cancel = record {
       move = entering t moment enters (answer_after t moment key enters);
-      moves = key_next old key _ _ _ numbered says (has_space t 1 _ _ space (inr refl));
+      moves = key_next old key _ _ _ numbered says (has_space limits t 1 _ _ space (inr refl));
       makes = refl;
       says = (buried, known, answers);
       settles = kept ∙ sym (append-nil _)

@@ -6,16 +6,18 @@ use Rattle.rv_text.specs.declared.version.Version.{Version}
 use Rattle.rv_text.specs.declared.answer.Refusal.{Refusal}
 use Rattle.rv_text.specs.declared.answer.Refusal.TheVariants.{ClientsFull, EpochFull, OldIncarnation}
 use Rattle.rv_text.specs.declared.answer.Refusal.TheVariants.{OtherVersion}
-use Rattle.rv_rules.specs.Steps.{RefuseOr, max_clients, max_entries}
+use Rattle.rv_rules.specs.StepLimits.{StepLimits}
+use Rattle.rv_rules.specs.Steps.{RefuseOr}
 use Rattle.rv_state.specs.Follows.{IsNewIncarnation}
-use Rattle.rv_state.specs.Moves.{HasSessionOf, IncarnationOld, NoClientMore, NoEntryMore, StateHelloLines}
+use Rattle.rv_state.specs.Moves.{HasSessionOf, IncarnationOld, NoClientMoreUnder, NoEntryMoreUnder}
+use Rattle.rv_state.specs.Moves.{StateHelloLinesUnder}
 use Rattle.rv_state.specs.Moves.{VersionDiffers}
 use Rattle.rv_state.specs.State.{ClientState, State, client_at, waiting_count}
 use Rattle.rv_state.proofs.Words.{none-some, same_Some}
 use Rattle.rv_machine.specs.Entering.{IsNewHello}
 use Rattle.rv_machine.proofs.SpaceLines.{has_space, lacks_space}
 
-module _ (s : State) (client incarnation : ℕ) (version : Version) where
+module _ (limits : StepLimits) (s : State) (client incarnation : ℕ) (version : Version) where
   -- ---- the client has a session
 
   module _ (x : ClientState) (there : client_at s client ≡ Some x) where
@@ -54,11 +56,11 @@ module _ (s : State) (client incarnation : ℕ) (version : Version) where
         let same : has.session.incarnation ≡ incarnation = has.same in
         omega arith
 
-  fits_clients : (client_at s client ≡ None → len s.clients < max_clients) → (r : Refusal)
-      → NoClientMore s client r → ⊥
+  fits_clients : (client_at s client ≡ None → len s.clients < limits.clients) → (r : Refusal)
+      → NoClientMoreUnder limits s client r → ⊥
   fits_clients most r due =
-      let less : len s.clients < max_clients = most due.is_new in
-      let full : max_clients ≤ len s.clients = due.full in
+      let less : len s.clients < limits.clients = most due.is_new in
+      let full : limits.clients ≤ len s.clients = due.full in
       omega arith
 
   -- ---- lines
@@ -66,7 +68,7 @@ module _ (s : State) (client incarnation : ℕ) (version : Version) where
   module _ (refuses : Refusal → Type 0) (repeats enters : Type 0) where
     pub hello_older : (x : ClientState) → client_at s client ≡ Some x → incarnation < x.incarnation
         → refuses (OldIncarnation x.incarnation)
-        → StateHelloLines s client incarnation version refuses repeats enters
+        → StateHelloLinesUnder limits s client incarnation version refuses repeats enters
     hello_older x there less r = inl (record {
       refusal = _;
       is_due = record { session = x; there = there; lower = less; is = refl };
@@ -75,7 +77,7 @@ module _ (s : State) (client incarnation : ℕ) (version : Version) where
 
     pub hello_other : (x : ClientState) → client_at s client ≡ Some x → x.incarnation ≡ incarnation
         → x.version ≢ version → refuses (OtherVersion x.version)
-        → StateHelloLines s client incarnation version refuses repeats enters
+        → StateHelloLinesUnder limits s client incarnation version refuses repeats enters
     hello_other x there same other r = inr (
       not_old x there (omega arith),
       inl (record {
@@ -87,7 +89,7 @@ module _ (s : State) (client incarnation : ℕ) (version : Version) where
 
     pub hello_again : (x : ClientState) → client_at s client ≡ Some x → x.incarnation ≡ incarnation
         → x.version ≡ version → repeats
-        → StateHelloLines s client incarnation version refuses repeats enters
+        → StateHelloLinesUnder limits s client incarnation version refuses repeats enters
     hello_again x there same version_is then = inr (
       not_old x there (omega arith),
       inr (
@@ -97,13 +99,14 @@ module _ (s : State) (client incarnation : ℕ) (version : Version) where
     )
 
     hello_new : IsNewIncarnation s client incarnation
-        → RefuseOr (NoClientMore s client) refuses (RefuseOr (NoEntryMore s 1) refuses enters)
-        → StateHelloLines s client incarnation version refuses repeats enters
+        → RefuseOr (NoClientMoreUnder limits s client) refuses (RefuseOr (NoEntryMoreUnder limits s 1) refuses
+        enters)
+        → StateHelloLinesUnder limits s client incarnation version refuses repeats enters
     hello_new is_new rest =
         inr (new_not_old is_new, inr (new_not_other is_new, inr (new_not_again is_new, rest)))
 
-    pub hello_no_client : client_at s client ≡ None → max_clients ≤ len s.clients → refuses ClientsFull
-        → StateHelloLines s client incarnation version refuses repeats enters
+    pub hello_no_client : client_at s client ≡ None → limits.clients ≤ len s.clients → refuses ClientsFull
+        → StateHelloLinesUnder limits s client incarnation version refuses repeats enters
     hello_no_client none full r =
         hello_new (λ x there. absurd (none-some x (sym none ∙ there)))
         (inl (record {
@@ -112,12 +115,14 @@ module _ (s : State) (client incarnation : ℕ) (version : Version) where
           refuses_it = r;
         }))
 
-    pub hello_no_entry : IsNewHello s client incarnation → max_entries < s.length + waiting_count s + 1
-        → refuses EpochFull → StateHelloLines s client incarnation version refuses repeats enters
+    pub hello_no_entry : IsNewHello limits s client incarnation
+        → limits.entries < s.length + waiting_count s + 1
+        → refuses EpochFull → StateHelloLinesUnder limits s client incarnation version refuses repeats enters
     hello_no_entry fits full r =
-        hello_new fits.is_new (inr (fits_clients fits.most, lacks_space s 1 refuses enters full r))
+        hello_new fits.is_new (inr (fits_clients fits.most, lacks_space limits s 1 refuses enters full r))
 
-    pub hello_enters : IsNewHello s client incarnation → s.length + waiting_count s + 1 ≤ max_entries → enters
-        → StateHelloLines s client incarnation version refuses repeats enters
+    pub hello_enters : IsNewHello limits s client incarnation
+        → s.length + waiting_count s + 1 ≤ limits.entries → enters
+        → StateHelloLinesUnder limits s client incarnation version refuses repeats enters
     hello_enters fits space then =
-        hello_new fits.is_new (inr (fits_clients fits.most, has_space s 1 refuses enters space then))
+        hello_new fits.is_new (inr (fits_clients fits.most, has_space limits s 1 refuses enters space then))

@@ -16,7 +16,7 @@ use Rattle.rv_account.specs.declared.entry.Act.TheVariants as act
 use Rattle.rv_session.specs.ClientMeanings.{HasGreaterState, HasLowerState, HasOtherState, HasState}
 use Rattle.rv_session.specs.Clients.{fresh_state}
 use Rattle.rv_state.specs.State.{ClientState, OpenPlace, State, Waiter, client_waits}
-use Rattle.rv_rules.specs.Steps.{max_clients, max_entries}
+use Rattle.rv_rules.specs.StepLimits.{StepLimits}
 use Rattle.std.specs.Global.{Vec}
 use Rattle.rv_text.specs.declared.message.Key.{Key}
 use Rattle.rv_account.specs.declared.entry.Act.{Act}
@@ -29,7 +29,7 @@ use Rattle.rv_machine.specs.declared.machine.Said.TheVariants as said
 use Rattle.rv_machine.specs.Ending.{EndsWaiting}
 use Rattle.rv_machine.specs.Entering.{HasSpaceFor, WaitsForNothing, IsNewHello}
 use Rattle.rv_machine.specs.Machines.{MovesBy, keys_settled, state_in}
-use Rattle.rv_machine.specs.OpenMap.{count_waiting}
+use Rattle.rv_open.specs.OpenMap.{count_waiting}
 use Rattle.rv_machine.proofs.EndedLast.{idle_waits}
 use Rattle.rv_machine.proofs.HelloLines.{hello_again, hello_enters, hello_no_client, hello_no_entry}
 use Rattle.rv_machine.proofs.HelloLines.{hello_older, hello_other}
@@ -38,52 +38,62 @@ use Rattle.rv_machine.proofs.Stopping.{settled_one, stopped_none, stopped_one}
 
 -- ---- where no entry is made
 
-module _ (m : Machine) (moment client incarnation : ℕ) (version : Version) where
+module _ (limits : StepLimits) (m : Machine) (moment client incarnation : ℕ) (version : Version) where
   pub moves_again : HasState m.clients client incarnation version
-      → MovesBy m m moment (Hello client incarnation version) []
+      → MovesBy limits m m moment (Hello client incarnation version) []
       (said.Welcome m.clients.epoch client incarnation version)
   moves_again has =
-      moves_staying m m moment _ refl refl (Welcome m.clients.epoch client incarnation version) _ refl
-      (hello_again (state_in m) client incarnation version _ _ _ has.state has.there has.same has.version_is
+      moves_staying limits m m moment _ refl refl (Welcome m.clients.epoch client incarnation version) _ refl
+      (hello_again limits (state_in m) client incarnation version _ _ _ has.state has.there has.same
+      has.version_is
       refl)
 
   pub moves_older : (current : ℕ) → HasGreaterState m.clients client incarnation current
-      → MovesBy m m moment (Hello client incarnation version) [] (said.Refused (OldIncarnation current))
+      → MovesBy limits m m moment (Hello client incarnation version) []
+      (said.Refused (OldIncarnation current))
   moves_older current has =
-      subst (λ n. MovesBy m m moment (Hello client incarnation version) [] (said.Refused (OldIncarnation n)))
+      subst (λ n. MovesBy limits m m moment (Hello client incarnation version) []
+      (said.Refused (OldIncarnation n)))
       (sym has.current_is)
-      (moves_refused m m moment _ refl refl (OldIncarnation has.state.incarnation)
-      (hello_older (state_in m) client incarnation version _ _ _ has.state has.there
+      (moves_refused limits m m moment _ refl refl (OldIncarnation has.state.incarnation)
+      (hello_older limits (state_in m) client incarnation version _ _ _ has.state has.there
       (subst (λ n. incarnation < n) has.current_is has.greater) refl))
 
   pub moves_other : (current : Version) → HasOtherState m.clients client incarnation version current
-      → MovesBy m m moment (Hello client incarnation version) [] (said.Refused (OtherVersion current))
+      → MovesBy limits m m moment (Hello client incarnation version) [] (said.Refused (OtherVersion current))
   moves_other current has =
-      subst (λ (v : Version). MovesBy m m moment (Hello client incarnation version) []
+      subst (λ (v : Version). MovesBy limits m m moment (Hello client incarnation version) []
       (said.Refused (OtherVersion v))) has.opened.version_is
-      (moves_refused m m moment _ refl refl (OtherVersion has.opened.state.version)
-      (hello_other (state_in m) client incarnation version _ _ _ has.opened.state has.opened.there
+      (moves_refused limits m m moment _ refl refl (OtherVersion has.opened.state.version)
+      (hello_other limits (state_in m) client incarnation version _ _ _ has.opened.state has.opened.there
       has.opened.same (λ same. has.other (sym same ∙ has.opened.version_is)) refl))
 
-  pub moves_no_client : get m.clients.clients client ≡ None → m.clients.most ≡ max_clients
-      → m.clients.most ≤ len m.clients.clients
-      → MovesBy m m moment (Hello client incarnation version) [] (said.Refused ClientsFull)
-  moves_no_client none most full =
-      moves_refused m m moment _ refl refl ClientsFull
-      (hello_no_client (state_in m) client incarnation version _ _ _ none
-      (subst (λ n. n ≤ len m.clients.clients) most full) refl)
+  pub moves_no_client : get m.clients.clients client ≡ None → limits.clients ≤ len m.clients.clients
+      → MovesBy limits m m moment (Hello client incarnation version) [] (said.Refused ClientsFull)
+  moves_no_client none full =
+      moves_refused limits m m moment _ refl refl ClientsFull
+      (hello_no_client limits (state_in m) client incarnation version _ _ _ none full refl)
 
-  pub moves_no_entry : IsNewHello (state_in m) client incarnation
-      → max_entries < m.length + count_waiting m.table + 1
-      → MovesBy m m moment (Hello client incarnation version) [] (said.Refused EpochFull)
+  pub moves_no_entry : IsNewHello limits (state_in m) client incarnation
+      → limits.entries < m.length + count_waiting m.table + 1
+      → MovesBy limits m m moment (Hello client incarnation version) [] (said.Refused EpochFull)
   moves_no_entry fits full =
-      moves_refused m m moment _ refl refl EpochFull
-      (hello_no_entry (state_in m) client incarnation version _ _ _ fits full refl)
+      moves_refused limits m m moment _ refl refl EpochFull
+      (hello_no_entry limits (state_in m) client incarnation version _ _ _ fits full refl)
+
+-- a client that isn't known is a new one
+pub unknown_new : (limits : StepLimits) (m : Machine) (client incarnation : ℕ)
+    → get m.clients.clients client ≡ None → len m.clients.clients < limits.clients
+    → IsNewHello limits (state_in m) client incarnation
+unknown_new limits m client incarnation none less = record {
+  is_new = λ x there. absurd (none-some x (sym none ∙ there));
+  most = λ _. less;
+}
 
 -- a session of a lower incarnation is followed by that of a new one
-pub lower_new : (m : Machine) (client incarnation : ℕ) (waiting : Option ℕ)
-    → HasLowerState m.clients client incarnation waiting → IsNewHello (state_in m) client incarnation
-lower_new m client incarnation waiting has = record {
+pub lower_new : (limits : StepLimits) (m : Machine) (client incarnation : ℕ) (waiting : Option ℕ)
+    → HasLowerState m.clients client incarnation waiting → IsNewHello limits (state_in m) client incarnation
+lower_new limits m client incarnation waiting has = record {
   is_new = λ x there. subst (λ (y : ClientState). y.incarnation < incarnation)
       (same_Some _ _ (sym has.there ∙ there)) has.lower;
   most = λ none. absurd (none-some has.state (sym none ∙ has.there));
@@ -119,8 +129,9 @@ module _ (s : State) (client : ℕ) (session : ClientState) where
 
 -- ---- where it enters
 
-module _ (old mid new : Machine) (moment client incarnation : ℕ) (version : Version)
-    (fits : IsNewHello (state_in old) client incarnation) (space : HasSpaceFor old 1) (made : Entry)
+module _ (limits : StepLimits) (old mid new : Machine) (moment client incarnation : ℕ) (version : Version)
+    (fits : IsNewHello limits (state_in old) client incarnation) (space : HasSpaceFor limits old 1) (made :
+    Entry)
     (is : made ≡ entry moment (act.Hello client incarnation version) [])
     (after : state_in new ≡ advanced (with_client (state_in mid) client (fresh_state incarnation version))
     moment)
@@ -133,11 +144,11 @@ module _ (old mid new : Machine) (moment client incarnation : ℕ) (version : Ve
 
   moves_hello : state_in new ≡ (following s moment does).after
       → new.settled.items ≡ old.settled.items ++ keys_settled (following s moment does).settles
-      → MovesBy old new moment (Hello client incarnation version) (made ∷ [])
+      → MovesBy limits old new moment (Hello client incarnation version) (made ∷ [])
       (said.Welcome old.clients.epoch client incarnation version)
   moves_hello then settles = record {
     move = entering s moment does (Welcome old.clients.epoch client incarnation version);
-    moves = hello_enters s client incarnation version _ _ _ fits space (inr refl);
+    moves = hello_enters limits s client incarnation version _ _ _ fits space (inr refl);
     makes = ap (λ (e : Entry). e ∷ []) is;
     says = refl;
     settles = settles;
@@ -146,7 +157,7 @@ module _ (old mid new : Machine) (moment client incarnation : ℕ) (version : Ve
 
   -- where nothing waited
   pub moves_idle : WaitsForNothing s client → state_in mid ≡ s → mid.settled ≡ old.settled
-      → MovesBy old new moment (Hello client incarnation version) (made ∷ [])
+      → MovesBy limits old new moment (Hello client incarnation version) (made ∷ [])
       (said.Welcome old.clients.epoch client incarnation version)
   moves_idle idle same kept =
       moves_hello
@@ -162,7 +173,7 @@ module _ (old mid new : Machine) (moment client incarnation : ℕ) (version : Ve
   -- where the client's last request waited
   pub moves_waiting : (place : ℕ) (ends : EndsWaiting old mid place Cancelled)
       → client_waits s client ≡ Some ends.there
-      → MovesBy old new moment (Hello client incarnation version) (made ∷ [])
+      → MovesBy limits old new moment (Hello client incarnation version) (made ∷ [])
       (said.Welcome old.clients.epoch client incarnation version)
   moves_waiting place ends found =
       moves_hello
@@ -178,10 +189,12 @@ module _ (old mid new : Machine) (moment client incarnation : ℕ) (version : Ve
       (sym (one_settled s client (fresh_state incarnation version) ends.there ends.waiter found ends.waits)))
 
 -- where a growth was refused
-pub moves_lacking : (old new : Machine) (moment client incarnation : ℕ) (version : Version)
-    → IsNewHello (state_in old) client incarnation → HasSpaceFor old 1 → state_in new ≡ state_in old
+pub moves_lacking : (limits : StepLimits) (old new : Machine) (moment client incarnation : ℕ) (version :
+    Version)
+    → IsNewHello limits (state_in old) client incarnation → HasSpaceFor limits old 1
+    → state_in new ≡ state_in old
     → new.settled.items ≡ old.settled.items
-    → MovesBy old new moment (Hello client incarnation version) [] (said.Refused NoMemory)
-moves_lacking old new moment client incarnation version fits space same kept =
-    moves_refused old new moment _ same kept NoMemory
-    (hello_enters (state_in old) client incarnation version _ _ _ fits space (inl refl))
+    → MovesBy limits old new moment (Hello client incarnation version) [] (said.Refused NoMemory)
+moves_lacking limits old new moment client incarnation version fits space same kept =
+    moves_refused limits old new moment _ same kept NoMemory
+    (hello_enters limits (state_in old) client incarnation version _ _ _ fits space (inl refl))

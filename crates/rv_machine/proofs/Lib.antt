@@ -1,17 +1,7 @@
-pub mod Kept
-pub mod Parted
-pub mod Closing
-pub mod Limits
-pub mod DueFirst
-pub mod Indexing
-pub mod Fronts
-pub mod Firsts
-pub mod Meetings
 pub mod Told
 pub mod EndingOne
 pub mod Recorded
 pub mod EndedMachine
-pub mod Parking
 pub mod Asked
 pub mod Stayed
 pub mod StayedMachine

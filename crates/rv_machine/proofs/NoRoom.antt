@@ -16,7 +16,7 @@ use Rattle.rv_text.specs.declared.answer.Refusal.TheVariants.{EpochFull}
 use Rattle.rv_text.specs.declared.answer.Reply.TheVariants.{Cancelled}
 use Rattle.rv_account.specs.Calls.{need_of}
 use Rattle.rv_account.specs.declared.entry.Act.TheVariants as act
-use Rattle.rv_rules.specs.Steps.{max_entries}
+use Rattle.rv_rules.specs.StepLimits.{StepLimits}
 use Rattle.rv_session.specs.declared.client.LastRequest.TheVariants.{CancelledUnseen, RepliedTo, Waits}
 use Rattle.rv_session.specs.declared.standing.Greeting.{Greeting}
 use Rattle.rv_session.specs.declared.standing.Greeting.TheVariants.{Again, Unknown, Full, Newer, Older}
@@ -30,9 +30,10 @@ use Rattle.rv_session.specs.Clients.{place_waiting}
 use Rattle.rv_state.specs.State.{ClientState, OpenPlace, State, client_waits, open_at, waiting_count}
 use Rattle.rv_state.specs.After.{cancelled}
 use Rattle.rv_state.specs.Follows.{NumberWaits}
-use Rattle.rv_state.specs.Moves.{Move, RefusesMove, RepeatsMove, StateHelloLines, StateKeyLines}
+use Rattle.rv_state.specs.Moves.{Move, RefusesMove, RepeatsMove, StateHelloLinesUnder, StateKeyLines}
 use Rattle.rv_state.specs.Moves.{answer_told, entering, staying, told_again}
 use Rattle.rv_machine.specs.declared.machine.Machine.{Machine}
+use Rattle.rv_machine.specs.Limiting.{LacksPlaceFor}
 use Rattle.rv_machine.specs.Machines.{AwaitsPlace, IsConsistent, IsWhole, state_in}
 use Rattle.rv_machine.specs.Needing.{NeedsNoRoom, TakesNoRoom, message_need}
 use Rattle.rv_machine.specs.Numbering.{AreNumbered}
@@ -82,31 +83,43 @@ module _ (s : State) (is : IsConsistent s) (key : Key) (waits : NumberWaits s ke
 
 -- ---- where the epoch is full
 
-module _ (s : State) (is : IsConsistent s) where
-  full_not : (need : ℕ) → max_entries < s.length + waiting_count s + need → NotFull s need → ⊥
+module _ (limits : StepLimits) (s : State) (is : IsConsistent s) where
+  full_not : (need : ℕ) → limits.entries < s.length + waiting_count s + need → NotFull limits s need → ⊥
   full_not need full not = not EpochFull (record { full = full; is = refl })
 
   -- no entry is made then but one that ends a wait
-  pub full_none : (m : Message) → max_entries < s.length + waiting_count s + message_need m → NeedsNoRoom s m
+  pub full_none : (m : Message) → limits.entries < s.length + waiting_count s + message_need m
+      → NeedsNoRoom limits s m
   full_none (Hello client incarnation version) full moment move moves =
-      by_hello (TakesNoRoom s (Hello client incarnation version) move) s client incarnation version
+      by_hello (TakesNoRoom s (Hello client incarnation version) move) limits s client incarnation version
       (RefusesMove s move) (RefusesMove s move) _ _ _ _ moves moves
       (refused_none s (Hello client incarnation version) move)
       (stays_none s (Hello client incarnation version) move (Welcome s.epoch client incarnation version))
       (λ not _ _. absurd (full_not 1 full not))
   full_none (Request key call) full moment move moves =
-      by_request (TakesNoRoom s (Request key call) move) s key call
+      by_request (TakesNoRoom s (Request key call) move) limits s key call
       (RefusesMove s move) (RefusesMove s move) _ _ _ _ moves moves
       (refused_none s (Request key call) move)
       (repeated_none s (Request key call) move key)
-      (λ not _ _. absurd (full_not (need_of call) full not))
+      (λ not _ _ _. absurd (full_not (need_of call) full not))
   full_none (Cancel key) full moment move moves =
-      by_cancel (TakesNoRoom s (Cancel key) move) s key
+      by_cancel (TakesNoRoom s (Cancel key) move) limits s key
       (RefusesMove s move) (RefusesMove s move) _ _ _ _ _ moves moves
       (refused_none s (Cancel key) move)
       (λ waits. ends_none s is key waits moment move (Replied key Cancelled))
       (repeated_none s (Cancel key) move key)
       (λ not _ _. absurd (full_not 1 full not))
+
+  -- nor is one where the message would stay, and lacks a place
+  pub crowded_none : (m : Message) → LacksPlaceFor limits.open_places s m → NeedsNoRoom limits s m
+  crowded_none (Hello client incarnation version) lacks moment move moves = absurd lacks
+  crowded_none (Request key call) lacks moment move moves =
+      by_request (TakesNoRoom s (Request key call) move) limits s key call
+      (RefusesMove s move) (RefusesMove s move) _ _ _ _ moves moves
+      (refused_none s (Request key call) move)
+      (repeated_none s (Request key call) move key)
+      (λ _ has _ _. absurd (has lacks))
+  crowded_none (Cancel key) lacks moment move moves = absurd lacks
 
 -- ---- where no next number is asked
 
@@ -122,7 +135,8 @@ not_next standing.Next other = absurd (other refl)
 abbrev Refuses : Refusal → Type 0
 Refuses r = Unit {0}
 
-module _ (m : Machine) (ready : IsWhole m) (numbered : AreNumbered (state_in m)) (key : Key) where
+module _ (limits : StepLimits) (m : Machine) (ready : IsWhole m) (numbered : AreNumbered (state_in m))
+    (key : Key) where
   -- the lines for the key don't come to their end
   never_next : (stands : Stands) → StandingSays m.clients key stands → stands ≢ IsNext
       → StateKeyLines (state_in m) key Refuses (Unit {0}) ⊥
@@ -136,18 +150,18 @@ module _ (m : Machine) (ready : IsWhole m) (numbered : AreNumbered (state_in m))
   never_next IsNext says other = absurd (other refl)
 
   pub request_none : (call : Call) (stands : Stands) → StandingSays m.clients key stands → stands ≢ IsNext
-      → NeedsNoRoom (state_in m) (Request key call)
+      → NeedsNoRoom limits (state_in m) (Request key call)
   request_none call stands says other moment move moves =
-      by_request (TakesNoRoom (state_in m) (Request key call) move) (state_in m) key call
+      by_request (TakesNoRoom (state_in m) (Request key call) move) limits (state_in m) key call
       (RefusesMove (state_in m) move) Refuses _ _ _ _ moves (never_next stands says other)
       (refused_none (state_in m) (Request key call) move)
       (repeated_none (state_in m) (Request key call) move key)
-      (λ _ _ never. absurd never)
+      (λ _ _ _ never. absurd never)
 
   pub cancel_none : (stands : Stands) → StandingSays m.clients key stands → stands ≢ IsNext
-      → NeedsNoRoom (state_in m) (Cancel key)
+      → NeedsNoRoom limits (state_in m) (Cancel key)
   cancel_none stands says other moment move moves =
-      by_cancel (TakesNoRoom (state_in m) (Cancel key) move) (state_in m) key
+      by_cancel (TakesNoRoom (state_in m) (Cancel key) move) limits (state_in m) key
       (RefusesMove (state_in m) move) Refuses _ _ _ _ _ moves (never_next stands says other)
       (refused_none (state_in m) (Cancel key) move)
       (λ waits. ends_none (state_in m) ready.consistent key waits moment move (Replied key Cancelled))
@@ -156,33 +170,49 @@ module _ (m : Machine) (ready : IsWhole m) (numbered : AreNumbered (state_in m))
 
 -- ---- where no session is opened
 
-module _ (m : Machine) (ready : IsWhole m) (client incarnation : ℕ) (version : Version) where
+-- the greeting opens no session under the limits
+abbrev OpensNone : StepLimits → Machine → Greeting → Type 0
+OpensNone limits m Unknown = limits.clients ≤ len m.clients.clients
+OpensNone limits m Full = limits.clients ≤ len m.clients.clients
+OpensNone limits m (Newer waiting) = ⊥
+OpensNone limits m other = Unit {0}
+
+pub opens_none : (limits : StepLimits) (m : Machine) (greeting : Greeting) → greeting ≢ Unknown
+    → greeting ≢ Full → ((waiting : Option ℕ) → greeting ≢ Newer waiting) → OpensNone limits m greeting
+opens_none limits m Again unknown full newer = tt
+opens_none limits m Unknown unknown full newer = absurd (unknown refl)
+opens_none limits m Full unknown full newer = absurd (full refl)
+opens_none limits m (Newer waiting) unknown full newer = absurd (newer waiting refl)
+opens_none limits m (Older current) unknown full newer = tt
+opens_none limits m (OtherVersion current) unknown full newer = tt
+
+module _ (limits : StepLimits) (m : Machine) (client incarnation : ℕ) (version : Version) where
   -- the lines for the hello don't come to their end
   never_opens : (greeting : Greeting) → GreetingSays m.clients client incarnation version greeting
-      → greeting ≢ Unknown → ((waiting : Option ℕ) → greeting ≢ Newer waiting)
-      → StateHelloLines (state_in m) client incarnation version Refuses (Unit {0}) ⊥
-  never_opens Again says known newer =
-      hello_again (state_in m) client incarnation version Refuses _ _ says.state says.there says.same
+      → OpensNone limits m greeting → StateHelloLinesUnder limits (state_in m) client incarnation version
+      Refuses (Unit {0}) ⊥
+  never_opens Again says none =
+      hello_again limits (state_in m) client incarnation version Refuses _ _ says.state says.there says.same
       says.version_is tt
-  never_opens Unknown says known newer = absurd (known refl)
-  never_opens Full says known newer =
-      hello_no_client (state_in m) client incarnation version Refuses _ _ says.0
-      (subst (λ n. n ≤ len m.clients.clients) ready.most says.1) tt
-  never_opens (Newer waiting) says known newer = absurd (newer waiting refl)
-  never_opens (Older current) says known newer =
-      hello_older (state_in m) client incarnation version Refuses _ _ says.state says.there
+  never_opens Unknown says full =
+      hello_no_client limits (state_in m) client incarnation version Refuses _ _ says.0 full tt
+  never_opens Full says full =
+      hello_no_client limits (state_in m) client incarnation version Refuses _ _ says.0 full tt
+  never_opens (Newer waiting) says none = absurd none
+  never_opens (Older current) says none =
+      hello_older limits (state_in m) client incarnation version Refuses _ _ says.state says.there
       (subst (λ n. incarnation < n) says.current_is says.greater) tt
-  never_opens (OtherVersion current) says known newer =
-      hello_other (state_in m) client incarnation version Refuses _ _ says.opened.state says.opened.there
+  never_opens (OtherVersion current) says none =
+      hello_other limits (state_in m) client incarnation version Refuses _ _ says.opened.state
+      says.opened.there
       says.opened.same (λ same. says.other (sym same ∙ says.opened.version_is)) tt
 
   pub hello_none : (greeting : Greeting) → GreetingSays m.clients client incarnation version greeting
-      → greeting ≢ Unknown → ((waiting : Option ℕ) → greeting ≢ Newer waiting)
-      → NeedsNoRoom (state_in m) (Hello client incarnation version)
-  hello_none greeting says known newer moment move moves =
-      by_hello (TakesNoRoom (state_in m) (Hello client incarnation version) move) (state_in m) client
+      → OpensNone limits m greeting → NeedsNoRoom limits (state_in m) (Hello client incarnation version)
+  hello_none greeting says none moment move moves =
+      by_hello (TakesNoRoom (state_in m) (Hello client incarnation version) move) limits (state_in m) client
       incarnation version (RefusesMove (state_in m) move) Refuses _ _ _ _ moves
-      (never_opens greeting says known newer)
+      (never_opens greeting says none)
       (refused_none (state_in m) (Hello client incarnation version) move)
       (stays_none (state_in m) (Hello client incarnation version) move
       (Welcome m.clients.epoch client incarnation version))

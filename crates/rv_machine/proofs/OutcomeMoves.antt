@@ -6,6 +6,7 @@ use Rattle.rv_text.specs.declared.answer.Refusal.{Refusal}
 use Rattle.rv_text.specs.declared.message.Key.{Key}
 use Rattle.rv_text.specs.declared.message.Message.{Message}
 use Rattle.rv_account.specs.declared.entry.Entry.{Entry}
+use Rattle.rv_rules.specs.StepLimits.{StepLimits}
 use Rattle.rv_state.specs.State.{OpenPlace, State}
 use Rattle.rv_state.specs.After.{due_at}
 use Rattle.rv_state.specs.Moves.{ticked_at, ticked_if}
@@ -38,10 +39,10 @@ module _ (old new : Machine) (list : Vec Key) (none : list.items ≡ []) where
 
   -- ---- a message
 
-  module _ (moment : ℕ) (m : Message) where
+  module _ (limits : StepLimits) (moment : ℕ) (m : Message) where
     heard_by : (out : Heard)
-        → MovesBy (with_settled old list) new moment m (option_to_list out.entry) out.said
-        → IsHearing old new moment m out
+        → MovesBy limits (with_settled old list) new moment m (option_to_list out.entry) out.said
+        → IsHearing limits old new moment m out
     heard_by out moves = record {
       move = moves.move;
       moves = moves.moves;
@@ -53,27 +54,27 @@ module _ (old new : Machine) (list : Vec Key) (none : list.items ≡ []) where
 
     module _ (told : Said) (out : Heard) where
       outcome_heard : (made : Result (Option Entry) Refusal)
-          → IfOk made (λ e. MovesBy (with_settled old list) new moment m (option_to_list e) told)
-          → IfErr made (λ r. MovesBy (with_settled old list) new moment m [] (said.Refused r))
+          → IfOk made (λ e. MovesBy limits (with_settled old list) new moment m (option_to_list e) told)
+          → IfErr made (λ r. MovesBy limits (with_settled old list) new moment m [] (said.Refused r))
           → IfOk made (λ e. out ≡ record { entry = e; said = told })
           → IfErr made (λ r. out ≡ record { entry = None; said = said.Refused r })
-          → IsHearing old new moment m out
+          → IsHearing limits old new moment m out
       outcome_heard (Ok e) ok err is is_err =
-          subst (λ (x : Heard). IsHearing old new moment m x) (sym is)
+          subst (λ (x : Heard). IsHearing limits old new moment m x) (sym is)
           (heard_by (record { entry = e; said = told }) ok)
       outcome_heard (Err r) ok err is is_err =
-          subst (λ (x : Heard). IsHearing old new moment m x) (sym is_err)
+          subst (λ (x : Heard). IsHearing limits old new moment m x) (sym is_err)
           (heard_by (record { entry = None; said = said.Refused r }) err)
 
       -- the same of a message that was given otherwise
       pub outcome_is : (given : Message) → given ≡ m → (made : Result (Option Entry) Refusal)
-          → IfOk made (λ e. MovesBy (with_settled old list) new moment m (option_to_list e) told)
-          → IfErr made (λ r. MovesBy (with_settled old list) new moment m [] (said.Refused r))
+          → IfOk made (λ e. MovesBy limits (with_settled old list) new moment m (option_to_list e) told)
+          → IfErr made (λ r. MovesBy limits (with_settled old list) new moment m [] (said.Refused r))
           → IfOk made (λ e. out ≡ record { entry = e; said = told })
           → IfErr made (λ r. out ≡ record { entry = None; said = said.Refused r })
-          → IsHearing old new moment given out
+          → IsHearing limits old new moment given out
       outcome_is given is made ok err ok_is err_is =
-          subst (λ (x : Message). IsHearing old new moment x out) (sym is)
+          subst (λ (x : Message). IsHearing limits old new moment x out) (sym is)
           (outcome_heard made ok err ok_is err_is)
 
 -- ---- moments

@@ -21,15 +21,16 @@ use Rattle.rv_text.specs.declared.answer.Reply.TheVariants.{Cancelled}
 use Rattle.rv_text.specs.Calls.{side_of, wait_of}
 use Rattle.rv_account.specs.declared.entry.Act.TheVariants as act
 use Rattle.rv_account.specs.Calls.{need_by, need_of, opposite}
+use Rattle.rv_rules.specs.StepLimits.{StepLimits}
 use Rattle.rv_state.specs.State.{OpenPlace, State, Waiter, waiting_count}
 use Rattle.rv_state.specs.After.{acted, but, lasts_by, met_by, opened_by, parked, waiter_of}
-use Rattle.rv_state.specs.Moves.{EntersMove, Move, RefusesMove, RepeatsMove, StateNextAt, answer_after}
+use Rattle.rv_state.specs.Moves.{EntersMove, Move, RefusesMove, RepeatsMove, StateNextAtUnder, answer_after}
 use Rattle.rv_state.specs.Moves.{answer_told, entering, staying, told_again}
 use Rattle.rv_state.proofs.GoneBy.{gone_by}
 use Rattle.rv_state.proofs.OpensBy.{opens_by}
 use Rattle.rv_state.proofs.PlacesAfter.{places_acted}
 use Rattle.rv_machine.specs.Needing.{act_of, message_need}
-use Rattle.rv_machine.specs.OpenMap.{count_waiting}
+use Rattle.rv_open.specs.OpenMap.{count_waiting}
 use Rattle.rv_machine.proofs.Deciding.{by_cancel, by_hello, by_request}
 
 -- ---- which moves there are
@@ -57,24 +58,26 @@ module _ (s : State) (moment : ℕ) (m : Message) (move : Move) where
   repeated key is = it_stays (answer_told key (told_again is.session.request)) is.is
 
 -- a move makes no entry, or its message's own
-pub move_kinds : (s : State) (moment : ℕ) (m : Message) (move : Move) → StateNextAt s moment m move
+pub move_kinds : (limits : StepLimits) (s : State) (moment : ℕ) (m : Message) (move : Move)
+    → StateNextAtUnder limits s moment m move
     → StaysOrEnters s moment m move
-move_kinds s moment (Hello client incarnation version) move moves =
-    by_hello (StaysOrEnters s moment (Hello client incarnation version) move) s client incarnation version
+move_kinds limits s moment (Hello client incarnation version) move moves =
+    by_hello (StaysOrEnters s moment (Hello client incarnation version) move) limits s client incarnation
+    version
     (RefusesMove s move) (RefusesMove s move) _ _ _ _ moves moves
     (refused s moment (Hello client incarnation version) move)
     (it_stays s moment (Hello client incarnation version) move (Welcome s.epoch client incarnation version))
     (λ _ enters _. may_enter s moment (Hello client incarnation version) move
     (Welcome s.epoch client incarnation version) enters)
-move_kinds s moment (Request key call) move moves =
-    by_request (StaysOrEnters s moment (Request key call) move) s key call
+move_kinds limits s moment (Request key call) move moves =
+    by_request (StaysOrEnters s moment (Request key call) move) limits s key call
     (RefusesMove s move) (RefusesMove s move) _ _ _ _ moves moves
     (refused s moment (Request key call) move)
     (repeated s moment (Request key call) move key)
-    (λ _ enters _. may_enter s moment (Request key call) move
+    (λ _ _ enters _. may_enter s moment (Request key call) move
     (answer_after s moment key (act.Arrive key call)) enters)
-move_kinds s moment (Cancel key) move moves =
-    by_cancel (StaysOrEnters s moment (Cancel key) move) s key
+move_kinds limits s moment (Cancel key) move moves =
+    by_cancel (StaysOrEnters s moment (Cancel key) move) limits s key
     (RefusesMove s move) (RefusesMove s move) _ _ _ _ _ moves moves
     (refused s moment (Cancel key) move)
     (λ _. it_enters s moment (Cancel key) move (Replied key Cancelled))
@@ -185,6 +188,8 @@ within_by s moment m move (inr enters) =
     subst (TakesWithin s m) (sym enters) (acts_within s moment m)
 
 -- a move takes no more room than is counted for its message
-pub moves_within : (s : State) (moment : ℕ) (m : Message) (move : Move) → StateNextAt s moment m move
+pub moves_within : (limits : StepLimits) (s : State) (moment : ℕ) (m : Message) (move : Move)
+    → StateNextAtUnder limits s moment m move
     → length move.entries + waiting_count move.after ≤ waiting_count s + message_need m
-moves_within s moment m move moves = within_by s moment m move (move_kinds s moment m move moves)
+moves_within limits s moment m move moves = within_by s moment m move (move_kinds limits s moment m move
+    moves)

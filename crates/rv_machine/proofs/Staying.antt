@@ -5,17 +5,20 @@ use Rattle.rv_text.specs.declared.answer.Answer.{Answer}
 use Rattle.rv_text.specs.declared.answer.Answer.TheVariants.{Refused}
 use Rattle.rv_text.specs.declared.answer.Refusal.{Refusal}
 use Rattle.rv_text.specs.declared.message.Message.{Message}
-use Rattle.rv_state.specs.Moves.{StateNextAt, staying}
+use Rattle.rv_rules.specs.StepLimits.{StepLimits}
+use Rattle.rv_state.specs.Moves.{StateNextAtUnder, staying}
 use Rattle.rv_machine.specs.declared.machine.Machine.{Machine}
 use Rattle.rv_machine.specs.declared.machine.Said.{Said}
 use Rattle.rv_machine.specs.declared.machine.Said.TheVariants as said
 use Rattle.rv_machine.specs.Machines.{MovesBy, Says, state_in}
 
 -- the machine is as before but for room
-module _ (old new : Machine) (moment : ℕ) (m : Message) (same : state_in new ≡ state_in old)
+module _ (limits : StepLimits) (old new : Machine) (moment : ℕ) (m : Message) (same : state_in new ≡ state_in
+    old)
     (kept : new.settled.items ≡ old.settled.items) where
   pub moves_staying : (answer : Answer) (told : Said) → Says (state_in new) told answer
-      → StateNextAt (state_in old) moment m (staying (state_in old) answer) → MovesBy old new moment m [] told
+      → StateNextAtUnder limits (state_in old) moment m (staying (state_in old) answer)
+      → MovesBy limits old new moment m [] told
   moves_staying answer told says moves = record {
     move = staying (state_in old) answer;
     moves = moves;
@@ -26,6 +29,6 @@ module _ (old new : Machine) (moment : ℕ) (m : Message) (same : state_in new �
   }
 
   pub moves_refused : (refusal : Refusal)
-      → StateNextAt (state_in old) moment m (staying (state_in old) (Refused refusal))
-      → MovesBy old new moment m [] (said.Refused refusal)
+      → StateNextAtUnder limits (state_in old) moment m (staying (state_in old) (Refused refusal))
+      → MovesBy limits old new moment m [] (said.Refused refusal)
   moves_refused refusal moves = moves_staying (Refused refusal) (said.Refused refusal) refl moves

@@ -1,5 +1,6 @@
 -- What it is that a request arrives at a machine.
 use Rattle.std.specs.Prelude.{◌≡◌, ◌+◌, ◌≤◌, ◌++◌, ℕ, Option, Some, None}
+use Rattle.rv_text.specs.Members.{max_identifier}
 use Rattle.rv_text.specs.declared.message.Key.{Key}
 use Rattle.rv_text.specs.declared.call.Call.{Call}
 use Rattle.rv_text.specs.Limits.{FitsCall}
@@ -10,14 +11,14 @@ use Rattle.rv_account.specs.declared.entry.Entry.{Entry}
 use Rattle.rv_account.specs.declared.entry.Act.TheVariants.{Arrive}
 use Rattle.rv_account.specs.Account.{entry}
 use Rattle.rv_account.specs.Calls.{need_of}
-use Rattle.rv_rules.specs.Steps.{max_entries, max_moment}
+use Rattle.rv_rules.specs.Steps.{max_moment}
 use Rattle.rv_state.specs.State.{ClientState, client_at}
 use Rattle.rv_state.specs.After.{following}
 use Rattle.rv_state.specs.Follows.{NumberIsNext, partners_of}
 use Rattle.rv_state.specs.Moves.{told_again}
 use Rattle.rv_machine.specs.declared.machine.Machine.{Machine}
 use Rattle.rv_machine.specs.Machines.{IsWhole, keys_settled, state_in}
-use Rattle.rv_machine.specs.OpenMap.{count_waiting}
+use Rattle.rv_open.specs.OpenMap.{count_waiting}
 
 -- a request of this key with this call is its session's next, and there is room for its entries
 pub record MayArrive (m : Machine) (moment : ℕ) (key : Key) (call : Call) : Type 0 where
@@ -26,7 +27,7 @@ pub record MayArrive (m : Machine) (moment : ℕ) (key : Key) (call : Call) : Ty
   pub time : moment ≤ max_moment
   pub fits : FitsCall call
   pub next : NumberIsNext (state_in m) key
-  pub space : m.length + count_waiting m.table + need_of call ≤ max_entries
+  pub space : m.length + count_waiting m.table + need_of call ≤ max_identifier
 
 -- it arrived: the state is what its entry makes of the one before, whom that settles is listed, and its
 -- session has what the entry's own reply is

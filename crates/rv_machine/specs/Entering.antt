@@ -6,16 +6,16 @@ use Rattle.rv_text.specs.declared.message.Key.{Key}
 use Rattle.rv_session.specs.declared.client.LastRequest.TheVariants.{Waits}
 use Rattle.rv_session.specs.ClientMeanings.{AsksLast}
 use Rattle.rv_session.specs.Clients.{place_waiting}
-use Rattle.rv_rules.specs.Steps.{max_clients, max_entries}
+use Rattle.rv_rules.specs.StepLimits.{StepLimits}
 use Rattle.rv_state.specs.Follows.{IsNewIncarnation}
 use Rattle.rv_state.specs.State.{ClientState, State, client_at}
 use Rattle.rv_machine.specs.declared.machine.Machine.{Machine}
 use Rattle.rv_machine.specs.Machines.{state_in}
-use Rattle.rv_machine.specs.OpenMap.{count_waiting}
+use Rattle.rv_open.specs.OpenMap.{count_waiting}
 
 -- so many entries more can be made, beside those that end what waits
-abbrev pub HasSpaceFor : Machine → ℕ → Type 0
-HasSpaceFor m need = m.length + count_waiting m.table + need ≤ max_entries
+abbrev pub HasSpaceFor : StepLimits → Machine → ℕ → Type 0
+HasSpaceFor limits m need = m.length + count_waiting m.table + need ≤ limits.entries
 
 -- no request of the client waits
 abbrev pub WaitsForNothing : State → ℕ → Type 0
@@ -29,9 +29,9 @@ pub record CanOpen (m : Machine) (client : ℕ) : Type 0 where
   pub room : client_at (state_in m) client ≡ None → 0 < m.clients.room
 
 -- the incarnation is a new one of the client, which is known, or fewer are known than there can be
-pub record IsNewHello (s : State) (client incarnation : ℕ) : Type 0 where
+pub record IsNewHello (limits : StepLimits) (s : State) (client incarnation : ℕ) : Type 0 where
   pub is_new : IsNewIncarnation s client incarnation
-  pub most : client_at s client ≡ None → len s.clients < max_clients
+  pub most : client_at s client ≡ None → len s.clients < limits.clients
 
 -- the key has its session's last number, whose request waits at this place
 pub record LastWaits (m : Machine) (key : Key) (place : ℕ) : Type 0 where

@@ -1,7 +1,5 @@
--- What the machine's tables say of what is open.
-pub mod OpenMap
-pub mod Indexed
 -- The state that a machine holds, and what a step of it tells.
+pub mod Limiting
 pub mod Machines
 pub mod Ending
 pub mod Numbering

@@ -2,6 +2,7 @@
 use Rattle.std.specs.Prelude.{◌≡◌, ◌+◌, ◌≤◌, ◌++◌, [], ℕ, List, map, Option, Some, None, IsSome}
 use Rattle.std.specs.Prelude.{option_to_list, slice_get}
 use Rattle.std.specs.Prelude.{vec_capacity, vec_len}
+use Rattle.rv_text.specs.Members.{max_identifier}
 use Rattle.rv_text.specs.declared.message.Key.{Key}
 use Rattle.rv_text.specs.declared.message.Message.{Message}
 use Rattle.rv_text.specs.declared.answer.Refusal.{Refusal}
@@ -13,14 +14,16 @@ use Rattle.rv_text.specs.Calls.{item_of, side_of, wait_of}
 use Rattle.rv_session.specs.declared.client.LastRequest.TheVariants.{Waits}
 use Rattle.rv_account.specs.declared.entry.Entry.{Entry}
 use Rattle.rv_account.specs.Calls.{Lasts}
-use Rattle.rv_rules.specs.Steps.{max_clients, max_entries, max_moment}
+use Rattle.rv_rules.specs.StepLimits.{StepLimits}
+use Rattle.rv_rules.specs.Steps.{max_moment}
 use Rattle.rv_state.specs.State.{ClientState, OpenPlace, State, Waiter, client_at}
 use Rattle.rv_state.specs.After.{Settled}
-use Rattle.rv_state.specs.Moves.{Move, StateNextAt, answer_told, told_again}
+use Rattle.rv_state.specs.Moves.{Move, StateNextAtUnder, answer_told, told_again}
+use Rattle.rv_machine.specs.Limiting.{most_known}
 use Rattle.rv_machine.specs.declared.machine.Machine.{Machine}
 use Rattle.rv_machine.specs.declared.machine.Said.{Said}
 use Rattle.rv_machine.specs.declared.machine.Said.TheVariants as said
-use Rattle.rv_machine.specs.OpenMap.{PlacesRise, StandBelow, found_at, count_waiting}
+use Rattle.rv_open.specs.OpenMap.{PlacesRise, StandBelow, found_at, count_waiting}
 
 -- ---- what a machine holds
 
@@ -89,12 +92,12 @@ pub record IsConsistent (s : State) : Type 0 where
   pub clients : (client : ℕ) (session : ClientState) (place : ℕ) (call : Call)
       → client_at s client ≡ Some session → session.request ≡ Waits place call → AwaitsPlace s client place
   pub time : s.moment ≤ max_moment
-  pub space : s.length + count_waiting s.open_places ≤ max_entries
+  pub space : s.length + count_waiting s.open_places ≤ max_identifier
 
 -- and the machine has room to list whoever waits among those that a step settles
 pub record IsWhole (m : Machine) : Type 0 where
   pub consistent : IsConsistent (state_in m)
-  pub most : m.clients.most ≡ max_clients
+  pub most : m.clients.most ≡ most_known
   pub room : count_waiting m.table + vec_len m.settled ≤ vec_capacity m.settled
 
 -- the list of the settled takes no more room than there was for it
@@ -115,22 +118,22 @@ Says s (said.Told key) a =
     × (a ≡ answer_told key (told_again session.request))
 Says s (said.Refused refusal) a = a ≡ answer.Refused refusal
 
--- one move of the state for a message at a moment: these entries were made, this is said, and these keys
--- were settled
-pub record MovesBy (old new : Machine) (moment : ℕ) (m : Message) (entries : List Entry) (told : Said) :
-    Type 0
+-- one move of the state for a message at a moment, under limits: these entries were made, this is said, and
+-- these keys were settled
+pub record MovesBy (limits : StepLimits) (old new : Machine) (moment : ℕ) (m : Message)
+    (entries : List Entry) (told : Said) : Type 0
   where
     pub move : Move
-    pub moves : StateNextAt (state_in old) moment m move
+    pub moves : StateNextAtUnder limits (state_in old) moment m move
     pub makes : entries ≡ move.entries
     pub says : Says (state_in new) told move.answer
     pub settles : new.settled.items ≡ old.settled.items ++ keys_settled move.settles
     pub after : state_in new ≡ move.after
 
 -- a message was heard: this is said, and this entry was made if there is one
-abbrev pub WasHeard : Machine → Machine → ℕ → Message → Said → Option Entry → Type 0
-WasHeard old new moment m told made = MovesBy old new moment m (option_to_list made) told
+abbrev pub WasHeard : StepLimits → Machine → Machine → ℕ → Message → Said → Option Entry → Type 0
+WasHeard limits old new moment m told made = MovesBy limits old new moment m (option_to_list made) told
 
 -- a message was refused, and made no entry
-abbrev pub WasRefused : Machine → Machine → ℕ → Message → Refusal → Type 0
-WasRefused old new moment m refusal = MovesBy old new moment m [] (said.Refused refusal)
+abbrev pub WasRefused : StepLimits → Machine → Machine → ℕ → Message → Refusal → Type 0
+WasRefused limits old new moment m refusal = MovesBy limits old new moment m [] (said.Refused refusal)

@@ -7,9 +7,10 @@ use Rattle.rv_text.specs.declared.answer.Refusal.TheVariants.{NoMemory}
 use Rattle.rv_account.specs.declared.entry.Act.{Act}
 use Rattle.rv_account.specs.declared.entry.Act.TheVariants as act
 use Rattle.rv_account.specs.Calls.{need_of}
-use Rattle.rv_rules.specs.Steps.{max_entries}
+use Rattle.rv_rules.specs.StepLimits.{StepLimits}
 use Rattle.rv_state.specs.State.{State, waiting_count}
-use Rattle.rv_state.specs.Moves.{Move, StateNextAt, staying}
+use Rattle.rv_state.specs.Moves.{Move, StateNextAtUnder, staying}
+use Rattle.rv_machine.specs.Limiting.{LacksPlaceFor}
 
 -- how many entries a message may come to need: its own, and one that ends its wait
 abbrev pub message_need : Message → ℕ
@@ -30,12 +31,14 @@ IsHello (Request key call) = ⊥
 IsHello (Cancel key) = ⊥
 
 -- whenever it is heard, the message may be refused for want of memory
-abbrev pub MayLackMemory : State → Message → Type 0
-MayLackMemory s m = (moment : ℕ) → StateNextAt s moment m (staying s (Refused NoMemory))
+abbrev pub MayLackMemory : StepLimits → State → Message → Type 0
+MayLackMemory limits s m = (moment : ℕ) → StateNextAtUnder limits s moment m (staying s (Refused NoMemory))
 
--- so may it where the epoch has space for what it needs
-abbrev pub EntersWithSpace : State → Message → Type 0
-EntersWithSpace s m = s.length + waiting_count s + message_need m ≤ max_entries → MayLackMemory s m
+-- so may it where the limits leave space for what it needs
+abbrev pub EntersWithSpace : StepLimits → State → Message → Type 0
+EntersWithSpace limits s m =
+    s.length + waiting_count s + message_need m ≤ limits.entries → ¬ LacksPlaceFor limits.open_places s m
+    → MayLackMemory limits s m
 
 -- a move for a message takes no room: its entry, if it makes one, takes the place of a wait that ends, and a
 -- hello makes none
@@ -44,5 +47,6 @@ pub record TakesNoRoom (s : State) (m : Message) (move : Move) : Type 0 where
   pub hello : IsHello m → move.entries ≡ []
 
 -- so does each move for the message, whenever it is heard
-abbrev pub NeedsNoRoom : State → Message → Type 0
-NeedsNoRoom s m = (moment : ℕ) (move : Move) → StateNextAt s moment m move → TakesNoRoom s m move
+abbrev pub NeedsNoRoom : StepLimits → State → Message → Type 0
+NeedsNoRoom limits s m = (moment : ℕ) (move : Move) → StateNextAtUnder limits s moment m move
+    → TakesNoRoom s m move

@@ -3,7 +3,8 @@ use Rattle.std.specs.Prelude.{◌≡◌, ◌≢◌, ◌+◌, ◌≤◌, ℕ, Non
 use Rattle.rv_text.specs.declared.message.Message.{Message}
 use Rattle.rv_text.specs.declared.message.Message.TheVariants.{Hello, Request, Cancel}
 use Rattle.rv_text.specs.declared.answer.Refusal.TheVariants.{NoMemory}
-use Rattle.rv_state.specs.Moves.{Move, StateNextAt, ticked_at}
+use Rattle.rv_rules.specs.StepLimits.{StepLimits}
+use Rattle.rv_state.specs.Moves.{Move, StateNextAtUnder, ticked_at}
 use Rattle.rv_state.specs.State.{waiting_count}
 use Rattle.rv_machine.specs.declared.machine.Machine.{Machine}
 use Rattle.rv_machine.specs.declared.machine.Said.TheVariants.{Refused}
@@ -30,12 +31,15 @@ pub record MadeNothing (made : Heard) : Type 0 where
   pub none : made.entry ≡ None
   pub in_memory : made.said ≢ Refused NoMemory
 
--- one move of the state for a message at a moment: it made this entry, this is said, and just these keys are
+-- one move of the state for a message at a moment, under limits: it made this entry, this is said, and just
+-- these keys are
 -- listed as settled
-pub record IsHearing (old new : Machine) (moment : ℕ) (m : Message) (made : Heard) : Type 0 where
-  pub move : Move
-  pub moves : StateNextAt (state_in old) moment m move
-  pub makes : option_to_list made.entry ≡ move.entries
-  pub says : Says (state_in new) made.said move.answer
-  pub settles : new.settled.items ≡ keys_settled move.settles
-  pub after : state_in new ≡ move.after
+pub record IsHearing (limits : StepLimits) (old new : Machine) (moment : ℕ) (m : Message) (made : Heard) :
+    Type 0
+  where
+    pub move : Move
+    pub moves : StateNextAtUnder limits (state_in old) moment m move
+    pub makes : option_to_list made.entry ≡ move.entries
+    pub says : Says (state_in new) made.said move.answer
+    pub settles : new.settled.items ≡ keys_settled move.settles
+    pub after : state_in new ≡ move.after

@@ -7,7 +7,7 @@ use Rattle.rv_state.specs.After.{closed, stopped}
 use Rattle.rv_state.specs.Moves.{ticked_at}
 use Rattle.rv_machine.specs.declared.machine.Machine.{Machine}
 use Rattle.rv_machine.specs.Machines.{keys_settled, state_in}
-use Rattle.rv_machine.specs.OpenMap.{due_in, count_waiting}
+use Rattle.rv_open.specs.OpenMap.{due_in, count_waiting}
 
 -- the first wait that is due at a moment is over, by a time-out
 pub record EndsNext (old new : Machine) (moment : ℕ) : Type 0 where

@@ -1,6 +1,7 @@
 //! Cancels: of a request that waits, and of one that did not come yet.
 ghost use Rattle.std.specs.Prelude.{◌≤◌, [], ◌∷◌, IfOk, IfErr, option_to_list};
 ghost use Rattle.rv_text.specs.declared.message.Message.TheVariants.{Cancel};
+ghost use Rattle.rv_rules.specs.StepLimits.{StepLimits};
 ghost use Rattle.rv_rules.specs.Steps.{max_moment};
 ghost use Rattle.rv_session.specs.ClientMeanings.{AsksNext};
 ghost use Rattle.rv_machine.specs.declared.machine.Said.TheVariants as said;
@@ -8,6 +9,7 @@ ghost use Rattle.rv_machine.specs.Entering.{LastWaits};
 ghost use Rattle.rv_machine.specs.Machines.{WasHeard, IsWhole, SameListRoom, MovesBy, WasRefused, state_in};
 ghost use Rattle.rv_machine.specs.Numbering.{AreNumbered};
 
+use crate::limits::Limits;
 use crate::machine::Machine;
 use rv_account::{Act, Entry, Partners};
 use rv_session::{KeyStanding, Place};
@@ -15,14 +17,19 @@ use rv_text::{Key, Refusal, Reply};
 
 impl Machine {
     /// A cancel: it ends what waits, tells what has its reply, and settles what did not come yet.
-    pub(crate) fn cancel(&mut self, moment: u64, key: Key) -> Result<Option<Entry>, Refusal>
+    pub(crate) fn cancel(
+        &mut self,
+        limits: &Limits,
+        moment: u64,
+        key: Key,
+    ) -> Result<Option<Entry>, Refusal>
         requires ready { IsWhole self.old }
         requires numbered { AreNumbered (state_in self.old) }
         requires time { moment ≤ max_moment }
         ensures ready { IsWhole self.new }
         ensures numbered { AreNumbered (state_in self.new) }
-        ensures ok { IfOk result (WasHeard self.old self.new moment (Cancel key) (said.Told key)) }
-        ensures err { IfErr result (WasRefused self.old self.new moment (Cancel key)) }
+        ensures ok { IfOk result (WasHeard limits.now self.old self.new moment (Cancel key) (said.Told key)) }
+        ensures err { IfErr result (WasRefused limits.now self.old self.new moment (Cancel key)) }
         ensures room { SameListRoom self.old self.new }
     {
         match self.clients.look(&key) {
@@ -30,7 +37,7 @@ impl Machine {
             KeyStanding::Waits(place, _) => Ok(Some(self.end_wait(moment, key, place))),
             KeyStanding::Replied(..) => Ok(None),
             KeyStanding::CancelledUnseen => Ok(None),
-            KeyStanding::Next => self.bury(moment, key),
+            KeyStanding::Next => self.bury(limits, moment, key),
         }
     }
 
@@ -42,7 +49,8 @@ impl Machine {
         requires waits { LastWaits self.old key place }
         ensures ready { IsWhole self.new }
         ensures numbered { AreNumbered (state_in self.new) }
-        ensures moves { MovesBy self.old self.new moment (Cancel key) (result ∷ []) (said.Told key) }
+        ensures moves { (limits : StepLimits)
+            → MovesBy limits self.old self.new moment (Cancel key) (result ∷ []) (said.Told key) }
         ensures room { SameListRoom self.old self.new }
     {
         self.end(place, Reply::Cancelled);
@@ -51,18 +59,18 @@ impl Machine {
     }
 
     // Cancels a request before it comes: its session's next number is the last, and cancelled.
-    fn bury(&mut self, moment: u64, key: Key) -> Result<Option<Entry>, Refusal>
+    fn bury(&mut self, limits: &Limits, moment: u64, key: Key) -> Result<Option<Entry>, Refusal>
         requires ready { IsWhole self.old }
         requires numbered { AreNumbered (state_in self.old) }
         requires time { moment ≤ max_moment }
         requires next { AsksNext self.old.clients key }
         ensures ready { IsWhole self.new }
         ensures numbered { AreNumbered (state_in self.new) }
-        ensures ok { IfOk result (WasHeard self.old self.new moment (Cancel key) (said.Told key)) }
-        ensures err { IfErr result (WasRefused self.old self.new moment (Cancel key)) }
+        ensures ok { IfOk result (WasHeard limits.now self.old self.new moment (Cancel key) (said.Told key)) }
+        ensures err { IfErr result (WasRefused limits.now self.old self.new moment (Cancel key)) }
         ensures room { SameListRoom self.old self.new }
     {
-        if self.is_full(1) {
+        if self.is_full(limits, 1) {
             return Err(Refusal::EpochFull);
         }
         self.clients.bury(&key);

@@ -1,19 +1,21 @@
 //! Hellos: the first one of a client, and those of a later incarnation.
 ghost use Rattle.std.specs.Prelude.{◌≡◌, ◌≤◌, ◌<◌, ◌+◌, [], None, IfOk, IfErr, option_to_list};
 ghost use Rattle.std.specs.FinMap.{get};
+ghost use Rattle.rv_text.specs.Members.{max_identifier};
 ghost use Rattle.rv_text.specs.declared.message.Message.TheVariants.{Hello};
 ghost use Rattle.rv_account.specs.Account.{entry};
 ghost use Rattle.rv_account.specs.declared.entry.Act.TheVariants as act;
-ghost use Rattle.rv_rules.specs.Steps.{max_entries, max_moment};
+ghost use Rattle.rv_rules.specs.Steps.{max_moment};
 ghost use Rattle.rv_session.specs.ClientMeanings.{HasLowerState};
 ghost use Rattle.rv_session.specs.Clients.{fresh_state};
 ghost use Rattle.rv_state.specs.After.{advanced, with_client};
 ghost use Rattle.rv_machine.specs.declared.machine.Said.TheVariants as said;
-ghost use Rattle.rv_machine.specs.Entering.{CanOpen, IsNewHello};
+ghost use Rattle.rv_machine.specs.Entering.{CanOpen};
 ghost use Rattle.rv_machine.specs.Machines.{WasHeard, IsWhole, SameListRoom, WasRefused, state_in};
 ghost use Rattle.rv_machine.specs.Numbering.{AreNumbered};
-ghost use Rattle.rv_machine.specs.OpenMap.{count_waiting};
+ghost use Rattle.rv_open.specs.OpenMap.{count_waiting};
 
+use crate::limits::Limits;
 use crate::machine::Machine;
 use rv_account::{Act, Entry, Partners};
 use rv_session::{Greeting, Place};
@@ -24,6 +26,7 @@ impl Machine {
     /// repeat makes no entry.
     pub(crate) fn greet(
         &mut self,
+        limits: &Limits,
         moment: u64,
         client: u64,
         incarnation: u64,
@@ -34,18 +37,26 @@ impl Machine {
         requires time { moment ≤ max_moment }
         ensures ready { IsWhole self.new }
         ensures numbered { AreNumbered (state_in self.new) }
-        ensures ok { IfOk result (WasHeard self.old self.new moment (Hello client incarnation version)
+        ensures ok { IfOk result (WasHeard limits.now self.old self.new moment
+            (Hello client incarnation version)
             (said.Welcome self.old.clients.epoch client incarnation version)) }
-        ensures err { IfErr result (WasRefused self.old self.new moment (Hello client incarnation version)) }
+        ensures err { IfErr result (WasRefused limits.now self.old self.new moment
+            (Hello client incarnation version)) }
         ensures room { SameListRoom self.old self.new }
     {
         match self.clients.greet(client, incarnation, version) {
             Greeting::Again => Ok(None),
             Greeting::Older(current) => Err(Refusal::OldIncarnation(current)),
             Greeting::OtherVersion(current) => Err(Refusal::OtherVersion(current)),
-            Greeting::Full => Err(Refusal::ClientsFull),
-            Greeting::Unknown => self.admit(moment, client, incarnation, version),
+            Greeting::Unknown | Greeting::Full => self.admit(
+                limits,
+                moment,
+                client,
+                incarnation,
+                version,
+            ),
             Greeting::Newer { waiting } => self.renew(
+                limits,
                 moment,
                 client,
                 incarnation,
@@ -58,6 +69,7 @@ impl Machine {
     // The first hello of a client. All that can fail comes first.
     fn admit(
         &mut self,
+        limits: &Limits,
         moment: u64,
         client: u64,
         incarnation: u64,
@@ -67,15 +79,19 @@ impl Machine {
         requires numbered { AreNumbered (state_in self.old) }
         requires time { moment ≤ max_moment }
         requires unknown { get self.old.clients.clients client ≡ None }
-        requires is_new { IsNewHello (state_in self.old) client incarnation }
         ensures ready { IsWhole self.new }
         ensures numbered { AreNumbered (state_in self.new) }
-        ensures ok { IfOk result (WasHeard self.old self.new moment (Hello client incarnation version)
+        ensures ok { IfOk result (WasHeard limits.now self.old self.new moment
+            (Hello client incarnation version)
             (said.Welcome self.old.clients.epoch client incarnation version)) }
-        ensures err { IfErr result (WasRefused self.old self.new moment (Hello client incarnation version)) }
+        ensures err { IfErr result (WasRefused limits.now self.old self.new moment
+            (Hello client incarnation version)) }
         ensures room { SameListRoom self.old self.new }
     {
-        if self.is_full(1) {
+        if self.clients.len() >= limits.clients() {
+            return Err(Refusal::ClientsFull);
+        }
+        if self.is_full(limits, 1) {
             return Err(Refusal::EpochFull);
         }
         match self.clients.reserve() {
@@ -87,6 +103,7 @@ impl Machine {
     // A hello of a later incarnation of a client, whose last request waits at a place if there is one.
     fn renew(
         &mut self,
+        limits: &Limits,
         moment: u64,
         client: u64,
         incarnation: u64,
@@ -99,12 +116,14 @@ impl Machine {
         requires lower { HasLowerState self.old.clients client incarnation waiting }
         ensures ready { IsWhole self.new }
         ensures numbered { AreNumbered (state_in self.new) }
-        ensures ok { IfOk result (WasHeard self.old self.new moment (Hello client incarnation version)
+        ensures ok { IfOk result (WasHeard limits.now self.old self.new moment
+            (Hello client incarnation version)
             (said.Welcome self.old.clients.epoch client incarnation version)) }
-        ensures err { IfErr result (WasRefused self.old self.new moment (Hello client incarnation version)) }
+        ensures err { IfErr result (WasRefused limits.now self.old self.new moment
+            (Hello client incarnation version)) }
         ensures room { SameListRoom self.old self.new }
     {
-        if self.is_full(1) {
+        if self.is_full(limits, 1) {
             return Err(Refusal::EpochFull);
         }
         match waiting {
@@ -122,7 +141,7 @@ impl Machine {
         requires numbered { AreNumbered (state_in self.old) }
         requires time { moment ≤ max_moment }
         requires opens { CanOpen self.old client }
-        requires space { self.old.length + count_waiting self.old.table < max_entries }
+        requires space { self.old.length + count_waiting self.old.table < max_identifier }
         ensures ready { IsWhole self.new }
         ensures numbered { AreNumbered (state_in self.new) }
         ensures entry { result ≡ entry moment (act.Hello client incarnation version) [] }

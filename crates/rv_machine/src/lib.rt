@@ -5,16 +5,16 @@ mod cancels;
 mod drains;
 mod hellos;
 mod leaves;
+mod limits;
 mod machine;
 mod meets;
-mod opens;
 mod requests;
 mod space;
 mod stays;
 mod steps;
-mod table;
 mod ticks;
 
+pub use limits::Limits;
 pub use machine::{Machine, Said};
 pub use space::message_need;
 pub use steps::{Heard, TickMade};

@@ -1,17 +1,18 @@
 //! The machine of a book: the state of an account in tables, and what changes them together.
 ghost use Rattle.std.specs.Prelude.{◌≡◌, ◌+◌, ◌<◌, ◌≤◌, option_map, slice_get};
 ghost use Rattle.rv_text.specs.Limits.{FitsQueue};
+ghost use Rattle.rv_text.specs.Members.{max_identifier};
 ghost use Rattle.rv_text.specs.declared.call.Side.TheVariants.{Gives};
 ghost use Rattle.rv_state.specs.State.{client_at, line, place_list, waiting_count};
-ghost use Rattle.rv_machine.specs.Indexed.{WaitsIn};
+ghost use Rattle.rv_open.specs.Indexed.{WaitsIn};
 ghost use Rattle.rv_machine.specs.Machines.{IsWhole, SameListRoom, state_in};
 ghost use Rattle.rv_machine.specs.Ending.{EndsWaiting, counted};
 ghost use Rattle.rv_account.specs.Account.{entry};
-ghost use Rattle.rv_rules.specs.Steps.{max_entries, max_moment};
-ghost use Rattle.rv_machine.specs.OpenMap.{count_waiting};
+ghost use Rattle.rv_rules.specs.Steps.{max_moment};
+ghost use Rattle.rv_open.specs.OpenMap.{count_waiting};
 
-use crate::table::OpenTable;
 use rv_account::{Act, Entry, Partners};
+use rv_open::OpenTable;
 use rv_session::{ClientState, Clients, Place};
 use rv_text::{Key, Refusal, Reply, Version};
 use std::alloc::Global;
@@ -27,7 +28,7 @@ pub enum Said {
     Refused(Refusal),
 }
 
-/// The machine: the state of an account, without its entries.
+/// The machine: the state of an account, without its entries. Each step is handed its limits.
 #[derive(Drop)]
 pub struct Machine {
     pub(crate) moment: u64,
@@ -55,10 +56,10 @@ impl Machine {
 
     /// Counts one entry more, of a moment, and gives it. What is whole stays so if there is space for it.
     pub(crate) fn record(&mut self, moment: u64, act: Act, partners: Partners) -> Entry
-        requires { self.old.length < max_entries }
+        requires { self.old.length < max_identifier }
         ensures entry { result ≡ entry moment act partners }
         ensures ready { IsWhole self.old → moment ≤ max_moment
-            → self.old.length + count_waiting self.old.table < max_entries → IsWhole self.new }
+            → self.old.length + count_waiting self.old.table < max_identifier → IsWhole self.new }
         ensures counted { self.new ≡ counted self.old moment }
     {
         self.length += 1;

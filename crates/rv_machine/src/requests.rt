@@ -12,13 +12,14 @@ ghost use Rattle.rv_machine.specs.declared.machine.Said.TheVariants as said;
 ghost use Rattle.rv_machine.specs.Machines.{WasHeard, IsWhole, SameListRoom, WasRefused, state_in};
 ghost use Rattle.rv_machine.specs.Numbering.{AreNumbered};
 
+use crate::limits::Limits;
 use crate::machine::Machine;
 use rv_account::{Entry, lasts, need_of};
 use rv_session::KeyStanding;
 use rv_text::{Call, Key, NoMemory, Refusal, Side};
 
-// Whether a call that finds nobody stays.
-fn stays(call: &Call) -> bool
+/// Whether a call that finds nobody stays.
+pub(crate) fn stays(call: &Call) -> bool
     ensures { IsTrue result ↔ StaysBy (side_of call.now) (wait_of call.now) }
 {
     match call.side() {
@@ -42,6 +43,7 @@ impl Machine {
     /// A request: it arrives if it has its session's next number. A repeat of the last one makes no entry.
     pub(crate) fn request(
         &mut self,
+        limits: &Limits,
         moment: u64,
         key: Key,
         call: Call,
@@ -53,8 +55,9 @@ impl Machine {
         requires fits { FitsCall call }
         ensures ready { IsWhole self.new }
         ensures numbered { AreNumbered (state_in self.new) }
-        ensures ok { IfOk result (WasHeard self.old self.new moment (Request key call) (said.Told key)) }
-        ensures err { IfErr result (WasRefused self.old self.new moment (Request key call)) }
+        ensures ok { IfOk result (WasHeard limits.now self.old self.new moment (Request key call)
+            (said.Told key)) }
+        ensures err { IfErr result (WasRefused limits.now self.old self.new moment (Request key call)) }
         ensures none { result ≡ Ok None → SameListRoom self.old self.new }
         ensures refused { IfErr result (λ refusal. refusal ≢ NoMemory → SameListRoom self.old self.new) }
     {
@@ -63,12 +66,19 @@ impl Machine {
             KeyStanding::Waits(_, asked) => repeat(asked, &call),
             KeyStanding::Replied(asked, _) => repeat(asked, &call),
             KeyStanding::CancelledUnseen => Ok(None),
-            KeyStanding::Next => self.arrive(moment, key, call),
+            KeyStanding::Next => self.arrive(limits, moment, key, call),
         }
     }
 
-    // A request of its session's next number arrives, if there is space for its entries.
-    fn arrive(&mut self, moment: u64, key: Key, call: Call) -> Result<Option<Entry>, Refusal>
+    // A request of its session's next number arrives, if there is space for its entries and, where it
+    // would stay, for its place.
+    fn arrive(
+        &mut self,
+        limits: &Limits,
+        moment: u64,
+        key: Key,
+        call: Call,
+    ) -> Result<Option<Entry>, Refusal>
         requires ready { IsWhole self.old }
         requires numbered { AreNumbered (state_in self.old) }
         requires later { self.old.moment ≤ moment }
@@ -77,12 +87,13 @@ impl Machine {
         requires next { AsksNext self.old.clients key }
         ensures ready { IsWhole self.new }
         ensures numbered { AreNumbered (state_in self.new) }
-        ensures ok { IfOk result (WasHeard self.old self.new moment (Request key call) (said.Told key)) }
-        ensures err { IfErr result (WasRefused self.old self.new moment (Request key call)) }
+        ensures ok { IfOk result (WasHeard limits.now self.old self.new moment (Request key call)
+            (said.Told key)) }
+        ensures err { IfErr result (WasRefused limits.now self.old self.new moment (Request key call)) }
         ensures none { result ≡ Ok None → SameListRoom self.old self.new }
         ensures refused { IfErr result (λ refusal. refusal ≢ NoMemory → SameListRoom self.old self.new) }
     {
-        if self.is_full(need_of(&call)) {
+        if self.is_full(limits, need_of(&call)) || self.lacks_place(limits, &call) {
             return Err(Refusal::EpochFull);
         }
         match self.join(moment, key, call) {

@@ -1,19 +1,21 @@
 //! The space among an epoch's entries: whether there is some, and which messages need it.
-ghost use Rattle.std.specs.Prelude.{◌≡◌, ◌≤◌, ◌<◌, ◌+◌, true, false};
+ghost use Rattle.std.specs.Prelude.{◌≡◌, ◌↔◌, ◌≤◌, ◌<◌, ◌+◌, true, false, IsTrue};
 ghost use Rattle.rv_rules.specs.Steps.{max_entries};
+ghost use Rattle.rv_text.specs.Limits.{FitsCall, FitsMessage};
+ghost use Rattle.rv_text.specs.Members.{max_identifier};
 ghost use Rattle.rv_machine.specs.Entering.{HasSpaceFor};
+ghost use Rattle.rv_machine.specs.Limiting.{LacksPlace, LacksPlaceFor};
 ghost use Rattle.rv_machine.specs.Machines.{IsWhole, state_in};
 ghost use Rattle.rv_machine.specs.Needing.{EntersWithSpace, MayLackMemory, NeedsNoRoom, message_need};
 ghost use Rattle.rv_machine.specs.Numbering.{AreNumbered};
-ghost use Rattle.rv_machine.specs.OpenMap.{count_waiting};
+ghost use Rattle.rv_open.specs.OpenMap.{count_waiting};
 
+use crate::limits::Limits;
 use crate::machine::Machine;
+use crate::requests::stays;
 use rv_account::need_of;
 use rv_session::{Greeting, KeyStanding};
-use rv_text::Message;
-
-/// The most entries that an epoch can have.
-pub(crate) const MAX_ENTRIES: usize = 100_000;
+use rv_text::{Call, Message};
 
 /// How many entries a message may come to need: its own, and for a request that waits one that ends its wait.
 pub fn message_need(message: &Message) -> usize
@@ -29,35 +31,64 @@ pub fn message_need(message: &Message) -> usize
 
 impl Machine {
     /// Whether there is no space for so many entries more, beside those that what waits may come to need.
-    pub(crate) fn is_full(&self, need: usize) -> bool
+    pub(crate) fn is_full(&self, limits: &Limits, need: usize) -> bool
         requires ready { IsWhole self.now }
         requires small { need ≤ max_entries }
-        ensures full { result ≡ true → max_entries < self.now.length + count_waiting self.now.table + need }
-        ensures space { result ≡ false → HasSpaceFor self.now need }
+        ensures full { result ≡ true
+            → limits.now.entries < self.now.length + count_waiting self.now.table + need }
+        ensures space { result ≡ false → HasSpaceFor limits.now self.now need }
+        ensures counts { result ≡ false
+            → self.now.length + count_waiting self.now.table + need ≤ max_identifier }
     {
-        self.length + self.table.waiting() + need > MAX_ENTRIES
+        self.length + self.table.waiting() + need > limits.entries()
     }
 
-    /// Whether the message, heard now, would get an entry of its own for which room must be made: no line of
-    /// the step comes before, and it is no cancel of what waits.
-    pub fn enters(&self, message: &Message) -> bool
+    /// Whether an arrival with this call would stay, where no place more may stand open.
+    pub(crate) fn lacks_place(&self, limits: &Limits, call: &Call) -> bool
+        requires fits { FitsCall call.now }
+        ensures { IsTrue result ↔ LacksPlace limits.now.open_places (state_in self.now) call.now }
+    {
+        match limits.open_places() {
+            Some(most) => {
+                self.table.len() >= most && stays(call) && self.table.opposed(call.side()) == 0
+            }
+            None => false,
+        }
+    }
+
+    // Whether a message would arrive where it lacks a place.
+    fn lacks_place_for(&self, limits: &Limits, message: &Message) -> bool
+        requires fits { FitsMessage message.now }
+        ensures { IsTrue result ↔ LacksPlaceFor limits.now.open_places (state_in self.now) message.now }
+    {
+        match message {
+            Message::Request { call, .. } => self.lacks_place(limits, call),
+            Message::Hello { .. } => false,
+            Message::Cancel { .. } => false,
+        }
+    }
+
+    /// Whether the message, heard now under limits, would get an entry of its own for which room must be
+    /// made: no line of the step comes before, and it is no cancel of what waits.
+    pub fn enters(&self, limits: &Limits, message: &Message) -> bool
         requires ready { IsWhole self.now }
         requires numbered { AreNumbered (state_in self.now) }
-        ensures yes { result ≡ true → MayLackMemory (state_in self.now) message.now }
-        ensures no { result ≡ false → NeedsNoRoom (state_in self.now) message.now }
+        requires fits { FitsMessage message.now }
+        ensures yes { result ≡ true → MayLackMemory limits.now (state_in self.now) message.now }
+        ensures no { result ≡ false → NeedsNoRoom limits.now (state_in self.now) message.now }
     {
-        if self.is_full(message_need(message)) {
+        if self.is_full(limits, message_need(message)) || self.lacks_place_for(limits, message) {
             return false;
         }
-        self.is_next(message)
+        self.is_next(limits, message)
     }
 
     // Whether the message would get such an entry if there is space for it.
-    fn is_next(&self, message: &Message) -> bool
+    fn is_next(&self, limits: &Limits, message: &Message) -> bool
         requires ready { IsWhole self.now }
         requires numbered { AreNumbered (state_in self.now) }
-        ensures yes { result ≡ true → EntersWithSpace (state_in self.now) message.now }
-        ensures no { result ≡ false → NeedsNoRoom (state_in self.now) message.now }
+        ensures yes { result ≡ true → EntersWithSpace limits.now (state_in self.now) message.now }
+        ensures no { result ≡ false → NeedsNoRoom limits.now (state_in self.now) message.now }
     {
         match message {
             Message::Hello {
@@ -65,7 +96,7 @@ impl Machine {
                 incarnation,
                 version,
             } => match self.clients.greet(*client, *incarnation, *version) {
-                Greeting::Unknown => true,
+                Greeting::Unknown | Greeting::Full => self.clients.len() < limits.clients(),
                 Greeting::Newer { .. } => true,
                 _ => false,
             },

@@ -9,12 +9,16 @@ ghost use Rattle.rv_machine.specs.Machines.{IsWhole, SameListRoom, state_in};
 ghost use Rattle.rv_machine.specs.Numbering.{AreNumbered};
 ghost use Rattle.rv_machine.specs.Stepping.{IsHearing, IsNoRequest, MadeNothing, IsTick};
 
+use crate::limits::Limits;
 use crate::machine::{Machine, Said};
-use crate::table::OpenTable;
 use rv_account::Entry;
-use rv_session::{Clients, MAX_CLIENTS};
+use rv_open::OpenTable;
+use rv_session::Clients;
 use rv_text::{Message, NoMemory, Refusal};
 use std::alloc::Global;
+
+// The most clients that a machine knows, whatever the limits of its steps.
+const MOST_KNOWN: usize = 100_000;
 
 // The greatest moment, 2^62.
 const MAX_MOMENT: u64 = 4_611_686_018_427_387_904;
@@ -62,7 +66,7 @@ impl Machine {
             moment: now.min(MAX_MOMENT),
             length: 0,
             table: OpenTable::empty(alloc)?,
-            clients: Clients::open(alloc, epoch, MAX_CLIENTS),
+            clients: Clients::open(alloc, epoch, MOST_KNOWN),
             settled: Vec::new(alloc),
         })
     }
@@ -86,8 +90,9 @@ impl Machine {
         TickMade { moment, entry }
     }
 
-    /// The second half of a step: a message is heard at its moment, and the keys that it settles are listed.
-    pub fn hear(&mut self, moment: u64, message: Message) -> Heard
+    /// The second half of a step: a message is heard at its moment under limits, and the keys that it settles
+    /// are listed. Limits only refuse: a machine that others made goes on under any.
+    pub fn hear(&mut self, limits: &Limits, moment: u64, message: Message) -> Heard
         requires ready { IsWhole self.old }
         requires numbered { AreNumbered (state_in self.old) }
         requires later { self.old.moment ≤ moment }
@@ -95,7 +100,7 @@ impl Machine {
         requires fits { FitsMessage message }
         ensures ready { IsWhole self.new }
         ensures numbered { AreNumbered (state_in self.new) }
-        ensures hears { IsHearing self.old self.new moment message result }
+        ensures hears { IsHearing limits.now self.old self.new moment message result }
         ensures room { IsNoRequest message → SameListRoom self.old self.new }
         ensures quiet { MadeNothing result → SameListRoom self.old self.new }
     {
@@ -107,12 +112,15 @@ impl Machine {
                 version,
             } => {
                 let said = Said::Welcome(self.clients.epoch(), client, incarnation, version);
-                outcome(self.greet(moment, client, incarnation, version), said)
+                outcome(
+                    self.greet(limits, moment, client, incarnation, version),
+                    said,
+                )
             }
             Message::Request { key, call } => {
-                outcome(self.request(moment, key, call), Said::Told(key))
+                outcome(self.request(limits, moment, key, call), Said::Told(key))
             }
-            Message::Cancel { key } => outcome(self.cancel(moment, key), Said::Told(key)),
+            Message::Cancel { key } => outcome(self.cancel(limits, moment, key), Said::Told(key)),
         }
     }
 }

@@ -19,8 +19,12 @@ use Rattle.rv_machine.proofs.machine.Machine.bury.Goals as goal
 
 pub returns-then-is_full-clause-err : goal.returns-then-is_full-clause-err
 returns-then-is_full-clause-err c =
-    fills_cancel c.args.self.now c.args.moment c.args.key c.requires.numbered c.requires.next
+    fills_cancel c.args.limits.now c.args.self.now c.args.moment c.args.key c.requires.numbered
+    c.requires.next
     (c.is_full.ensures.full c.if-is_full.true)
+
+pub record-requires : goal.record-requires
+record-requires c = omega (arith, c.is_full.ensures.counts c.if-is_full.false)
 
 pub returns-clause-ready : goal.returns-clause-ready
 returns-clause-ready c =
@@ -32,7 +36,7 @@ returns-clause-ready c =
     (ap (λ (t : ClientStates). t.epoch) c.bury.ensures)
     (ap (λ (t : ClientStates). t.most) c.bury.ensures)
     (next_idle old c.args.moment c.args.key c.requires.next) refl) c.requires.time
-    (omega (arith, c.is_full.ensures.space c.if-is_full.false))
+    (omega (arith, c.is_full.ensures.counts c.if-is_full.false))
 
 pub returns-clause-numbered : goal.returns-clause-numbered
 returns-clause-numbered c =
@@ -53,11 +57,13 @@ returns-clause-ok c =
     let mid : Machine = with_table old c.bury.new.self in
     let made = c.record.ensures.entry
     ∙ ap (entry c.args.moment (act.Cancel c.args.key)) c.none-partners.ensures in
-    subst (λ (m : Machine). MovesBy old m c.args.moment (Cancel c.args.key) (c.record.result ∷ [])
+    subst (λ (m : Machine). MovesBy c.args.limits.now old m c.args.moment (Cancel c.args.key)
+    (c.record.result ∷ [])
     (said.Told c.args.key)) (sym c.record.ensures.counted)
-    (subst (λ (e : Entry). MovesBy old (counted mid c.args.moment) c.args.moment (Cancel c.args.key)
+    (subst (λ (e : Entry). MovesBy c.args.limits.now old (counted mid c.args.moment) c.args.moment
+    (Cancel c.args.key)
     (e ∷ []) (said.Told c.args.key)) (sym made)
-    (buries_cancel old c.args.moment c.args.key next mid c.requires.numbered
+    (buries_cancel old c.args.moment c.args.key next c.args.limits.now mid c.requires.numbered
     (c.is_full.ensures.space c.if-is_full.false)
     (put_state old c.requires.ready c.args.key.client (buried old c.args.moment c.args.key next)
     c.bury.new.self (clients_buried old c.args.moment c.args.key next c.bury.new.self c.bury.ensures)

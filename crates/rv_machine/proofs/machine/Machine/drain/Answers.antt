@@ -2,7 +2,7 @@
 use Rattle.std.proofs.Common.{◌≡◌, ◌<◌, ◌+◌, ◌∙◌, ℕ, List, ap, arith, length, min, refl}
 use Rattle.rv_text.specs.declared.call.Call.{Call}
 use Rattle.rv_text.specs.declared.message.Key.{Key}
-use Rattle.rv_rules.specs.Steps.{max_entries}
+use Rattle.rv_text.specs.Members.{max_identifier}
 use Rattle.rv_state.specs.State.{State}
 use Rattle.rv_machine.specs.Arriving.{MayArrive}
 use Rattle.rv_machine.specs.Taking.{TakesAll}
@@ -10,7 +10,7 @@ use Rattle.rv_machine.specs.declared.machine.Machine.{Machine}
 use Rattle.rv_session.specs.declared.client.LastRequest.{LastRequest}
 use Rattle.rv_session.specs.Clients.{clients_asked, with_clients}
 use Rattle.rv_text.specs.declared.call.Side.TheVariants.{Gives}
-use Rattle.rv_machine.specs.OpenMap.{count_waiting, line_in}
+use Rattle.rv_open.specs.OpenMap.{count_waiting, line_in}
 use Rattle.rv_session.specs.declared.client.LastRequest.TheVariants.{RepliedTo}
 use Rattle.rv_text.specs.declared.answer.Reply.TheVariants.{Drained}
 use Rattle.rv_account.specs.declared.entry.Act.TheVariants.{Arrive}
@@ -32,7 +32,7 @@ conclude-requires c =
 has_space : (old new : Machine) (queue : ℕ) (key taker : Key) (call : Call) (count moment : ℕ)
     (items : List (List ℕ)) (places : List ℕ) → MayArrive old moment key call
     → TakesAll old new queue taker count items places
-    → new.length + count_waiting new.table < max_entries
+    → new.length + count_waiting new.table < max_identifier
 has_space old new queue key taker call count moment items places may takes =
     let least = needs_one (wait_of call) in
     let fewer = takes.fewer in

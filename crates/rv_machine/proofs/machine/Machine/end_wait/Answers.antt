@@ -42,14 +42,15 @@ returns-clause-numbered c =
     c.requires.numbered)
 
 pub returns-clause-moves : goal.returns-clause-moves
-returns-clause-moves c =
+returns-clause-moves c limits =
     let old = c.args.self.now in
     let made = c.record.ensures.entry
     ∙ ap (entry c.args.moment (act.Cancel c.args.key)) c.none-partners.ensures in
-    subst (λ (m : Machine). MovesBy old m c.args.moment (Cancel c.args.key) (c.record.result ∷ [])
+    subst (λ (m : Machine). MovesBy limits old m c.args.moment (Cancel c.args.key) (c.record.result ∷ [])
     (said.Told c.args.key)) (sym c.record.ensures.counted)
-    (subst (λ (e : Entry). MovesBy old (counted c.end.new.self c.args.moment) c.args.moment
+    (subst (λ (e : Entry). MovesBy limits old (counted c.end.new.self c.args.moment) c.args.moment
     (Cancel c.args.key)
     (e ∷ []) (said.Told c.args.key)) (sym made)
-    (ends_cancel old c.end.new.self c.requires.ready c.requires.numbered c.args.moment c.args.key c.args.place
+    (ends_cancel limits old c.end.new.self c.requires.ready c.requires.numbered c.args.moment c.args.key
+    c.args.place
     c.requires.waits c.end.ensures.ends))

@@ -1,0 +1,3 @@
+-- What the tables say of what is open.
+pub mod OpenMap
+pub mod Indexed

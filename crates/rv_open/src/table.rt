@@ -1,0 +1,269 @@
+//! What is open, with the tables by which it is found: who waits on each side, how many, and until when.
+ghost use Rattle.std.specs.Prelude.{◌≡◌, ◌<◌, [], ◌∷◌, ◌++◌, None, Some, IsSome, IfOk, IfSome, IfNone, OnOk};
+ghost use Rattle.std.specs.Prelude.{OnErr, cond, is_some, length, option_map, slice_get};
+ghost use Rattle.std.specs.FinMap.{get};
+ghost use Rattle.rv_account.specs.Calls.{opposite};
+ghost use Rattle.rv_text.specs.Calls.{side_of, wait_of};
+ghost use Rattle.rv_text.specs.Limits.{FitsQueue, FitsSide};
+ghost use Rattle.rv_text.specs.declared.call.Side.TheVariants.{Gives, Takes};
+ghost use Rattle.rv_open.specs.OpenMap.{StandBelow, due_in, found_at, line_in, opposed_in, count_waiting};
+ghost use Rattle.rv_open.specs.OpenMap.{with_limit, all_but, without_limit};
+ghost use Rattle.rv_open.specs.Indexed.{ClosesPlace, ClosesDue, ClosesFirst, MayPark, ParksPlace, WaitsIn};
+
+use crate::opens::OpenMap;
+use rv_due::Due;
+use rv_session::{Clients, Duty, OpenPlace, Place};
+use rv_text::{Call, Key, NoMemory, Side};
+use rv_waiters::{Arrived, Waiters};
+use std::alloc::Global;
+use std::marker::Model;
+
+/// What is open, which contracts see as the list of open places, the oldest first.
+#[derive(Drop)]
+pub struct OpenTable {
+    opens: OpenMap,
+    waiters: Waiters,
+    // How many requests wait.
+    waiting: usize,
+    // The limits of those that have one, with their places.
+    due: Due,
+}
+
+/// What became of an arrival that met somebody.
+pub struct MetPlace {
+    /// What stood at the place that it met.
+    pub there: OpenPlace,
+    /// Its own duty.
+    pub own: Duty,
+    /// The duty to settle who waited there, if somebody did.
+    pub other: Option<Duty>,
+}
+
+impl Model for OpenTable {
+    ghost use Rattle.std.specs.Prelude.{List};
+    ghost use Rattle.rv_state.specs.State.{OpenPlace};
+    ghost use Rattle.rv_open.specs.Indexed.{AreIndexed};
+
+    ghost Value = { List OpenPlace };
+
+    ghost view = { λ t. t.opens };
+
+    ghost invariant = { λ t. AreIndexed t.opens t.waiters t.waiting t.due };
+}
+
+// Takes the limit of a place out, if it has one.
+fn forget(due: &mut Due, limit: Option<u64>, place: Place)
+    ensures { due.new ≡ without_limit limit place due.old }
+{
+    if let Some(limit) = limit {
+        due.remove(limit, place);
+    }
+}
+
+// Lays an open place into the map and its limit among the deadlines. Fails only if memory was refused, and
+// then both stay.
+fn lay(opens: &mut OpenMap, due: &mut Due, opened: OpenPlace) -> Result<(), NoMemory>
+    requires { StandBelow opens.old opened.place }
+    ensures opened { OnOk result (opens.new ≡ opens.old ++ opened ∷ []) }
+    ensures limit { OnOk result (due.new ≡ with_limit opened.limit opened.place due.old) }
+    ensures opens { OnErr result (opens.new ≡ opens.old) }
+    ensures due { OnErr result (due.new ≡ due.old) }
+{
+    let (place, limit) = (opened.place, opened.limit);
+    opens.push(opened)?;
+    match limit {
+        Some(limit) => lay_limit(opens, due, limit, place),
+        None => Ok(()),
+    }
+}
+
+// Lays the limit of the place that was opened last among the deadlines, or else takes that place out again.
+fn lay_limit(opens: &mut OpenMap, due: &mut Due, limit: u64, place: Place) -> Result<(), NoMemory>
+    ensures opened { OnOk result (opens.new ≡ opens.old) }
+    ensures limit { OnOk result (due.new ≡ with_limit (Some limit) place due.old) }
+    ensures opens { OnErr result (opens.new ≡ all_but opens.old place) }
+    ensures due { OnErr result (due.new ≡ due.old) }
+{
+    match due.add(limit, place) {
+        Ok(()) => Ok(()),
+        Err(refused) => {
+            opens.take(place);
+            Err(refused)
+        }
+    }
+}
+
+// How many requests a duty is for, one or none.
+fn owing(duty: &Option<Duty>) -> usize
+    ensures { result ≡ cond (is_some duty.now) 1 0 }
+{
+    usize::from(duty.is_some())
+}
+
+// The duty of an arrival that met nobody, if it came back.
+fn parked(arrived: Arrived) -> Option<Duty>
+    requires { arrived.other ≡ None }
+    ensures { result ≡ arrived.own }
+{
+    let Arrived {
+        partner: _,
+        own,
+        other,
+    } = arrived;
+    match other {
+        None => own,
+        Some(_duty) => unreachable!(),
+    }
+}
+
+impl OpenTable {
+    /// Nothing is open.
+    pub fn empty(alloc: Global) -> Result<OpenTable, NoMemory>
+        ensures { IfOk result (λ table. table ≡ []) }
+    {
+        Ok(OpenTable {
+            opens: OpenMap::new(alloc),
+            waiters: Waiters::empty(alloc)?,
+            waiting: 0,
+            due: Due::new(alloc),
+        })
+    }
+
+    /// How many places are open.
+    pub fn len(&self) -> usize
+        ensures { result ≡ length self.now }
+    {
+        self.opens.len()
+    }
+
+    /// How many requests wait.
+    pub fn waiting(&self) -> usize
+        ensures { result ≡ count_waiting self.now }
+    {
+        self.waiting
+    }
+
+    /// What is open at a place.
+    pub fn get(&self, place: Place) -> Option<&OpenPlace>
+        ensures { option_map (λ o. o.now) result ≡ found_at self.now place }
+    {
+        self.opens.get(place)
+    }
+
+    /// Closes the place of a request that waits, and gives what stood there and the duty to settle it.
+    pub fn close(&mut self, place: Place) -> (OpenPlace, Duty)
+        requires { WaitsIn self.old place }
+        ensures { ClosesPlace self.old self.new place result.0 (Some result.1) }
+    {
+        let there = self.opens.take(place).unwrap();
+        let duty = self.waiters.withdraw(there.side, place).unwrap();
+        forget(&mut self.due, there.limit, place);
+        self.waiting -= 1;
+        (there, duty)
+    }
+
+    /// Closes the place of the request whose limit comes first, if that is at or below a moment. If none is,
+    /// nothing changes.
+    pub fn close_due(&mut self, moment: u64) -> Option<(OpenPlace, Duty)>
+        ensures some { IfSome result (λ out. ClosesDue self.old self.new moment out.0 out.1) }
+        ensures none { IfNone result (due_in self.old moment ≡ []) }
+        ensures stays { IfNone result (self.new ≡ self.old) }
+    {
+        let (_, place) = self.due.pop_until(moment)?;
+        let there = self.opens.take(place).unwrap();
+        let duty = self.waiters.withdraw(there.side, place).unwrap();
+        self.waiting -= 1;
+        Some((there, duty))
+    }
+
+    /// How many items and how many consumers wait in a queue.
+    pub fn count(&self, queue: u64) -> (usize, usize)
+        requires { FitsQueue queue }
+        ensures items { result.0 ≡ length (line_in self.now (Gives queue)) }
+        ensures consumers { result.1 ≡ length (line_in self.now (Takes queue)) }
+    {
+        self.waiters.count(queue)
+    }
+
+    /// The oldest item of a queue.
+    pub fn front(&self, queue: u64) -> Option<&OpenPlace>
+        requires { FitsQueue queue }
+        ensures { option_map (λ o. o.now) result ≡ slice_get (line_in self.now (Gives queue)) 0 }
+    {
+        self.opens.get(self.waiters.front(queue)?)
+    }
+
+    /// How many wait that an arrival of this side can meet.
+    pub fn opposed(&self, side: Side) -> usize
+        requires { FitsSide side }
+        ensures { result ≡ length (opposed_in self.now side) }
+    {
+        self.waiters.opposed(side)
+    }
+
+    /// Closes the place of a queue's oldest item, and gives the duty to settle who waited with it; a put's
+    /// owes none. If there is no item nothing changes.
+    pub fn take_front(&mut self, queue: u64) -> Option<(OpenPlace, Option<Duty>)>
+        requires { FitsQueue queue }
+        ensures some { IfSome result (λ out. ClosesFirst self.old self.new (Some (Gives queue)) out.0 out.1) }
+        ensures none { IfNone result (line_in self.old (Gives queue) ≡ []) }
+        ensures stays { IfNone result (self.new ≡ self.old) }
+    {
+        let (duty, place) = self.waiters.take_front(Side::Takes(queue))?;
+        let there = self.opens.take(place).unwrap();
+        forget(&mut self.due, there.limit, place);
+        self.waiting -= owing(&duty);
+        Some((there, duty))
+    }
+
+    /// An arrival with a call meets the oldest that it can meet, which there must be. Its place must be above
+    /// all that are open.
+    pub fn meet(&mut self, call: &Call, duty: Duty) -> MetPlace
+        requires fits { FitsSide (side_of call.now) }
+        requires some { 0 < length (opposed_in self.old (side_of call.now)) }
+        requires above { StandBelow self.old duty.place }
+        ensures own { result.own ≡ duty }
+        ensures met { ClosesFirst self.old self.new (opposite (side_of call.now)) result.there result.other }
+    {
+        let Arrived {
+            partner,
+            own,
+            other,
+        } = self.waiters.arrive(call, duty);
+        let there = self.opens.take(partner.unwrap()).unwrap();
+        forget(&mut self.due, there.limit, there.place);
+        self.waiting -= owing(&other);
+        MetPlace {
+            there,
+            own: own.unwrap(),
+            other,
+        }
+    }
+
+    /// An arrival that stays is open from now on, behind all others: its request is the last of its client,
+    /// and its duty comes back only where it is a put's. Fails only if memory was refused, and all stays.
+    pub fn park(
+        &mut self,
+        clients: &mut Clients,
+        opened: OpenPlace,
+        key: &Key,
+        call: Call,
+        copy: &Call,
+    ) -> Result<Option<Duty>, NoMemory>
+        requires copy { copy.now ≡ call }
+        requires known { IsSome (get clients.old.clients key.now.client) }
+        requires may { MayPark self.old opened key.now call }
+        ensures ok { IfOk result
+            (λ own. ParksPlace self.old self.new clients.old clients.new opened key.now call own) }
+        ensures same { OnErr result (self.new ≡ self.old) }
+        ensures clients { OnErr result (clients.new ≡ clients.old) }
+    {
+        self.waiters.reserve(copy)?;
+        let place = opened.place;
+        lay(&mut self.opens, &mut self.due, opened)?;
+        let (duty, _) = clients.begin(key, place, call);
+        let own = parked(self.waiters.arrive(copy, duty));
+        self.waiting += 1 - owing(&own);
+        Ok(own)
+    }
+}
