@@ -35,7 +35,7 @@ impl Model for Due {
 }
 
 impl Due {
-    ghost use Rattle.std.specs.Prelude.{IsOk, IfNone, IfSome, OnErr, OnOk, true};
+    ghost use Rattle.std.specs.Prelude.{ℕ, IsOk, IfNone, IfSome, OnErr, OnOk, true};
     ghost use Rattle.std.specs.FinSet.{contains, empty, insert, len};
     ghost use Rattle.std.specs.FinSet as set;
     ghost use Rattle.rv_due.specs.Deadlines.{AllAbove, IsLeastUntil};
@@ -65,6 +65,14 @@ impl Due {
         ensures taken { self.new ≡ set.remove self.old (moment, place) }
     {
         self.deadlines.remove(&(moment, place)).is_some()
+    }
+
+    /// The least deadline, if there is one. It looks at that one alone.
+    pub fn first(&self) -> Option<(u64, Place)>
+        ensures least { IfSome result (λ deadline. IsLeastUntil self.now deadline.0 deadline) }
+        ensures none { IfNone result ((moment : ℕ) → AllAbove self.now moment) }
+    {
+        Some(*self.deadlines.first_key_value()?.0)
     }
 
     /// Takes the least deadline out, if its moment is at most `now`, and gives it. If there is none so early

@@ -44,7 +44,8 @@ module _ (limits : StepLimits) (m : Machine) (moment : ℕ) (key : Key) (numbere
     pub refuses_cancel : (refusal : Refusal) → RefusalSays m.clients key refusal
         → MovesBy limits m m moment (Cancel key) [] (said.Refused refusal)
     refuses_cancel refusal says =
-        moves_refused limits m m moment _ refl refl refusal (key_refused m key _ _ _ numbered refusal says refl)
+        moves_refused limits m m moment _ refl refl refusal
+        (key_refused m key _ _ _ numbered refusal says refl)
 
     not_waiting : (request : LastRequest) → place_waiting request ≡ None
         → (says : AsksLast m.clients key request)

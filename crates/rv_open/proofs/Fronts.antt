@@ -1,5 +1,5 @@
 -- What stands first: of what is due, and on a line.
-use Rattle.std.proofs.Common.{◌≡◌, ◌∷◌, ◌∙◌, ℕ, List, [], Option, Some, IsSome}
+use Rattle.std.proofs.Common.{◌≡◌, ◌<◌, ◌≤◌, ◌∷◌, ◌∙◌, inl, inr, arith, ℕ, List, [], Option, Some, IsSome}
 use Rattle.std.proofs.Common.{refl, sym, ap, subst, slice_get, nat_eq}
 use Rattle.std.specs.FinSet.{contains, contains-from_list, remove}
 use Rattle.std.specs.Prelude.{filter_map}
@@ -9,11 +9,11 @@ use Rattle.rv_session.specs.OwedDuty.{OwedDuty}
 use Rattle.rv_due.specs.Deadlines.{AllAbove, Deadline, Deadlines, IsLeastUntil}
 use Rattle.rv_due.proofs.Order.{by_moment_total}
 use Rattle.rv_state.specs.State.{OpenPlace, place_list, same_side}
-use Rattle.rv_state.proofs.Words.{none-some, same_Some}
+use Rattle.rv_state.proofs.Words.{cases_lt, none-some, same_Some}
 use Rattle.rv_state.specs.After.{deadline_of_place}
 use Rattle.rv_state.proofs.Filtered.{filter_get, find_get}
 use Rattle.rv_waiters.specs.Views.{Waiters, waiting_on}
-use Rattle.rv_open.specs.OpenMap.{PlacesRise, due_in, duty_at, found_at, line_in, all_but}
+use Rattle.rv_open.specs.OpenMap.{IsFirstDue, NeverDue, PlacesRise, due_in, duty_at, found_at, line_in, all_but}
 use Rattle.rv_open.specs.OpenMap.{without_limit}
 use Rattle.rv_open.specs.Indexed.{AreIndexed, ClosesDue}
 use Rattle.rv_open.proofs.DueFirst.{first_due, none_due}
@@ -121,3 +121,35 @@ closes_due all new moment d there duty out found owed rest =
       };
       first = out.first ∙ ap (λ (l : List OpenPlace). there ∷ due_in l moment) (sym rest);
     }
+
+-- ---- the first moment at which something is due
+
+-- no deadline is earlier than the least
+above_earlier : (due : Deadlines) (d : Deadline) (earlier : ℕ) → IsLeastUntil due d.0 d → earlier < d.0
+    → AllAbove due earlier
+above_earlier due d earlier least before other there = elim (cases_lt earlier other.0) [
+  | inl above ↦ above
+  | inr most ↦ absurd (elim (least.least other there (λ same. apart (ap (λ (x : Deadline). x.0) same) most)) [
+    | inl later ↦ omega (arith, later, most, before)
+    | inr at ↦ omega (arith, at.0, most, before)
+  ])
+]
+  where
+    apart : other.0 ≡ d.0 → other.0 ≤ earlier → ⊥
+    apart same most = omega (arith, same, most, before)
+
+pub first_due_at : (all : List OpenPlace) (waiters : Waiters) (waiting : ℕ) (due : Deadlines) (d : Deadline)
+    → AreIndexed all waiters waiting due → IsLeastUntil due d.0 d → IsFirstDue all d.0
+first_due_at all waiters waiting due d is least = record {
+  due = λ none. absurd (cons-nil (sym (due_first all waiters waiting d.0 due d is least
+      (due_there all waiters waiting d.0 due d is least)) ∙ none));
+  none_before = λ earlier before. nothing_due all waiters waiting earlier due is
+      (above_earlier due d earlier least before);
+}
+  where
+    cons-nil : {o : OpenPlace} {l : List OpenPlace} → o ∷ l ≡ [] → ⊥
+    cons-nil e = cc
+
+pub never_due : (all : List OpenPlace) (waiters : Waiters) (waiting : ℕ) (due : Deadlines)
+    → AreIndexed all waiters waiting due → ((moment : ℕ) → AllAbove due moment) → NeverDue all
+never_due all waiters waiting due is above moment = nothing_due all waiters waiting moment due is (above moment)

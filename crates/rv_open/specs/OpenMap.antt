@@ -1,5 +1,5 @@
 -- What is open, as the machine keeps it: a list of open places that rise, and what is read off it.
-use Rattle.std.specs.Prelude.{◌≡◌, ◌<◌, ℕ, List, [], length, slice_get, Some, None, nat_eq, not, filter, find}
+use Rattle.std.specs.Prelude.{◌≡◌, ◌≢◌, ◌<◌, ℕ, List, [], length, slice_get, Some, None, nat_eq, not, filter, find}
 use Rattle.std.specs.Prelude.{Option, is_some, map, nat_lt, option_and_then, option_map}
 use Rattle.std.specs.FinMap.{FinMap, from_entries, keys}
 use Rattle.std.specs.FinSet.{from_list, insert, remove}
@@ -71,6 +71,15 @@ abbrev pub due_in : List OpenPlace → ℕ → List OpenPlace
 due_in all moment =
     filter_map (λ deadline. found_at all deadline.1)
     (filter (λ deadline. not (nat_lt moment deadline.0)) (keys (limits_map all)))
+
+-- the moment is the first at which something is due
+pub record IsFirstDue (all : List OpenPlace) (moment : ℕ) : Type 0 where
+  pub due : due_in all moment ≢ []
+  pub none_before : (earlier : ℕ) → earlier < moment → due_in all earlier ≡ []
+
+-- nothing is ever due
+abbrev pub NeverDue : List OpenPlace → Type 0
+NeverDue all = (moment : ℕ) → due_in all moment ≡ []
 
 -- with the limit of one at a place, if it has one
 abbrev pub with_limit : Option ℕ → ℕ → Deadlines → Deadlines

@@ -7,7 +7,7 @@ ghost use Rattle.rv_text.specs.Calls.{side_of, wait_of};
 ghost use Rattle.rv_text.specs.Limits.{FitsQueue, FitsSide};
 ghost use Rattle.rv_text.specs.declared.call.Side.TheVariants.{Gives, Takes};
 ghost use Rattle.rv_open.specs.OpenMap.{StandBelow, due_in, found_at, line_in, opposed_in, count_waiting};
-ghost use Rattle.rv_open.specs.OpenMap.{with_limit, all_but, without_limit};
+ghost use Rattle.rv_open.specs.OpenMap.{IsFirstDue, NeverDue, with_limit, all_but, without_limit};
 ghost use Rattle.rv_open.specs.Indexed.{ClosesPlace, ClosesDue, ClosesFirst, MayPark, ParksPlace, WaitsIn};
 
 use crate::opens::OpenMap;
@@ -174,6 +174,14 @@ impl OpenTable {
         let duty = self.waiters.withdraw(there.side, place).unwrap();
         self.waiting -= 1;
         Some((there, duty))
+    }
+
+    /// The first moment at which something is due, if a request that waits has a limit.
+    pub fn next_limit(&self) -> Option<u64>
+        ensures some { IfSome result (IsFirstDue self.now) }
+        ensures none { IfNone result (NeverDue self.now) }
+    {
+        Some(self.due.first()?.0)
     }
 
     /// How many items and how many consumers wait in a queue.
