@@ -13,7 +13,8 @@ use Rattle.rv_state.proofs.Words.{cases_lt, none-some, same_Some}
 use Rattle.rv_state.specs.After.{deadline_of_place}
 use Rattle.rv_state.proofs.Filtered.{filter_get, find_get}
 use Rattle.rv_waiters.specs.Views.{Waiters, waiting_on}
-use Rattle.rv_open.specs.OpenMap.{IsFirstDue, NeverDue, PlacesRise, due_in, duty_at, found_at, line_in, all_but}
+use Rattle.rv_open.specs.OpenMap.{IsFirstDue, NeverDue, PlacesRise, due_in, duty_at, found_at, line_in}
+use Rattle.rv_open.specs.OpenMap.{all_but}
 use Rattle.rv_open.specs.OpenMap.{without_limit}
 use Rattle.rv_open.specs.Indexed.{AreIndexed, ClosesDue}
 use Rattle.rv_open.proofs.DueFirst.{first_due, none_due}
@@ -152,4 +153,5 @@ first_due_at all waiters waiting due d is least = record {
 
 pub never_due : (all : List OpenPlace) (waiters : Waiters) (waiting : ℕ) (due : Deadlines)
     → AreIndexed all waiters waiting due → ((moment : ℕ) → AllAbove due moment) → NeverDue all
-never_due all waiters waiting due is above moment = nothing_due all waiters waiting moment due is (above moment)
+never_due all waiters waiting due is above moment = nothing_due all waiters waiting moment due is
+    (above moment)

@@ -1,5 +1,6 @@
 -- What is open, as the machine keeps it: a list of open places that rise, and what is read off it.
-use Rattle.std.specs.Prelude.{◌≡◌, ◌≢◌, ◌<◌, ℕ, List, [], length, slice_get, Some, None, nat_eq, not, filter, find}
+use Rattle.std.specs.Prelude.{◌≡◌, ◌≢◌, ◌<◌, ℕ, List, [], length, slice_get, Some, None, nat_eq, not, filter}
+use Rattle.std.specs.Prelude.{find}
 use Rattle.std.specs.Prelude.{Option, is_some, map, nat_lt, option_and_then, option_map}
 use Rattle.std.specs.FinMap.{FinMap, from_entries, keys}
 use Rattle.std.specs.FinSet.{from_list, insert, remove}
