@@ -1,0 +1,13 @@
+pub mod Kept
+pub mod Sessions
+pub mod Closing
+pub mod Entering
+pub mod Fitting
+pub mod Alone
+pub mod Meeting
+pub mod Moments
+pub mod Opening
+pub mod Arriving
+pub mod Stopping
+pub mod Behind
+pub mod ResumeLaws

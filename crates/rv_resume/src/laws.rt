@@ -1,0 +1,12 @@
+//! Laws of states to resume from: each function is its contract, over the definitions alone.
+ghost use Rattle.rv_resume.specs.Laws.{EntriesResume, OpeningsResume};
+
+/// The state after an entry of a state to resume from is one too, if it has room.
+pub fn entries_resume()
+    ensures { EntriesResume }
+{}
+
+/// The state of an empty account is one to resume from.
+pub fn openings_resume()
+    ensures { OpeningsResume }
+{}
