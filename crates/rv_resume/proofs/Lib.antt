@@ -10,4 +10,8 @@ pub mod Opening
 pub mod Arriving
 pub mod Stopping
 pub mod Behind
+pub mod Counts
+pub mod NextNumbers
+pub mod Rooms
 pub mod ResumeLaws
+pub mod StepLaws

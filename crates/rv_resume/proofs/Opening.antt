@@ -87,12 +87,15 @@ none_taken n (x ∷ l) one none = absurd (some_taken (sym (ap (λ k. take k (x �
     some_taken : x ∷ take 0 l ≡ [] → ⊥
     some_taken is = cc
 
+pub none_opposite : (s : State) (c : Call) → stays_open c (met_by s c) ≡ true → opposites s c ≡ []
+none_opposite s c stays = none_taken (may_name c) (opposites s c)
+    (staying_single c (stays_by c (met_by s c) stays)) (none_met c (met_by s c) stays)
+
 -- nobody stands on a side that it meets
 pub faces_none : (s : State) (c : Call) (there : OpenPlace) → stays_open c (met_by s c) ≡ true
     → IsOpenIn s there → opposite (side_of c) ≢ Some there.side
 faces_none s c there stays at opposes =
-    let none : opposites s c ≡ [] = none_taken (may_name c) (opposites s c)
-    (staying_single c (stays_by c (met_by s c) stays)) (none_met c (met_by s c) stays) in
+    let none : opposites s c ≡ [] = none_opposite s c stays in
     let found = get_filter (λ (o : OpenPlace). same_side o.side there.side) s.open_places at.0 there at.1
     (same_side_itself there.side) in
     none-some there (sym (ap (λ (l : List OpenPlace). slice_get l found.0) (sym (ap (line_of s) opposes)

@@ -22,7 +22,7 @@ use Rattle.rv_state.specs.Follows.{NumberIsNext, NumberWaits}
 use Rattle.rv_state.specs.State.{ClientState, OpenPlace, State, client_at, client_waits, open_at}
 use Rattle.rv_state.proofs.Words.{none-some, same_Some}
 use Rattle.rv_state.proofs.Filtered.{chained_there, filter_map_get, find_get, get_find}
-use Rattle.rv_resume.specs.Resuming.{IsOpenIn}
+use Rattle.rv_resume.specs.Resuming.{IsAwaitedBy, IsOpenIn}
 use Rattle.rv_resume.proofs.Closing.{answers, closed_holds, left, not_gone}
 use Rattle.rv_resume.proofs.Entering.{renewed_holds}
 use Rattle.rv_resume.proofs.Kept.{HoldsTogether, IsIdle, longer}
@@ -163,17 +163,28 @@ module _ (s : State) (is : HoldsTogether s) where
 
   -- ---- a cancel
 
+  -- whose request waits is found at its place
+  pub waits_found : (client : ℕ) (session : ClientState) (place : ℕ) → client_at s client ≡ Some session
+      → place_waiting session.request ≡ Some place
+      → (stands : IsAwaitedBy s client place) × (found : OpenPlace) × (client_waits s client ≡ Some found)
+      × (found.place ≡ stands.there.place)
+  waits_found client session place known waits =
+      let its = place_call client session.request place waits in
+      let stands = is.standing client session place its.0 known its.1 in
+      let found = found_there s stands.there stands.is_open in (
+        stands,
+        found.0,
+        is_found client session place found.0 known waits (ap (open_at s) (sym stands.at_place) ∙ found.1),
+        (opens_there s stands.there.place found.0 found.1).1,
+      )
+
   -- where nothing is found of a client, it waits nowhere
   none_idle : (client : ℕ) → client_waits s client ≡ None → IsIdle s client
   none_idle client none session known = elim (waits_or_not client (place_waiting session.request)) [
     | inl idle ↦ idle
     | inr waits ↦
-        let its = place_call client session.request waits.0 waits.1 in
-        let stands = is.standing client session waits.0 its.0 known its.1 in
-        let found = found_there s stands.there stands.is_open in
-        absurd (none-some found.0 (sym none
-        ∙ is_found client session waits.0 found.0 known waits.1
-        (ap (open_at s) (sym stands.at_place) ∙ found.1)))
+        let found = waits_found client session waits.0 known waits.1 in
+        absurd (none-some found.1 (sym none ∙ found.2))
   ]
 
   unseen_holds : (moment : ℕ) (key : Key) (session : ClientState) → FitsKey key

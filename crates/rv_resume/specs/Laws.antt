@@ -1,6 +1,9 @@
 -- The laws of states that a machine can resume from: such a state stays one.
 use Rattle.std.specs.Prelude.{◌≤◌, ℕ}
-use Rattle.rv_text.specs.Limits.{FitsIdentifier}
+use Rattle.rv_text.specs.Limits.{FitsIdentifier, FitsMessage}
+use Rattle.rv_text.specs.declared.message.Message.{Message}
+use Rattle.rv_rules.specs.StepLimits.{AreStepLimits, StepLimits}
+use Rattle.rv_state.specs.Moves.{Move, StateNextUnder}
 use Rattle.rv_account.specs.Limits.{FitsEntry, max_moment}
 use Rattle.rv_account.specs.declared.entry.Entry.{Entry}
 use Rattle.rv_state.specs.After.{state_after}
@@ -12,6 +15,11 @@ use Rattle.rv_resume.specs.Resuming.{CanResume, StaysInRoom}
 abbrev pub EntriesResume : Type 0
 EntriesResume = (s : State) (e : Entry) → CanResume s → FitsEntry e → FollowsState s e
     → StaysInRoom (state_after s e) → CanResume (state_after s e)
+
+-- under limits that a step may have, so is the state after each move for a message within its limits
+abbrev pub StepsResume : Type 0
+StepsResume = (limits : StepLimits) (s : State) (now : ℕ) (m : Message) (move : Move) → AreStepLimits limits
+    → FitsMessage m → CanResume s → StateNextUnder limits s now m move → CanResume move.after
 
 -- so is the state of an empty account
 abbrev pub OpeningsResume : Type 0

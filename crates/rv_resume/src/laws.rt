@@ -1,5 +1,5 @@
 //! Laws of states to resume from: each function is its contract, over the definitions alone.
-ghost use Rattle.rv_resume.specs.Laws.{EntriesResume, OpeningsResume};
+ghost use Rattle.rv_resume.specs.Laws.{EntriesResume, OpeningsResume, StepsResume};
 
 /// The state after an entry of a state to resume from is one too, if it has room.
 pub fn entries_resume()
@@ -9,4 +9,9 @@ pub fn entries_resume()
 /// The state of an empty account is one to resume from.
 pub fn openings_resume()
     ensures { OpeningsResume }
+{}
+
+/// Under limits that a step may have, each move of a state to resume from leads to one.
+pub fn steps_resume()
+    ensures { StepsResume }
 {}
