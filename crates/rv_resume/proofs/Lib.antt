@@ -15,3 +15,4 @@ pub mod NextNumbers
 pub mod Rooms
 pub mod ResumeLaws
 pub mod StepLaws
+pub mod AccountLaws

@@ -4,9 +4,12 @@ use Rattle.rv_text.specs.Limits.{FitsIdentifier, FitsMessage}
 use Rattle.rv_text.specs.declared.message.Message.{Message}
 use Rattle.rv_rules.specs.StepLimits.{AreStepLimits, StepLimits}
 use Rattle.rv_state.specs.Moves.{Move, StateNextUnder}
-use Rattle.rv_account.specs.Limits.{FitsEntry, max_moment}
+use Rattle.rv_account.specs.Account.{Account}
+use Rattle.rv_account.specs.Limits.{FitEntries, FitsEntry, max_moment}
 use Rattle.rv_account.specs.declared.entry.Entry.{Entry}
-use Rattle.rv_state.specs.After.{state_after}
+use Rattle.rv_rules.specs.Legal.{Legal, before}
+use Rattle.rv_rules.specs.Limits.{FitsAccount}
+use Rattle.rv_state.specs.After.{state_after, state_of}
 use Rattle.rv_state.specs.Follows.{FollowsState}
 use Rattle.rv_state.specs.State.{State, opening}
 use Rattle.rv_resume.specs.Resuming.{CanResume, StaysInRoom}
@@ -25,3 +28,19 @@ StepsResume = (limits : StepLimits) (s : State) (now : ℕ) (m : Message) (move 
 abbrev pub OpeningsResume : Type 0
 OpeningsResume = (epoch moment : ℕ) → FitsIdentifier epoch → moment ≤ max_moment
     → CanResume (opening epoch moment)
+
+-- an account's epoch, opening moment and entries are within their limits, and its state has had room after each
+-- of its entries
+pub record HadRoom (a : Account) : Type 0 where
+  pub epoch : FitsIdentifier a.epoch
+  pub opened : a.opened ≤ max_moment
+  pub entries : FitEntries a.entries
+  pub room : (j : ℕ) → StaysInRoom (state_of (before a j))
+
+-- so is the state of each legal account of which that holds
+abbrev pub AccountsResume : Type 0
+AccountsResume = (a : Account) → Legal a → HadRoom a → CanResume (state_of a)
+
+-- and so of each that a book may have
+abbrev pub FittingResume : Type 0
+FittingResume = (a : Account) → Legal a → FitsAccount a → CanResume (state_of a)
