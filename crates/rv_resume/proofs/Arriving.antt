@@ -21,6 +21,7 @@ use Rattle.rv_state.specs.Follows.{NumberIsNext}
 use Rattle.rv_state.specs.State.{ClientState, OpenPlace, State, Waiter, client_at}
 use Rattle.rv_state.proofs.Words.{none-some, same_Some}
 use Rattle.rv_state.specs.Agreement.{last_key_of}
+use Rattle.rv_resume.specs.Suiting.{SuitsCall}
 use Rattle.rv_resume.specs.Resuming.{CanResume, FitsLastRequest, FitsSession, IsAwaitedBy, IsLastAt, IsOpenIn}
 use Rattle.rv_resume.specs.Resuming.{LiesOpen}
 use Rattle.rv_resume.proofs.Alone.{Ends, GoesTold, LeavesItem, StaysWaiting, alone_ends}
@@ -90,7 +91,7 @@ module _ (s : State) (is : CanResume s) (moment : ℕ) (key : Key) (c : Call) (k
         request = request;
       }
 
-  then_fits : (request : LastRequest) → FitsLastRequest s.epoch request → request ≢ Fresh
+  then_fits : (request : LastRequest) → FitsLastRequest s.epoch next.session.version request → request ≢ Fresh
       → FitsSession s.epoch key.client (session_then request)
   then_fits request fits came =
       let was = is.sessions key.client next.session next.of_session.there in
@@ -112,7 +113,7 @@ module _ (s : State) (is : CanResume s) (moment : ℕ) (key : Key) (c : Call) (k
 
   -- ---- it doesn't stay
 
-  gone_then : GoesTold s.epoch (stays_open c met) own
+  gone_then : GoesTold s.epoch (SuitsCall next.session.version c) (stays_open c met) own
       → HoldsTogether (following s moment (Arrive key c)).after
   gone_then ends =
       let session = session_then (RepliedTo c ends.reply) in
@@ -121,7 +122,7 @@ module _ (s : State) (is : CanResume s) (moment : ℕ) (key : Key) (c : Call) (k
       (parked s moment key c met)) ends.is
       ∙ ap (λ b. entered later key.client session (cond b (o ∷ []) [])) ends.goes))
       (entered_holds later later_holds key.client session [] later_idle
-      (then_fits (RepliedTo c ends.reply) (call_fits, ends.fits, ends.of_epoch) (λ fresh. cc))
+      (then_fits (RepliedTo c ends.reply) (call_fits, ends.fits, ends.of_epoch, ends.suits) (λ fresh. cc))
       (joins_none later key.client session later_holds refl))
 
   -- ---- it stays
@@ -154,7 +155,8 @@ module _ (s : State) (is : CanResume s) (moment : ℕ) (key : Key) (c : Call) (k
       standing = standing;
     }
 
-    stayed_then : request_after s.length c own ≡ request → FitsLastRequest s.epoch request → request ≢ Fresh
+    stayed_then : request_after s.length c own ≡ request
+        → FitsLastRequest s.epoch next.session.version request → request ≢ Fresh
         → HoldsTogether (following s moment (Arrive key c)).after
     stayed_then request_is fits came =
         subst HoldsTogether (sym (after_is
@@ -164,7 +166,7 @@ module _ (s : State) (is : CanResume s) (moment : ℕ) (key : Key) (c : Call) (k
         (entered_holds later later_holds key.client (session_then request) (o ∷ []) later_idle
         (then_fits request fits came) joins)
 
-  left_then : LeavesItem (wait_of c) (stays_open c met) own
+  left_then : LeavesItem (SuitsCall next.session.version c) (wait_of c) (stays_open c met) own
       → HoldsTogether (following s moment (Arrive key c)).after
   left_then ends =
       let no_waiter : o.waiter ≡ None = ap (waiter_of key moment) ends.put in
@@ -173,7 +175,7 @@ module _ (s : State) (is : CanResume s) (moment : ℕ) (key : Key) (c : Call) (k
       ∙ has)))
       (λ none. put_lies s moment key c call_fits (stays_by c met ends.stays_is) ends.put)
       (λ place call waits. absurd (let no : ⊥ = cc in no))
-      (ap (request_after s.length c) ends.is) (call_fits, tt, tt) (λ fresh. cc)
+      (ap (request_after s.length c) ends.is) (call_fits, tt, tt, ends.suits) (λ fresh. cc)
 
   key_is : key ≡ last_key_of s.epoch key.client (session_then (Waits s.length c))
   key_is = λ i. record {
@@ -223,8 +225,9 @@ module _ (s : State) (is : CanResume s) (moment : ℕ) (key : Key) (c : Call) (k
       })
       (ap (request_after s.length c) ends.untold) call_fits (λ fresh. cc)
 
-  ends_by : (l : List OpenPlace) → met ≡ l → Ends s.epoch (wait_of c) (stays_open c l) (told_own s key c l)
-  ends_by [] none = alone_ends s is c
+  ends_by : (l : List OpenPlace) → met ≡ l → Ends s.epoch (SuitsCall next.session.version c) (wait_of c)
+      (stays_open c l) (told_own s key c l)
+  ends_by [] none = alone_ends s is next.session.version c
   ends_by (first ∷ others) some =
       let told = meeting_told s all key next.session next.of_session.there first others c call_fits some in
       inl (record {
@@ -233,6 +236,7 @@ module _ (s : State) (is : CanResume s) (moment : ℕ) (key : Key) (c : Call) (k
         is = told.is;
         fits = told.fits;
         of_epoch = told.of_epoch;
+        suits = told.suits;
       })
 
   pub arrived_holds : HoldsTogether (following s moment (Arrive key c)).after

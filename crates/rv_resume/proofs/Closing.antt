@@ -10,12 +10,13 @@ use Rattle.rv_text.specs.declared.answer.Reply.{Reply}
 use Rattle.rv_text.specs.Limits.{FitsReply, IsOfEpoch}
 use Rattle.rv_session.specs.declared.client.LastRequest.{LastRequest}
 use Rattle.rv_session.specs.declared.client.LastRequest.TheVariants.{Waits}
-use Rattle.rv_session.specs.Clients.{place_waiting}
+use Rattle.rv_session.specs.Clients.{call_waiting, place_waiting}
 use Rattle.rv_state.specs.After.{Settled, closed, settled_all, settled_at}
 use Rattle.rv_state.specs.State.{ClientState, OpenPlace, State, Waiter, client_at}
 use Rattle.rv_state.proofs.Words.{same_Some}
 use Rattle.rv_state.proofs.Filtered.{any_get, chained_there, filter_get, filter_map_get, get_any, get_filter}
 use Rattle.rv_state.proofs.Filtered.{get_filter_map, mapped_there, rises_left}
+use Rattle.rv_resume.specs.Suiting.{SuitsCall}
 use Rattle.rv_resume.specs.Resuming.{IsAwaitedBy, IsLastAt, IsOpenIn}
 use Rattle.rv_resume.proofs.Kept.{HoldsTogether, IsIdle, one_at}
 use Rattle.rv_resume.proofs.Sessions.{FitEach, OnlyAnswers, answered_fits, only_answers, still_waits}
@@ -27,19 +28,20 @@ same_place : (request : LastRequest) (p q : ℕ) (call other : Call) → request
 same_place request p q call other first second =
     same_Some _ _ (sym (ap place_waiting first) ∙ ap place_waiting second)
 
--- what is told there, within its limits
-pub record IsTold (epoch : ℕ) (told : OpenPlace → Key → Option Reply) (there : OpenPlace) (w : Waiter) :
+-- what is told there, within its limits and by the call that waits
+pub record IsTold (s : State) (told : OpenPlace → Key → Option Reply) (there : OpenPlace) (w : Waiter) :
     Type 0
   where
     pub reply : Reply
     pub is : told there w.key ≡ Some reply
     pub fits : FitsReply reply
-    pub of_epoch : IsOfEpoch epoch reply
+    pub of_epoch : IsOfEpoch s.epoch reply
+    pub suits : (own : IsLastAt s there w) → SuitsCall own.session.version own.call reply
 
 module _ (s : State) (is : HoldsTogether s) (gone : List OpenPlace) (told : OpenPlace → Key → Option Reply)
     (among : (i : ℕ) (o : OpenPlace) → slice_get gone i ≡ Some o → IsOpenIn s o)
     (tells : (i : ℕ) (o : OpenPlace) (w : Waiter) → slice_get gone i ≡ Some o → o.waiter ≡ Some w
-    → IsTold s.epoch told o w) where
+    → IsTold s told o w) where
   abbrev settles : List Settled
   settles = settled_all told gone
 
@@ -64,6 +66,7 @@ module _ (s : State) (is : HoldsTogether s) (gone : List OpenPlace) (told : Open
     pub key_is : waiter.key ≡ x.key
     pub fits : FitsReply x.reply
     pub of_epoch : IsOfEpoch s.epoch x.reply
+    pub suits : (own : IsLastAt s there waiter) → SuitsCall own.session.version own.call x.reply
 
   of_gone : (i : ℕ) (x : Settled) → slice_get settles i ≡ Some x → IsOfGone x
   of_gone i x at =
@@ -83,10 +86,25 @@ module _ (s : State) (is : HoldsTogether s) (gone : List OpenPlace) (told : Open
         key_is = ap (λ (x : Settled). x.key) r.2;
         fits = subst FitsReply same own.fits;
         of_epoch = subst (IsOfEpoch s.epoch) same own.of_epoch;
+        suits = λ its. subst (SuitsCall its.session.version its.call) same (own.suits its);
       }
 
-  fit_each : FitEach s.epoch settles
-  fit_each i x at = let from = of_gone i x at in (from.fits, from.of_epoch)
+  -- who waits there has the session of its key, with that call
+  suits_there : (x : Settled) (from : IsOfGone x) (session : ClientState) (place : ℕ) (call : Call)
+      → client_at s x.key.client ≡ Some session → session.request ≡ Waits place call
+      → SuitsCall session.version call x.reply
+  suits_there x from session place call known waits =
+      let own = is.awaited from.there from.waiter (among from.i from.there from.stands) from.waits in
+      let one : own.session ≡ session = same_Some _ _ (sym own.known
+      ∙ ap (λ (k : Key). client_at s k.client) from.key_is ∙ known) in
+      let its : own.call ≡ call = same_Some _ _ (sym (ap call_waiting own.waits)
+      ∙ ap (λ (c : ClientState). call_waiting c.request) one ∙ ap call_waiting waits) in
+      subst (λ (c : ClientState). SuitsCall c.version call x.reply) one
+      (subst (λ (c : Call). SuitsCall own.session.version c x.reply) its (from.suits own))
+
+  fit_each : FitEach s.epoch s.clients settles
+  fit_each i x at = let from = of_gone i x at in
+      record { fits = from.fits; of_epoch = from.of_epoch; suits = suits_there x from }
 
   pub answers : OnlyAnswers s.epoch s.clients now.clients
   answers = only_answers s.epoch s.clients settles fit_each

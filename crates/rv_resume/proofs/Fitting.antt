@@ -2,6 +2,7 @@
 use Rattle.std.proofs.Common.{◌≡◌, ◌∙◌, ℕ, List, Option, Some, None, refl, sym}
 use Rattle.std.proofs.Common.{subst}
 use Rattle.rv_text.specs.declared.call.Call.{Call}
+use Rattle.rv_text.specs.declared.version.Version.{Version}
 use Rattle.rv_text.specs.Limits.{FitsCall, FitsItem}
 use Rattle.rv_text.proofs.Kept.{item_fits}
 use Rattle.rv_session.specs.declared.client.LastRequest.{LastRequest}
@@ -11,15 +12,16 @@ use Rattle.rv_state.proofs.Words.{same_Some}
 use Rattle.rv_resume.specs.Resuming.{FitsLastRequest, IsLastAt, IsOpenIn}
 use Rattle.rv_resume.proofs.Kept.{HoldsTogether}
 
-call_fits : (epoch : ℕ) (request : LastRequest) (place : ℕ) (c : Call) → request ≡ Waits place c
-    → FitsLastRequest epoch request → FitsCall c
-call_fits epoch request place c is fits = subst (FitsLastRequest epoch) is fits
+call_fits : (epoch : ℕ) (version : Version) (request : LastRequest) (place : ℕ) (c : Call)
+    → request ≡ Waits place c
+    → FitsLastRequest epoch version request → FitsCall c
+call_fits epoch version request place c is fits = subst (FitsLastRequest epoch version) is fits
 
 pub waiting_fits : (s : State) → HoldsTogether s → (there : OpenPlace) (w : Waiter)
     → (own : IsLastAt s there w)
     → FitsCall own.call
 waiting_fits s is there w own =
-    call_fits s.epoch own.session.request there.place own.call own.waits
+    call_fits s.epoch own.session.version own.session.request there.place own.call own.waits
     (is.sessions w.key.client own.session own.known).request
 
 by_waiter : (s : State) → HoldsTogether s → (there : OpenPlace) → IsOpenIn s there → (item : List ℕ)

@@ -29,6 +29,8 @@ use Rattle.rv_state.specs.After.{told_partner, told_with}
 use Rattle.rv_state.specs.State.{ClientState, OpenPlace, State, Waiter, client_at, line_of, opposites}
 use Rattle.rv_state.proofs.Words.{none-some, same_Some}
 use Rattle.rv_state.proofs.Filtered.{take_get}
+use Rattle.std.proofs.Common.{inl}
+use Rattle.rv_resume.specs.Suiting.{TellsReceipt, SuitsCall}
 use Rattle.rv_resume.specs.Resuming.{IsLastAt, IsOpenIn}
 use Rattle.rv_resume.proofs.Alone.{giver_item, in_line}
 use Rattle.rv_resume.proofs.Closing.{IsTold}
@@ -37,14 +39,17 @@ use Rattle.rv_resume.proofs.Kept.{HoldsTogether}
 use Rattle.rv_resume.proofs.Sessions.{waits_nowhere}
 
 -- a reply is told, within its limits
-pub record TellsReply (epoch : ℕ) (told : Option Reply) : Type 0 where
+pub record TellsReply (epoch : ℕ) (Suits : Reply → Type 0) (told : Option Reply) : Type 0 where
   pub reply : Reply
   pub is : told ≡ Some reply
   pub fits : FitsReply reply
   pub of_epoch : IsOfEpoch epoch reply
+  pub suits : Suits reply
 
-tells : (epoch : ℕ) (its : Reply) → FitsReply its → IsOfEpoch epoch its → TellsReply epoch (Some its)
-tells epoch its fits of = record { reply = its; is = refl; fits = fits; of_epoch = of }
+tells : (epoch : ℕ) (Suits : Reply → Type 0) (its : Reply) → FitsReply its → IsOfEpoch epoch its → Suits its
+    → TellsReply epoch Suits (Some its)
+tells epoch Suits its fits of suits =
+    record { reply = its; is = refl; fits = fits; of_epoch = of; suits = suits }
 
 -- the items of some are within their limits, and no more than those are
 items_all : (xs : List OpenPlace)
@@ -116,25 +121,35 @@ module _ (s : State) (is : HoldsTogether s) where
       no_fresh request place c waits fresh = waits_nowhere request place c waits (ap place_waiting fresh)
 
   receipt : (version : Version) (key : Key) → FitsKey key → key.epoch ≡ s.epoch
-      → TellsReply s.epoch (receipt_of version (Some key))
-  receipt One key fits of = tells s.epoch reply.Received tt tt
-  receipt Two key fits of = tells s.epoch (reply.ReceivedBy key) (fits.1, (fits.2, fits.3)) of
+      → TellsReply s.epoch (TellsReceipt version) (receipt_of version (Some key))
+  receipt One key fits of = tells s.epoch (TellsReceipt One) reply.Received tt tt refl
+  receipt Two key fits of =
+      tells s.epoch (TellsReceipt Two) (reply.ReceivedBy key) (fits.1, (fits.2, fits.3)) of (key, refl)
 
   -- a transfer, by its session's version
-  received : (key other : Key) (session : ClientState) → client_at s key.client ≡ Some session → FitsKey other
-      → other.epoch ≡ s.epoch
-      → TellsReply s.epoch (option_and_then (λ version. receipt_of version (Some other))
+  received : (Suits : Reply → Type 0) (key other : Key) (session : ClientState)
+      → client_at s key.client ≡ Some session → FitsKey other → other.epoch ≡ s.epoch
+      → ((told : Reply) → TellsReceipt session.version told → Suits told)
+      → TellsReply s.epoch Suits (option_and_then (λ version. receipt_of version (Some other))
       (session_version s key))
-  received key other session known fits of =
-      subst (λ (o : Option ClientState). TellsReply s.epoch (option_and_then (λ version.
+  received Suits key other session known fits of suits =
+      let told = receipt session.version other fits of in
+      subst (λ (o : Option ClientState). TellsReply s.epoch Suits (option_and_then (λ version.
       receipt_of version (Some other)) (option_map (λ (c : ClientState). c.version) o))) (sym known)
-      (receipt session.version other fits of)
+      (record {
+        reply = told.reply;
+        is = told.is;
+        fits = told.fits;
+        of_epoch = told.of_epoch;
+        suits = suits told.reply told.suits;
+      })
 
-  gets : (f : List ℕ → Reply) (o : Option (List ℕ)) (item : List ℕ) → o ≡ Some item
-      → FitsReply (f item) → IsOfEpoch s.epoch (f item) → TellsReply s.epoch (option_map f o)
-  gets f o item has fits of =
-      subst (λ (o : Option (List ℕ)). TellsReply s.epoch (option_map f o)) (sym has) (tells s.epoch (f item)
-      fits of)
+  gets : (Suits : Reply → Type 0) (f : List ℕ → Reply) (o : Option (List ℕ)) (item : List ℕ) → o ≡ Some item
+      → FitsReply (f item) → IsOfEpoch s.epoch (f item) → Suits (f item)
+      → TellsReply s.epoch Suits (option_map f o)
+  gets Suits f o item has fits of suits =
+      subst (λ (o : Option (List ℕ)). TellsReply s.epoch Suits (option_map f o)) (sym has)
+      (tells s.epoch Suits (f item) fits of suits)
 
   -- ---- a partner
 
@@ -142,20 +157,23 @@ module _ (s : State) (is : HoldsTogether s) where
   met_told : (its c : Call) (waits key : Key) (session : ClientState)
       → client_at s waits.client ≡ Some session → FitsKey key → key.epoch ≡ s.epoch → FitsCall c
       → IsSome (wait_of its) → Lasts (wait_of its) → opposite (side_of c) ≡ Some (side_of its)
-      → TellsReply s.epoch (told_met s waits its (Some key) (item_of c))
+      → TellsReply s.epoch (SuitsCall session.version its) (told_met s waits its (Some key) (item_of c))
   met_told (call.Put queue item) c waits key session known fits of call_is may lasts opposes =
       absurd (let no : ⊥ = cc in no)
   met_told (call.Transfer queue item wait) c waits key session known fits of call_is may lasts opposes =
-      received waits key session known fits of
+      received (SuitsCall session.version (call.Transfer queue item wait)) waits key session known fits of
+      (λ told is_receipt. inl is_receipt)
   met_told (call.Take queue wait) c waits key session known fits of call_is may lasts opposes =
       let back : Some (Gives queue) ≡ Some (side_of c) = opposite_back (side_of c) (Takes queue) opposes in
       let has = gives_item c queue (sym (same_Some _ _ back)) in
-      gets reply.Item (item_of c) has.0 has.1 (item_fits c has.0 call_is has.1) tt
+      gets (SuitsCall session.version (call.Take queue wait)) reply.Item (item_of c) has.0 has.1
+      (item_fits c has.0 call_is has.1) tt (inl (has.0, refl))
   met_told (call.Swap exchanger item wait) c waits key session known fits of call_is may lasts opposes =
       let back : Some (Exchanges exchanger) ≡ Some (side_of c) =
       opposite_back (side_of c) (Exchanges exchanger) opposes in
       let has = exchanges_item c exchanger (sym (same_Some _ _ back)) in
-      gets reply.Swapped (item_of c) has.0 has.1 (item_fits c has.0 call_is has.1) tt
+      gets (SuitsCall session.version (call.Swap exchanger item wait)) reply.Swapped (item_of c) has.0 has.1
+      (item_fits c has.0 call_is has.1) tt (inl (has.0, refl))
   met_told (call.Count queue) c waits key session known fits of call_is may lasts opposes =
       absurd (let no : ⊥ = cc in no)
   met_told (call.Peek queue) c waits key session known fits of call_is may lasts opposes =
@@ -164,7 +182,7 @@ module _ (s : State) (is : HoldsTogether s) where
 
   pub partner_told : (key : Key) (c : Call) (there : OpenPlace) (w : Waiter) → IsMetOn s c there
       → there.waiter ≡ Some w → FitsKey key → key.epoch ≡ s.epoch → FitsCall c
-      → IsTold s.epoch (told_partner s key c) there w
+      → IsTold s (told_partner s key c) there w
   partner_told key c there w met waits fits of call_is =
       let own = is.awaited there w met.is_open waits in
       let told = met_told own.call c w.key key own.session own.known fits of call_is own.may_wait own.lasts
@@ -179,6 +197,12 @@ module _ (s : State) (is : HoldsTogether s) where
             ∙ told.is;
         fits = told.fits;
         of_epoch = told.of_epoch;
+        suits = λ its.
+            let one : own.session ≡ its.session = same_Some _ _ (sym own.known ∙ its.known) in
+            let same : own.call ≡ its.call = same_Some _ _ (sym (ap call_waiting own.waits)
+            ∙ ap (λ (c : ClientState). call_waiting c.request) one ∙ ap call_waiting its.waits) in
+            subst (λ (c : ClientState). SuitsCall c.version its.call told.reply) one
+            (subst (λ (c : Call). SuitsCall own.session.version c told.reply) same told.suits);
       }
 
   -- ---- the arrival itself
@@ -208,26 +232,31 @@ module _ (s : State) (is : HoldsTogether s) where
   module _ (key : Key) (session : ClientState) (known : client_at s key.client ≡ Some session)
       (first : OpenPlace) (others : List OpenPlace) where
     pub meeting_told : (c : Call) → FitsCall c → met_by s c ≡ first ∷ others
-        → TellsReply s.epoch (told_with s key c first others)
+        → TellsReply s.epoch (SuitsCall session.version c) (told_with s key c first others)
     meeting_told c call_is met = by_call c call_is met (met_on s c 0 first
         (ap (λ (l : List OpenPlace). slice_get l 0) met))
       where
         by_call : (c : Call) → FitsCall c → met_by s c ≡ first ∷ others → IsMetOn s c first
-            → TellsReply s.epoch (told_with s key c first others)
-        by_call (call.Put queue item) call_is met on = tells s.epoch reply.Done tt tt
+            → TellsReply s.epoch (SuitsCall session.version c) (told_with s key c first others)
+        by_call (call.Put queue item) call_is met on =
+            tells s.epoch (SuitsCall session.version (call.Put queue item)) reply.Done tt tt refl
         by_call (call.Transfer queue item wait) call_is met on =
             let w = taker_by first queue on.is_open (sym (same_Some _ _ on.opposes)) first.waiter refl in
             let fits = key_fits first w.0 (is.awaited first w.0 on.is_open w.1) in
-            subst (λ (o : Option Waiter). TellsReply s.epoch (option_and_then (λ version.
+            let Suits = SuitsCall session.version (call.Transfer queue item wait) in
+            subst (λ (o : Option Waiter). TellsReply s.epoch Suits (option_and_then (λ version.
             receipt_of version (option_map (λ (w : Waiter). w.key) o)) (session_version s key))) (sym w.1)
-            (received key w.0.key session known fits.0 fits.1)
+            (received Suits key w.0.key session known fits.0 fits.1 (λ told is_receipt. inl is_receipt))
         by_call (call.Take queue wait) call_is met on =
             let has = giver_item s is first on.is_open queue (sym (same_Some _ _ on.opposes)) in
-            gets reply.Item first.item has.0 has.1 (open_item_fits s is first on.is_open has.0 has.1) tt
+            gets (SuitsCall session.version (call.Take queue wait)) reply.Item first.item has.0 has.1
+            (open_item_fits s is first on.is_open has.0 has.1) tt (inl (has.0, refl))
         by_call (call.Swap exchanger item wait) call_is met on =
             let has = exchanger_by first exchanger on.is_open (sym (same_Some _ _ on.opposes)) first.waiter
             refl in
-            gets reply.Swapped first.item has.0 has.1 (open_item_fits s is first on.is_open has.0 has.1) tt
+            gets (SuitsCall session.version (call.Swap exchanger item wait)) reply.Swapped first.item has.0
+            has.1
+            (open_item_fits s is first on.is_open has.0 has.1) tt (inl (has.0, refl))
         by_call (call.Count queue) call_is met on = absurd (none-some first.side on.opposes)
         by_call (call.Peek queue) call_is met on = absurd (none-some first.side on.opposes)
         by_call (call.Drain queue max) call_is met on =
@@ -237,5 +266,6 @@ module _ (s : State) (is : HoldsTogether s) where
             let all = items_all (first ∷ others) (λ i o at item has.
             open_item_fits s is o (met_on s (call.Drain queue max) i o
             (ap (λ (l : List OpenPlace). slice_get l i) met ∙ at)).is_open item has) in
-            tells s.epoch (reply.Drained (filter_map (λ (o : OpenPlace). o.item) (first ∷ others)))
-            (omega (arith, few, call_is.0.1.1, all.1), all.0) tt
+            let items = filter_map (λ (o : OpenPlace). o.item) (first ∷ others) in
+            tells s.epoch (SuitsCall session.version (call.Drain queue max)) (reply.Drained items)
+            (omega (arith, few, call_is.0.1.1, all.1), all.0) tt (items, refl, omega (arith, few, all.1))

@@ -16,6 +16,7 @@ use Rattle.rv_session.proofs.Mapping.{other_client, same_client}
 use Rattle.rv_state.specs.After.{Settled, insert_told, tell, tell_all}
 use Rattle.rv_state.specs.State.{ClientState}
 use Rattle.rv_state.proofs.Words.{none-some, same_Some}
+use Rattle.rv_resume.specs.Suiting.{SuitsCall}
 use Rattle.rv_resume.specs.Resuming.{FitsLastRequest, FitsSession}
 
 abbrev pub ClientMap : Type 0
@@ -44,6 +45,7 @@ pub record WasAnswered (epoch : ℕ) (old new : ClientState) : Type 0 where
   pub is : new ≡ with_request old (RepliedTo call reply)
   pub fits : FitsReply reply
   pub of_epoch : IsOfEpoch epoch reply
+  pub suits : SuitsCall old.version call reply
 
 abbrev pub StaysOrAnswered : ℕ → ClientState → ClientState → Type 0
 StaysOrAnswered epoch old new = (new ≡ old) ⊎ WasAnswered epoch old new
@@ -80,10 +82,11 @@ same_session : (old : ClientState) (request : LastRequest) → old.request ≡ r
 same_session old request is = ap (with_request old) (sym is)
 
 answer_one : (epoch : ℕ) (reply : Reply) (old : ClientState) → FitsReply reply → IsOfEpoch epoch reply
+    → ((place : ℕ) (call : Call) → old.request ≡ Waits place call → SuitsCall old.version call reply)
     → (request : LastRequest) → old.request ≡ request
     → StaysOrAnswered epoch old (with_request old (answered reply request))
-answer_one epoch reply old fits of Fresh is = inl (same_session old Fresh is)
-answer_one epoch reply old fits of (Waits place call) is =
+answer_one epoch reply old fits of suits Fresh is = inl (same_session old Fresh is)
+answer_one epoch reply old fits of suits (Waits place call) is =
     inr (record {
       place = place;
       call = call;
@@ -91,12 +94,12 @@ answer_one epoch reply old fits of (Waits place call) is =
       reply = reply;
       is = refl;
       fits = fits;
-      of_epoch =
-          of;
+      of_epoch = of;
+      suits = suits place call is;
     })
-answer_one epoch reply old fits of (RepliedTo call other) is = inl (same_session old (RepliedTo call other)
-    is)
-answer_one epoch reply old fits of CancelledUnseen is = inl (same_session old CancelledUnseen is)
+answer_one epoch reply old fits of suits (RepliedTo call other) is =
+    inl (same_session old (RepliedTo call other) is)
+answer_one epoch reply old fits of suits CancelledUnseen is = inl (same_session old CancelledUnseen is)
 
 answered_idle : (reply : Reply) (r : LastRequest) → place_waiting (answered reply r) ≡ None
 answered_idle reply Fresh = refl
@@ -114,9 +117,10 @@ answered_fits epoch client old new (inr told) fits =
       incarnation = fits.incarnation;
       last = fits.last;
       request = (
-        subst (λ (r : LastRequest). FitsLastRequest epoch r) told.waited fits.request,
+        subst (FitsLastRequest epoch old.version) told.waited fits.request,
         told.fits,
         told.of_epoch,
+        told.suits,
       );
       unasked = λ none. absurd (waits_nowhere old.request told.place told.call told.waited
           (ap place_waiting (fits.unasked none)));
@@ -133,11 +137,18 @@ abbrev pub OnlyAnswers : ℕ → ClientMap → ClientMap → Type 0
 OnlyAnswers epoch old new = (client : ℕ) (session : ClientState) → get new client ≡ Some session
     → (was : ClientState) × (get old client ≡ Some was) × StaysOrAnswered epoch was session
 
+-- the reply is within its limits, and one that the call may get for which the session waits
+pub record IsFitting (epoch : ℕ) (clients : ClientMap) (x : Settled) : Type 0 where
+  pub fits : FitsReply x.reply
+  pub of_epoch : IsOfEpoch epoch x.reply
+  pub suits : (session : ClientState) (place : ℕ) (call : Call) → get clients x.key.client ≡ Some session
+      → session.request ≡ Waits place call → SuitsCall session.version call x.reply
+
 module _ (epoch : ℕ) (clients : ClientMap) (settled : Settled) where
-  tell_by : (o : Option ClientState) → get clients settled.key.client ≡ o → FitsReply settled.reply
-      → IsOfEpoch epoch settled.reply → OnlyAnswers epoch clients (insert_told clients settled o)
-  tell_by None is fits of client session there = (session, there, inl refl)
-  tell_by (Some was) is fits of client session there = elim (cases_eq client settled.key.client) [
+  tell_by : (o : Option ClientState) → get clients settled.key.client ≡ o → IsFitting epoch clients settled
+      → OnlyAnswers epoch clients (insert_told clients settled o)
+  tell_by None is own client session there = (session, there, inl refl)
+  tell_by (Some was) is own client session there = elim (cases_eq client settled.key.client) [
     | inl same ↦ (
       was,
       ap (get clients) same ∙ is,
@@ -145,7 +156,9 @@ module _ (epoch : ℕ) (clients : ClientMap) (settled : Settled) where
           (same_Some _ _ (sym (put_own clients settled.key.client
           (with_request was (answered settled.reply was.request)))
           ∙ ap (get (insert_told clients settled (Some was))) (sym same) ∙ there))
-          (answer_one epoch settled.reply was fits of was.request refl),
+          (answer_one epoch settled.reply was own.fits own.of_epoch (λ place call. own.suits was place call
+          is)
+          was.request refl),
     )
     | inr apart ↦ (
       session,
@@ -171,19 +184,36 @@ module _ (epoch : ℕ) (clients : ClientMap) (settled : Settled) where
       ∙ put_own clients settled.key.client (with_request was (answered settled.reply was.request))))
       ∙ answered_idle settled.reply was.request
 
--- those that are told get replies within their limits
-abbrev pub FitEach : ℕ → List Settled → Type 0
-FitEach epoch settles = (i : ℕ) (x : Settled) → slice_get settles i ≡ Some x
-    → FitsReply x.reply × IsOfEpoch epoch x.reply
+-- those that are told get such replies
+abbrev pub FitEach : ℕ → ClientMap → List Settled → Type 0
+FitEach epoch clients settles = (i : ℕ) (x : Settled) → slice_get settles i ≡ Some x
+    → IsFitting epoch clients x
 
-pub only_answers : (epoch : ℕ) (clients : ClientMap) (settles : List Settled) → FitEach epoch settles
+-- the others too, behind the first
+fit_then : (epoch : ℕ) (clients : ClientMap) (y : Settled) (settles : List Settled)
+    → FitEach epoch clients (y ∷ settles) → FitEach epoch (tell clients y) settles
+fit_then epoch clients y settles fit i x at =
+    let own = fit (suc i) x at in
+    record {
+      fits = own.fits;
+      of_epoch = own.of_epoch;
+      suits = λ session place call there waits.
+          let was = tell_by epoch clients y (get clients y.key.client) refl (fit 0 y refl) x.key.client
+          session
+          there in
+          let same = still_waits epoch was.0 session place call was.2 waits in
+          subst (λ (c : ClientState). SuitsCall c.version call x.reply) (sym same)
+          (own.suits was.0 place call was.1 (ap (λ (c : ClientState). c.request) (sym same) ∙ waits));
+    }
+
+pub only_answers : (epoch : ℕ) (clients : ClientMap) (settles : List Settled) → FitEach epoch clients settles
     → OnlyAnswers epoch clients (tell_all clients settles)
 only_answers epoch clients [] fit client session there = (session, there, inl refl)
 only_answers epoch clients (x ∷ settles) fit client session there =
-    let own = fit 0 x refl in
-    let then = only_answers epoch (tell clients x) settles (λ i y at. fit (suc i) y at) client session there
-    in
-    let first = tell_by epoch clients x (get clients x.key.client) refl own.0 own.1 client then.0 then.1 in
+    let then = only_answers epoch (tell clients x) settles (fit_then epoch clients x settles fit) client
+    session
+    there in
+    let first = tell_by epoch clients x (get clients x.key.client) refl (fit 0 x refl) client then.0 then.1 in
     (first.0, first.1, twice epoch first.0 then.0 session first.2 then.2)
 
 -- who isn't told has its session
@@ -196,17 +226,16 @@ told_apart clients (x ∷ settles) client apart =
     ∙ tell_apart 0 clients x (get clients x.key.client) client (apart 0 x refl)
 
 -- who is told waits nowhere
-pub told_idle : (epoch : ℕ) (clients : ClientMap) (settles : List Settled) → FitEach epoch settles
+pub told_idle : (epoch : ℕ) (clients : ClientMap) (settles : List Settled) → FitEach epoch clients settles
     → (i : ℕ) (x : Settled) → slice_get settles i ≡ Some x → (session : ClientState)
     → get (tell_all clients settles) x.key.client ≡ Some session → place_waiting session.request ≡ None
 told_idle epoch clients [] fit i x at session there = absurd (none-some x at)
 told_idle epoch clients (y ∷ settles) fit zero x at session there =
-    let then = only_answers epoch (tell clients y) settles (λ i z here. fit (suc i) z here) x.key.client
-    session
-    there in
+    let then = only_answers epoch (tell clients y) settles (fit_then epoch clients y settles fit) x.key.client
+    session there in
     let own : get (tell clients y) y.key.client ≡ Some then.0 =
     ap (λ (z : Settled). get (tell clients y) z.key.client) (same_Some _ _ at) ∙ then.1 in
     let idle = tell_own epoch clients y (get clients y.key.client) refl then.0 own in
     ap (λ (c : ClientState). place_waiting c.request) (idle_stays epoch then.0 session then.2 idle) ∙ idle
 told_idle epoch clients (y ∷ settles) fit (suc i) x at session there =
-    told_idle epoch (tell clients y) settles (λ j z here. fit (suc j) z here) i x at session there
+    told_idle epoch (tell clients y) settles (fit_then epoch clients y settles fit) i x at session there

@@ -22,10 +22,21 @@ use Rattle.rv_state.specs.Follows.{NumberIsNext, NumberWaits}
 use Rattle.rv_state.specs.State.{ClientState, OpenPlace, State, client_at, client_waits, open_at}
 use Rattle.rv_state.proofs.Words.{none-some, same_Some}
 use Rattle.rv_state.proofs.Filtered.{chained_there, filter_map_get, find_get, get_find}
-use Rattle.rv_resume.specs.Resuming.{IsAwaitedBy, IsOpenIn}
-use Rattle.rv_resume.proofs.Closing.{answers, closed_holds, left, not_gone}
+use Rattle.rv_state.specs.State.{Waiter}
+use Rattle.rv_resume.specs.Suiting.{EndsUnmet, SuitsCall}
+use Rattle.rv_resume.specs.Resuming.{IsAwaitedBy, IsLastAt, IsOpenIn}
+use Rattle.std.proofs.Common.{IsSome, arith}
+use Rattle.std.proofs.lemmas.Bool.{false≢true}
+use Rattle.rv_account.specs.Calls.{Lasts, limit_after, limit_of}
+use Rattle.rv_text.specs.Calls.{wait_of}
+use Rattle.rv_text.specs.declared.call.Call.TheVariants as call
+use Rattle.rv_text.specs.declared.call.Wait.{Wait}
+use Rattle.rv_text.specs.declared.call.Wait.TheVariants.{Forever, Millis, Now}
+use Rattle.rv_state.proofs.DueAt.{due_place}
+use Rattle.rv_state.proofs.PlacesLeft.{among_place}
+use Rattle.rv_resume.proofs.Closing.{IsTold, answers, closed_holds, left, not_gone}
 use Rattle.rv_resume.proofs.Entering.{renewed_holds}
-use Rattle.rv_resume.proofs.Kept.{HoldsTogether, IsIdle, longer}
+use Rattle.rv_resume.proofs.Kept.{HoldsTogether, IsIdle, longer, one_at}
 use Rattle.rv_resume.proofs.Sessions.{still_waits}
 
 -- ---- what is found
@@ -57,15 +68,71 @@ due_open s moment i there at =
     (filter (λ (d : ℕ × ℕ). not (nat_lt moment d.0)) (keys (limits_of s))) i there at in
     (opens_there s from.1.1 there from.3).0
 
+-- ---- what suits those that are stopped
+
+unmet_cancelled : (wait : Wait) (at_once : Reply) → Lasts (Some wait) → EndsUnmet wait at_once reply.Cancelled
+unmet_cancelled Now at_once lasts = absurd lasts
+unmet_cancelled (Millis zero) at_once lasts = absurd (let no : ⊥ = omega (arith, lasts) in no)
+unmet_cancelled (Millis (suc n)) at_once lasts = inr refl
+unmet_cancelled Forever at_once lasts = refl
+
+cancelled_suits : (version : Version) (c : Call) → IsSome (wait_of c) → Lasts (wait_of c)
+    → SuitsCall version c reply.Cancelled
+cancelled_suits version (call.Put queue item) may lasts = absurd (false≢true may)
+cancelled_suits version (call.Transfer queue item wait) may lasts =
+    inr (unmet_cancelled wait reply.Nobody lasts)
+cancelled_suits version (call.Take queue wait) may lasts = inr (unmet_cancelled wait reply.Empty lasts)
+cancelled_suits version (call.Swap exchanger item wait) may lasts =
+    inr (unmet_cancelled wait reply.TimedOut lasts)
+cancelled_suits version (call.Count queue) may lasts = absurd (false≢true may)
+cancelled_suits version (call.Peek queue) may lasts = absurd (false≢true may)
+cancelled_suits version (call.Drain queue max) may lasts = absurd lasts
+
+unmet_timed_out : (wait : Wait) (at_once : Reply) (since limit : ℕ) → limit_after since wait ≡ Some limit
+    → EndsUnmet wait at_once reply.TimedOut
+unmet_timed_out Now at_once since limit is = absurd (none-some limit is)
+unmet_timed_out (Millis zero) at_once since limit is = refl
+unmet_timed_out (Millis (suc n)) at_once since limit is = inl refl
+unmet_timed_out Forever at_once since limit is = absurd (none-some limit is)
+
+timed_out_suits : (version : Version) (c : Call) (since limit : ℕ) → limit_of since c ≡ Some limit
+    → SuitsCall version c reply.TimedOut
+timed_out_suits version (call.Put queue item) since limit is = absurd (none-some limit is)
+timed_out_suits version (call.Transfer queue item wait) since limit is =
+    inr (unmet_timed_out wait reply.Nobody since limit is)
+timed_out_suits version (call.Take queue wait) since limit is =
+    inr (unmet_timed_out wait reply.Empty since limit is)
+timed_out_suits version (call.Swap exchanger item wait) since limit is =
+    inr (unmet_timed_out wait reply.TimedOut since limit is)
+timed_out_suits version (call.Count queue) since limit is = absurd (none-some limit is)
+timed_out_suits version (call.Peek queue) since limit is = absurd (none-some limit is)
+timed_out_suits version (call.Drain queue max) since limit is = absurd (none-some limit is)
+
 module _ (s : State) (is : HoldsTogether s) where
   -- ---- some are stopped
 
   pub stopped_holds : (gone : List OpenPlace) (told : Reply) → FitsReply told → IsOfEpoch s.epoch told
+      → ((i : ℕ) (o : OpenPlace) (w : Waiter) → slice_get gone i ≡ Some o → (own : IsLastAt s o w)
+      → SuitsCall own.session.version own.call told)
       → ((i : ℕ) (o : OpenPlace) → slice_get gone i ≡ Some o → IsOpenIn s o)
       → HoldsTogether (stopped s gone told).after
-  stopped_holds gone told fits of among =
+  stopped_holds gone told fits of suits among =
       closed_holds s is gone (λ there key. Some told) among
-      (λ i o w at has. record { reply = told; is = refl; fits = fits; of_epoch = of })
+      (λ i o w at has. record { reply = told; is = refl; fits = fits; of_epoch = of; suits = suits i o w at })
+
+  cancel_suits : (there : OpenPlace) (w : Waiter) (own : IsLastAt s there w)
+      → SuitsCall own.session.version own.call reply.Cancelled
+  cancel_suits there w own = cancelled_suits own.session.version own.call own.may_wait own.lasts
+
+  -- what is told who is cancelled
+  cancels : (there : OpenPlace) (w : Waiter) → IsTold s (λ there key. Some reply.Cancelled) there w
+  cancels there w = record {
+    reply = reply.Cancelled;
+    is = refl;
+    fits = tt;
+    of_epoch = tt;
+    suits = cancel_suits there w;
+  }
 
   just_among : (o : Option OpenPlace) → ((there : OpenPlace) → o ≡ Some there → IsOpenIn s there) → (i : ℕ)
       (there : OpenPlace) → slice_get (just_open o) i ≡ Some there → IsOpenIn s there
@@ -75,10 +142,19 @@ module _ (s : State) (is : HoldsTogether s) where
 
   -- ---- a tick
 
+  due_suits : (moment i : ℕ) (o : OpenPlace) (w : Waiter) → slice_get (due_at s moment) i ≡ Some o
+      → (own : IsLastAt s o w) → SuitsCall own.session.version own.call reply.TimedOut
+  due_suits moment i o w at own =
+      let due = due_place s moment o.place (among_place (due_at s moment) i o at) in
+      let same : due.there ≡ o = one_at s is due.there o (due.i, due.stands) (due_open s moment i o at)
+      due.at_place in
+      timed_out_suits own.session.version own.call w.since due.limit
+      (sym own.limit ∙ ap (λ (x : OpenPlace). x.limit) (sym same) ∙ due.has)
+
   pub ticked_holds : (moment : ℕ) → HoldsTogether (following s moment Tick).after
   ticked_holds moment =
       longer (stopped s (due_at s moment) reply.TimedOut).after moment
-      (stopped_holds (due_at s moment) reply.TimedOut tt tt (due_open s moment))
+      (stopped_holds (due_at s moment) reply.TimedOut tt tt (due_suits moment) (due_open s moment))
 
   -- ---- a hello
 
@@ -93,7 +169,7 @@ module _ (s : State) (is : HoldsTogether s) where
     among = just_among (client_waits s client) (waits_open s client)
 
     ended_holds : HoldsTogether ended
-    ended_holds = stopped_holds waiting reply.Cancelled tt tt among
+    ended_holds = stopped_holds waiting reply.Cancelled tt tt (λ i o w at. cancel_suits o w) among
 
     is_found : (session : ClientState) (place : ℕ) (there : OpenPlace) → client_at s client ≡ Some session
         → place_waiting session.request ≡ Some place → open_at s place ≡ Some there
@@ -121,13 +197,13 @@ module _ (s : State) (is : HoldsTogether s) where
       | inr waits ↦
           let its = place_call session.request waits.0 waits.1 in
           let from = answers s is waiting (λ there key. Some reply.Cancelled) among
-          (λ i o w at has. record { reply = reply.Cancelled; is = refl; fits = tt; of_epoch = tt }) client
+          (λ i o w at has. cancels o w) client
           session
           known in
           let same = still_waits s.epoch from.0 session waits.0 its.0 from.2 its.1 in
           let stands = ended_holds.standing client session waits.0 its.0 known its.1 in
           let before = (left s is waiting (λ there key. Some reply.Cancelled) among
-          (λ i o w at has. record { reply = reply.Cancelled; is = refl; fits = tt; of_epoch = tt })
+          (λ i o w at has. cancels o w)
           stands.there
           stands.is_open).0 in
           let found = found_there s stands.there before in
@@ -135,7 +211,7 @@ module _ (s : State) (is : HoldsTogether s) where
           (ap (λ (c : ClientState). place_waiting c.request) (sym same) ∙ waits.1)
           (ap (open_at s) (sym stands.at_place) ∙ found.1) in
           absurd (not_gone s is waiting (λ there key. Some reply.Cancelled) among
-          (λ i o w at has. record { reply = reply.Cancelled; is = refl; fits = tt; of_epoch = tt })
+          (λ i o w at has. cancels o w)
           stands.there
           stands.is_open 0 found.0 (ap (λ (o : Option OpenPlace). slice_get (just_open o) 0) waits_there)
           (opens_there s stands.there.place found.0 found.1).1)
@@ -230,5 +306,5 @@ module _ (s : State) (is : HoldsTogether s) where
           unseen_holds moment key known.0 fits known.1 (number_some key fits) none
       by_waiting (Some there) waits =
           longer (stopped s (there ∷ []) reply.Cancelled).after moment
-          (stopped_holds (there ∷ []) reply.Cancelled tt tt
+          (stopped_holds (there ∷ []) reply.Cancelled tt tt (λ i o w at. cancel_suits o w)
           (just_among (Some there) (λ other same. waits_open s key.client other (waits ∙ same))))

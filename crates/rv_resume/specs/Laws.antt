@@ -29,8 +29,8 @@ abbrev pub OpeningsResume : Type 0
 OpeningsResume = (epoch moment : ℕ) → FitsIdentifier epoch → moment ≤ max_moment
     → CanResume (opening epoch moment)
 
--- an account's epoch, opening moment and entries are within their limits, and its state has had room after each
--- of its entries
+-- an account's epoch, opening moment and entries are within their limits, and its state has had room after
+-- each of its entries
 pub record HadRoom (a : Account) : Type 0 where
   pub epoch : FitsIdentifier a.epoch
   pub opened : a.opened ≤ max_moment

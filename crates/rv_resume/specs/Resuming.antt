@@ -4,6 +4,7 @@ use Rattle.std.specs.Prelude.{◌≡◌, ◌≢◌, ◌<◌, ◌≤◌, ◌+◌,
 use Rattle.std.specs.FinMap.{len}
 use Rattle.rv_text.specs.declared.call.Call.{Call}
 use Rattle.rv_text.specs.declared.call.Side.TheVariants.{Gives}
+use Rattle.rv_text.specs.declared.version.Version.{Version}
 use Rattle.rv_text.specs.Calls.{item_of, side_of, wait_of}
 use Rattle.rv_text.specs.Limits.{FitsCall, FitsIdentifier, FitsItem, FitsLast, FitsQueue, FitsReply}
 use Rattle.rv_text.specs.Limits.{IsOfEpoch}
@@ -13,6 +14,7 @@ use Rattle.rv_account.specs.Calls.{Lasts, limit_of, opposite}
 use Rattle.rv_account.specs.Limits.{max_moment}
 use Rattle.rv_rules.specs.StepLimits.{most_open_places}
 use Rattle.rv_state.specs.Agreement.{last_key_of}
+use Rattle.rv_resume.specs.Suiting.{SuitsCall}
 use Rattle.rv_state.specs.State.{ClientState, LastRequest, OpenPlace, State, Waiter, client_at, waiting_count}
 
 -- ---- room
@@ -70,20 +72,21 @@ pub record IsAwaitedBy (s : State) (client place : ℕ) : Type 0 where
 
 -- ---- clients
 
--- the call and the reply of a last request are within their limits, and the consumer that the reply names, if
--- it does, is of the epoch
-abbrev pub FitsLastRequest : ℕ → LastRequest → Type 0
-FitsLastRequest epoch Fresh = Unit {0}
-FitsLastRequest epoch (Waits place call) = FitsCall call
-FitsLastRequest epoch (RepliedTo call reply) = FitsCall call × FitsReply reply × IsOfEpoch epoch reply
-FitsLastRequest epoch CancelledUnseen = Unit {0}
+-- the call and the reply of a last request are within their limits; the call may get the reply, and the
+-- consumer that this names, if it does, is of the epoch
+abbrev pub FitsLastRequest : ℕ → Version → LastRequest → Type 0
+FitsLastRequest epoch version Fresh = Unit {0}
+FitsLastRequest epoch version (Waits place call) = FitsCall call
+FitsLastRequest epoch version (RepliedTo call reply) =
+    FitsCall call × FitsReply reply × IsOfEpoch epoch reply × SuitsCall version call reply
+FitsLastRequest epoch version CancelledUnseen = Unit {0}
 
 -- a client's session is within its limits, and its last number is 0 exactly where it asked nothing yet
 pub record FitsSession (epoch client : ℕ) (session : ClientState) : Type 0 where
   pub client_fits : FitsIdentifier client
   pub incarnation : FitsIdentifier session.incarnation
   pub last : FitsLast session.last
-  pub request : FitsLastRequest epoch session.request
+  pub request : FitsLastRequest epoch session.version session.request
   pub unasked : session.last ≡ 0 → session.request ≡ Fresh
   pub fresh : session.request ≡ Fresh → session.last ≡ 0
 

@@ -1,5 +1,6 @@
 //! Laws of states to resume from: each function is its contract, over the definitions alone.
-ghost use Rattle.rv_resume.specs.Laws.{AccountsResume, EntriesResume, FittingResume, OpeningsResume, StepsResume};
+ghost use Rattle.rv_resume.specs.Laws.{AccountsResume, EntriesResume, FittingResume, OpeningsResume};
+ghost use Rattle.rv_resume.specs.Laws.{StepsResume};
 
 /// The state after an entry of a state to resume from is one too, if it has room.
 pub fn entries_resume()
