@@ -1,0 +1,4 @@
+-- Which states a machine can resume from, and the laws of such states.
+pub mod Suiting
+pub mod Resuming
+pub mod Laws
