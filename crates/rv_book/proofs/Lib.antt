@@ -3,9 +3,6 @@ pub mod Leaving
 pub mod Drains
 pub mod RepliesFit
 pub mod Staying
-pub mod ToldCancelled
-pub mod OneStep
-pub mod CanEnter
 pub mod Fitting
 pub mod KeepingAll
 pub mod Stamping

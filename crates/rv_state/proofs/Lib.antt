@@ -45,6 +45,9 @@ pub mod RefusalsBoth
 pub mod OneTold
 pub mod CarriedLines
 pub mod EntersBoth
+pub mod Extending
+pub mod OneStep
+pub mod ToldCancelled
 pub mod Leading
 pub mod OwnAnswers
 pub mod AtLast
@@ -58,5 +61,6 @@ pub mod DueDecided
 pub mod MovesThere
 pub mod WhoWaits
 pub mod StateLaws
+pub mod CanEnter
 pub mod LimitLaws
 pub mod TableClients

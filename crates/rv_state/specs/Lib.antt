@@ -7,3 +7,4 @@ pub mod Agreement
 pub mod Kept
 pub mod Settling
 pub mod Laws
+pub mod StepLaws

@@ -5,6 +5,8 @@ ghost use Rattle.rv_state.specs.Laws.{MovesStep, MovesStepUnder, OneFuture};
 ghost use Rattle.rv_state.specs.Laws.{StatesAgree, StatesFollow, StatesKeepRules, StatesSettle};
 ghost use Rattle.rv_state.specs.Laws.{StatesTellWaiting, StepsAlike, StepsAlikeUnder, StepsMove};
 ghost use Rattle.rv_state.specs.Laws.{StepsMoveUnder, TicksMove, TicksStep};
+ghost use Rattle.rv_state.specs.StepLaws.{CancelsCanEnterUnder, HellosCanEnterUnder, OneNextUnder};
+ghost use Rattle.rv_state.specs.StepLaws.{OneTicked, RequestsCanEnterUnder, StepsExtendUnder, TicksExtend};
 
 /// Each part of the state of a legal account says what the formulas over its places say.
 pub fn states_agree()
@@ -110,4 +112,43 @@ pub fn limits_only_refuse()
 /// What limits bound is at most its limit behind a step, or at most what it was before.
 pub fn limits_hold()
     ensures { LimitsHold }
+{}
+
+/// Under whatever limits a step only adds to the account.
+pub fn steps_extend_under()
+    ensures { (limits : StepLimits) → StepsExtendUnder limits }
+{}
+
+/// Time-outs only add to the account.
+pub fn ticks_extend()
+    ensures { TicksExtend }
+{}
+
+/// Under whatever limits, by one moment and message a step leads to one account and one answer, want of
+/// memory aside.
+pub fn one_next_under()
+    ensures { (limits : StepLimits) → OneNextUnder limits }
+{}
+
+/// By one moment the time-outs of an account lead to one account.
+pub fn one_ticked()
+    ensures { OneTicked }
+{}
+
+/// Under whatever limits, after a step's time-outs a request for which no refusal is due has its answer here
+/// or in a next account.
+pub fn requests_can_enter_under()
+    ensures { (limits : StepLimits) → RequestsCanEnterUnder limits }
+{}
+
+/// Under whatever limits, after a step's time-outs a cancel for which no refusal is due has its reply here or
+/// in a next account.
+pub fn cancels_can_enter_under()
+    ensures { (limits : StepLimits) → CancelsCanEnterUnder limits }
+{}
+
+/// Under whatever limits, after the time-outs of a step a hello that is no repeat can enter, if no refusal of
+/// it is due.
+pub fn hellos_can_enter_under()
+    ensures { (limits : StepLimits) → HellosCanEnterUnder limits }
 {}

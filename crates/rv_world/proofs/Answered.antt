@@ -1,31 +1,29 @@
--- What a step of the book leaves and tells: at most the message's own entry is new, and a reply is that of
+-- What a step under limits leaves and tells: at most the message's own entry is new, and a reply is that of
 -- the message's own request.
-use Rattle.rv_world.proofs.Words.{◌≡◌, ◌⊎◌, ◌∙◌, inl, inr, ℕ, Some, None, refl, sym, ap, subst, none-some}
-use Rattle.rv_world.proofs.Words.{same_Some, Version, Key, Message, Call, Reply, Answer, Act, Entry, Account}
-use Rattle.rv_world.proofs.Words.{call_in, Legal, HasReply, Adds, Next, Ticks, step_moment, same_or_not}
+use Rattle.rv_world.proofs.Words.{◌≡◌, ◌⊎◌, ◌∙◌, inl, inr, ℕ, Option, Some, None, refl, sym, ap, subst}
+use Rattle.rv_world.proofs.Words.{none-some, same_Some, Version, Key, Message, Call, Reply, Answer, Entry}
+use Rattle.rv_world.proofs.Words.{Act, Account, call_in, Legal, HasReply, StepLimits, Adds, NextUnder, Ticks}
+use Rattle.rv_world.proofs.Words.{step_moment, same_or_not}
 use Rattle.rv_text.specs.declared.message.Message.TheVariants.{Cancel, Hello, Request}
 use Rattle.rv_text.specs.declared.answer.Refusal.{Refusal}
 use Rattle.rv_text.specs.declared.answer.Answer.TheVariants.{Refused, Replied, Waiting, Welcome}
 use Rattle.rv_account.specs.Account.{act_at, just, with_entry}
 use Rattle.rv_book.specs.Legal.{WaitsUnder}
-use Rattle.rv_book.specs.Steps.{Answers, EntersOrNoMemory, KeyLines, NextAt, RefuseOr, Refuses, Replies}
+use Rattle.rv_rules.specs.Steps.{Answers, EntersOrNoMemory, KeyLines, NextAtUnder, PlaceLine, PlacesFullDue}
+use Rattle.rv_rules.specs.Steps.{RefuseOr, Refuses, Replies}
 use Rattle.rv_rules.proofs.Growing.{act_read, reads_back}
 use Rattle.rv_rules.proofs.Legality.{follows_itself}
 use Rattle.rv_rules.proofs.Lines.{RefuseOr-elim, WhereElse-elim}
 use Rattle.rv_rules.proofs.Naming.{first_among}
-use Rattle.rv_book.proofs.ToldCancelled.{waiting_replies}
+use Rattle.rv_rules.proofs.StepLeaves.{own_act}
+use Rattle.rv_state.proofs.StateLaws.{steps_move_under}
+use Rattle.rv_state.proofs.ToldCancelled.{waiting_replies}
 use Rattle.rv_text.specs.declared.answer.Reply.TheVariants as reply
 use Rattle.rv_account.specs.declared.entry.Act.TheVariants as act
 
 -- ---- what is new in the account
 
--- the entry that a message may get
-abbrev pub act_of : Message → Act
-act_of (Hello client incarnation version) = act.Hello client incarnation version
-act_of (Request key call) = act.Arrive key call
-act_of (Cancel key) = act.Cancel key
-
-arrival_of : (m : Message) (key : Key) (call : Call) → act_of m ≡ act.Arrive key call → m ≡ Request key call
+arrival_of : (m : Message) (key : Key) (call : Call) → own_act m ≡ act.Arrive key call → m ≡ Request key call
 arrival_of (Hello client incarnation version) key call is = absurd (let no : ⊥ = cc in no)
 arrival_of (Request other own) key call is = cc
 arrival_of (Cancel other) key call is = absurd (let no : ⊥ = cc in no)
@@ -60,7 +58,7 @@ pub record IsToldReply (m : Message) (b : Account) (key : Key) (told : Reply) : 
 
 -- what a step leaves: the account as it was or with the message's own entry, and what it tells
 pub record Became (a : Account) (moment : ℕ) (m : Message) (b : Account) (x : Answer) : Type 0 where
-  pub account : (b ≡ a) ⊎ Adds a moment (act_of m) b
+  pub account : (b ≡ a) ⊎ Adds a moment (own_act m) b
   pub told : (key : Key) (told : Reply) → x ≡ Replied key told → IsToldReply m b key told
 
 one_reply : (own key : Key) (is told : Reply) → Replied own is ≡ Replied key told → (own ≡ key) × (is ≡ told)
@@ -137,21 +135,30 @@ module _ (a b : Account) (moment : ℕ) (m : Message) (x : Answer) where
   }
 
   entered_became : (T : Type 0)
-      → (Adds a moment (act_of m) b → T → (key : Key) (told : Reply) → x ≡ Replied key told → IsToldReply m b
+      → (Adds a moment (own_act m) b → T → (key : Key) (told : Reply) → x ≡ Replied key told → IsToldReply m b
       key told)
-      → EntersOrNoMemory a moment (act_of m) b x T → Became a moment m b x
+      → EntersOrNoMemory a moment (own_act m) b x T → Became a moment m b x
   entered_became T told (inl refuses) = refused_became _ refuses
   entered_became T told (inr entered) =
       record { account = inr entered.0; told = told entered.0 entered.1 }
 
   -- where there is room for what the message needs
   room_became : (T : Type 0) (due : Refusal → Type 0)
-      → (Adds a moment (act_of m) b → T → (key : Key) (told : Reply) → x ≡ Replied key told → IsToldReply m b
+      → (Adds a moment (own_act m) b → T → (key : Key) (told : Reply) → x ≡ Replied key told → IsToldReply m b
       key told)
-      → RefuseOr due (Refuses a b x) (EntersOrNoMemory a moment (act_of m) b x T) → Became a moment m b x
+      → RefuseOr due (Refuses a b x) (EntersOrNoMemory a moment (own_act m) b x T) → Became a moment m b x
   room_became T due told =
       RefuseOr-elim due _ _ (Became a moment m b x) (λ refusal is_due. refused_became refusal)
       (entered_became T told)
+
+  -- and a place to stay at, where these are bounded
+  place_became : (bound : Option ℕ) (call : Call) (T : Type 0)
+      → (Adds a moment (own_act m) b → T → (key : Key) (told : Reply) → x ≡ Replied key told → IsToldReply m b
+      key told)
+      → PlaceLine bound a call (Refuses a b x) (EntersOrNoMemory a moment (own_act m) b x T)
+      → Became a moment m b x
+  place_became None call T told = entered_became T told
+  place_became (Some most) call T told = room_became T (PlacesFullDue most a call) told
 
 -- a cancel has no partner
 cancel_alone : (a : Account) (e : Entry) (key : Key) → Legal (with_entry a e) → e.act ≡ act.Cancel key
@@ -173,9 +180,9 @@ ended_tells a b moment key added waits =
     subst (λ (c : Account). Replies c key (Replied key reply.Cancelled)) (sym added.follows)
     (waiting_replies a e key says alone waits)
 
-pub became_at : (a b : Account) (moment : ℕ) (m : Message) (x : Answer) → NextAt a moment m b x
-    → Became a moment m b x
-became_at a b moment (Hello client incarnation version) x next =
+pub became_at : (limits : StepLimits) (a b : Account) (moment : ℕ) (m : Message) (x : Answer)
+    → NextAtUnder limits a moment m b x → Became a moment m b x
+became_at limits a b moment (Hello client incarnation version) x next =
     let m : Message = Hello client incarnation version in
     RefuseOr-elim _ _ _ (Became a moment m b x) (λ refusal due. refused_became a b moment m x refusal)
     (RefuseOr-elim _ _ _ (Became a moment m b x) (λ refusal due. refused_became a b moment m x refusal)
@@ -183,7 +190,7 @@ became_at a b moment (Hello client incarnation version) x next =
     (welcome_tells m a a.epoch client incarnation version x again.1))
     (RefuseOr-elim _ _ _ (Became a moment m b x) (λ refusal due. refused_became a b moment m x refusal)
     (room_became a b moment m x _ _ (λ added. welcome_tells m b a.epoch client incarnation version x))))) next
-became_at a b moment (Request key call) x next =
+became_at limits a b moment (Request key call) x next =
     let m : Message = Request key call in
     let asks : AsksFor m key = inl (call, refl) in
     key_lines (Refuses a b x) _ _ (Became a moment m b x) a key (refused_became a b moment m x)
@@ -191,10 +198,12 @@ became_at a b moment (Request key call) x next =
     refusal)
     (λ again. stays_became a b moment m x again.account (λ other told. answers_tell m a key other x told asks
     epoch again.answers)))
-    (λ epoch. room_became a b moment m x _ _
+    (λ epoch. RefuseOr-elim _ _ _ (Became a moment m b x) (λ refusal due. refused_became a b moment m x
+    refusal)
+    (place_became a b moment m x limits.open_places call (Answers b key x)
     (λ added answers other told. answers_tell m b key other x told asks
-    (epoch ∙ sym (added_epoch a b moment _ added)) answers)) next
-became_at a b moment (Cancel key) x next =
+    (epoch ∙ sym (added_epoch a b moment _ added)) answers))) next
+became_at limits a b moment (Cancel key) x next =
     let m : Message = Cancel key in
     let asks : AsksFor m key = inr refl in
     let own = λ (added : Adds a moment (act.Cancel key) b) (epoch : key.epoch ≡ a.epoch). epoch
@@ -213,58 +222,46 @@ became_at a b moment (Cancel key) x next =
 
 -- ---- the time-outs before it
 
--- they leave a legal account of the same epoch, and bring no arrival
-record IsTicked (a t : Account) : Type 0 where
-  legal : Legal a → Legal t
-  epoch : t.epoch ≡ a.epoch
-  arrives : (r : ℕ) (key : Key) (call : Call) → act_at t.entries r ≡ Some (act.Arrive key call)
-      → act_at a.entries r ≡ Some (act.Arrive key call)
-
-ticked_itself : (a : Account) → IsTicked a a
-ticked_itself a = record { legal = λ legal. legal; epoch = refl; arrives = λ r key call arrived. arrived }
-
-ticked : (a t : Account) (moment : ℕ) → Ticks a moment t → IsTicked a t
-ticked a t moment (inl ticks) = record {
-  legal = λ legal. ticks.1.legal;
-  epoch = added_epoch a t moment act.Tick ticks.1;
-  arrives = λ r key call arrived. elim (added_arrives a t moment act.Tick r key call ticks.1 arrived)
-      [ inl before ↦ before | inr tick ↦ absurd (no_arrival key call tick) ];
-}
+-- they leave an account of the same epoch, and bring no arrival
+pub ticked_arrives : (a t : Account) (moment r : ℕ) (key : Key) (call : Call) → Ticks a moment t
+    → act_at t.entries r ≡ Some (act.Arrive key call) → act_at a.entries r ≡ Some (act.Arrive key call)
+ticked_arrives a t moment r key call (inl ticks) arrived =
+    elim (added_arrives a t moment act.Tick r key call ticks.1 arrived) [
+      | inl before ↦ before
+      | inr tick ↦ absurd (no_arrival key call tick)
+    ]
   where
     no_arrival : (key : Key) (call : Call) → act.Tick ≡ act.Arrive key call → ⊥
     no_arrival key call is = cc
-ticked a t moment (inr same) = subst (IsTicked a) (sym same.1) (ticked_itself a)
+ticked_arrives a t moment r key call (inr same) arrived =
+    subst (λ (c : Account). act_at c.entries r ≡ Some (act.Arrive key call)) same.1 arrived
 
 -- ---- one step
 
-pub next_legal : (a b : Account) (now : ℕ) (m : Message) (x : Answer) → Legal a → Next a now m b x → Legal b
-next_legal a b now m x legal next =
-    let before = ticked a next.ticked (step_moment a now) next.ticks in
-    elim (became_at next.ticked b (step_moment a now) m x next.steps).account [
-      | inl same ↦ subst Legal (sym same) (before.legal legal)
-      | inr added ↦ added.legal
-    ]
+module _ (limits : StepLimits) (a b : Account) (now : ℕ) (m : Message) where
+  became : (x : Answer) → (next : NextUnder limits a now m b x)
+      → Became next.ticked (step_moment a now) m b x
+  became x next = became_at limits next.ticked b (step_moment a now) m x next.steps
 
-pub next_told : (a b : Account) (now : ℕ) (m : Message) (key : Key) (told : Reply)
-    → Next a now m b (Replied key told) → IsToldReply m b key told
-next_told a b now m key told next = (became_at next.ticked b (step_moment a now) m (Replied key told)
-    next.steps).told key told refl
+  pub next_legal : (x : Answer) → Legal a → NextUnder limits a now m b x → Legal b
+  next_legal x legal next = (steps_move_under limits a b now m x legal next).is.legal
 
--- an arrival that is new is the message's own
-pub next_arrives : (a b : Account) (now : ℕ) (m : Message) (x : Answer) (r : ℕ) (key : Key) (call : Call)
-    → Next a now m b x
-    → act_at b.entries r ≡ Some (act.Arrive key call) → (act_at a.entries r ≡ Some (act.Arrive key call))
-    ⊎ (m ≡ Request key call)
-next_arrives a b now m x r key call next arrived =
-    let t = next.ticked in
-    let before = ticked a t (step_moment a now) next.ticks in
-    elim (became_at t b (step_moment a now) m x next.steps).account [
-      | inl same ↦ inl (before.arrives r key call (subst (λ (c : Account). act_at c.entries r ≡ Some
-          (act.Arrive key call)) same arrived))
-      | inr added ↦
-          let when = added_arrives t b (step_moment a now) (act_of m) r key call added arrived in
-          elim when [
-            | inl there ↦ inl (before.arrives r key call there)
-            | inr new ↦ inr (arrival_of m key call new)
-          ]
-    ]
+  pub next_told : (key : Key) (told : Reply) → NextUnder limits a now m b (Replied key told)
+      → IsToldReply m b key told
+  next_told key told next = (became (Replied key told) next).told key told refl
+
+  -- an arrival that is new is the message's own
+  pub next_arrives : (x : Answer) (r : ℕ) (key : Key) (call : Call) → NextUnder limits a now m b x
+      → act_at b.entries r ≡ Some (act.Arrive key call)
+      → (act_at a.entries r ≡ Some (act.Arrive key call)) ⊎ (m ≡ Request key call)
+  next_arrives x r key call next arrived =
+      let t = next.ticked in
+      let moment : ℕ = step_moment a now in
+      elim (became x next).account [
+        | inl same ↦ inl (ticked_arrives a t moment r key call next.ticks
+            (subst (λ (c : Account). act_at c.entries r ≡ Some (act.Arrive key call)) same arrived))
+        | inr added ↦ elim (added_arrives t b moment (own_act m) r key call added arrived) [
+          | inl there ↦ inl (ticked_arrives a t moment r key call next.ticks there)
+          | inr new ↦ inr (arrival_of m key call new)
+        ]
+      ]

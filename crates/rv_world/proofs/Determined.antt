@@ -1,23 +1,26 @@
--- What comes of an event is one thing, want of memory aside.
+-- What comes of an event is one thing, want of memory aside, and so is what comes of whatever happens.
 use Rattle.rv_world.proofs.Words.{◌≡◌, ◌≢◌, ◌⊎◌, ◌<◌, ◌≤◌, ◌∷◌, ◌++◌, ◌∙◌, inl, inr, ℕ, List, [], Option}
 use Rattle.rv_world.proofs.Words.{Some, None, Result, Ok, Err, nat_eq, refl, sym, ap, subst, arith}
 use Rattle.rv_world.proofs.Words.{option_and_then, Contains, lookup, Contains-push, none-some, same_Some}
-use Rattle.rv_world.proofs.Words.{Version, Key, Message, Call, Answer, Reply, Account, Next, Process, Idle}
-use Rattle.rv_world.proofs.Words.{Outstanding, Asking, cancel_of, hello_of, request_of, Outcome, Welcomed}
-use Rattle.rv_world.proofs.Words.{TurnedAway, Settled, EpochEnded, Replaced, Ignored, Event, Packet, Seen}
-use Rattle.rv_world.proofs.Words.{WorldRefusal, World, accounts, empty_account, process_of, WorldBecomes}
-use Rattle.rv_world.proofs.Words.{ComesTo, EventComesTo, RefusalDue, IsAsking, OnlyChangesProcess}
-use Rattle.rv_world.proofs.Words.{ReachesServer, RunsBut, RunsNone, ProcessSays, Steps, ChangesProcess}
-use Rattle.rv_world.proofs.Words.{sender, with_message, start_of, Runs}
+use Rattle.rv_world.proofs.Words.{Version, Key, Message, Call, Answer, Reply, Account, StepLimits, NextUnder}
+use Rattle.rv_world.proofs.Words.{Process, Idle, Outstanding, Asking, cancel_of, hello_of, request_of}
+use Rattle.rv_world.proofs.Words.{Outcome, Welcomed, TurnedAway, Settled, EpochEnded, Replaced, Ignored}
+use Rattle.rv_world.proofs.Words.{Event, Packet, Seen, WorldRefusal, World, accounts, empty_account}
+use Rattle.rv_world.proofs.Words.{process_of, WorldBecomes, ComesTo, RefusalDue, IsAsking}
+use Rattle.rv_world.proofs.Words.{OnlyChangesProcess, RunsBut, RunsNone, ProcessSays, StepsUnder}
+use Rattle.rv_world.proofs.Words.{ChangesProcess, sender, with_message, start_of, Elapses, Happening, Happens}
+use Rattle.rv_world.proofs.Words.{RunsAnyhow, TimePasses, Under, by_a_book}
 use Rattle.std.specs.Prelude.{slice_get}
 use Rattle.std.proofs.lemmas.Bool.{cases_eq}
-use Rattle.rv_book.proofs.OneStep.{one_next}
+use Rattle.rv_state.proofs.OneStep.{one_next_under, one_ticked}
 use Rattle.rv_client.specs.Process.{Settles}
 use Rattle.rv_client.proofs.OneOutcome.{one_outcome}
-use Rattle.rv_world.specs.Events.{Begins, Crashes, IsReady, IsEventRefused, OpensEpoch, ReachesClient, Starts}
-use Rattle.rv_world.specs.Events.{Takes}
-use Rattle.rv_world.specs.Laws.{AreSame, HadMemory, NeverLacked, OneRun, OneStep, SentNoMemory}
-use Rattle.rv_world.proofs.Growth.{runs_grow}
+use Rattle.rv_world.specs.Events.{Begins, Crashes, EventComesToUnder, IsReady, IsEventRefused, OpensEpoch}
+use Rattle.rv_world.specs.Events.{ReachesClient, ReachesServerUnder, Starts, Takes}
+use Rattle.rv_world.specs.Laws.{AreSame, HadMemory, NeverLacked, OneRun, OneRunAnyhow, OneStepUnder}
+use Rattle.rv_world.specs.Laws.{SentNoMemory}
+use Rattle.rv_world.proofs.AsHappenings.{runs_happen}
+use Rattle.rv_world.proofs.Growth.{runs_grow_anyhow}
 use Rattle.rv_world.proofs.Listing.{still_contains}
 use Rattle.rv_world.proofs.Refused.{start_due}
 use Rattle.rv_text.specs.declared.answer.Answer.TheVariants as answers
@@ -229,10 +232,10 @@ module _ (w : World) (clients : Clients) (agree : Agree w (listed w clients)) (u
 -- ---- a delivery to the server
 
 -- where no want of memory is sent, what was said is told, and it is none
-told_said : (w : World) (packet moment : ℕ) (u : World) (s : Seen) (is : ReachesServer w packet moment u s)
-    → ¬ SentNoMemory w u
+told_said : (limits : StepLimits) (w : World) (packet moment : ℕ) (u : World) (s : Seen)
+    → (is : ReachesServerUnder limits w packet moment u s) → ¬ SentNoMemory w u
     → (is.told ≡ is.said) × (is.said ≢ answers.Refused refusals.NoMemory)
-told_said w packet moment u s is ample = elim is.is_told [
+told_said limits w packet moment u s is ample = elim is.is_told [
   | inl same ↦ (same, λ none. ample (lacks (same ∙ none)))
   | inr lacking ↦ absurd (ample (lacks lacking.1))
 ]
@@ -257,18 +260,21 @@ answered w after message told = record w {
   } ∷ [];
 }
 
-both_reach_server : (w : World) (clients : Clients) (packet moment : ℕ) (u v : World) (s t : Seen)
-    → Agree w (listed w clients)
-    → ReachesServer w packet moment u s → ReachesServer (listed w clients) packet moment v t
+both_reach_server : (limits : StepLimits) (w : World) (clients : Clients) (packet moment : ℕ) (u v : World)
+    (s t : Seen)
+    → Agree w (listed w clients) → ReachesServerUnder limits w packet moment u s
+    → ReachesServerUnder limits (listed w clients) packet moment v t
     → ¬ SentNoMemory w u → ¬ SentNoMemory (listed w clients) v → Same u v s t
 unfolding answered
-both_reach_server w clients packet moment u v s t agree one other ample enough =
+both_reach_server limits w clients packet moment u v s t agree one other ample enough =
     let message : one.message ≡ other.message = same_Some _ _ (sym one.there ∙ other.there) in
-    let first = told_said w packet moment u s one ample in
-    let second = told_said (listed w clients) packet moment v t other enough in
-    let next = subst (λ (m : Message). Next w.present moment m v.present other.said) (sym message) other.next
+    let first = told_said limits w packet moment u s one ample in
+    let second = told_said limits (listed w clients) packet moment v t other enough in
+    let next = subst (λ (m : Message). NextUnder limits w.present moment m v.present other.said) (sym message)
+    other.next
     in
-    let same = one_next w.present u.present v.present moment one.message one.said other.said one.next next
+    let same = one_next_under limits w.present u.present v.present moment one.message one.said other.said
+    one.next next
     first.1 second.1 in
     let told : one.told ≡ other.told = first.0 ∙ same.1 ∙ sym second.0 in
     let rest : v ≡ listed (answered w u.present one.message one.told) clients =
@@ -280,25 +286,25 @@ both_reach_server w clients packet moment u v s t agree one other ample enough =
           ∙ sym other.shown,
     )
 
-both_step : (w : World) (clients : Clients) (e : Event) (u v : World) (s t : Seen)
-    → Agree w (listed w clients) → Steps w e u s → Steps (listed w clients) e v t
+both_step : (limits : StepLimits) (w : World) (clients : Clients) (e : Event) (u v : World) (s t : Seen)
+    → Agree w (listed w clients) → StepsUnder limits w e u s → StepsUnder limits (listed w clients) e v t
     → ¬ SentNoMemory w u → ¬ SentNoMemory (listed w clients) v → Same u v s t
-both_step w clients (event.Start client incarnation version) u v s t agree one other ample enough =
+both_step limits w clients (event.Start client incarnation version) u v s t agree one other ample enough =
     both_start w clients agree u v s t client incarnation version one other
-both_step w clients (event.Begin client call) u v s t agree one other ample enough = both_begin w clients
-    agree u v s t client call one other
-both_step w clients (event.Resend client) u v s t agree one other ample enough = both_say w clients agree u v
-    s t client request_of one other
-both_step w clients (event.CancelSent client) u v s t agree one other ample enough = both_say w clients agree
-    u v s t client cancel_of one other
-both_step w clients (event.Crash client) u v s t agree one other ample enough = both_crash w clients agree u v
-    s t client one other
-both_step w clients (event.ToServer packet moment) u v s t agree one other ample enough = both_reach_server w
-    clients packet moment u v s t agree one other ample enough
-both_step w clients (event.ToClient packet) u v s t agree one other ample enough = both_reach_client w clients
-    agree u v s t packet one other
-both_step w clients (event.NewEpoch epoch) u v s t agree one other ample enough = both_open w clients agree u
-    v s t epoch one other
+both_step limits w clients (event.Begin client call) u v s t agree one other ample enough =
+    both_begin w clients agree u v s t client call one other
+both_step limits w clients (event.Resend client) u v s t agree one other ample enough =
+    both_say w clients agree u v s t client request_of one other
+both_step limits w clients (event.CancelSent client) u v s t agree one other ample enough =
+    both_say w clients agree u v s t client cancel_of one other
+both_step limits w clients (event.Crash client) u v s t agree one other ample enough =
+    both_crash w clients agree u v s t client one other
+both_step limits w clients (event.ToServer packet moment) u v s t agree one other ample enough =
+    both_reach_server limits w clients packet moment u v s t agree one other ample enough
+both_step limits w clients (event.ToClient packet) u v s t agree one other ample enough =
+    both_reach_client w clients agree u v s t packet one other
+both_step limits w clients (event.NewEpoch epoch) u v s t agree one other ample enough =
+    both_open w clients agree u v s t epoch one other
 
 -- ---- refusals
 
@@ -340,10 +346,11 @@ one_due w clients (event.ToClient packet) p q agree one other = one.1 ∙ sym ot
 one_due w clients (event.NewEpoch epoch) p q agree one other = one.1 ∙ sym other.1
 
 -- where a step is, no refusal is due
-step_due : (w x : World) (e : Event) (u : World) (s : Seen) (q : WorldRefusal) → Agree w x
+step_due : (limits : StepLimits) (w x : World) (e : Event) (u : World) (s : Seen) (q : WorldRefusal)
+    → Agree w x
     → x.started ≡ w.started → x.to_server ≡ w.to_server → x.to_client ≡ w.to_client
-    → x.present.epoch ≡ w.present.epoch → Steps w e u s → RefusalDue x e q → ⊥
-step_due w x (event.Start client incarnation version) u s q agree started sent answered epoch one due =
+    → x.present.epoch ≡ w.present.epoch → StepsUnder limits w e u s → RefusalDue x e q → ⊥
+step_due limits w x (event.Start client incarnation version) u s q agree started sent answered epoch one due =
     start_due w client incarnation version one.newest q (
       record {
         other = due.0.other;
@@ -354,19 +361,20 @@ step_due w x (event.Start client incarnation version) u s q agree started sent a
       },
       due.1,
     )
-step_due w x (event.Begin client call) u s q agree started sent answered epoch one due =
+step_due limits w x (event.Begin client call) u s q agree started sent answered epoch one due =
     runs_such w x agree client IsReady _ q _ one.idle (one.key, refl) due
-step_due w x (event.Resend client) u s q agree started sent answered epoch one due =
+step_due limits w x (event.Resend client) u s q agree started sent answered epoch one due =
     runs_such w x agree client IsAsking _ q _ one.outstanding (one.asking, refl) due
-step_due w x (event.CancelSent client) u s q agree started sent answered epoch one due =
+step_due limits w x (event.CancelSent client) u s q agree started sent answered epoch one due =
     runs_such w x agree client IsAsking _ q _ one.outstanding (one.asking, refl) due
-step_due w x (event.Crash client) u s q agree started sent answered epoch one due = some_none w x agree client
+step_due limits w x (event.Crash client) u s q agree started sent answered epoch one due = some_none w x agree
+    client
     one.process one.runs due.0
-step_due w x (event.ToServer packet moment) u s q agree started sent answered epoch one due =
+step_due limits w x (event.ToServer packet moment) u s q agree started sent answered epoch one due =
     none-some one.message (sym due.0 ∙ ap (λ (l : List Message). slice_get l packet) sent ∙ one.there)
-step_due w x (event.ToClient packet) u s q agree started sent answered epoch one due =
+step_due limits w x (event.ToClient packet) u s q agree started sent answered epoch one due =
     none-some one.sent (sym due.0 ∙ ap (λ (l : List Packet). slice_get l packet) answered ∙ one.there)
-step_due w x (event.NewEpoch new) u s q agree started sent answered epoch one due =
+step_due limits w x (event.NewEpoch new) u s q agree started sent answered epoch one due =
     let most : new ≤ x.present.epoch = due.0 in
     let less : w.present.epoch < new = one.greater in
     omega (arith, epoch, most, less)
@@ -379,54 +387,85 @@ is_due : (w u : World) (e : Event) (p : WorldRefusal) → IsEventRefused w e p �
 is_due w u e p (inl due) ample = due
 is_due w u e p (inr lacks) ample = absurd (ample.not_refused (ap (λ (r : WorldRefusal). Err r) lacks.is))
 
-both_come_of : (w : World) (clients : Clients) (e : Event) (u v : World) (one other :
-    Result Seen WorldRefusal) → Agree w (listed w clients)
-    → EventComesTo w e u one → EventComesTo (listed w clients) e v other → HadMemory w u one
+both_come_of : (limits : StepLimits) (w : World) (clients : Clients) (e : Event) (u v : World) (one other :
+    Result Seen WorldRefusal) → Agree w (listed w clients) → EventComesToUnder limits w e u one
+    → EventComesToUnder limits (listed w clients) e v other → HadMemory w u one
     → HadMemory (listed w clients) v other → AreSame u v × (one ≡ other)
-both_come_of w clients e u v (Ok s) (Ok t) agree first second ample enough =
-    let same = both_step w clients e u v s t agree first second ample.not_sent enough.not_sent in
+both_come_of limits w clients e u v (Ok s) (Ok t) agree first second ample enough =
+    let same = both_step limits w clients e u v s t agree first second ample.not_sent enough.not_sent in
     (same.0, ap (λ (seen : Seen). Ok seen) same.1)
-both_come_of w clients e u v (Ok s) (Err q) agree first second ample enough =
-    absurd (step_due w (listed w clients) e u s q agree refl refl refl refl first (is_due (listed w clients) v
+both_come_of limits w clients e u v (Ok s) (Err q) agree first second ample enough =
+    absurd (step_due limits w (listed w clients) e u s q agree refl refl refl refl first
+    (is_due (listed w clients) v
     e q second.0 enough))
-both_come_of w clients e u v (Err p) (Ok t) agree first second ample enough =
-    absurd (step_due (listed w clients) w e v t p (λ c. sym (agree c)) refl refl refl refl second
+both_come_of limits w clients e u v (Err p) (Ok t) agree first second ample enough =
+    absurd (step_due limits (listed w clients) w e v t p (λ c. sym (agree c)) refl refl refl refl second
     (is_due w u e p first.0 ample))
-both_come_of w clients e u v (Err p) (Err q) agree first second ample enough = (
+both_come_of limits w clients e u v (Err p) (Err q) agree first second ample enough = (
   kept_same w clients w u v refl agree first.1 second.1,
   ap (λ (r : WorldRefusal). Err r) (one_due w clients e p q agree (is_due w u e p first.0 ample)
       (is_due (listed w clients) v e q second.0 enough)),
 )
 
-pub one_step : OneStep
-one_step w x u v e one other same first second ample enough =
+pub one_step_under : (limits : StepLimits) → OneStepUnder limits
+one_step_under limits w x u v e one other same first second ample enough =
     let back : listed w x.clients ≡ x = ap (λ (z : World). listed z x.clients) same.rest in
-    subst (λ (z : World). Agree w z → EventComesTo z e v other → HadMemory z v other → AreSame u v
+    subst (λ (z : World). Agree w z → EventComesToUnder limits z e v other → HadMemory z v other → AreSame u v
     × (one ≡ other)) back
-    (λ agree comes memory. both_come_of w x.clients e u v one other agree first comes ample memory)
+    (λ agree comes memory. both_come_of limits w x.clients e u v one other agree first comes ample memory)
     same.processes second enough
 
--- ---- lists of events
+-- ---- time passes
+
+both_pass : (w : World) (clients : Clients) (moment : ℕ) (u v : World) → Agree w (listed w clients)
+    → TimePasses w moment u → TimePasses (listed w clients) moment v → AreSame u v
+both_pass w clients moment u v agree one other =
+    let same = one_ticked w.present u.present v.present moment one.ticks other.ticks in
+    let rest : v ≡ listed (record w { present = u.present }) clients =
+    other.rest ∙ ap (λ (a : Account). listed (record w { present = a }) clients) (sym same) in
+    kept_same w clients (record w { present = u.present }) u v refl agree one.rest rest
+
+one_passed : (w x : World) (moment : ℕ) (u v : World) → AreSame w x → TimePasses w moment u
+    → TimePasses x moment v → AreSame u v
+one_passed w x moment u v same first second =
+    let back : listed w x.clients ≡ x = ap (λ (z : World). listed z x.clients) same.rest in
+    subst (λ (z : World). Agree w z → TimePasses z moment v → AreSame u v) back
+    (λ agree passes. both_pass w x.clients moment u v agree first passes) same.processes second
+
+-- ---- whatever happens
 
 -- an event before others had memory, where no answer behind them tells that it lacked
-had_memory : (w u v : World) (events : List Event) (s : Seen) → Runs u events v → NeverLacked v
-    → HadMemory w u (Ok s)
-had_memory w u v events s runs never = record {
+had_memory : (w u v : World) (happenings : List Happening) (s : Seen) → RunsAnyhow u happenings v
+    → NeverLacked v → HadMemory w u (Ok s)
+had_memory w u v happenings s runs never = record {
   not_refused = λ e. cc;
   not_sent = λ sent.
       let lacking : Packet = record { client = sent.client; answer = answers.Refused refusals.NoMemory } in
       let there : Contains u.to_client lacking = subst (λ (l : List Packet). Contains l lacking)
       (sym sent.sent) (Contains-push w.to_client lacking) in
-      never lacking (still_contains u.to_client v.to_client lacking (runs_grow u events v runs).answers there)
-      refl;
+      let grows = runs_grow_anyhow u happenings v runs in
+      never lacking (still_contains u.to_client v.to_client lacking grows.answers there) refl;
 }
 
-pub one_run : OneRun
-one_run w x u v [] same first second never neither =
+one_happened : (w x u v : World) (happening : Happening) (after other : List Happening) (y z : World)
+    → AreSame w x → Happens w happening u → Happens x happening v → RunsAnyhow u after y
+    → RunsAnyhow v other z → NeverLacked y → NeverLacked z → AreSame u v
+one_happened w x u v (Under limits e) after other y z same first second runs also never neither =
+    let ample = had_memory w u y after first.0 runs never in
+    let enough = had_memory x v z other second.0 also neither in
+    (one_step_under limits w x u v e (Ok first.0) (Ok second.0) same first.1 second.1 ample enough).0
+one_happened w x u v (Elapses moment) after other y z same first second runs also never neither =
+    one_passed w x moment u v same first second
+
+pub one_run_anyhow : OneRunAnyhow
+one_run_anyhow w x u v [] same first second never neither =
     subst (λ (z : World). AreSame z v) (sym first) (subst (λ (z : World). AreSame w z) (sym second) same)
-one_run w x u v (e ∷ events) same first second never neither =
-    let ample = had_memory w first.0 u events first.1 first.3 never in
-    let enough = had_memory x second.0 v events second.1 second.3 neither in
-    let step = one_step w x first.0 second.0 e (Ok first.1) (Ok second.1) same first.2 second.2 ample enough
-    in
-    one_run first.0 second.0 u v events step.0 first.3 second.3 never neither
+one_run_anyhow w x u v (happening ∷ happenings) same first second never neither =
+    let then = one_happened w x first.0 second.0 happening happenings happenings u v same first.1 second.1
+    first.2 second.2 never neither in
+    one_run_anyhow first.0 second.0 u v happenings then first.2 second.2 never neither
+
+pub one_run : OneRun
+one_run w x u v events same first second never neither =
+    one_run_anyhow w x u v (by_a_book events) same (runs_happen w events u first) (runs_happen x events v
+    second) never neither

@@ -1,24 +1,25 @@
--- A step is there wherever no refusal is due.
+-- A step is there under whatever limits wherever no refusal is due; and time can pass.
 use Rattle.rv_world.proofs.Words.{◌≡◌, ◌≢◌, ◌+◌, ◌<◌, ◌∷◌, ◌++◌, ◌∙◌, inl, inr, ℕ, List, [], Option}
 use Rattle.rv_world.proofs.Words.{Some, None, Bool, true, cond, nat_eq, length, refl, sym, ap, arith}
 use Rattle.rv_world.proofs.Words.{option_and_then, lookup, nat_tests, Version, Key, Message, Call, Answer}
-use Rattle.rv_world.proofs.Words.{Reply, Legal}
+use Rattle.rv_world.proofs.Words.{Reply, Legal, StepLimits}
 use Rattle.rv_world.proofs.Words.{same_or_not, Process, New, Idle, Outstanding, Starting, Asking, Hears}
 use Rattle.rv_world.proofs.Words.{first_key, key_after, cancel_of, hello_of, request_of, Outcome, Welcomed}
 use Rattle.rv_world.proofs.Words.{TurnedAway, Settled, EpochEnded, Replaced, Ignored, Event, Packet, Seen}
 use Rattle.rv_world.proofs.Words.{WorldRefusal, World, accounts, empty_account, process_of, ChangesProcess}
 use Rattle.rv_world.proofs.Words.{ComesTo, IsAsking, OnlyChangesProcess, ProcessSays, RefusalDue, RunsBut}
-use Rattle.rv_world.proofs.Words.{RunsNone, Steps, WorldBecomes, sender, with_message, start_of}
+use Rattle.rv_world.proofs.Words.{RunsNone, StepsUnder, WorldBecomes, sender, with_message, start_of}
 use Rattle.std.specs.Prelude.{slice_get}
 use Rattle.std.proofs.lemmas.Bool.{cases_lt}
 use Rattle.std.proofs.lemmas.List.{append_cancel_left, length-append}
 use Rattle.rv_text.specs.declared.answer.Refusal.{Refusal}
 use Rattle.rv_rules.proofs.Deciding.{key_or_other}
 use Rattle.rv_state.proofs.DueDecided.{same_version}
-use Rattle.rv_book.proofs.CanEnter.{next_exists}
+use Rattle.rv_state.proofs.CanEnter.{next_exists_under}
+use Rattle.rv_state.proofs.StateLaws.{ticks_step}
 use Rattle.rv_client.specs.Process.{SaysNothingFinal}
 use Rattle.rv_world.specs.Events.{next_answer, next_message}
-use Rattle.rv_world.specs.Laws.{CanStep, SentNoMemory, StepsExist}
+use Rattle.rv_world.specs.Laws.{CanStepUnder, SentNoMemory, StepsExistUnder, TimeCanPass}
 use Rattle.rv_world.proofs.TableWrites.{apart_from}
 use Rattle.rv_text.specs.declared.answer.Answer.TheVariants as answers
 use Rattle.rv_text.specs.declared.answer.Refusal.TheVariants as refusals
@@ -322,10 +323,10 @@ can_come (Some process) w packet =
 abbrev NoRefusalDue : World → Event → Type 0
 NoRefusalDue w e = (refusal : WorldRefusal) → ¬ RefusalDue w e refusal
 
-can_start : (w : World) (client incarnation : ℕ) (version : Version)
+can_start : (limits : StepLimits) (w : World) (client incarnation : ℕ) (version : Version)
     → NoRefusalDue w (event.Start client incarnation version)
-    → CanStep w (event.Start client incarnation version)
-can_start w client incarnation version nothing =
+    → CanStepUnder limits w (event.Start client incarnation version)
+can_start limits w client incarnation version nothing =
     let v : World = with_message (record w {
       clients = (client, Some (New (start_of client incarnation version))) ∷ w.clients;
       started = w.started ++ (client, incarnation) ∷ [];
@@ -352,10 +353,11 @@ can_start w client incarnation version nothing =
       not_sent = quiet w v refl;
     }
 
-can_begin : (w : World) (client : ℕ) (call : Call) → NoRefusalDue w (event.Begin client call)
-    → (process : Option Process) → process_of w client ≡ process → CanStep w (event.Begin client call)
-can_begin w client call nothing None is = absurd (nothing refuses.NoSuchClient (inl (is, refl)))
-can_begin w client call nothing (Some (Idle (Some key))) is =
+can_begin : (limits : StepLimits) (w : World) (client : ℕ) (call : Call)
+    → NoRefusalDue w (event.Begin client call) → (process : Option Process)
+    → process_of w client ≡ process → CanStepUnder limits w (event.Begin client call)
+can_begin limits w client call nothing None is = absurd (nothing refuses.NoSuchClient (inl (is, refl)))
+can_begin limits w client call nothing (Some (Idle (Some key))) is =
     let v : World = with_message (record w {
       clients = (client, Some (Outstanding (record { key = key; call = call }))) ∷ w.clients;
       asked = w.asked ++ (key, call) ∷ [];
@@ -373,7 +375,7 @@ can_begin w client call nothing (Some (Idle (Some key))) is =
       };
       not_sent = quiet w v refl;
     }
-can_begin w client call nothing (Some (Idle None)) is =
+can_begin limits w client call nothing (Some (Idle None)) is =
     absurd (nothing refuses.NotIdle (inr (
       record {
         process = Idle None;
@@ -383,7 +385,7 @@ can_begin w client call nothing (Some (Idle None)) is =
       },
       refl,
     )))
-can_begin w client call nothing (Some (New starting)) is =
+can_begin limits w client call nothing (Some (New starting)) is =
     absurd (nothing refuses.NotIdle (inr (
       record {
         process = New starting;
@@ -393,7 +395,7 @@ can_begin w client call nothing (Some (New starting)) is =
       },
       refl,
     )))
-can_begin w client call nothing (Some (Outstanding asking)) is =
+can_begin limits w client call nothing (Some (Outstanding asking)) is =
     absurd (nothing refuses.NotIdle (inr (
       record {
         process = Outstanding asking;
@@ -405,27 +407,28 @@ can_begin w client call nothing (Some (Outstanding asking)) is =
     )))
 
 -- what a process says that is outstanding
-can_ask : (w : World) (client : ℕ) (e : Event) → NoRefusalDue w e
+can_ask : (limits : StepLimits) (w : World) (client : ℕ) (e : Event) → NoRefusalDue w e
     → ((p : WorldRefusal) → RunsNone w client p → RefusalDue w e p)
     → (RunsBut w client IsAsking → RefusalDue w e refuses.NotOutstanding)
-    → (says : Asking → Message) → ((v : World) (s : Seen) → ProcessSays w client says v s → Steps w e v s)
-    → (process : Option Process) → process_of w client ≡ process → CanStep w e
-can_ask w client e nothing none but says steps None is = absurd (nothing refuses.NoSuchClient
+    → (says : Asking → Message)
+    → ((v : World) (s : Seen) → ProcessSays w client says v s → StepsUnder limits w e v s)
+    → (process : Option Process) → process_of w client ≡ process → CanStepUnder limits w e
+can_ask limits w client e nothing none but says steps None is = absurd (nothing refuses.NoSuchClient
     (none refuses.NoSuchClient (is, refl)))
-can_ask w client e nothing none but says steps (Some (Outstanding asking)) is = record {
+can_ask limits w client e nothing none but says steps (Some (Outstanding asking)) is = record {
   after = with_message w (says asking);
   shows = next_message w;
   steps = steps _ _ (record { asking = asking; outstanding = is; after = refl; shown = refl });
   not_sent = quiet w (with_message w (says asking)) refl;
 }
-can_ask w client e nothing none but says steps (Some (New starting)) is =
+can_ask limits w client e nothing none but says steps (Some (New starting)) is =
     absurd (nothing refuses.NotOutstanding (but (record {
       process = New starting;
       runs = is;
       is_not =
           λ such. let e = such.1 in cc;
     })))
-can_ask w client e nothing none but says steps (Some (Idle next)) is =
+can_ask limits w client e nothing none but says steps (Some (Idle next)) is =
     absurd (nothing refuses.NotOutstanding (but (record {
       process = Idle next;
       runs = is;
@@ -433,22 +436,24 @@ can_ask w client e nothing none but says steps (Some (Idle next)) is =
           λ such. let e = such.1 in cc;
     })))
 
-can_crash : (w : World) (client : ℕ) → NoRefusalDue w (event.Crash client) → (process : Option Process)
-    → process_of w client ≡ process → CanStep w (event.Crash client)
-can_crash w client nothing None is = absurd (nothing refuses.NoSuchClient (is, refl))
-can_crash w client nothing (Some process) is = record {
+can_crash : (limits : StepLimits) (w : World) (client : ℕ) → NoRefusalDue w (event.Crash client)
+    → (process : Option Process)
+    → process_of w client ≡ process → CanStepUnder limits w (event.Crash client)
+can_crash limits w client nothing None is = absurd (nothing refuses.NoSuchClient (is, refl))
+can_crash limits w client nothing (Some process) is = record {
   after = turned w client None;
   shows = sees.Crashed;
   steps = record { process = process; runs = is; ends = changes w client None; shown = refl };
   not_sent = quiet w (turned w client None) refl;
 }
 
-can_reach_server : (w : World) (packet moment : ℕ) → Legal w.present
+can_reach_server : (limits : StepLimits) (w : World) (packet moment : ℕ) → Legal w.present
     → NoRefusalDue w (event.ToServer packet moment) → (m : Option Message) → slice_get w.to_server packet ≡ m
-    → CanStep w (event.ToServer packet moment)
-can_reach_server w packet moment legal nothing None is = absurd (nothing refuses.NoSuchPacket (is, refl))
-can_reach_server w packet moment legal nothing (Some m) is =
-    let next = next_exists w.present moment m legal in
+    → CanStepUnder limits w (event.ToServer packet moment)
+can_reach_server limits w packet moment legal nothing None is = absurd (nothing refuses.NoSuchPacket
+    (is, refl))
+can_reach_server limits w packet moment legal nothing (Some m) is =
+    let next = next_exists_under limits w.present moment m legal in
     let v : World = record w {
       present = next.after;
       to_client = w.to_client ++ record {
@@ -472,10 +477,11 @@ can_reach_server w packet moment legal nothing (Some m) is =
       not_sent = told w v (sender m) next.answer refl next.in_memory;
     }
 
-can_reach_client : (w : World) (packet : ℕ) → NoRefusalDue w (event.ToClient packet) → (sent : Option Packet)
-    → slice_get w.to_client packet ≡ sent → CanStep w (event.ToClient packet)
-can_reach_client w packet nothing None is = absurd (nothing refuses.NoSuchPacket (is, refl))
-can_reach_client w packet nothing (Some sent) is =
+can_reach_client : (limits : StepLimits) (w : World) (packet : ℕ) → NoRefusalDue w (event.ToClient packet)
+    → (sent : Option Packet)
+    → slice_get w.to_client packet ≡ sent → CanStepUnder limits w (event.ToClient packet)
+can_reach_client limits w packet nothing None is = absurd (nothing refuses.NoSuchPacket (is, refl))
+can_reach_client limits w packet nothing (Some sent) is =
     let can = can_come (process_of w sent.client) w sent in
     record {
       after = can.after;
@@ -484,8 +490,9 @@ can_reach_client w packet nothing (Some sent) is =
       not_sent = quiet w can.after can.is_quiet;
     }
 
-can_open : (w : World) (epoch : ℕ) → NoRefusalDue w (event.NewEpoch epoch) → CanStep w (event.NewEpoch epoch)
-can_open w epoch nothing =
+can_open : (limits : StepLimits) (w : World) (epoch : ℕ) → NoRefusalDue w (event.NewEpoch epoch)
+    → CanStepUnder limits w (event.NewEpoch epoch)
+can_open limits w epoch nothing =
     let v : World = record w { earlier = accounts w; present = empty_account epoch } in
     record {
       after = v;
@@ -501,20 +508,28 @@ can_open w epoch nothing =
       not_sent = quiet w v refl;
     }
 
-pub steps_exist : StepsExist
-steps_exist w (event.Start client incarnation version) legal nothing = can_start w client incarnation version
-    nothing
-steps_exist w (event.Begin client call) legal nothing = can_begin w client call nothing (process_of w client)
-    refl
-steps_exist w (event.Resend client) legal nothing =
-    can_ask w client (event.Resend client) nothing (λ p none. inl none) (λ but. inr (but, refl)) request_of
-    (λ v s says. says) (process_of w client) refl
-steps_exist w (event.CancelSent client) legal nothing =
-    can_ask w client (event.CancelSent client) nothing (λ p none. inl none) (λ but. inr (but, refl)) cancel_of
-    (λ v s says. says) (process_of w client) refl
-steps_exist w (event.Crash client) legal nothing = can_crash w client nothing (process_of w client) refl
-steps_exist w (event.ToServer packet moment) legal nothing = can_reach_server w packet moment legal nothing
-    (slice_get w.to_server packet) refl
-steps_exist w (event.ToClient packet) legal nothing = can_reach_client w packet nothing (slice_get w.to_client
-    packet) refl
-steps_exist w (event.NewEpoch epoch) legal nothing = can_open w epoch nothing
+pub steps_exist_under : (limits : StepLimits) → StepsExistUnder limits
+steps_exist_under limits w (event.Start client incarnation version) legal nothing =
+    can_start limits w client incarnation version nothing
+steps_exist_under limits w (event.Begin client call) legal nothing =
+    can_begin limits w client call nothing (process_of w client) refl
+steps_exist_under limits w (event.Resend client) legal nothing =
+    can_ask limits w client (event.Resend client) nothing (λ p none. inl none) (λ but. inr (but, refl))
+    request_of (λ v s says. says) (process_of w client) refl
+steps_exist_under limits w (event.CancelSent client) legal nothing =
+    can_ask limits w client (event.CancelSent client) nothing (λ p none. inl none) (λ but. inr (but, refl))
+    cancel_of (λ v s says. says) (process_of w client) refl
+steps_exist_under limits w (event.Crash client) legal nothing =
+    can_crash limits w client nothing (process_of w client) refl
+steps_exist_under limits w (event.ToServer packet moment) legal nothing =
+    can_reach_server limits w packet moment legal nothing (slice_get w.to_server packet) refl
+steps_exist_under limits w (event.ToClient packet) legal nothing =
+    can_reach_client limits w packet nothing (slice_get w.to_client packet) refl
+steps_exist_under limits w (event.NewEpoch epoch) legal nothing = can_open limits w epoch nothing
+
+pub time_can_pass : TimeCanPass
+time_can_pass w moment legal not_before at_most =
+    let ticked = ticks_step w.present moment legal not_before in (
+      record w { present = ticked.after },
+      record { not_before = not_before; at_most = at_most; ticks = ticked.ticks; rest = refl },
+    )

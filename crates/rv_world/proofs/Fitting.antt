@@ -7,7 +7,7 @@ use Rattle.rv_world.proofs.Words.{Outstanding, Starting, cancel_of, first_key, h
 use Rattle.rv_world.proofs.Words.{request_of, Hears, Outcome, Welcomed, TurnedAway, Settled, EpochEnded}
 use Rattle.rv_world.proofs.Words.{Replaced, Ignored, Event, Packet, Seen, World, accounts, empty_account}
 use Rattle.rv_world.proofs.Words.{first_world, process_of, ChangesProcess, ComesTo, OnlyChangesProcess}
-use Rattle.rv_world.proofs.Words.{ReachesServer, Steps, WorldBecomes, sender, with_message, start_of, AllFits}
+use Rattle.rv_world.proofs.Words.{Steps, WorldBecomes, sender, with_message, start_of, AllFits}
 use Rattle.std.specs.Prelude.{if◌then◌else◌, nat_lt}
 use Rattle.std.proofs.lemmas.Bool.{ltb-true}
 use Rattle.rv_text.specs.Limits.{FitsAnswer, FitsIdentifier, FitsKey, FitsMessage}
@@ -18,7 +18,7 @@ use Rattle.rv_rules.proofs.FewClients.{few_none}
 use Rattle.rv_rules.proofs.WaitingBehind.{waiting_below}
 use Rattle.rv_rules.specs.StepLimits.{max_clients}
 use Rattle.rv_text.specs.Members.{max_identifier}
-use Rattle.rv_world.specs.Events.{IsTold}
+use Rattle.rv_world.specs.Events.{IsTold, ReachesServer}
 use Rattle.rv_world.specs.Limits.{FitsEvent}
 use Rattle.rv_world.specs.Sound.{FitsProcess}
 use Rattle.rv_world.proofs.Listing.{stands_at}

@@ -3,13 +3,16 @@ use Rattle.rv_world.proofs.Words.{◌≡◌, ◌∷◌, ◌++◌, ◌∙◌, inl
 use Rattle.rv_world.proofs.Words.{ap, subst, Contains, Contains-append_left, Contains-push}
 use Rattle.rv_world.proofs.Words.{Contains-push_cases, Account, Outcome, Welcomed, TurnedAway, Settled}
 use Rattle.rv_world.proofs.Words.{EpochEnded, Replaced, Ignored, Process, Answer, Event, Packet, Seen, World}
-use Rattle.rv_world.proofs.Words.{accounts, empty_account, process_of, ChangesProcess, ComesTo, ReachesServer}
-use Rattle.rv_world.proofs.Words.{Steps, WorldBecomes, sender, OnlyGrows, Runs}
+use Rattle.rv_world.proofs.Words.{accounts, empty_account, process_of, ChangesProcess, ComesTo, StepLimits}
+use Rattle.rv_world.proofs.Words.{StepsUnder, WorldBecomes, sender, OnlyGrows, Elapses, Happening, Happens}
+use Rattle.rv_world.proofs.Words.{Runs, RunsAnyhow, TimePasses, Under, by_a_book}
 use Rattle.std.proofs.Common.{append-nil}
 use Rattle.std.proofs.lemmas.List.{append_assoc}
 use Rattle.rv_account.specs.Account.{Extends}
-use Rattle.rv_book.proofs.Staying.{steps_extend}
+use Rattle.rv_state.proofs.Extending.{extends_itself, extends_on, steps_extend_under, ticks_extend}
+use Rattle.rv_world.specs.Events.{ReachesServerUnder}
 use Rattle.rv_world.specs.Headline.{GoesOn, IsExtended}
+use Rattle.rv_world.proofs.AsHappenings.{runs_happen}
 use Rattle.rv_world.specs.declared.event.Event.TheVariants as event
 
 -- ---- lists
@@ -28,21 +31,9 @@ goes_on_trans xs ys zs first then = record {
 
 -- ---- accounts
 
-extends_itself : (a : Account) → Extends a a
-extends_itself a = record { epoch = refl; opened = refl; more = []; entries = sym (append-nil a.entries) }
-
 -- the same account is still there
 pub still_there : (v : World) (a : Account) → Contains (accounts v) a → IsExtended v a
 still_there v a there = record { account = a; is_there = there; extends = extends_itself a }
-
-extends_trans : (a b c : Account) → Extends a b → Extends b c → Extends a c
-extends_trans a b c first then = record {
-  epoch = then.epoch ∙ first.epoch;
-  opened = then.opened ∙ first.opened;
-  more = first.more ++ then.more;
-  entries = then.entries ∙ ap (λ list. list ++ then.more) first.entries ∙ append_assoc a.entries first.more
-      then.more;
-}
 
 -- ---- together
 
@@ -65,7 +56,7 @@ grows_trans u v w first then = record {
       record {
         account = last.account;
         is_there = last.is_there;
-        extends = extends_trans a between.account
+        extends = extends_on a between.account
             last.account between.extends last.extends;
       };
 }
@@ -111,46 +102,60 @@ comes_grow None w packet v shows is = stays_grows w v is.0
 comes_grow (Some process) w packet v shows is = becomes_grow w packet.client packet.answer is.outcome v shows
     is.becomes
 
--- the present account is extended by a step of the book
-reaches_server_grows : (w : World) (packet moment : ℕ) (v : World) (shows : Seen)
-    → ReachesServer w packet moment v shows → OnlyGrows w v
-reaches_server_grows w packet moment v shows is =
-    let more : List Packet = record { client = sender is.message; answer = is.told } ∷ [] in
-    let extends = steps_extend w.present v.present moment is.message is.said is.next in
-    subst (OnlyGrows w) (sym is.rest) (record {
+-- where the present account is extended, and answers are sent
+present_grows : (w : World) (present : Account) (answers : List Packet) → Extends w.present present
+    → GoesOn w.to_client answers → OnlyGrows w (record w { present = present; to_client = answers })
+present_grows w present answers extends more =
+    let u : World = record w { present = present; to_client = answers } in
+    record {
       asked = goes_on_itself w.asked;
       held = goes_on_itself w.held;
-      answers = goes_on w.to_client more;
+      answers = more;
       accounts_extended = λ a there. elim (Contains-push_cases w.earlier w.present a there) [
-        | inl before ↦ still_there (record w { present = v.present; to_client = w.to_client ++ more }) a
-            (Contains-append_left w.earlier (v.present ∷ []) a before)
+        | inl before ↦ still_there u a (Contains-append_left w.earlier (present ∷ []) a before)
         | inr last ↦ record {
-          account = v.present;
-          is_there = Contains-push w.earlier v.present;
-          extends =
-              subst (λ (b : Account). Extends b v.present) last extends;
+          account = present;
+          is_there = Contains-push w.earlier present;
+          extends = subst (λ (b : Account). Extends b present) last extends;
         }
       ];
-    })
+    }
 
-pub step_grows : (w : World) (e : Event) (v : World) (shows : Seen) → Steps w e v shows → OnlyGrows w v
-step_grows w (event.Start client incarnation version) v shows is =
+reaches_server_grows : (limits : StepLimits) (w : World) (packet moment : ℕ) (v : World) (shows : Seen)
+    → ReachesServerUnder limits w packet moment v shows → OnlyGrows w v
+reaches_server_grows limits w packet moment v shows is =
+    let more : List Packet = record { client = sender is.message; answer = is.told } ∷ [] in
+    let extends = steps_extend_under limits w.present v.present moment is.message is.said is.next in
+    subst (OnlyGrows w) (sym is.rest) (present_grows w v.present (w.to_client ++ more) extends (goes_on
+    w.to_client more))
+
+pub time_grows : (w : World) (moment : ℕ) (v : World) → TimePasses w moment v → OnlyGrows w v
+time_grows w moment v passes =
+    let extends = ticks_extend w.present v.present moment passes.ticks in
+    subst (OnlyGrows w) (sym passes.rest) (present_grows w v.present w.to_client extends (goes_on_itself
+    w.to_client))
+
+pub step_grows : (limits : StepLimits) (w : World) (e : Event) (v : World) (shows : Seen)
+    → StepsUnder limits w e v shows → OnlyGrows w v
+step_grows limits w (event.Start client incarnation version) v shows is =
     subst (OnlyGrows w) (sym is.rest) (same_accounts w _ (goes_on_itself w.asked) (goes_on_itself w.held)
     (goes_on_itself w.to_client) refl)
-step_grows w (event.Begin client call) v shows is =
+step_grows limits w (event.Begin client call) v shows is =
     subst (OnlyGrows w) (sym is.rest) (same_accounts w _ (goes_on w.asked ((is.key, call) ∷ []))
     (goes_on_itself w.held) (goes_on_itself w.to_client) refl)
-step_grows w (event.Resend client) v shows is =
+step_grows limits w (event.Resend client) v shows is =
     subst (OnlyGrows w) (sym is.after) (same_accounts w _ (goes_on_itself w.asked) (goes_on_itself w.held)
     (goes_on_itself w.to_client) refl)
-step_grows w (event.CancelSent client) v shows is =
+step_grows limits w (event.CancelSent client) v shows is =
     subst (OnlyGrows w) (sym is.after) (same_accounts w _ (goes_on_itself w.asked) (goes_on_itself w.held)
     (goes_on_itself w.to_client) refl)
-step_grows w (event.Crash client) v shows is = turns_grow w client None v is.ends
-step_grows w (event.ToServer packet moment) v shows is = reaches_server_grows w packet moment v shows is
-step_grows w (event.ToClient packet) v shows is = comes_grow (process_of w is.sent.client) w is.sent v shows
+step_grows limits w (event.Crash client) v shows is = turns_grow w client None v is.ends
+step_grows limits w (event.ToServer packet moment) v shows is = reaches_server_grows limits w packet moment v
+    shows is
+step_grows limits w (event.ToClient packet) v shows is = comes_grow (process_of w is.sent.client) w is.sent v
+    shows
     is.comes
-step_grows w (event.NewEpoch epoch) v shows is =
+step_grows limits w (event.NewEpoch epoch) v shows is =
     subst (OnlyGrows w) (sym is.after) (record {
       asked = goes_on_itself w.asked;
       held = goes_on_itself w.held;
@@ -162,9 +167,18 @@ step_grows w (event.NewEpoch epoch) v shows is =
       }) a (Contains-append_left (accounts w) (empty_account epoch ∷ []) a there);
     })
 
--- ---- lists of events
+-- ---- whatever happens
+
+happens_grow : (w : World) (happening : Happening) (v : World) → Happens w happening v → OnlyGrows w v
+happens_grow w (Under limits e) v is = step_grows limits w e v is.0 is.1
+happens_grow w (Elapses moment) v passes = time_grows w moment v passes
+
+pub runs_grow_anyhow : (w : World) (happenings : List Happening) (v : World) → RunsAnyhow w happenings v
+    → OnlyGrows w v
+runs_grow_anyhow w [] v same = stays_grows w v same
+runs_grow_anyhow w (happening ∷ happenings) v runs =
+    grows_trans w runs.0 v (happens_grow w happening runs.0 runs.1) (runs_grow_anyhow runs.0 happenings v
+    runs.2)
 
 pub runs_grow : (w : World) (events : List Event) (v : World) → Runs w events v → OnlyGrows w v
-runs_grow w [] v same = stays_grows w v same
-runs_grow w (e ∷ events) v runs = grows_trans w runs.0 v (step_grows w e runs.0 runs.1 runs.2)
-    (runs_grow runs.0 events v runs.3)
+runs_grow w events v runs = runs_grow_anyhow w (by_a_book events) v (runs_happen w events v runs)

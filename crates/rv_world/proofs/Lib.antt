@@ -4,6 +4,7 @@ pub mod TableWrites
 pub mod Starting
 pub mod Refused
 pub mod Hearing
+pub mod AsHappenings
 pub mod Growth
 pub mod Answered
 pub mod Listing

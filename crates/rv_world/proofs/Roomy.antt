@@ -1,21 +1,21 @@
 -- An account stays within its limits by a step of the book.
 use Rattle.rv_world.proofs.Words.{◌≡◌, ◌≤◌, inl, inr, ℕ, length, Option, Some, None, refl, sym, subst, arith}
-use Rattle.rv_world.proofs.Words.{slice_get, Message, Answer, Act, Entry, Account, Legal, Adds, Next, Ticks}
-use Rattle.rv_world.proofs.Words.{step_moment, get-append_cases}
+use Rattle.rv_world.proofs.Words.{slice_get, Message, Answer, Act, Entry, Account, Legal, book_limits, Adds}
+use Rattle.rv_world.proofs.Words.{Ticks, step_moment, get-append_cases}
 use Rattle.std.proofs.Common.{◌-◌}
 use Rattle.std.specs.Prelude.{option_map, unwrap_or}
 use Rattle.rv_text.specs.declared.message.Message.TheVariants.{Cancel, Hello, Request}
 use Rattle.rv_text.specs.Limits.{FitsAnswer, FitsMessage}
 use Rattle.rv_book.specs.Limits.{FitsAccount, FitsAct, FitsEntry}
-use Rattle.rv_book.specs.Steps.{max_clients, max_entries, max_moment, own_moment}
+use Rattle.rv_book.specs.Steps.{Next, max_clients, max_entries, max_moment, own_moment}
 use Rattle.rv_book.proofs.Fitting.{step_fits}
-use Rattle.rv_rules.specs.StepLimits.{book_limits}
 use Rattle.rv_rules.proofs.FewClients.{ClientsAtMost}
 use Rattle.rv_rules.proofs.RoomKept.{RoomAtMost, clients_behind, room_behind, ticked_clients, ticked_room}
-use Rattle.rv_world.proofs.Answered.{act_of, became_at, next_legal}
+use Rattle.rv_rules.proofs.StepLeaves.{own_act}
+use Rattle.rv_world.proofs.Answered.{became_at, next_legal}
 use Rattle.rv_account.specs.declared.entry.Act.TheVariants as act
 
-act_fits : (m : Message) → FitsMessage m → FitsAct (act_of m)
+act_fits : (m : Message) → FitsMessage m → FitsAct (own_act m)
 act_fits (Hello client incarnation version) fits = fits
 act_fits (Request key call) fits = fits
 act_fits (Cancel key) fits = fits
@@ -70,11 +70,14 @@ next_fits a b now m x legal fits message_fits next =
     let moment : ℕ = step_moment a now in
     let moment_fits : moment ≤ max_moment = step_moment_fits a now fits in
     let ticked = ticked_fits a t moment fits moment_fits next.ticks in
-    let after : FitsAccount b = elim (became_at t b moment m x next.steps).account [
+    let after : FitsAccount b = elim (became_at book_limits t b moment m x next.steps).account [
       | inl same ↦ subst FitsAccount (sym same) ticked
       | inr added ↦
-          added_fits t b moment (act_of m) added ticked moment_fits (act_fits m message_fits)
+          added_fits t b moment (own_act m) added ticked moment_fits (act_fits m message_fits)
           (room_behind book_limits max_entries t b moment m x next.steps (omega arith) ticked.room)
           (clients_behind book_limits max_clients t b moment m x next.steps (omega arith) ticked.clients)
-    ] in
-    (after, step_fits t b moment m x (next_legal a b now m x legal next) ticked after message_fits next.steps)
+    ] in (
+      after,
+      step_fits t b moment m x (next_legal book_limits a b now m x legal next) ticked after message_fits
+          next.steps,
+    )

@@ -1,25 +1,26 @@
--- A world is sound after every list of events: the first one is, and each event keeps it.
+-- A world is sound after whatever happens: the first one is, and each event keeps it, and so does time.
 use Rattle.rv_world.proofs.Words.{◌≡◌, ◌⊎◌, ◌+◌, ◌<◌, ◌≤◌, ◌∷◌, ◌++◌, ◌∙◌, inl, inr, ℕ, List, [], Bool, true}
 use Rattle.rv_world.proofs.Words.{false, Option, Some, None, refl, sym, ap, subst, arith, Contains}
 use Rattle.rv_world.proofs.Words.{Contains-append_left, Contains-push, Contains-push_cases, none-some}
-use Rattle.rv_world.proofs.Words.{same_Some, Version, Key, Message, Call, Answer, Reply, Account, Next}
-use Rattle.rv_world.proofs.Words.{Process, New, Idle, Outstanding, Starting, Asking, cancel_of, first_key}
-use Rattle.rv_world.proofs.Words.{hello_of, key_after, request_of, Hears, Outcome, Welcomed, TurnedAway}
-use Rattle.rv_world.proofs.Words.{Settled, EpochEnded, Replaced, Ignored, Event, Packet, Seen, World}
-use Rattle.rv_world.proofs.Words.{accounts, empty_account, first_world, process_of, IsHeld, WasAsked}
-use Rattle.rv_world.proofs.Words.{ChangesProcess, ComesTo, OnlyChangesProcess, Steps, WorldBecomes, sender}
-use Rattle.rv_world.proofs.Words.{with_message, start_of, HasEachKeyOnce, IsAnswered, OnlyGrows, Runs}
-use Rattle.rv_world.proofs.Words.{IsSoundWorld}
+use Rattle.rv_world.proofs.Words.{same_Some, Version, Key, Message, Call, Answer, Reply, Account, StepLimits}
+use Rattle.rv_world.proofs.Words.{NextUnder, Process, New, Idle, Outstanding, Starting, Asking, cancel_of}
+use Rattle.rv_world.proofs.Words.{first_key, hello_of, key_after, request_of, Hears, Outcome, Welcomed}
+use Rattle.rv_world.proofs.Words.{TurnedAway, Settled, EpochEnded, Replaced, Ignored, Event, Packet, Seen}
+use Rattle.rv_world.proofs.Words.{World, accounts, empty_account, first_world, process_of, IsHeld, WasAsked}
+use Rattle.rv_world.proofs.Words.{ChangesProcess, ComesTo, OnlyChangesProcess, StepsUnder, WorldBecomes}
+use Rattle.rv_world.proofs.Words.{sender, with_message, start_of, HasEachKeyOnce, IsAnswered, OnlyGrows}
+use Rattle.rv_world.proofs.Words.{Elapses, Happening, Happens, RunsAnyhow, TimePasses, Under, IsSoundWorld}
 use Rattle.std.specs.Prelude.{◌≢◌, if◌then◌else◌, nat_lt, slice_get}
 use Rattle.rv_account.specs.Account.{Extends}
-use Rattle.rv_book.proofs.Staying.{steps_extend}
+use Rattle.rv_state.proofs.Extending.{steps_extend_under, ticks_extend}
+use Rattle.rv_state.proofs.StateLaws.{ticks_move}
 use Rattle.rv_text.specs.Members.{max_identifier}
 use Rattle.rv_world.specs.Events.{IsNewest, IsTold}
 use Rattle.rv_world.specs.Sound.{IsAskedFor, IsOwed, IsProcessOf, IsUnasked}
-use Rattle.rv_world.proofs.Answered.{IsToldReply, next_arrives, next_legal, next_told}
+use Rattle.rv_world.proofs.Answered.{IsToldReply, next_arrives, next_legal, next_told, ticked_arrives}
 use Rattle.rv_world.proofs.Epochs.{IsLegalIn, below_last, empty_legal, legal_accounts, rises_front}
 use Rattle.rv_world.proofs.Epochs.{rises_none, rises_push, still_legal}
-use Rattle.rv_world.proofs.Growth.{step_grows}
+use Rattle.rv_world.proofs.Growth.{step_grows, time_grows}
 use Rattle.rv_world.proofs.Listing.{once_none, once_push, stands_at}
 use Rattle.rv_world.proofs.OneReply.{IsNewReply, one_reply_each, still_asked}
 use Rattle.rv_world.proofs.Turning.{AreOwn, SameFor, all_own, same_for, still_own, turned_own}
@@ -351,8 +352,36 @@ asked_by w m b key told asked is = elim is.asks [
   | inr cancel ↦ subst (IsAskedFor w) cancel asked
 ]
 
-reached_sound : (w : World) (present : Account) (moment : ℕ) (m : Message) (said told : Answer)
-    → IsSoundWorld w → Contains w.to_server m → Next w.present moment m present said → IsTold said told
+-- where the present account goes on to a legal one whose arrivals were asked, and of the answers each reply
+-- that is new is the one in it
+goes_on_sound : (w : World) (present : Account) (sent : List Packet) → IsSoundWorld w
+    → Extends w.present present → let u : World = record w { present = present; to_client = sent } in
+    IsLegalIn u present
+    → ((key : Key) (told : Reply) → IsAnswered u key told → IsAnswered w key told ⊎ IsNewReply u key told)
+    → OnlyGrows w u → IsSoundWorld u
+goes_on_sound w present sent sound extends own replies grows =
+    let u : World = record w { present = present; to_client = sent } in
+    let one = sound.no_two_replies in
+    let rises = rises_push w.earlier present (rises_front w.earlier w.present sound.epochs_rise)
+    (λ a in_earlier. subst (λ n. a.epoch < n) (sym extends.epoch) (below_last w.earlier w.present a
+    sound.epochs_rise in_earlier)) in
+    let legal = legal_accounts u rises (λ a among. elim (Contains-push_cases w.earlier present a among) [
+      | inl before ↦ still_legal w u a sound.legal_accounts (λ key call was. was) (Contains-append_left
+          w.earlier (w.present ∷ []) a before)
+      | inr last ↦ subst (IsLegalIn u) last own
+    ]) in
+    record {
+      epochs_rise = rises;
+      no_two_replies = one_reply_each w u grows sound.legal_accounts legal one one.asked_once one.held_once
+          (λ key reply held. inl held) replies;
+      legal_accounts = legal;
+      processes = all_own w u sound.processes refl refl refl refl;
+      accounted = record { messages = sound.accounted.messages; starts = sound.accounted.starts };
+    }
+
+reached_sound : (limits : StepLimits) (w : World) (present : Account) (moment : ℕ) (m : Message)
+    (said told : Answer) → IsSoundWorld w → Contains w.to_server m
+    → NextUnder limits w.present moment m present said → IsTold said told
     → let u : World = record w {
       present = present;
       to_client = w.to_client ++ record {
@@ -360,35 +389,25 @@ reached_sound : (w : World) (present : Account) (moment : ℕ) (m : Message) (sa
         answer = told;
       } ∷ [];
     } in OnlyGrows w u → IsSoundWorld u
-reached_sound w present moment m said told sound there next is_told grows =
+reached_sound limits w present moment m said told sound there next is_told grows =
     let packet : Packet = record { client = sender m; answer = told } in
     let u : World = record w { present = present; to_client = w.to_client ++ packet ∷ [] } in
-    let extends : Extends w.present present = steps_extend w.present present moment m said next in
     let asked : IsAskedFor w m = sound.accounted.messages m there in
-    let one = sound.no_two_replies in
-    let rises = rises_push w.earlier present (rises_front w.earlier w.present sound.epochs_rise)
-    (λ a in_earlier. subst (λ n. a.epoch < n) (sym extends.epoch) (below_last w.earlier w.present a
-    sound.epochs_rise in_earlier)) in
     let was_present : Contains (accounts w) w.present = Contains-push w.earlier w.present in
     let own : IsLegalIn u present = record {
-      legal = next_legal w.present present moment m said (sound.legal_accounts.legal w.present was_present)
-          next;
-      asked = λ r key call arrived. elim (next_arrives w.present present moment m said r key call next
+      legal = next_legal limits w.present present moment m said (sound.legal_accounts.legal w.present
+          was_present) next;
+      asked = λ r key call arrived. elim (next_arrives limits w.present present moment m said r key call next
           arrived) [
             | inl before ↦ sound.legal_accounts.arrivals_asked w.present r key call was_present before
             | inr new ↦ subst (IsAskedFor w) new asked
           ];
     } in
-    let legal = legal_accounts u rises (λ a among. elim (Contains-push_cases w.earlier present a among) [
-      | inl before ↦ still_legal w u a sound.legal_accounts (λ key call was. was) (Contains-append_left
-          w.earlier (w.present ∷ []) a before)
-      | inr last ↦ subst (IsLegalIn u) last own
-    ]) in
     let new_reply : (key : Key) (reply : Reply) → told ≡ answers.Replied key reply
     → IsNewReply u key reply = λ key reply is. elim is_told [
       | inl same ↦
-          let to = next_told w.present present moment m key reply (subst (Next w.present moment m present)
-          (sym same ∙ is) next) in
+          let to = next_told limits w.present present moment m key reply (subst (NextUnder limits w.present
+          moment m present) (sym same ∙ is) next) in
           let call = asked_by w m present key reply asked to in
           record {
             call = call.0;
@@ -402,22 +421,29 @@ reached_sound w present moment m said told sound there next is_told grows =
           }
       | inr none ↦ absurd (refused_no_reply key reply (sym none.1 ∙ is))
     ] in
-    record {
-      epochs_rise = rises;
-      no_two_replies = one_reply_each w u grows sound.legal_accounts legal one one.asked_once one.held_once
-          (λ key reply held. inl held)
-          (λ key reply is. elim (Contains-push_cases w.to_client packet (record {
-            client = is.0;
-            answer =
-                answers.Replied key reply;
-          }) is.1) [
-            | inl before ↦ inl (is.0, before)
-            | inr new ↦ inr (new_reply key reply (ap (λ (p : Packet). p.answer) new))
-          ]);
-      legal_accounts = legal;
-      processes = all_own w u sound.processes refl refl refl refl;
-      accounted = record { messages = sound.accounted.messages; starts = sound.accounted.starts };
-    }
+    goes_on_sound w present (w.to_client ++ packet ∷ []) sound (steps_extend_under limits w.present present
+    moment m said next) own
+    (λ key reply is. elim (Contains-push_cases w.to_client packet (record {
+      client = is.0;
+      answer = answers.Replied key reply;
+    }) is.1) [
+      | inl before ↦ inl (is.0, before)
+      | inr new ↦ inr (new_reply key reply (ap (λ (p : Packet). p.answer) new))
+    ]) grows
+
+-- ---- time passes
+
+passed_sound : (w : World) (moment : ℕ) (v : World) → IsSoundWorld w → TimePasses w moment v → IsSoundWorld v
+passed_sound w moment v sound passes =
+    let there : Contains (accounts w) w.present = Contains-push w.earlier w.present in
+    let legal = sound.legal_accounts.legal w.present there in
+    subst (λ (u : World). OnlyGrows w u → IsSoundWorld u) (sym passes.rest)
+    (goes_on_sound w v.present w.to_client sound (ticks_extend w.present v.present moment passes.ticks)
+    (record {
+      legal = (ticks_move w.present v.present moment legal passes.not_before passes.ticks).legal;
+      asked = λ r key call arrived. sound.legal_accounts.arrivals_asked w.present r key call there
+          (ticked_arrives w.present v.present moment r key call passes.ticks arrived);
+    }) (λ key reply is. inl is)) (time_grows w moment v passes)
 
 -- ---- a new server
 
@@ -487,42 +513,50 @@ first_sound epoch =
       };
     }
 
-pub step_sound : (w : World) (e : Event) (v : World) (shows : Seen) → IsSoundWorld w → Steps w e v shows
-    → IsSoundWorld v
-step_sound w (event.Start client incarnation version) v shows sound is =
+pub step_sound : (limits : StepLimits) (w : World) (e : Event) (v : World) (shows : Seen) → IsSoundWorld w
+    → StepsUnder limits w e v shows → IsSoundWorld v
+step_sound limits w (event.Start client incarnation version) v shows sound is =
     subst (λ (u : World). OnlyChangesProcess w u client (Some (New (start_of client incarnation version)))
     → OnlyGrows w u → IsSoundWorld u) (sym is.rest)
     (started_sound w client incarnation version v.clients sound is.newest) is.changes
-    (step_grows w (event.Start client incarnation version) v shows is)
-step_sound w (event.Begin client call) v shows sound is =
+    (step_grows limits w (event.Start client incarnation version) v shows is)
+step_sound limits w (event.Begin client call) v shows sound is =
     subst (λ (u : World). OnlyChangesProcess w u client
     (Some (Outstanding (record { key = is.key; call = call }))) → OnlyGrows w u
     → IsSoundWorld u) (sym is.rest)
     (begun_sound w client is.key call v.clients sound is.idle) is.changes
-    (step_grows w (event.Begin client call) v shows is)
-step_sound w (event.Resend client) v shows sound is =
+    (step_grows limits w (event.Begin client call) v shows is)
+step_sound limits w (event.Resend client) v shows sound is =
     let owed = sound.processes client (Outstanding is.asking) is.outstanding in
-    says_sound w v (request_of is.asking) sound is.after (step_grows w (event.Resend client) v shows is)
+    says_sound w v (request_of is.asking) sound is.after (step_grows limits w (event.Resend client) v shows
+    is)
     owed.asked
-step_sound w (event.CancelSent client) v shows sound is =
+step_sound limits w (event.CancelSent client) v shows sound is =
     let owed = sound.processes client (Outstanding is.asking) is.outstanding in
-    says_sound w v (cancel_of is.asking) sound is.after (step_grows w (event.CancelSent client) v shows is)
+    says_sound w v (cancel_of is.asking) sound is.after (step_grows limits w (event.CancelSent client) v shows
+    is)
     (is.asking.call, owed.asked)
-step_sound w (event.Crash client) v shows sound is = turns_sound w client None v sound is.ends
-    (step_grows w (event.Crash client) v shows is) (λ p none. absurd (none-some p none))
-step_sound w (event.ToServer packet moment) v shows sound is =
+step_sound limits w (event.Crash client) v shows sound is = turns_sound w client None v sound is.ends
+    (step_grows limits w (event.Crash client) v shows is) (λ p none. absurd (none-some p none))
+step_sound limits w (event.ToServer packet moment) v shows sound is =
     subst (λ (u : World). OnlyGrows w u → IsSoundWorld u) (sym is.rest)
-    (reached_sound w v.present moment is.message is.said is.told sound (stands_at w.to_server packet
-    is.message is.there) is.next is.is_told) (step_grows w (event.ToServer packet moment) v shows is)
-step_sound w (event.ToClient packet) v shows sound is =
-    comes_sound w is.sent (process_of w is.sent.client) v shows sound (step_grows w (event.ToClient packet) v
+    (reached_sound limits w v.present moment is.message is.said is.told sound (stands_at w.to_server packet
+    is.message is.there) is.next is.is_told) (step_grows limits w (event.ToServer packet moment) v shows is)
+step_sound limits w (event.ToClient packet) v shows sound is =
+    comes_sound w is.sent (process_of w is.sent.client) v shows sound
+    (step_grows limits w (event.ToClient packet) v
     shows is) (stands_at w.to_client packet is.sent is.there) refl is.comes
-step_sound w (event.NewEpoch epoch) v shows sound is =
+step_sound limits w (event.NewEpoch epoch) v shows sound is =
     subst (λ (u : World). OnlyGrows w u → IsSoundWorld u) (sym is.after) (opened_sound w epoch sound
-    is.greater) (step_grows w (event.NewEpoch epoch) v shows is)
+    is.greater) (step_grows limits w (event.NewEpoch epoch) v shows is)
 
-pub runs_sound : (w : World) (events : List Event) (v : World) → IsSoundWorld w → Runs w events v
+happened_sound : (w : World) (happening : Happening) (v : World) → IsSoundWorld w → Happens w happening v
     → IsSoundWorld v
-runs_sound w [] v sound same = stays_sound w v sound same
-runs_sound w (e ∷ events) v sound runs = runs_sound runs.0 events v (step_sound w e runs.0 runs.1 sound
-    runs.2) runs.3
+happened_sound w (Under limits e) v sound is = step_sound limits w e v is.0 sound is.1
+happened_sound w (Elapses moment) v sound passes = passed_sound w moment v sound passes
+
+pub runs_sound_anyhow : (w : World) (happenings : List Happening) (v : World) → IsSoundWorld w
+    → RunsAnyhow w happenings v → IsSoundWorld v
+runs_sound_anyhow w [] v sound same = stays_sound w v sound same
+runs_sound_anyhow w (happening ∷ happenings) v sound runs =
+    runs_sound_anyhow runs.0 happenings v (happened_sound w happening runs.0 sound runs.1) runs.2

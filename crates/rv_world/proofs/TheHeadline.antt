@@ -1,7 +1,7 @@
--- The headline holds after every list of events: it follows from what is sound.
+-- The headline holds after whatever happens: it follows from what is sound. Lists of events are its case.
 use Rattle.rv_world.proofs.Words.{◌≡◌, ◌∙◌, inl, inr, ℕ, List, Some, sym, ap, subst, same_Some, Key, Call}
 use Rattle.rv_world.proofs.Words.{Reply, Account, call_at, call_in, Legal, HasReply, Meet, World, IsAccountOf}
-use Rattle.rv_world.proofs.Words.{WasAsked, first_world, ArrivesAt, IsAnswered, IsSoundWorld}
+use Rattle.rv_world.proofs.Words.{WasAsked, first_world, ArrivesAt, IsAnswered, by_a_book, IsSoundWorld}
 use Rattle.std.proofs.Common.{option_and_then}
 use Rattle.rv_text.specs.declared.call.Call.TheVariants.{Drain}
 use Rattle.rv_text.specs.declared.call.Side.{Side}
@@ -14,19 +14,20 @@ use Rattle.rv_rules.proofs.CallKinds.{exchanges_item, gives_item}
 use Rattle.rv_rules.proofs.Keys.{act_called}
 use Rattle.rv_book.proofs.Leaving.{items_leave_in_order}
 use Rattle.rv_rules.proofs.OnePartner.{arrives_once}
-use Rattle.rv_world.specs.Headline.{Headline, IsExchanged, IsAssigned, IsDrained, IsGiven, IsReceipt}
-use Rattle.rv_world.specs.Headline.{IsReplyOf, NeverHandedOver, OrderOfArrival, ReceivedMeansAssigned}
-use Rattle.rv_world.specs.Headline.{TrueExchange}
-use Rattle.rv_world.specs.Laws.{HeadlineHolds}
+use Rattle.rv_world.specs.Headline.{Headline, HeadlineAnyhow, IsExchanged, IsAssigned, IsDrained, IsGiven}
+use Rattle.rv_world.specs.Headline.{IsReceipt, IsReplyOf, NeverHandedOverAnyhow, OrderOfArrival}
+use Rattle.rv_world.specs.Headline.{ReceivedMeansAssigned, TrueExchange}
+use Rattle.rv_world.specs.Laws.{HeadlineHolds, HeadlineHoldsAnyhow}
+use Rattle.rv_world.proofs.AsHappenings.{runs_happen}
 use Rattle.rv_world.proofs.Drained.{TakesItems, as_many, hands_over_at, meets_named, names_met, partners_rise}
 use Rattle.rv_world.proofs.Drained.{takes_items}
-use Rattle.rv_world.proofs.Growth.{runs_grow}
+use Rattle.rv_world.proofs.Growth.{runs_grow_anyhow}
 use Rattle.rv_world.proofs.OneReply.{still_answered}
 use Rattle.rv_world.proofs.Partners.{Partner, arrival_epoch, drained_got, exchanger_told, item_got, meet_back}
 use Rattle.rv_world.proofs.Partners.{meet_opposes, names_taker, no_means_unmet, one_met, pair_meets, pair_of}
 use Rattle.rv_world.proofs.Partners.{partner_of, received_met, single_exchanger, single_giver, swapped_got}
 use Rattle.rv_world.proofs.Partners.{taker_told}
-use Rattle.rv_world.proofs.Soundness.{first_sound, runs_sound}
+use Rattle.rv_world.proofs.Soundness.{first_sound, runs_sound_anyhow}
 use Rattle.rv_text.specs.declared.answer.Reply.TheVariants as reply
 
 -- ---- a reply that is answered, as its account tells it
@@ -260,11 +261,11 @@ received_means_assigned w sound = record {
 
 -- ---- never handed over
 
-pub never_handed_over : (w : World) → IsSoundWorld w → NeverHandedOver w
-never_handed_over w sound key told events v answered is_no runs a r own there arrived =
-    let after = runs_sound w events v sound runs in
-    let is = after.no_two_replies.answered_is key told (still_answered w v key told (runs_grow w events v
-    runs) answered) in
+pub never_handed_over : (w : World) → IsSoundWorld w → NeverHandedOverAnyhow w
+never_handed_over w sound key told happenings v answered is_no runs a r own there arrived =
+    let after = runs_sound_anyhow w happenings v sound runs in
+    let grows = runs_grow_anyhow w happenings v runs in
+    let is = after.no_two_replies.answered_is key told (still_answered w v key told grows answered) in
     let legal = after.legal_accounts.legal a there in
     let same : is.account ≡ a = after.legal_accounts.one_each is.account a is.is_of.is_there there
     (is.is_of.epoch_is ∙ arrival_epoch a key r own legal arrived) in
@@ -286,17 +287,39 @@ true_exchange w sound key item answered =
 
 -- ---- together
 
-pub sound_headline : (w : World) → IsSoundWorld w → Headline w
-sound_headline w sound = record {
+sound_headline_anyhow : (w : World) → IsSoundWorld w → HeadlineAnyhow w
+sound_headline_anyhow w sound = record {
   no_two_replies = sound.no_two_replies;
   legal_accounts = sound.legal_accounts;
   received_means_assigned = received_means_assigned w sound;
   never_handed_over = never_handed_over w sound;
   order_of_arrival = order_of_arrival w sound;
   true_exchange = true_exchange w sound;
-  only_growth = λ events v runs. runs_grow w events v runs;
+  only_growth = runs_grow_anyhow w;
 }
 
+pub headline_holds_anyhow : HeadlineHoldsAnyhow
+headline_holds_anyhow epoch happenings w runs =
+    sound_headline_anyhow w (runs_sound_anyhow (first_world epoch) happenings w (first_sound epoch) runs)
+
+-- ---- of lists of events
+
+of_events : (w : World) → HeadlineAnyhow w → Headline w
+of_events w holds = record {
+  no_two_replies = holds.no_two_replies;
+  legal_accounts = holds.legal_accounts;
+  received_means_assigned = holds.received_means_assigned;
+  never_handed_over = λ key told events v answered is_no runs.
+      holds.never_handed_over key told (by_a_book events) v answered is_no (runs_happen w events v runs);
+  order_of_arrival = holds.order_of_arrival;
+  true_exchange = holds.true_exchange;
+  only_growth = λ events v runs. holds.only_growth (by_a_book events) v (runs_happen w events v runs);
+}
+
+pub sound_headline : (w : World) → IsSoundWorld w → Headline w
+sound_headline w sound = of_events w (sound_headline_anyhow w sound)
+
 pub headline_holds : HeadlineHolds
-headline_holds epoch events w runs = sound_headline w (runs_sound (first_world epoch) events w
-    (first_sound epoch) runs)
+headline_holds epoch events w runs =
+    let first = first_world epoch in
+    of_events w (headline_holds_anyhow epoch (by_a_book events) w (runs_happen first events w runs))

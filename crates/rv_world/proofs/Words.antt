@@ -14,12 +14,13 @@ pub use Rattle.rv_account.specs.declared.entry.Act.{Act}
 pub use Rattle.rv_account.specs.declared.entry.Entry.{Entry}
 pub use Rattle.rv_book.specs.Legal.{Legal}
 pub use Rattle.rv_book.specs.Replies.{HasReply, Meet}
-pub use Rattle.rv_book.specs.Steps.{Adds, Next, Ticks, step_moment}
 pub use Rattle.rv_client.specs.Process.{Asking, EpochEnded, Hears, Idle, Ignored, New, Outcome, Outstanding}
 pub use Rattle.rv_client.specs.Process.{Process, Replaced, Settled, Starting, TurnedAway, Welcomed, cancel_of}
 pub use Rattle.rv_client.specs.Process.{first_key, hello_of, key_after, request_of}
 pub use Rattle.rv_rules.proofs.Numbers.{same_or_not}
 pub use Rattle.rv_rules.proofs.Places.{get-append_cases}
+pub use Rattle.rv_rules.specs.StepLimits.{StepLimits, book_limits}
+pub use Rattle.rv_rules.specs.Steps.{Adds, NextUnder, Ticks, step_moment}
 pub use Rattle.rv_text.specs.declared.answer.Answer.{Answer}
 pub use Rattle.rv_text.specs.declared.answer.Reply.{Reply}
 pub use Rattle.rv_text.specs.declared.call.Call.{Call}
@@ -27,12 +28,13 @@ pub use Rattle.rv_text.specs.declared.message.Key.{Key}
 pub use Rattle.rv_text.specs.declared.message.Message.{Message}
 pub use Rattle.rv_text.specs.declared.version.Version.{Version}
 pub use Rattle.rv_world.specs.Events.{ChangesProcess, ComesTo, EventComesTo, IsAsking, OnlyChangesProcess}
-pub use Rattle.rv_world.specs.Events.{ProcessSays, ReachesServer, RefusalDue, RunsBut, RunsNone, Steps}
+pub use Rattle.rv_world.specs.Events.{ProcessSays, RefusalDue, RunsBut, RunsNone, Steps, StepsUnder}
 pub use Rattle.rv_world.specs.Events.{WorldBecomes, sender, start_of, with_message}
 pub use Rattle.rv_world.specs.Headline.{ArrivesAt, HasEachKeyOnce, IsAnswered, OnlyGrows}
 pub use Rattle.rv_world.specs.Parts.{started_by, world_of}
 pub use Rattle.rv_world.specs.Processes.{HearsAs, process_in, request_under}
-pub use Rattle.rv_world.specs.Runs.{Runs}
+pub use Rattle.rv_world.specs.Runs.{Elapses, Happening, Happens, Runs, RunsAnyhow, TimePasses, Under}
+pub use Rattle.rv_world.specs.Runs.{by_a_book}
 pub use Rattle.rv_world.specs.Sound.{AllFits, IsSoundWorld}
 pub use Rattle.rv_world.specs.Table.{AreNewest, ClientTable, EntersClient, StandsInTable, running_of}
 pub use Rattle.rv_world.specs.Table.{with_process}

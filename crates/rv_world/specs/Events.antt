@@ -1,4 +1,5 @@
--- What one event does to the world and what is seen of it; and for what it is refused.
+-- What one event does to the world, where the server's step is made under whatever limits and under a
+-- book's, and what is seen of it; and for what it is refused.
 use Rattle.std.specs.Prelude.{◌≡◌, ◌≢◌, ◌⊎◌, ◌<◌, ◌≤◌, ◌++◌, ◌∷◌, [], ℕ, Option, Some, None, Result, Ok, Err}
 use Rattle.std.specs.Prelude.{length, slice_get}
 use Rattle.std.specs.List.{Contains}
@@ -11,7 +12,8 @@ use Rattle.rv_text.specs.declared.answer.Answer.{Answer}
 use Rattle.rv_text.specs.declared.answer.Answer.TheVariants as answers
 use Rattle.rv_text.specs.declared.answer.Refusal.TheVariants as refusals
 use Rattle.rv_text.specs.declared.answer.Reply.{Reply}
-use Rattle.rv_book.specs.Steps.{Next}
+use Rattle.rv_rules.specs.StepLimits.{StepLimits, book_limits}
+use Rattle.rv_rules.specs.Steps.{NextUnder}
 use Rattle.rv_book.specs.Verdicts.{HasText}
 use Rattle.rv_client.specs.Process.{Process, New, Idle, Outstanding, Starting, Asking}
 use Rattle.rv_client.specs.Process.{hello_of, request_of, cancel_of, Settles, Hears}
@@ -109,11 +111,12 @@ abbrev pub IsTold : Answer → Answer → Type 0
 IsTold said told = (told ≡ said) ⊎ (HasText said × (told ≡ answers.Refused refusals.NoMemory))
 
 -- the present account takes one step with the message, and the answer is sent to the message's client
-pub record ReachesServer (w : World) (packet moment : ℕ) (v : World) (shows : Seen) : Type 0 where
+pub record ReachesServerUnder (limits : StepLimits) (w : World) (packet moment : ℕ) (v : World) (shows : Seen)
+    : Type 0 where
   pub message : Message
   pub there : slice_get w.to_server packet ≡ Some message
   pub said : Answer
-  pub next : Next w.present moment message v.present said
+  pub next : NextUnder limits w.present moment message v.present said
   pub told : Answer
   pub is_told : IsTold said told
   pub rest : v ≡ record w {
@@ -174,16 +177,19 @@ pub record OpensEpoch (w : World) (epoch : ℕ) (v : World) (shows : Seen) : Typ
 
 -- ---- one event
 
--- the event leads from the one world to the other, and this is seen of it
-abbrev pub Steps : World → Event → World → Seen → Type 0
-Steps w (event.Start client incarnation version) v shows = Starts w client incarnation version v shows
-Steps w (event.Begin client call) v shows = Begins w client call v shows
-Steps w (event.Resend client) v shows = ProcessSays w client request_of v shows
-Steps w (event.CancelSent client) v shows = ProcessSays w client cancel_of v shows
-Steps w (event.Crash client) v shows = Crashes w client v shows
-Steps w (event.ToServer packet moment) v shows = ReachesServer w packet moment v shows
-Steps w (event.ToClient packet) v shows = ReachesClient w packet v shows
-Steps w (event.NewEpoch epoch) v shows = OpensEpoch w epoch v shows
+-- the event leads from the one world to the other, where the server's step is made under these limits, and
+-- this is seen of it
+abbrev pub StepsUnder : StepLimits → World → Event → World → Seen → Type 0
+StepsUnder limits w (event.Start client incarnation version) v shows =
+    Starts w client incarnation version v shows
+StepsUnder limits w (event.Begin client call) v shows = Begins w client call v shows
+StepsUnder limits w (event.Resend client) v shows = ProcessSays w client request_of v shows
+StepsUnder limits w (event.CancelSent client) v shows = ProcessSays w client cancel_of v shows
+StepsUnder limits w (event.Crash client) v shows = Crashes w client v shows
+StepsUnder limits w (event.ToServer packet moment) v shows =
+    ReachesServerUnder limits w packet moment v shows
+StepsUnder limits w (event.ToClient packet) v shows = ReachesClient w packet v shows
+StepsUnder limits w (event.NewEpoch epoch) v shows = OpensEpoch w epoch v shows
 
 -- ---- refusals
 
@@ -252,7 +258,20 @@ pub record EventLacksMemory (w : World) (e : Event) (refusal : WorldRefusal) : T
 abbrev pub IsEventRefused : World → Event → WorldRefusal → Type 0
 IsEventRefused w e refusal = RefusalDue w e refusal ⊎ EventLacksMemory w e refusal
 
+-- what comes of an event under limits: a step, or a refusal, which changes nothing
+abbrev pub EventComesToUnder : StepLimits → World → Event → World → Result Seen WorldRefusal → Type 0
+EventComesToUnder limits w e v (Ok shows) = StepsUnder limits w e v shows
+EventComesToUnder limits w e v (Err refusal) = IsEventRefused w e refusal × (v ≡ w)
+
+-- ---- under a book's limits
+
+abbrev pub ReachesServer : World → ℕ → ℕ → World → Seen → Type 0
+ReachesServer = ReachesServerUnder book_limits
+
+-- the event leads from the one world to the other, and this is seen of it
+abbrev pub Steps : World → Event → World → Seen → Type 0
+Steps = StepsUnder book_limits
+
 -- what comes of an event: a step, or a refusal, which changes nothing
 abbrev pub EventComesTo : World → Event → World → Result Seen WorldRefusal → Type 0
-EventComesTo w e v (Ok shows) = Steps w e v shows
-EventComesTo w e v (Err refusal) = IsEventRefused w e refusal × (v ≡ w)
+EventComesTo = EventComesToUnder book_limits

@@ -1,4 +1,5 @@
--- The headline: what holds of the world after every list of events, and between it and every later world.
+-- The headline: what holds of the world after every list of events, and between it and every later world;
+-- and the same of whatever happens.
 use Rattle.std.specs.Prelude.{◌≡◌, ◌⊎◌, ◌++◌, ℕ, List, Some, length, slice_get}
 use Rattle.std.specs.List.{Contains}
 use Rattle.std.specs.List.Sorted.{IsStrictlyIncreasing}
@@ -18,7 +19,7 @@ use Rattle.rv_book.specs.Replies.{HasReply, Meet}
 use Rattle.rv_book.specs.Waiting.{Met, SideAt}
 use Rattle.rv_world.specs.declared.event.Event.{Event}
 use Rattle.rv_world.specs.World.{World, accounts, IsAccountOf, WasAsked, IsHeld}
-use Rattle.rv_world.specs.Runs.{Runs}
+use Rattle.rv_world.specs.Runs.{Happening, Runs, RunsAnyhow}
 
 -- some answer packet that was ever sent is replied with this key and this reply
 abbrev pub IsAnswered : World → Key → Reply → Type 0
@@ -252,3 +253,20 @@ pub record Headline (w : World) : Type 0 where
   pub order_of_arrival : OrderOfArrival w
   pub true_exchange : TrueExchange w
   pub only_growth : (events : List Event) (v : World) → Runs w events v → OnlyGrows w v
+
+-- ---- whatever happens
+
+-- what is answered a no meets nobody, in this world and after whatever happens further
+abbrev pub NeverHandedOverAnyhow : World → Type 0
+NeverHandedOverAnyhow w = (key : Key) (told : Reply) (happenings : List Happening) (v : World)
+    → IsAnswered w key told → IsNo told → RunsAnyhow w happenings v → MeetsNobody v key
+
+-- the parts together, where further steps may be made under whatever limits and time may pass
+pub record HeadlineAnyhow (w : World) : Type 0 where
+  pub no_two_replies : NoTwoReplies w
+  pub legal_accounts : LegalAccounts w
+  pub received_means_assigned : ReceivedMeansAssigned w
+  pub never_handed_over : NeverHandedOverAnyhow w
+  pub order_of_arrival : OrderOfArrival w
+  pub true_exchange : TrueExchange w
+  pub only_growth : (happenings : List Happening) (v : World) → RunsAnyhow w happenings v → OnlyGrows w v

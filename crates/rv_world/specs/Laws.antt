@@ -1,8 +1,10 @@
--- The laws of events and of lists of events, over the definitions alone.
-use Rattle.std.specs.Prelude.{◌≡◌, ◌≢◌, ◌++◌, ◌∷◌, [], ℕ, List, Result, Err}
+-- The laws of events, of lists of events and of whatever happens, over the definitions alone.
+use Rattle.std.specs.Prelude.{◌≡◌, ◌≢◌, ◌↔◌, ◌≤◌, ◌++◌, ◌∷◌, [], ℕ, List, Result, Err}
 use Rattle.std.specs.List.{Contains}
 use Rattle.rv_text.specs.declared.answer.Answer.TheVariants as answers
 use Rattle.rv_text.specs.declared.answer.Refusal.TheVariants as refusals
+use Rattle.rv_rules.specs.StepLimits.{StepLimits, book_limits}
+use Rattle.rv_rules.specs.Steps.{max_moment, own_moment}
 use Rattle.rv_book.specs.Legal.{Legal}
 use Rattle.rv_world.specs.declared.event.Event.{Event}
 use Rattle.rv_world.specs.declared.packet.Packet.{Packet}
@@ -10,9 +12,9 @@ use Rattle.rv_world.specs.declared.seen.Seen.{Seen}
 use Rattle.rv_world.specs.declared.seen.WorldRefusal.{WorldRefusal}
 use Rattle.rv_world.specs.declared.seen.WorldRefusal.TheVariants as refuses
 use Rattle.rv_world.specs.World.{World, first_world, process_of}
-use Rattle.rv_world.specs.Events.{EventComesTo, RefusalDue, Steps}
-use Rattle.rv_world.specs.Runs.{Runs}
-use Rattle.rv_world.specs.Headline.{Headline, OnlyGrows}
+use Rattle.rv_world.specs.Events.{EventComesToUnder, RefusalDue, StepsUnder}
+use Rattle.rv_world.specs.Runs.{Happening, Runs, RunsAnyhow, TimePasses, by_a_book}
+use Rattle.rv_world.specs.Headline.{Headline, HeadlineAnyhow, OnlyGrows}
 
 -- ---- one event
 
@@ -34,29 +36,65 @@ pub record HadMemory (w v : World) (result : Result Seen WorldRefusal) : Type 0 
 
 -- an event leaves no choice, want of memory aside: of worlds that are the same it makes worlds that are the
 -- same, and the same is seen of it, or it is refused for the same
-abbrev pub OneStep : Type 0
-OneStep = (w x u v : World) (e : Event) (one other : Result Seen WorldRefusal) → AreSame w x
-    → EventComesTo w e u one → EventComesTo x e v other → HadMemory w u one → HadMemory x v other
-    → AreSame u v × (one ≡ other)
+abbrev pub OneStepUnder : StepLimits → Type 0
+OneStepUnder limits = (w x u v : World) (e : Event) (one other : Result Seen WorldRefusal) → AreSame w x
+    → EventComesToUnder limits w e u one → EventComesToUnder limits x e v other → HadMemory w u one
+    → HadMemory x v other → AreSame u v × (one ≡ other)
 
 -- the event leads to a world, with no want of memory
-pub record CanStep (w : World) (e : Event) : Type 0 where
+pub record CanStepUnder (limits : StepLimits) (w : World) (e : Event) : Type 0 where
   pub after : World
   pub shows : Seen
-  pub steps : Steps w e after shows
+  pub steps : StepsUnder limits w e after shows
   pub not_sent : ¬ SentNoMemory w after
 
 -- in each world whose present account is legal, an event for which no refusal is due leads to a world
-abbrev pub StepsExist : Type 0
-StepsExist = (w : World) (e : Event) → Legal w.present → ((refusal : WorldRefusal) → ¬ RefusalDue w e refusal)
-    → CanStep w e
+abbrev pub StepsExistUnder : StepLimits → Type 0
+StepsExistUnder limits = (w : World) (e : Event) → Legal w.present
+    → ((refusal : WorldRefusal) → ¬ RefusalDue w e refusal) → CanStepUnder limits w e
 
--- ---- lists of events
+-- ---- whatever happens
 
 -- no answer that was ever sent is the refusal of that name
 abbrev pub NeverLacked : World → Type 0
 NeverLacked w = (packet : Packet) → Contains w.to_client packet
     → packet.answer ≢ answers.Refused refusals.NoMemory
+
+-- in each world whose present account is legal, time can pass up to each moment that is not before its own
+abbrev pub TimeCanPass : Type 0
+TimeCanPass = (w : World) (moment : ℕ) → Legal w.present → own_moment w.present ≤ moment
+    → moment ≤ max_moment → (v : World) × TimePasses w moment v
+
+-- of worlds that are the same whatever happens makes worlds that are the same, want of memory aside
+abbrev pub OneRunAnyhow : Type 0
+OneRunAnyhow = (w x u v : World) (happenings : List Happening) → AreSame w x → RunsAnyhow w happenings u
+    → RunsAnyhow x happenings v → NeverLacked u → NeverLacked v → AreSame u v
+
+-- the headline holds after whatever happens
+abbrev pub HeadlineHoldsAnyhow : Type 0
+HeadlineHoldsAnyhow = (epoch : ℕ) (happenings : List Happening) (w : World)
+    → RunsAnyhow (first_world epoch) happenings w → HeadlineAnyhow w
+
+-- what was asked, held and answered stays, and so do the accounts' entries
+abbrev pub RunsOnlyGrowAnyhow : Type 0
+RunsOnlyGrowAnyhow = (w : World) (happenings : List Happening) (v : World) → RunsAnyhow w happenings v
+    → OnlyGrows w v
+
+-- events lead where they lead as what happens under a book's limits
+abbrev pub EventsHappen : Type 0
+EventsHappen = (w : World) (events : List Event) (v : World)
+    → Runs w events v ↔ RunsAnyhow w (by_a_book events) v
+
+-- ---- under a book's limits
+
+abbrev pub OneStep : Type 0
+OneStep = OneStepUnder book_limits
+
+abbrev pub CanStep : World → Event → Type 0
+CanStep = CanStepUnder book_limits
+
+abbrev pub StepsExist : Type 0
+StepsExist = StepsExistUnder book_limits
 
 -- of worlds that are the same a list of events makes worlds that are the same, want of memory aside
 abbrev pub OneRun : Type 0

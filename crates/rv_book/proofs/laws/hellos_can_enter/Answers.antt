@@ -1,6 +1,7 @@
--- The law, which CanEnter proves.
-use Rattle.rv_book.proofs.CanEnter.{hellos_can_enter}
+-- The law, as rv_state proves it of whatever limits.
+use Rattle.rv_rules.specs.StepLimits.{book_limits}
+use Rattle.rv_state.proofs.CanEnter.{hellos_can_enter_under}
 use Rattle.rv_book.proofs.laws.hellos_can_enter.Goals as goal
 
 pub returns : goal.returns
-returns c = hellos_can_enter
+returns c = hellos_can_enter_under book_limits

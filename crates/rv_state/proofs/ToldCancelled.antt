@@ -1,13 +1,16 @@
 -- What the cancel of a request that waits tells: its request is cancelled.
-use Rattle.rv_book.proofs.Words.{◌≡◌, ◌∷◌, ◌++◌, inl, [], None, refl}
-use Rattle.rv_book.proofs.Words.{ap, subst, Key, Replied, Entry, Arrive, Cancel, Account}
-use Rattle.rv_book.proofs.Words.{just, with_entry, WaitsUnder, RepliesAt, told_by}
-use Rattle.rv_book.proofs.Words.{Replies, act_read, reads_on, just_none}
+use Rattle.rv_state.proofs.Words.{◌≡◌, ◌∷◌, ◌++◌, inl, [], None, refl, ap, subst, Key, Replied, Entry}
+use Rattle.rv_state.proofs.Words.{Arrive, Cancel, Account, with_entry, WaitsUnder, RepliesAt, act_read}
+use Rattle.rv_state.proofs.Words.{reads_on}
+use Rattle.rv_account.specs.Account.{just}
+use Rattle.rv_rules.specs.Replies.{told_by}
+use Rattle.rv_rules.specs.Steps.{Replies}
+use Rattle.rv_rules.proofs.Naming.{just_none}
 use Rattle.rv_rules.proofs.Sides.{cancel_stops, is_under}
 use Rattle.rv_state.proofs.StopReplies.{stop_replies}
 use Rattle.rv_text.specs.declared.answer.Reply as reply
 
-pub ended_reply : (a : Account) (e : Entry) (key : Key) → e.act ≡ Cancel key → e.partners ≡ just None
+ended_reply : (a : Account) (e : Entry) (key : Key) → e.act ≡ Cancel key → e.partners ≡ just None
     → (waits : WaitsUnder a.entries key)
     → RepliesAt (a.entries ++ e ∷ []) waits.place waits.call reply.TheVariants.Cancelled
 ended_reply a e key says none waits =

@@ -1,36 +1,39 @@
--- Whatever comes, each legal account has a step; what can enter behind the step's time-outs is read off it.
-use Rattle.rv_book.proofs.Words.{ℕ, inl, inr, refl, sym, subst, Account, Adds, Act, Answer, Answers}
-use Rattle.rv_book.proofs.Words.{Arrive, Cancel, EntersOrNoMemory, Key, Legal, Message, NextAt, RefuseOr}
-use Rattle.rv_book.proofs.Words.{Refusal, Refused, Replied, Replies, Request, Ticks, Cancelled, step_moment}
-use Rattle.rv_book.proofs.Words.{with_entry}
-use Rattle.std.proofs.Common.{◌≢◌}
+-- Whatever comes, and under whatever limits, each legal account has a step; what can enter behind the step's
+-- time-outs is read off it.
+use Rattle.rv_state.proofs.Words.{ℕ, Option, Some, None, inl, inr, refl, sym, subst, Account, Act, Answer}
+use Rattle.rv_state.proofs.Words.{Answers, Arrive, Call, Cancel, Key, Legal, Message, Refusal, Replied}
+use Rattle.rv_state.proofs.Words.{Cancelled, state_of, with_entry}
+use Rattle.std.specs.Prelude.{◌≢◌}
+use Rattle.rv_text.specs.declared.answer.Answer.TheVariants.{Refused}
 use Rattle.rv_text.specs.declared.answer.Refusal.TheVariants.{NoMemory}
 use Rattle.rv_text.specs.declared.message.Message.TheVariants as message
-use Rattle.rv_text.specs.declared.version.Version.TheVariants.{One}
-use Rattle.rv_book.specs.Laws.{CanCancel, CancelsCanEnter, HellosCanEnter, RequestsCanEnter, TicksCanEnter}
-use Rattle.rv_book.specs.Steps.{KeyLines, Next, WhereElse}
-use Rattle.rv_state.specs.After.{state_of}
+use Rattle.rv_rules.specs.StepLimits.{StepLimits}
+use Rattle.rv_rules.specs.Steps.{Adds, EntersOrNoMemory, KeyLines, NextAtUnder, NextUnder, PlaceLine}
+use Rattle.rv_rules.specs.Steps.{RefuseOr}
+use Rattle.rv_rules.specs.Steps.{Replies, Ticks, WhereElse, step_moment}
+use Rattle.rv_state.specs.StepLaws.{CanCancel, CancelsCanEnterUnder, HellosCanEnterUnder}
+use Rattle.rv_state.specs.StepLaws.{RequestsCanEnterUnder}
 use Rattle.rv_state.proofs.Agreed.{agreed}
 use Rattle.rv_state.proofs.EntersBoth.{adds_own, own_entry}
-use Rattle.rv_rules.specs.StepLimits.{book_limits}
 use Rattle.rv_state.proofs.MovesThere.{move_there}
+use Rattle.rv_state.proofs.OneStep.{one_ticked}
 use Rattle.rv_state.proofs.OwnAnswers.{first_replies}
-use Rattle.rv_state.proofs.StateLaws.{moves_step}
-use Rattle.rv_book.proofs.OneStep.{one_ticked}
-use Rattle.rv_book.proofs.ToldCancelled.{waiting_replies}
+use Rattle.rv_state.proofs.StateLaws.{moves_step_under}
+use Rattle.rv_state.proofs.ToldCancelled.{waiting_replies}
 
 -- ---- a step is there
 
-pub record HasNext (a : Account) (now : ℕ) (m : Message) : Type 0 where
+pub record HasNextUnder (limits : StepLimits) (a : Account) (now : ℕ) (m : Message) : Type 0 where
   pub after : Account
   pub answer : Answer
-  pub next : Next a now m after answer
+  pub next : NextUnder limits a now m after answer
   pub in_memory : answer ≢ Refused NoMemory
 
-pub next_exists : (a : Account) (now : ℕ) (m : Message) → Legal a → HasNext a now m
-next_exists a now m legal =
-    let there = move_there book_limits (state_of a) now m in
-    let steps = moves_step a now m there.move legal there.moves in
+pub next_exists_under : (limits : StepLimits) (a : Account) (now : ℕ) (m : Message) → Legal a
+    → HasNextUnder limits a now m
+next_exists_under limits a now m legal =
+    let there = move_there limits (state_of a) now m in
+    let steps = moves_step_under limits a now m there.move legal there.moves in
     record {
       after = steps.after;
       answer = there.move.answer;
@@ -42,28 +45,22 @@ ticked_legal : (a b : Account) (moment : ℕ) → Legal a → Ticks a moment b �
 ticked_legal a b moment legal (inl ticks) = ticks.1.legal
 ticked_legal a b moment legal (inr same) = subst Legal (sym same.1) legal
 
--- the time-outs are those of a step of any message
-pub ticks_can_enter : TicksCanEnter
-ticks_can_enter a now legal =
-    let next = (next_exists a now (message.Hello 0 0 One) legal).next in
-    (next.ticked, next.ticks, ticked_legal a next.ticked (step_moment a now) legal next.ticks)
-
 -- what the message does behind the time-outs
-record LeadsOn (a : Account) (moment : ℕ) (m : Message) : Type 0 where
+record LeadsOn (limits : StepLimits) (a : Account) (moment : ℕ) (m : Message) : Type 0 where
   after : Account
   answer : Answer
-  steps : NextAt a moment m after answer
+  steps : NextAtUnder limits a moment m after answer
   in_memory : answer ≢ Refused NoMemory
 
-leads_on : (before a : Account) (now : ℕ) (m : Message) → Legal before
-    → Ticks before (step_moment before now) a → LeadsOn a (step_moment before now) m
-leads_on before a now m legal ticks =
-    let there = next_exists before now m legal in
+leads_on : (limits : StepLimits) (before a : Account) (now : ℕ) (m : Message) → Legal before
+    → Ticks before (step_moment before now) a → LeadsOn limits a (step_moment before now) m
+leads_on limits before a now m legal ticks =
+    let there = next_exists_under limits before now m legal in
     let moment : ℕ = step_moment before now in
     record {
       after = there.after;
       answer = there.answer;
-      steps = subst (λ (t : Account). NextAt t moment m there.after there.answer)
+      steps = subst (λ (t : Account). NextAtUnder limits t moment m there.after there.answer)
           (one_ticked before there.next.ticked a moment there.next.ticks ticks) there.next.steps;
       in_memory = there.in_memory;
     }
@@ -87,6 +84,11 @@ key_lines a key R L M G H at_last above =
     (where_else _ L M _ _ at_last (λ no.
     refuse_or _ _ _ _ (refuse_or _ _ G H above))))))
 
+place_line : (bound : Option ℕ) (a : Account) (call : Call) (R : Refusal → Type 0) (G H : Type 0) → (G → H)
+    → PlaceLine bound a call R G → PlaceLine bound a call (λ refusal. Unit {0}) H
+place_line None a call R G H enters = enters
+place_line (Some most) a call R G H enters = refuse_or _ R G H enters
+
 enters : (a b : Account) (moment : ℕ) (does : Act) (x : Answer) (A : Type 0) → x ≢ Refused NoMemory
     → EntersOrNoMemory a moment does b x A → Adds a moment does b × A
 enters a b moment does x A in_memory (inl refuses) = absurd (in_memory refuses.1)
@@ -94,23 +96,23 @@ enters a b moment does x A in_memory (inr added) = added
 
 -- ---- each message
 
-pub hellos_can_enter : HellosCanEnter
-hellos_can_enter before a now client incarnation version legal ticks =
-    let on = leads_on before a now (message.Hello client incarnation version) legal ticks in
+pub hellos_can_enter_under : (limits : StepLimits) → HellosCanEnterUnder limits
+hellos_can_enter_under limits before a now client incarnation version legal ticks =
+    let on = leads_on limits before a now (message.Hello client incarnation version) legal ticks in
     refuse_or _ _ _ _ (refuse_or _ _ _ _
     (where_else _ _ (Unit {0}) _ _ (λ again. tt) (λ new.
     refuse_or _ _ _ _ (refuse_or _ _ _ _
     (λ h. (on.after, (enters _ _ _ _ _ _ on.in_memory h).0)))))) on.steps
 
-pub requests_can_enter : RequestsCanEnter
-requests_can_enter before a now key call legal ticks =
-    let on = leads_on before a now (Request key call) legal ticks in
+pub requests_can_enter_under : (limits : StepLimits) → RequestsCanEnterUnder limits
+requests_can_enter_under limits before a now key call legal ticks =
+    let on = leads_on limits before a now (message.Request key call) legal ticks in
     key_lines a key _ _ _ _ _
     (refuse_or _ _ _ _ (λ again. (on.answer, again.answers)))
-    (refuse_or _ _ _ _ (λ h.
+    (refuse_or _ _ _ _ (place_line limits.open_places a call _ _ _ (λ h.
     let added = enters a on.after (step_moment before now) (Arrive key call) on.answer
     (Answers on.after key on.answer) on.in_memory h in
-    record { after = on.after; answer = on.answer; adds = added.0; answers = added.1 })) on.steps
+    record { after = on.after; answer = on.answer; adds = added.0; answers = added.1 }))) on.steps
 
 -- whom a cancel's entry cancels
 cancels : (a b : Account) (moment : ℕ) (key : Key) → Legal a → Adds a moment (Cancel key) b
@@ -129,10 +131,10 @@ cancels a b moment key legal adds =
       replies = subst (λ (t : Account). Replies t key (Replied key Cancelled)) (sym entered.is) said;
     }
 
-pub cancels_can_enter : CancelsCanEnter
-cancels_can_enter before a now key legal ticks =
+pub cancels_can_enter_under : (limits : StepLimits) → CancelsCanEnterUnder limits
+cancels_can_enter_under limits before a now key legal ticks =
     let moment : ℕ = step_moment before now in
-    let on = leads_on before a now (message.Cancel key) legal ticks in
+    let on = leads_on limits before a now (message.Cancel key) legal ticks in
     let then = cancels a on.after moment key (ticked_legal before a moment legal ticks) in
     key_lines a key _ _ _ _ _
     (where_else _ _ _ _ _ (λ ends. then ends.0)

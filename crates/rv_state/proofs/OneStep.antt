@@ -1,19 +1,23 @@
--- A step leaves no choice, want of memory aside.
+-- A step under limits leaves no choice, want of memory aside, and time-outs alone leave none.
 use Rattle.rv_account.specs.declared.entry.Act as act
-use Rattle.rv_book.proofs.Words.{◌∙◌, ◌≡◌, Request, Account, with_entry, Act, Adds, EntersOrNoMemory}
-use Rattle.rv_book.proofs.Words.{EpochFullDue, NextAt, RefuseOr, Refuses, Answers, Ticks, step_moment}
-use Rattle.rv_book.proofs.Words.{ClientsFullDue, OtherCallDue, Replies, Answer, Call, Entry, OldIncarnation}
-use Rattle.rv_book.proofs.Words.{OtherVersion, Legal, Key, Version, Message, List, ap, inl, inr, subst, sym}
-use Rattle.rv_book.proofs.Words.{ℕ, Refusal, Refused, follows_itself, one_incarnation, one_last_number}
-use Rattle.rv_text.specs.declared.message.Message.TheVariants.{Cancel, Hello}
-use Rattle.rv_book.specs.Steps.{GapDue, NoSessionDue, OldIncarnationDue, OldNumberDue, OtherEpochDue}
-use Rattle.rv_book.specs.Steps.{OtherVersionDue, WhereElse, BusyDue, Repeats}
-use Rattle.rv_text.specs.declared.answer.Refusal.TheVariants.{Busy, Gap, NoMemory, OldNumber}
-use Rattle.std.proofs.Common.{◌≢◌}
-use Rattle.rv_book.specs.Laws.{OneNext}
+use Rattle.rv_state.proofs.Words.{◌∙◌, ◌≡◌, Account, with_entry, Act, Answers, Answer, Call, Entry}
+use Rattle.rv_state.proofs.Words.{OldIncarnation, Legal, Key, Version, Message, List, Option, None, Some, ap}
+use Rattle.rv_state.proofs.Words.{inl, inr, subst, sym, ℕ, Refusal, one_incarnation, one_last_number}
+use Rattle.std.specs.Prelude.{◌≢◌}
+use Rattle.rv_text.specs.declared.message.Message.TheVariants.{Cancel, Hello, Request}
+use Rattle.rv_text.specs.declared.answer.Answer.TheVariants.{Refused}
+use Rattle.rv_text.specs.declared.answer.Refusal.TheVariants.{Busy, Gap, NoMemory, OldNumber, OtherVersion}
+use Rattle.rv_account.specs.Calls.{need_of}
+use Rattle.rv_rules.specs.StepLimits.{StepLimits}
+use Rattle.rv_rules.specs.Steps.{Adds, BusyDue, ClientsFullDueUnder, EntersOrNoMemory, EpochFullDueUnder}
+use Rattle.rv_rules.specs.Steps.{GapDue, KeyLines, NextAtUnder, NoSessionDue, OldIncarnationDue, OldNumberDue}
+use Rattle.rv_rules.specs.Steps.{OtherCallDue, OtherEpochDue, OtherVersionDue, PlaceLine, PlacesFullDue}
+use Rattle.rv_rules.specs.Steps.{RefuseOr, Refuses, Repeats, Replies, WhereElse, step_moment}
+use Rattle.rv_rules.proofs.Legality.{follows_itself}
 use Rattle.rv_rules.proofs.SamePartners.{same_partners}
-use Rattle.rv_state.proofs.OneTold.{one_told}
 use Rattle.rv_rules.proofs.Versions.{one_opened}
+use Rattle.rv_state.specs.StepLaws.{OneNextUnder, OneTicked}
+use Rattle.rv_state.proofs.OneTold.{one_told}
 
 -- ---- the lines
 
@@ -69,12 +73,37 @@ one_busy : (a : Account) (key : Key) (p q : Refusal) → BusyDue a key p → Bus
 one_busy a key p q first second = first.is ∙ ap Busy (one_last_number a.entries key.client first.last
     second.last first.is_last second.is_last) ∙ sym second.is
 
-one_clients_full : (a : Account) (client : ℕ) (p q : Refusal) → ClientsFullDue a client p
-    → ClientsFullDue a client q → p ≡ q
-one_clients_full a client p q first second = first.is ∙ sym second.is
+one_clients_full : (limits : StepLimits) (a : Account) (client : ℕ) (p q : Refusal)
+    → ClientsFullDueUnder limits a client p → ClientsFullDueUnder limits a client q → p ≡ q
+one_clients_full limits a client p q first second = first.is ∙ sym second.is
 
-one_full : (a : Account) (need : ℕ) (p q : Refusal) → EpochFullDue a need p → EpochFullDue a need q → p ≡ q
-one_full a need p q first second = first.is ∙ sym second.is
+one_full : (limits : StepLimits) (a : Account) (need : ℕ) (p q : Refusal)
+    → EpochFullDueUnder limits a need p → EpochFullDueUnder limits a need q → p ≡ q
+one_full limits a need p q first second = first.is ∙ sym second.is
+
+one_place_full : (most : ℕ) (a : Account) (call : Call) (p q : Refusal) → PlacesFullDue most a call p
+    → PlacesFullDue most a call q → p ≡ q
+one_place_full most a call p q first second = first.is ∙ sym second.is
+
+-- the lines for a key, and that of a bound on open places
+both_key_lines : (a : Account) (key : Key) (R S : Refusal → Type 0) (L M O P G : Type 0)
+    → ((p : Refusal) → R p → S p → G) → (L → M → G) → (O → P → G) → KeyLines a key R L O
+    → KeyLines a key S M P → G
+both_key_lines a key R S L M O P G refused at_last above =
+    both_refuse _ R S _ _ G (one_other_epoch a key) refused
+    (both_refuse _ R S _ _ G (one_no_session a key) refused
+    (both_refuse _ R S _ _ G (one_old_incarnation a key.client key.incarnation) refused
+    (both_refuse _ R S _ _ G (one_old_number a key) refused
+    (both_where _ L M _ _ G at_last
+    (both_refuse _ R S _ _ G (one_busy a key) refused
+    (both_refuse _ R S O P G (one_gap a key) refused above))))))
+
+both_place_line : (bound : Option ℕ) (a : Account) (call : Call) (R S : Refusal → Type 0) (O P G : Type 0)
+    → ((p : Refusal) → R p → S p → G) → (O → P → G) → PlaceLine bound a call R O → PlaceLine bound a call S P
+    → G
+both_place_line None a call R S O P G refused enters = enters
+both_place_line (Some most) a call R S O P G refused enters =
+    both_refuse _ R S O P G (one_place_full most a call) refused enters
 
 -- ---- the entry
 
@@ -139,54 +168,42 @@ one_repeat : (a b c : Account) (key : Key) (x y : Answer) → Repeats a b key x 
     → Same b c x y
 one_repeat a b c key x y first second = (first.account ∙ sym second.account, second.only x first.answers)
 
-one_next_at : (a b c : Account) (moment : ℕ) (m : Message) (x y : Answer) → NextAt a moment m b x
-    → NextAt a moment m c y → x ≢ Refused NoMemory → y ≢ Refused NoMemory → Same b c x y
-one_next_at a b c moment (Hello client incarnation version) x y first second ample enough =
-    both_refuse _ _ _ _ _ (Same b c x y) (one_old_incarnation a client incarnation) (λ p. one_refused a b c x
-    y p)
-    (both_refuse _ _ _ _ _ (Same b c x y) (one_other_version a client incarnation version)
-    (λ p. one_refused a b c x y p)
-    (both_where _ _ _ _ _ (Same b c x y) (λ h k. (h.0 ∙ sym k.0, h.1 ∙ sym k.1))
-    (both_refuse _ _ _ _ _ (Same b c x y) (one_clients_full a client) (λ p. one_refused a b c x y p)
-    (both_refuse _ _ _ _ _ (Same b c x y) (one_full a 1) (λ p. one_refused a b c x y p)
-    (one_welcome a b c moment client incarnation version x y _ ample enough)))))
-    first second
-one_next_at a b c moment (Request key call) x y first second ample enough =
-    both_refuse _ _ _ _ _ (Same b c x y) (one_other_epoch a key) (λ p. one_refused a b c x y p)
-    (both_refuse _ _ _ _ _ (Same b c x y) (one_no_session a key) (λ p. one_refused a b c x y p)
-    (both_refuse _ _ _ _ _ (Same b c x y) (one_old_incarnation a key.client key.incarnation)
-    (λ p. one_refused a b c x y p)
-    (both_refuse _ _ _ _ _ (Same b c x y) (one_old_number a key) (λ p. one_refused a b c x y p)
-    (both_where _ _ _ _ _ (Same b c x y) (both_refuse _ _ _ _ _ (Same b c x y) (one_other_call a key call)
-    (λ p. one_refused a b c x y p) (one_repeat a b c key x y))
-    (both_refuse _ _ _ _ _ (Same b c x y) (one_busy a key) (λ p. one_refused a b c x y p)
-    (both_refuse _ _ _ _ _ (Same b c x y) (one_gap a key) (λ p. one_refused a b c x y p)
-    (both_refuse _ _ _ _ _ (Same b c x y) (one_full a _) (λ p. one_refused a b c x y p)
-    (one_replied a b c moment key (act.TheVariants.Arrive key call) x y ample enough))))))))
-    first second
-one_next_at a b c moment (Cancel key) x y first second ample enough =
-    both_refuse _ _ _ _ _ (Same b c x y) (one_other_epoch a key) (λ p. one_refused a b c x y p)
-    (both_refuse _ _ _ _ _ (Same b c x y) (one_no_session a key) (λ p. one_refused a b c x y p)
-    (both_refuse _ _ _ _ _ (Same b c x y) (one_old_incarnation a key.client key.incarnation)
-    (λ p. one_refused a b c x y p)
-    (both_refuse _ _ _ _ _ (Same b c x y) (one_old_number a key) (λ p. one_refused a b c x y p)
-    (both_where _ _ _ _ _ (Same b c x y) (both_where _ _ _ _ _ (Same b c x y)
-    (λ h k. (one_added a b c moment _ h.0 k.0, h.1 ∙ sym k.1)) (one_repeat a b c key x y))
-    (both_refuse _ _ _ _ _ (Same b c x y) (one_busy a key) (λ p. one_refused a b c x y p)
-    (both_refuse _ _ _ _ _ (Same b c x y) (one_gap a key) (λ p. one_refused a b c x y p)
-    (both_refuse _ _ _ _ _ (Same b c x y) (one_full a 1) (λ p. one_refused a b c x y p)
-    (λ h k. one_replied a b c moment key (act.TheVariants.Cancel key) x y ample enough
-    (with_answers a b moment (act.TheVariants.Cancel key) key x h) (with_answers a c moment
-    (act.TheVariants.Cancel key) key y k)))))))))
-    first second
+module _ (limits : StepLimits) (a b c : Account) (moment : ℕ) (x y : Answer) (ample : x ≢ Refused NoMemory)
+    (enough : y ≢ Refused NoMemory) where
+  refused : (p : Refusal) → Refuses a b x p → Refuses a c y p → Same b c x y
+  refused = one_refused a b c x y
 
--- the time-outs of a step lead to one account
-pub one_ticked : (a b c : Account) (moment : ℕ) → Ticks a moment b → Ticks a moment c → b ≡ c
+  one_next_at : (m : Message) → NextAtUnder limits a moment m b x → NextAtUnder limits a moment m c y
+      → Same b c x y
+  one_next_at (Hello client incarnation version) =
+      both_refuse _ _ _ _ _ (Same b c x y) (one_old_incarnation a client incarnation) refused
+      (both_refuse _ _ _ _ _ (Same b c x y) (one_other_version a client incarnation version) refused
+      (both_where _ _ _ _ _ (Same b c x y) (λ h k. (h.0 ∙ sym k.0, h.1 ∙ sym k.1))
+      (both_refuse _ _ _ _ _ (Same b c x y) (one_clients_full limits a client) refused
+      (both_refuse _ _ _ _ _ (Same b c x y) (one_full limits a 1) refused
+      (one_welcome a b c moment client incarnation version x y _ ample enough)))))
+  one_next_at (Request key call) =
+      both_key_lines a key _ _ _ _ _ _ (Same b c x y) refused
+      (both_refuse _ _ _ _ _ (Same b c x y) (one_other_call a key call) refused (one_repeat a b c key x y))
+      (both_refuse _ _ _ _ _ (Same b c x y) (one_full limits a (need_of call)) refused
+      (both_place_line limits.open_places a call _ _ _ _ (Same b c x y) refused
+      (one_replied a b c moment key (act.TheVariants.Arrive key call) x y ample enough)))
+  one_next_at (Cancel key) =
+      both_key_lines a key _ _ _ _ _ _ (Same b c x y) refused
+      (both_where _ _ _ _ _ (Same b c x y) (λ h k. (one_added a b c moment _ h.0 k.0, h.1 ∙ sym k.1))
+      (one_repeat a b c key x y))
+      (both_refuse _ _ _ _ _ (Same b c x y) (one_full limits a 1) refused
+      (λ h k. one_replied a b c moment key (act.TheVariants.Cancel key) x y ample enough
+      (with_answers a b moment (act.TheVariants.Cancel key) key x h)
+      (with_answers a c moment (act.TheVariants.Cancel key) key y k)))
+
+pub one_ticked : OneTicked
 one_ticked a b c moment = both_where _ _ _ _ _ (b ≡ c) (one_added a b c moment act.TheVariants.Tick)
     (λ first second. first ∙ sym second)
 
-pub one_next : OneNext
-one_next a b c now m x y first second ample enough =
-    let same = one_ticked a second.ticked first.ticked (step_moment a now) second.ticks first.ticks in
-    one_next_at first.ticked b c (step_moment a now) m x y first.steps
-    (subst (λ (d : Account). NextAt d (step_moment a now) m c y) same second.steps) ample enough
+pub one_next_under : (limits : StepLimits) → OneNextUnder limits
+one_next_under limits a b c now m x y first second ample enough =
+    let moment : ℕ = step_moment a now in
+    let same = one_ticked a second.ticked first.ticked moment second.ticks first.ticks in
+    one_next_at limits first.ticked b c moment x y ample enough m first.steps
+    (subst (λ (d : Account). NextAtUnder limits d moment m c y) same second.steps)
