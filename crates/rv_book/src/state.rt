@@ -155,7 +155,7 @@ impl BookState {
         ensures quiet { IsQuiet self.new result }
         ensures ticks { Ticks (account_of self.old) result (account_of self.new) }
     {
-        let TickMade { moment, entry } = self.machine.tick(now);
+        let TickMade { moment, entry } = self.machine.elapse(now);
         match entry {
             Some(entry) => {
                 self.record(entry);

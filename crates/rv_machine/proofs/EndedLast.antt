@@ -9,7 +9,7 @@ use Rattle.rv_text.specs.declared.answer.Reply.{Reply}
 use Rattle.rv_session.specs.declared.client.LastRequest.{LastRequest}
 use Rattle.rv_session.specs.declared.client.LastRequest.TheVariants.{Fresh, Waits, RepliedTo, CancelledUnseen}
 use Rattle.rv_session.specs.Clients.{answered, clients_told, place_waiting, with_request}
-use Rattle.rv_text.specs.Members.{max_identifier}
+use Rattle.rv_open.specs.OpenMap.{most_counted}
 use Rattle.rv_state.specs.State.{ClientState, OpenPlace, State, Waiter, client_at, client_waits, open_at}
 use Rattle.rv_state.proofs.TableClients.{clients_after_tell}
 use Rattle.rv_state.proofs.Words.{none-some, same_Some}
@@ -100,11 +100,11 @@ module _ (old new : Machine) (ready : IsWhole old) (client place : ℕ) (reply :
 -- ---- space
 
 pub space_after : (old new : Machine) (ready : IsWhole old) (place : ℕ) (reply : Reply)
-    → EndsWaiting old new place reply → new.length + count_waiting new.table < max_identifier
+    → EndsWaiting old new place reply → new.length + count_waiting new.table < most_counted
 space_after old new ready place reply ends =
     let less = less_waits (state_in old) ready.consistent place ends.there ends.waiter reply ends.found
     ends.waits in
     let opens = ap (λ (s : State). count_waiting s.open_places) ends.state in
     let length = ap (λ (s : State). s.length) ends.state in
-    let most : old.length + count_waiting old.table ≤ max_identifier = ready.consistent.space in
+    let most : old.length + count_waiting old.table ≤ most_counted = ready.consistent.space in
     omega (arith, less, opens, length, most)

@@ -102,7 +102,8 @@ lower_new limits m client incarnation waiting has = record {
 -- ---- what a hello makes of a state
 
 module _ (s : State) (client : ℕ) (session : ClientState) where
-  greeted_idle : WaitsForNothing s client → (greeted s client session).after ≡ with_client s client session
+  pub greeted_idle : WaitsForNothing s client
+      → (greeted s client session).after ≡ with_client s client session
   greeted_idle idle =
       ap (λ (o : Option OpenPlace). with_client (stopped s (just_open o) Cancelled).after client session)
       (idle_waits s client idle)

@@ -33,3 +33,4 @@ pub mod Drained
 pub mod Deciding
 pub mod RoomTaken
 pub mod NoRoom
+pub mod Redoing

@@ -23,7 +23,7 @@ use Rattle.rv_session.specs.declared.client.LastRequest.TheVariants.{RepliedTo, 
 use Rattle.rv_session.specs.Clients.{clients_asked, place_waiting, with_last_number}
 use Rattle.rv_account.specs.declared.entry.Act.TheVariants.{Arrive}
 use Rattle.rv_account.specs.Calls.{Lasts, may_name, need_by, need_of, opposite}
-use Rattle.rv_text.specs.Members.{max_identifier}
+use Rattle.rv_open.specs.OpenMap.{most_counted}
 use Rattle.rv_rules.specs.Steps.{max_moment}
 use Rattle.rv_state.specs.State.{OpenPlace, State, Waiter, client_at}
 use Rattle.rv_state.specs.After.{Following, advanced, following, lasts_by, met_by, opened_by, request_after}
@@ -199,7 +199,7 @@ its_waiter key moment (Some wait) w is = (same_Some _ _ is, refl)
 
 module _ (s : State) (is : IsConsistent s) (moment : ℕ) (key : Key) (call : Call) (next : NumberIsNext s key)
     (it : StaysBy (side_of call) (wait_of call)) (time : moment ≤ max_moment)
-    (space : s.length + count_waiting s.open_places + need_of call ≤ max_identifier) where
+    (space : s.length + count_waiting s.open_places + need_of call ≤ most_counted) where
   abbrev its_request : LastRequest
   its_request = request_after s.length call (told_alone s call)
 

@@ -1,6 +1,6 @@
 -- What it is that a request arrives at a machine.
 use Rattle.std.specs.Prelude.{◌≡◌, ◌+◌, ◌≤◌, ◌++◌, ℕ, Option, Some, None}
-use Rattle.rv_text.specs.Members.{max_identifier}
+use Rattle.rv_open.specs.OpenMap.{most_counted}
 use Rattle.rv_text.specs.declared.message.Key.{Key}
 use Rattle.rv_text.specs.declared.call.Call.{Call}
 use Rattle.rv_text.specs.Limits.{FitsCall}
@@ -27,7 +27,7 @@ pub record MayArrive (m : Machine) (moment : ℕ) (key : Key) (call : Call) : Ty
   pub time : moment ≤ max_moment
   pub fits : FitsCall call
   pub next : NumberIsNext (state_in m) key
-  pub space : m.length + count_waiting m.table + need_of call ≤ max_identifier
+  pub space : m.length + count_waiting m.table + need_of call ≤ most_counted
 
 -- it arrived: the state is what its entry makes of the one before, whom that settles is listed, and its
 -- session has what the entry's own reply is

@@ -10,3 +10,4 @@ pub mod Telling
 pub mod Stepping
 pub mod Needing
 pub mod Taking
+pub mod Redoing

@@ -2,7 +2,7 @@
 use Rattle.std.specs.Prelude.{◌≡◌, ◌+◌, ◌≤◌, ◌++◌, [], ℕ, List, map, Option, Some, None, IsSome}
 use Rattle.std.specs.Prelude.{option_to_list, slice_get}
 use Rattle.std.specs.Prelude.{vec_capacity, vec_len}
-use Rattle.rv_text.specs.Members.{max_identifier}
+use Rattle.rv_open.specs.OpenMap.{most_counted}
 use Rattle.rv_text.specs.declared.message.Key.{Key}
 use Rattle.rv_text.specs.declared.message.Message.{Message}
 use Rattle.rv_text.specs.declared.answer.Refusal.{Refusal}
@@ -92,7 +92,7 @@ pub record IsConsistent (s : State) : Type 0 where
   pub clients : (client : ℕ) (session : ClientState) (place : ℕ) (call : Call)
       → client_at s client ≡ Some session → session.request ≡ Waits place call → AwaitsPlace s client place
   pub time : s.moment ≤ max_moment
-  pub space : s.length + count_waiting s.open_places ≤ max_identifier
+  pub space : s.length + count_waiting s.open_places ≤ most_counted
 
 -- and the machine has room to list whoever waits among those that a step settles
 pub record IsWhole (m : Machine) : Type 0 where

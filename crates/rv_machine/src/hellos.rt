@@ -1,7 +1,7 @@
 //! Hellos: the first one of a client, and those of a later incarnation.
 ghost use Rattle.std.specs.Prelude.{◌≡◌, ◌≤◌, ◌<◌, ◌+◌, [], None, IfOk, IfErr, option_to_list};
 ghost use Rattle.std.specs.FinMap.{get};
-ghost use Rattle.rv_text.specs.Members.{max_identifier};
+ghost use Rattle.rv_open.specs.OpenMap.{most_counted};
 ghost use Rattle.rv_text.specs.declared.message.Message.TheVariants.{Hello};
 ghost use Rattle.rv_account.specs.Account.{entry};
 ghost use Rattle.rv_account.specs.declared.entry.Act.TheVariants as act;
@@ -141,7 +141,7 @@ impl Machine {
         requires numbered { AreNumbered (state_in self.old) }
         requires time { moment ≤ max_moment }
         requires opens { CanOpen self.old client }
-        requires space { self.old.length + count_waiting self.old.table < max_identifier }
+        requires space { self.old.length + count_waiting self.old.table < most_counted }
         ensures ready { IsWhole self.new }
         ensures numbered { AreNumbered (state_in self.new) }
         ensures entry { result ≡ entry moment (act.Hello client incarnation version) [] }

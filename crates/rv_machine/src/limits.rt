@@ -1,18 +1,25 @@
 //! The limits under which a step is made.
 ghost use Rattle.std.specs.Prelude.{◌≡◌, ◌↔◌, ◌≤◌, IfSome, IsSome};
-ghost use Rattle.rv_text.specs.Members.{max_identifier};
-ghost use Rattle.rv_rules.specs.StepLimits.{AreStepLimits, BoundsPlaces, book_limits, most_clients};
+ghost use Rattle.rv_open.specs.OpenMap.{most_counted};
+ghost use Rattle.rv_rules.specs.StepLimits.{AreStepLimits, book_limits};
+ghost use Rattle.rv_machine.specs.Limiting.{most_known, widest};
 
 use std::marker::Model;
 
-// The most entries that a number counts in JSON, 2^53 - 1.
+// The most entries of a step's limits, 2^53 - 1.
 const MOST_ENTRIES: usize = 9_007_199_254_740_991;
 
-// The most clients.
+// How far a machine counts entries, 2^54.
+const MOST_COUNTED: usize = 18_014_398_509_481_984;
+
+/// The most clients that a machine knows, whatever the limits of its steps.
+pub(crate) const MOST_KNOWN: usize = 100_000;
+
+// The most clients of a step's limits.
 const MOST_CLIENTS: usize = 65_536;
 
-// The most open places.
-pub(crate) const MOST_OPEN_PLACES: usize = 100_000;
+// The most open places of a step's limits.
+const MOST_OPEN_PLACES: usize = 100_000;
 
 /// The limits under which a step is made: how many entries there may be, how many clients, and how many
 /// places may stand open, if that is bounded. Contracts see them as those of the step's definition.
@@ -24,13 +31,14 @@ pub struct Limits {
 }
 
 impl Model for Limits {
-    ghost use Rattle.rv_rules.specs.StepLimits.{AreStepLimits, StepLimits};
+    ghost use Rattle.rv_rules.specs.StepLimits.{StepLimits};
+    ghost use Rattle.rv_machine.specs.Limiting.{AreWithin};
 
     ghost Value = { StepLimits };
 
     ghost view = { λ l. record { entries = l.entries; clients = l.clients; open_places = l.open_places } };
 
-    ghost invariant = { λ l. AreStepLimits (record {
+    ghost invariant = { λ l. AreWithin (record {
       entries = l.entries;
       clients = l.clients;
       open_places = l.open_places;
@@ -68,10 +76,21 @@ impl Limits {
         })
     }
 
+    // Past all that a state to resume from has: by these no entry is refused that was written before.
+    pub(crate) fn widest() -> Limits
+        ensures { result ≡ widest }
+    {
+        Limits {
+            entries: MOST_COUNTED,
+            clients: MOST_KNOWN,
+            open_places: None,
+        }
+    }
+
     /// How many entries there may be, with those that end what waits.
     pub fn entries(&self) -> usize
         ensures exact { result ≡ self.now.entries }
-        ensures bounded { result ≤ max_identifier }
+        ensures bounded { result ≤ most_counted }
     {
         self.entries
     }
@@ -79,15 +98,14 @@ impl Limits {
     /// How many clients there may be.
     pub fn clients(&self) -> usize
         ensures exact { result ≡ self.now.clients }
-        ensures bounded { result ≤ most_clients }
+        ensures bounded { result ≤ most_known }
     {
         self.clients
     }
 
     /// How many places may stand open, if that is bounded.
     pub fn open_places(&self) -> Option<usize>
-        ensures exact { result ≡ self.now.open_places }
-        ensures bounded { BoundsPlaces result self.now.entries }
+        ensures { result ≡ self.now.open_places }
     {
         self.open_places
     }

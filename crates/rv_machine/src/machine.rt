@@ -1,9 +1,6 @@
 //! The machine of a book: the state of an account in tables, and what changes them together.
-ghost use Rattle.std.specs.Prelude.{◌≡◌, ◌+◌, ◌<◌, ◌≤◌, option_map, slice_get};
-ghost use Rattle.rv_text.specs.Limits.{FitsQueue};
-ghost use Rattle.rv_text.specs.Members.{max_identifier};
-ghost use Rattle.rv_text.specs.declared.call.Side.TheVariants.{Gives};
-ghost use Rattle.rv_state.specs.State.{client_at, line, place_list, waiting_count};
+ghost use Rattle.std.specs.Prelude.{◌≡◌, ◌+◌, ◌<◌, ◌≤◌};
+ghost use Rattle.rv_open.specs.OpenMap.{most_counted};
 ghost use Rattle.rv_open.specs.Indexed.{WaitsIn};
 ghost use Rattle.rv_machine.specs.Machines.{IsWhole, SameListRoom, state_in};
 ghost use Rattle.rv_machine.specs.Ending.{EndsWaiting, counted};
@@ -13,7 +10,7 @@ ghost use Rattle.rv_open.specs.OpenMap.{count_waiting};
 
 use rv_account::{Act, Entry, Partners};
 use rv_open::OpenTable;
-use rv_session::{ClientState, Clients, Place};
+use rv_session::{Clients, Place};
 use rv_text::{Key, Refusal, Reply, Version};
 use std::alloc::Global;
 
@@ -56,10 +53,10 @@ impl Machine {
 
     /// Counts one entry more, of a moment, and gives it. What is whole stays so if there is space for it.
     pub(crate) fn record(&mut self, moment: u64, act: Act, partners: Partners) -> Entry
-        requires { self.old.length < max_identifier }
+        requires { self.old.length < most_counted }
         ensures entry { result ≡ entry moment act partners }
         ensures ready { IsWhole self.old → moment ≤ max_moment
-            → self.old.length + count_waiting self.old.table < max_identifier → IsWhole self.new }
+            → self.old.length + count_waiting self.old.table < most_counted → IsWhole self.new }
         ensures counted { self.new ≡ counted self.old moment }
     {
         self.length += 1;
@@ -69,35 +66,6 @@ impl Machine {
             act,
             partners,
         }
-    }
-
-    /// How many requests wait.
-    pub fn waiting(&self) -> usize
-        ensures { result ≡ waiting_count (state_in self.now) }
-    {
-        self.table.waiting()
-    }
-
-    /// The client's state, if it said hello.
-    pub fn client(&self, client: u64) -> Option<&ClientState>
-        ensures { option_map (λ c. c.now) result ≡ client_at (state_in self.now) client }
-    {
-        self.clients.get(client)
-    }
-
-    /// The place of a queue's oldest item.
-    pub fn front(&self, queue: u64) -> Option<Place>
-        requires { FitsQueue queue }
-        ensures { result ≡ slice_get (place_list (line (state_in self.now) (Gives queue))) 0 }
-    {
-        Some(self.table.front(queue)?.place)
-    }
-
-    /// The keys that the last [`tick`](Machine::tick) or [`hear`](Machine::hear) settled, in their order.
-    pub fn settled(&self) -> &[Key]
-        ensures { result.now ≡ self.now.settled.items }
-    {
-        &self.settled
     }
 
     /// The allocator that the machine keeps.

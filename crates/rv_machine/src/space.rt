@@ -2,7 +2,7 @@
 ghost use Rattle.std.specs.Prelude.{◌≡◌, ◌↔◌, ◌≤◌, ◌<◌, ◌+◌, true, false, IsTrue};
 ghost use Rattle.rv_rules.specs.Steps.{max_entries};
 ghost use Rattle.rv_text.specs.Limits.{FitsCall, FitsMessage};
-ghost use Rattle.rv_text.specs.Members.{max_identifier};
+ghost use Rattle.rv_open.specs.OpenMap.{most_counted};
 ghost use Rattle.rv_machine.specs.Entering.{HasSpaceFor};
 ghost use Rattle.rv_machine.specs.Limiting.{LacksPlace, LacksPlaceFor};
 ghost use Rattle.rv_machine.specs.Machines.{IsWhole, state_in};
@@ -38,7 +38,7 @@ impl Machine {
             → limits.now.entries < self.now.length + count_waiting self.now.table + need }
         ensures space { result ≡ false → HasSpaceFor limits.now self.now need }
         ensures counts { result ≡ false
-            → self.now.length + count_waiting self.now.table + need ≤ max_identifier }
+            → self.now.length + count_waiting self.now.table + need ≤ most_counted }
     {
         self.length + self.table.waiting() + need > limits.entries()
     }

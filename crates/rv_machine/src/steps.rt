@@ -9,16 +9,13 @@ ghost use Rattle.rv_machine.specs.Machines.{IsWhole, SameListRoom, state_in};
 ghost use Rattle.rv_machine.specs.Numbering.{AreNumbered};
 ghost use Rattle.rv_machine.specs.Stepping.{IsHearing, IsNoRequest, MadeNothing, IsTick};
 
-use crate::limits::Limits;
+use crate::limits::{Limits, MOST_KNOWN};
 use crate::machine::{Machine, Said};
 use rv_account::Entry;
 use rv_open::OpenTable;
 use rv_session::Clients;
 use rv_text::{Message, NoMemory, Refusal};
 use std::alloc::Global;
-
-// The most clients that a machine knows, whatever the limits of its steps.
-const MOST_KNOWN: usize = 100_000;
 
 // The greatest moment, 2^62.
 const MAX_MOMENT: u64 = 4_611_686_018_427_387_904;
@@ -71,9 +68,10 @@ impl Machine {
         })
     }
 
-    /// The first half of a step: all that is due at its moment is ended, and its keys are listed. The moment
-    /// is the one that is handed in, at most 2^62, or the last one if that is later. It takes no memory.
-    pub fn tick(&mut self, now: u64) -> TickMade
+    /// The first half of a step, or time that passes alone: all that is due at its moment is ended, and its
+    /// keys are listed; where nothing is due the state stays. The moment is the one that is handed in, at most
+    /// 2^62, or the last one if that is later. It takes no memory.
+    pub fn elapse(&mut self, now: u64) -> TickMade
         requires ready { IsWhole self.old }
         requires numbered { AreNumbered (state_in self.old) }
         ensures ready { IsWhole self.new }
@@ -91,7 +89,7 @@ impl Machine {
     }
 
     /// The second half of a step: a message is heard at its moment under limits, and the keys that it settles
-    /// are listed. Limits only refuse: a machine that others made goes on under any.
+    /// are listed. Limits only refuse: a machine goes on under any.
     pub fn hear(&mut self, limits: &Limits, moment: u64, message: Message) -> Heard
         requires ready { IsWhole self.old }
         requires numbered { AreNumbered (state_in self.old) }

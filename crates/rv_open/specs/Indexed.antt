@@ -9,7 +9,6 @@ use Rattle.rv_text.specs.declared.call.Wait.{Wait}
 use Rattle.rv_text.specs.Calls.{side_of, wait_of}
 use Rattle.rv_session.specs.declared.client.LastRequest.TheVariants.{Waits}
 use Rattle.rv_session.specs.Clients.{ClientStates, clients_asked, with_clients}
-use Rattle.rv_text.specs.Members.{max_identifier}
 use Rattle.rv_waiters.specs.Meeting.{StaysBy}
 use Rattle.rv_text.specs.Limits.{FitsSide}
 use Rattle.rv_session.specs.OwedDuty.{OwedDuty}
@@ -18,7 +17,7 @@ use Rattle.rv_state.specs.State.{OpenPlace, place_list}
 use Rattle.rv_waiters.specs.Parked.{AreParked}
 use Rattle.rv_waiters.specs.Views.{Waiters, waiting_on}
 use Rattle.rv_open.specs.OpenMap.{PlacesRise, due_in, duty_at, facing, found_at, deadlines_in, line_in}
-use Rattle.rv_open.specs.OpenMap.{StandBelow, opposed_in, owed_among, count_waiting, all_but}
+use Rattle.rv_open.specs.OpenMap.{StandBelow, most_counted, opposed_in, owed_among, count_waiting, all_but}
 
 -- the places rise, each is of a side that there is, and whoever has a limit waits; the tables have just these
 pub record AreIndexed (all : List OpenPlace) (waiters : Waiters) (waiting : ℕ) (due : Deadlines) : Type 0
@@ -75,7 +74,7 @@ pub record MayPark (all : List OpenPlace) (opened : OpenPlace) (key : Key) (call
   pub waiter : duty_at opened
       ≡ option_map (λ w. record { place = opened.place; client = key.client }) (wait_of call)
   pub limited : IsSome opened.limit → IsSome opened.waiter
-  pub few : count_waiting all < max_identifier
+  pub few : count_waiting all < most_counted
 
 -- it stays from now on: its request is its client's last, and waits unless it is a put's
 pub record ParksPlace (old new : List OpenPlace) (was now : ClientStates) (opened : OpenPlace) (key : Key)

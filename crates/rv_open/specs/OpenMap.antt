@@ -13,6 +13,10 @@ use Rattle.rv_due.specs.Deadlines.{Deadline, Deadlines, by_moment}
 use Rattle.rv_state.specs.State.{OpenPlace, same_side}
 use Rattle.rv_state.specs.After.{deadline_of_place}
 
+-- how far a machine counts entries and those that wait, past the limits of any step
+abbrev pub most_counted : ℕ
+most_counted = 18014398509481984
+
 -- each stands before those of greater places
 abbrev pub PlacesRise : List OpenPlace → Type 0
 PlacesRise all = (i j : ℕ) (one other : OpenPlace) → i < j → slice_get all i ≡ Some one

@@ -1,7 +1,7 @@
 -- What an arrival that has space moves, and one that has none.
 use Rattle.std.proofs.Common.{◌≤◌, ◌+◌, ◌∙◌, subst, sym}
 use Rattle.std.proofs.lemmas.Bool.{false≢true}
-use Rattle.rv_text.specs.Members.{max_identifier}
+use Rattle.rv_open.specs.OpenMap.{most_counted}
 use Rattle.rv_open.specs.OpenMap.{count_waiting}
 use Rattle.rv_machine.proofs.KeyLines.{number_next}
 use Rattle.rv_machine.proofs.NumberedArrivals.{arrives_numbered}
@@ -31,7 +31,7 @@ join-requires c = record {
     time = c.requires.time;
     fits = c.requires.fits;
     next = number_next c.args.self.now c.args.key c.requires.next;
-    space = subst (λ n. c.args.self.now.length + count_waiting c.args.self.now.table + n ≤ max_identifier)
+    space = subst (λ n. c.args.self.now.length + count_waiting c.args.self.now.table + n ≤ most_counted)
         c.need_of.ensures.exact (c.is_full.ensures.counts c.if-is_full.false);
   };
 }

@@ -2,7 +2,7 @@
 use Rattle.std.proofs.Common.{◌≡◌, ◌<◌, ◌+◌, ◌∙◌, ℕ, List, ap, arith, length, min, refl}
 use Rattle.rv_text.specs.declared.call.Call.{Call}
 use Rattle.rv_text.specs.declared.message.Key.{Key}
-use Rattle.rv_text.specs.Members.{max_identifier}
+use Rattle.rv_open.specs.OpenMap.{most_counted}
 use Rattle.rv_state.specs.State.{State}
 use Rattle.rv_machine.specs.Arriving.{MayArrive}
 use Rattle.rv_machine.specs.Taking.{TakesAll}
@@ -32,7 +32,7 @@ conclude-requires c =
 has_space : (old new : Machine) (queue : ℕ) (key taker : Key) (call : Call) (count moment : ℕ)
     (items : List (List ℕ)) (places : List ℕ) → MayArrive old moment key call
     → TakesAll old new queue taker count items places
-    → new.length + count_waiting new.table < max_identifier
+    → new.length + count_waiting new.table < most_counted
 has_space old new queue key taker call count moment items places may takes =
     let least = needs_one (wait_of call) in
     let fewer = takes.fewer in

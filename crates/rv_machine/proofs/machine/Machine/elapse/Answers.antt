@@ -3,7 +3,7 @@ use Rattle.std.proofs.Common.{◌≤◌, sym, subst, arith}
 use Rattle.rv_state.specs.State.{State}
 use Rattle.rv_machine.specs.Machines.{state_in}
 use Rattle.rv_machine.proofs.OutcomeMoves.{ticked_later, ticks_by}
-use Rattle.rv_machine.proofs.machine.Machine.tick.Goals as goal
+use Rattle.rv_machine.proofs.machine.Machine.elapse.Goals as goal
 
 pub returns-clause-ticks : goal.returns-clause-ticks
 returns-clause-ticks c =

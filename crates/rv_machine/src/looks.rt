@@ -1,0 +1,91 @@
+//! What is read off a machine.
+ghost use Rattle.std.specs.Prelude.{◌≡◌, IfNone, IfSome, length, option_map, slice_get, ℕ, []};
+ghost use Rattle.std.specs.FinMap.{len};
+ghost use Rattle.rv_text.specs.Limits.{FitsQueue};
+ghost use Rattle.rv_text.specs.declared.call.Side.TheVariants.{Gives, Takes};
+ghost use Rattle.rv_state.specs.After.{due_at};
+ghost use Rattle.rv_state.specs.State.{client_at, line, open_at, place_list, waiting_count};
+ghost use Rattle.rv_machine.specs.Machines.{state_in};
+ghost use Rattle.rv_machine.specs.Redoing.{IsNextLimit};
+
+use crate::machine::Machine;
+use rv_session::{ClientState, OpenPlace, Place};
+use rv_text::Key;
+
+impl Machine {
+    /// The moment of the last entry, or the opening moment, in milliseconds.
+    pub fn moment(&self) -> u64
+        ensures { result ≡ (state_in self.now).moment }
+    {
+        self.moment
+    }
+
+    /// How many clients said a hello.
+    pub fn clients(&self) -> usize
+        ensures { result ≡ len (state_in self.now).clients }
+    {
+        self.clients.len()
+    }
+
+    /// The client's state, if it said hello.
+    pub fn client(&self, client: u64) -> Option<&ClientState>
+        ensures { option_map (λ c. c.now) result ≡ client_at (state_in self.now) client }
+    {
+        self.clients.get(client)
+    }
+
+    /// How many places are open.
+    pub fn open_places(&self) -> usize
+        ensures { result ≡ length (state_in self.now).open_places }
+    {
+        self.table.len()
+    }
+
+    /// What is open at a place.
+    pub fn open_at(&self, place: Place) -> Option<&OpenPlace>
+        ensures { option_map (λ o. o.now) result ≡ open_at (state_in self.now) place }
+    {
+        self.table.get(place)
+    }
+
+    /// How many requests wait.
+    pub fn waiting(&self) -> usize
+        ensures { result ≡ waiting_count (state_in self.now) }
+    {
+        self.table.waiting()
+    }
+
+    /// How many items and how many consumers wait in a queue.
+    pub fn count(&self, queue: u64) -> (usize, usize)
+        requires { FitsQueue queue }
+        ensures items { result.0 ≡ length (line (state_in self.now) (Gives queue)) }
+        ensures consumers { result.1 ≡ length (line (state_in self.now) (Takes queue)) }
+    {
+        self.table.count(queue)
+    }
+
+    /// The place of a queue's oldest item.
+    pub fn front(&self, queue: u64) -> Option<Place>
+        requires { FitsQueue queue }
+        ensures { result ≡ slice_get (place_list (line (state_in self.now) (Gives queue))) 0 }
+    {
+        Some(self.table.front(queue)?.place)
+    }
+
+    /// The least limit of a request that waits, if one has a limit: the first moment at which something is
+    /// due.
+    pub fn next_limit(&self) -> Option<u64>
+        ensures some { IfSome result (IsNextLimit (state_in self.now)) }
+        ensures none { IfNone result ((moment : ℕ) → due_at (state_in self.now) moment ≡ []) }
+    {
+        self.table.next_limit()
+    }
+
+    /// The keys that the last [`elapse`](Machine::elapse), [`hear`](Machine::hear) or [`redo`](Machine::redo)
+    /// settled, in their order.
+    pub fn settled(&self) -> &[Key]
+        ensures { result.now ≡ self.now.settled.items }
+    {
+        &self.settled
+    }
+}
