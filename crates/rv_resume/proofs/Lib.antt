@@ -16,3 +16,7 @@ pub mod Rooms
 pub mod ResumeLaws
 pub mod StepLaws
 pub mod AccountLaws
+pub mod Ordered
+pub mod Knowing
+pub mod MapOf
+pub mod Decided
