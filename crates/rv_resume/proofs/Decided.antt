@@ -1,6 +1,6 @@
 -- What is asked of the parts of a state is what a state to resume from has.
-use Rattle.std.proofs.Common.{◌≡◌, ◌≢◌, ◌↔◌, ◌<◌, ◌≤◌, ◌+◌, ◌∷◌, ◌∙◌, ℕ, zero, suc, List, [], Option, Some}
-use Rattle.std.proofs.Common.{None, IsSome}
+use Rattle.std.proofs.Common.{◌≡◌, ◌≢◌, ◌<◌, ◌≤◌, ◌∙◌, ℕ, List, Option, Some}
+use Rattle.std.proofs.Common.{None}
 use Rattle.std.proofs.Common.{Bool, inl, inr, length, refl, sym, ap, subst, arith, get_or, slice_get}
 use Rattle.std.specs.List.{All}
 use Rattle.std.specs.Prelude.{filter}
@@ -11,21 +11,20 @@ use Rattle.rv_text.specs.declared.call.Call.TheVariants as call
 use Rattle.rv_text.specs.declared.call.Side.{Side}
 use Rattle.rv_text.specs.declared.call.Side.TheVariants.{Exchanges, Gives, Looks, Takes}
 use Rattle.rv_text.specs.Calls.{side_of}
-use Rattle.rv_text.specs.Limits.{FitsCall, FitsIdentifier, FitsSide}
+use Rattle.rv_text.specs.Limits.{FitsCall, FitsSide}
 use Rattle.rv_session.specs.declared.client.LastRequest.TheVariants.{Waits}
-use Rattle.rv_session.specs.Entries.{map_of}
 use Rattle.rv_account.specs.Calls.{opposite}
 use Rattle.rv_state.specs.State.{ClientState, OpenPlace, State, Waiter, client_at, same_side}
 use Rattle.rv_state.proofs.Filtered.{filter_get, filter_order, get_filter}
 use Rattle.rv_state.proofs.SideLines.{same_side_is, same_side_itself}
 use Rattle.rv_state.proofs.Words.{none-some, same_Some}
-use Rattle.rv_resume.specs.Checking.{ClientsRise, HasRoomIn, HasSide, IsAwaitedAmong, IsCalmExchanger}
+use Rattle.rv_resume.specs.Checking.{ClientsRise, HasSide, IsCalmExchanger}
 use Rattle.rv_resume.specs.Checking.{IsCalmQueue}
-use Rattle.rv_resume.specs.Checking.{IsLastAmong, IsSettledIn, OpensRise, PassesAll, StandsWell, state_by}
+use Rattle.rv_resume.specs.Checking.{IsLastAmong, IsSettledIn, PassesAll, StandsWell, state_by}
 use Rattle.rv_resume.specs.Resuming.{CanResume, FitsLastRequest, IsAwaitedBy, IsLastAt, IsOpenIn}
-use Rattle.rv_resume.proofs.Fitting.{waiting_fits}
 use Rattle.rv_resume.proofs.Kept.{HoldsTogether, holds, one_at}
-use Rattle.rv_resume.proofs.MapOf.{from_map, in_map, map_long, there_is}
+use Rattle.rv_resume.proofs.MapOf.{from_map, in_map, map_long}
+use Rattle.rv_resume.proofs.Ordered.{there_is}
 
 -- ---- each of a list
 

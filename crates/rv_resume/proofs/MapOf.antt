@@ -1,33 +1,28 @@
 -- The map that clients are which rise: what it has, and how many.
-use Rattle.std.proofs.Common.{◌≡◌, ◌≢◌, ◌<◌, ◌≤◌, ◌+◌, ◌++◌, ◌∷◌, ◌∙◌, ℕ, zero, suc, List, [], Option, Some}
+use Rattle.std.proofs.Common.{◌≡◌, ◌<◌, ◌≤◌, ◌++◌, ◌∷◌, ◌∙◌, ℕ, zero, suc, List, [], Option, Some}
 use Rattle.std.proofs.Common.{None}
-use Rattle.std.proofs.Common.{Bool, true, false, cond, length, take, nat_eq, refl, sym, ap, subst, arith}
+use Rattle.std.proofs.Common.{Bool, true, false, cond, length, take, nat_eq, refl, sym, ap, arith}
 use Rattle.std.proofs.Common.{slice_get}
-use Rattle.std.proofs.Common.{inl, inr, length-take}
+use Rattle.std.proofs.Common.{length-take}
 use Rattle.std.proofs.Math.Seq.{take-length, take-suc}
-use Rattle.std.proofs.lemmas.Bool.{eq-eqb, eqb-true, true≢false}
+use Rattle.std.proofs.lemmas.Bool.{eq-eqb, eqb-true}
 use Rattle.std.proofs.lemmas.Option.{get_or_from_slice_get, slice_get_within}
 use Rattle.std.specs.Cmp.{nat_cmp_total}
-use Rattle.std.specs.FinMap.{find, from_entries, from_entries_push, get, get-from_entries, len, len-empty}
+use Rattle.std.specs.FinMap.{from_entries_push, get, get-from_entries, len, len-empty}
 use Rattle.std.specs.FinMap.{nat_cmp-IsAntisymmetric}
 use Rattle.std.specs.Map.{lookup}
 use Rattle.std.specs.Ordering.{nat_cmp}
 use Rattle.rv_session.specs.Entries.{map_of}
 use Rattle.rv_session.proofs.Mapping.{get_kept, len_unknown}
-use Rattle.rv_rules.proofs.Places.{get-take}
 use Rattle.rv_state.specs.State.{ClientState}
 use Rattle.rv_state.proofs.Filtered.{take_get}
 use Rattle.rv_state.proofs.Words.{none-some, same_Some}
 use Rattle.rv_resume.specs.Checking.{ClientsRise}
+use Rattle.rv_resume.proofs.Ordered.{there_is}
 use Rattle.rv_resume.proofs.Knowing.{one_client}
 
 abbrev Known : Type 0
 Known = ℕ × ClientState
-
-pub there_is : {X : Type 0} (xs : List X) (n : ℕ) → n < length xs → (x : X) × (slice_get xs n ≡ Some x)
-there_is [] n less = absurd (omega arith)
-there_is (x ∷ xs) zero less = (x, refl)
-there_is (x ∷ xs) (suc n) less = there_is xs n (omega arith)
 
 -- ---- look-ups
 

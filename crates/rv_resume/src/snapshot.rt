@@ -94,19 +94,29 @@ impl Snapshot {
         })
     }
 
-    /// Whether a machine can resume from it.
-    ///
-    /// It takes no memory, and time linear in the number of open places and that of clients, but for a binary
-    /// search for each in the other list.
-    pub fn can_resume(&self) -> bool
-        ensures { IsTrue result ↔ CanResume self.now }
+    /// Its parts: the epoch, the last moment, how many entries there are, what is open, and the clients in
+    /// the order of their numbers.
+    pub fn into_parts(self) -> (u64, u64, u64, Vec<OpenPlace>, Vec<(u64, ClientState)>)
+        ensures parts { self ≡ state_by result.0 result.1 result.2 result.3.items result.4.items }
+        ensures clients { ClientsRise result.4.items }
     {
-        parts_resume(
+        (
             self.epoch,
             self.moment,
             self.length,
-            &self.open_places,
-            &self.clients,
+            self.open_places,
+            self.clients,
         )
+    }
+
+    /// Whether a machine can resume from it.
+    ///
+    /// It takes no memory, and time linear in the number of open places and that of clients, but for a
+    /// binary search for each in the other list.
+    pub fn can_resume(&self) -> bool
+        ensures { IsTrue result ↔ CanResume self.now }
+    {
+        let (opens, clients) = (&self.open_places, &self.clients);
+        parts_resume(self.epoch, self.moment, self.length, opens, clients)
     }
 }

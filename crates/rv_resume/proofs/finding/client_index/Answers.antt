@@ -1,5 +1,5 @@
 -- The clients rise, so a binary search finds that of a number, or that there is none.
-use Rattle.std.proofs.Common.{◌≡◌, ℕ, Option, sym, subst, rules}
+use Rattle.std.proofs.Common.{ℕ, sym, subst, rules}
 use Rattle.std.proofs.lemmas.List.Sorted.{answers_always}
 use Rattle.rv_state.specs.State.{ClientState}
 use Rattle.rv_resume.specs.Checking.{IsFoundAt}

@@ -1,5 +1,5 @@
 -- The places rise, so a binary search finds that of a place, or that there is none.
-use Rattle.std.proofs.Common.{◌≡◌, ℕ, Option, sym, subst, rules}
+use Rattle.std.proofs.Common.{sym, subst, rules}
 use Rattle.std.proofs.lemmas.List.Sorted.{answers_always}
 use Rattle.rv_state.specs.State.{OpenPlace}
 use Rattle.rv_resume.specs.Checking.{IsFoundAt}
