@@ -27,13 +27,9 @@ use Rattle.rv_state.proofs.Filtered.{mapped_there}
 use Rattle.rv_state.proofs.StateLaws.{states_follow}
 use Rattle.rv_resume.specs.Laws.{AccountsResume, FittingResume, HadRoom}
 use Rattle.rv_resume.specs.Resuming.{CanResume, StaysInRoom}
+use Rattle.rv_resume.proofs.Ordered.{there_is}
 use Rattle.rv_resume.proofs.Alone.{filter_short}
 use Rattle.rv_resume.proofs.ResumeLaws.{entries_resume, openings_resume}
-
-there_is : {X : Type 0} (xs : List X) (n : ℕ) → n < length xs → (x : X) × (slice_get xs n ≡ Some x)
-there_is [] n less = absurd (omega arith)
-there_is (x ∷ xs) zero less = (x, refl)
-there_is (x ∷ xs) (suc n) less = there_is xs n (omega arith)
 
 -- the state after the entry at a place is what that makes of the state before it
 front_after : (a : Account) (n : ℕ) (e : Entry) → slice_get a.entries n ≡ Some e → n < length a.entries

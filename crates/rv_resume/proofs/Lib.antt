@@ -15,4 +15,8 @@ pub mod NextNumbers
 pub mod Rooms
 pub mod ResumeLaws
 pub mod StepLaws
+pub mod Ordered
 pub mod AccountLaws
+pub mod Knowing
+pub mod MapOf
+pub mod Decided

@@ -1,4 +1,13 @@
-//! Which states a machine can resume from, and the laws of such states.
+//! Which states a machine can resume from, their laws, and the test of one in memory.
 #![tactic(auto)]
 
+mod clients;
+mod finding;
 pub mod laws;
+mod parts;
+mod places;
+mod sides;
+mod snapshot;
+mod suits;
+
+pub use snapshot::Snapshot;
