@@ -1,27 +1,26 @@
 -- What many proofs of this crate cite of the library, of the crates below and of its own definitions.
 pub use Rattle.std.proofs.Common.{◌++◌, ◌+◌, ◌<◌, ◌∙◌, ◌∷◌, ◌≡◌, ◌≤◌, List, None, Option, Some}
 pub use Rattle.std.proofs.Common.{[], ap, arith, inl, inr, length, length-append, option_and_then, option_map}
-pub use Rattle.std.proofs.Common.{refl, subst, suc, sym, take, zero, ℕ}
+pub use Rattle.std.proofs.Common.{refl, subst, suc, sym, take, ℕ}
 pub use Rattle.std.proofs.lemmas.Bool.{cases_lt, cases_order}
 pub use Rattle.std.proofs.lemmas.List.{take_all}
 pub use Rattle.std.proofs.lemmas.Option.{none-some, same_Some}
 pub use Rattle.std.specs.List.{slice_get}
 pub use Rattle.std.specs.Prelude.{unwrap_or}
 pub use Rattle.rv_account.specs.Account.{Account, Among, Stored, act_at, call_at, call_in}
-pub use Rattle.rv_account.specs.Account.{just, key_at, key_in, with_entry}
-pub use Rattle.rv_account.specs.Calls.{IsPut, Lasts, Stays, may_name, opposite}
+pub use Rattle.rv_account.specs.Account.{key_at, key_in}
+pub use Rattle.rv_account.specs.Calls.{Stays, may_name, opposite}
 pub use Rattle.rv_account.specs.declared.entry.Act.{Act}
 pub use Rattle.rv_account.specs.declared.entry.Act.TheVariants.{Arrive, Cancel, Hello, Tick}
 pub use Rattle.rv_account.specs.declared.entry.Entry.{Entry}
 pub use Rattle.rv_book.specs.Counting.{NumberOf}
 pub use Rattle.rv_book.specs.Legal.{HasWaiting, IsOpenOpposite, Legal}
-pub use Rattle.rv_book.specs.Legal.{WaitsUnder}
 pub use Rattle.rv_book.specs.Legal.{before}
 pub use Rattle.rv_book.specs.Limits.{FitsAccount}
 pub use Rattle.rv_book.specs.Replies.{CancelledFirst, HasReply, RepliesAt, told_by}
 pub use Rattle.rv_book.specs.Saying.{said_in}
 pub use Rattle.rv_book.specs.Sessions.{HasIncarnation, LastNumber}
-pub use Rattle.rv_book.specs.Steps.{Adds, Answers, ClientsFullDue, EntersOrNoMemory, EpochFullDue, NextAt}
+pub use Rattle.rv_book.specs.Steps.{Answers, ClientsFullDue, EntersOrNoMemory, EpochFullDue, NextAt}
 pub use Rattle.rv_book.specs.Steps.{OtherCallDue, RefuseOr, Refuses, Replies, Ticks, step_moment}
 pub use Rattle.rv_book.specs.Tables.{IsSound, account_of}
 pub use Rattle.rv_book.specs.Verdicts.{IsAsKept, reply_of}
@@ -31,11 +30,8 @@ pub use Rattle.rv_rules.proofs.CallKinds.{gives_item}
 pub use Rattle.rv_rules.proofs.Fronts.{read_front, read_whole}
 pub use Rattle.rv_rules.proofs.Growing.{act_read, call_read, read_there, reads_on}
 pub use Rattle.rv_rules.proofs.Growing.{reads_within}
-pub use Rattle.rv_rules.proofs.Histories.{one_incarnation, one_last_number}
 pub use Rattle.rv_rules.proofs.Keys.{key_read, no_hello}
-pub use Rattle.rv_rules.proofs.Legality.{follows_itself}
 pub use Rattle.rv_rules.proofs.Limits.{act_fits, act_there}
-pub use Rattle.rv_rules.proofs.Naming.{just_none}
 pub use Rattle.rv_rules.proofs.OnePartner.{partner_open}
 pub use Rattle.rv_rules.proofs.Opposites.{one_opposite}
 pub use Rattle.rv_rules.proofs.Places.{get-append_within}
@@ -45,9 +41,8 @@ pub use Rattle.rv_session.specs.declared.kept.Kept.{Kept}
 pub use Rattle.rv_text.specs.Calls.{item_of, side_of}
 pub use Rattle.rv_text.specs.Limits.{FitsItem}
 pub use Rattle.rv_text.specs.declared.answer.Answer.{Answer}
-pub use Rattle.rv_text.specs.declared.answer.Answer.TheVariants.{Refused, Replied, Welcome}
+pub use Rattle.rv_text.specs.declared.answer.Answer.TheVariants.{Replied, Welcome}
 pub use Rattle.rv_text.specs.declared.answer.Refusal.{Refusal}
-pub use Rattle.rv_text.specs.declared.answer.Refusal.TheVariants.{OldIncarnation}
 pub use Rattle.rv_text.specs.declared.answer.Refusal.TheVariants.{OtherVersion}
 pub use Rattle.rv_text.specs.declared.answer.Reply.{Reply}
 pub use Rattle.rv_text.specs.declared.answer.Reply.TheVariants.{Cancelled}

@@ -69,8 +69,8 @@ impl Machine {
     }
 
     /// The first half of a step, or time that passes alone: all that is due at its moment is ended, and its
-    /// keys are listed; where nothing is due the state stays. The moment is the one that is handed in, at most
-    /// 2^62, or the last one if that is later. It takes no memory.
+    /// keys are listed; where nothing is due the state stays. The moment is the one handed in, at most 2^62,
+    /// or the last one if that is later. It takes no memory.
     pub fn elapse(&mut self, now: u64) -> TickMade
         requires ready { IsWhole self.old }
         requires numbered { AreNumbered (state_in self.old) }
