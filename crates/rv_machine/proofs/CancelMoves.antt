@@ -35,7 +35,7 @@ use Rattle.rv_machine.proofs.KeyLines.{awaited_there, key_last, key_next, key_re
 use Rattle.rv_machine.proofs.SpaceLines.{has_space, lacks_space}
 use Rattle.rv_machine.proofs.Staying.{moves_refused, moves_staying}
 use Rattle.rv_machine.proofs.Stopping.{settled_one, stopped_one}
-use Rattle.rv_machine.proofs.Told.{put_own}
+use Rattle.rv_resume.proofs.Sessions.{put_own}
 
 -- ---- where no entry is made
 

@@ -1,31 +1,14 @@
 -- A map of clients where one was told its reply, or asked its next number.
-use Rattle.std.proofs.Common.{◌≡◌, ◌≢◌, ◌∙◌, ℕ, cond, Option, Some, None, refl}
+use Rattle.std.proofs.Common.{◌≡◌, ◌≢◌, ◌∙◌, ℕ, Option, Some, None, refl}
 use Rattle.std.proofs.Common.{ap}
-use Rattle.std.specs.Cmp.{nat_cmp_total}
-use Rattle.std.specs.FinMap.{FinMap, get, get-insert, insert}
-use Rattle.std.specs.Ordering.{nat_cmp}
+use Rattle.std.specs.FinMap.{get}
 use Rattle.rv_text.specs.declared.message.Key.{Key}
 use Rattle.rv_text.specs.declared.answer.Reply.{Reply}
 use Rattle.rv_session.specs.declared.client.ClientState.{ClientState}
 use Rattle.rv_session.specs.declared.client.LastRequest.{LastRequest}
 use Rattle.rv_session.specs.Clients.{answered, clients_asked, clients_told, insert_known, with_last_number}
 use Rattle.rv_session.specs.Clients.{with_request}
-use Rattle.rv_session.proofs.Mapping.{other_client, same_client}
-
-abbrev ClientMap : Type 0
-ClientMap = FinMap nat_cmp ClientState
-
-pub put_own : (m : ClientMap) (client : ℕ) (session : ClientState)
-    → get (insert m client session) client ≡ Some session
-put_own m client session =
-    get-insert nat_cmp_total m client session client
-    ∙ ap (λ b. cond b (Some session) (get m client)) (same_client client client refl)
-
-pub put_other : (m : ClientMap) (client other : ℕ) (session : ClientState) → other ≢ client
-    → get (insert m client session) other ≡ get m other
-put_other m client other session apart =
-    get-insert nat_cmp_total m client session other
-    ∙ ap (λ b. cond b (Some session) (get m other)) (other_client other client apart)
+use Rattle.rv_resume.proofs.Sessions.{ClientMap, put_other, put_own}
 
 known_own : (m : ClientMap) (client : ℕ) (becomes : ClientState → ClientState) (session : ClientState)
     → get m client ≡ Some session

@@ -20,7 +20,7 @@ use Rattle.rv_machine.proofs.Concluded.{asked_in, concluded_ready}
 use Rattle.rv_machine.proofs.Drained.{drains_by, is_known_still, next_there}
 use Rattle.rv_machine.proofs.Leaving.{arrives_as, concluded_now, copied_entry}
 use Rattle.rv_text.specs.Calls.{wait_of}
-use Rattle.rv_machine.proofs.RoomTaken.{needs_one}
+use Rattle.rv_resume.proofs.Counts.{needs_one}
 use Rattle.rv_machine.proofs.machine.Machine.drain.Goals as goal
 
 pub conclude-requires : goal.conclude-requires
