@@ -1,3 +1,4 @@
 -- What a reader must agree with, all that public contracts cite:
 pub mod Bodies
 pub mod Finding
+pub mod Writing

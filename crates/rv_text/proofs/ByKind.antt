@@ -1,5 +1,4 @@
--- What holds of a member by its kind, said once for each: no float, its limit, how long its text is, that it
--- is text.
+-- What holds of a member by its kind, said once for each: its limit, how long its text is, that it is text.
 use Rattle.std.proofs.Common.{◌≡◌, ℕ, ◌+◌, ◌*◌, ◌^◌, ◌<◌, ◌≤◌, Bool, true, false, ◌&&◌, List, [], ◌∷◌, ◌++◌}
 use Rattle.std.proofs.Common.{length, map, IsUtf8, refl, arith}
 use Rattle.std.proofs.lemmas.Bool.{and_parts, leb-true, ltb-true}
@@ -9,7 +8,6 @@ use Rattle.std.specs.Prelude.{nat_le, nat_lt}
 use Rattle.json.proofs.Printed.Utf8.{are_ascii, IsUtf8-are_ascii}
 use Rattle.serde_json.specs.Data.{string}
 use Rattle.serde_json.specs.View.{items_of}
-use Rattle.serde_json.specs.Written.{has_float, items_have_float}
 use Rattle.rv_item.specs.Limits.{FitsItem}
 use Rattle.rv_text.specs.declared.call.Wait.TheVariants as wait
 use Rattle.rv_text.specs.Members.{Limit, up_to, from_one_to, Keeps, Member, word, whole, item_text}
@@ -44,26 +42,6 @@ each_within (item_texts name texts ∷ row) h = let p = within_parts (item_texts
     (limited_members row) h in (p.0, each_within row p.1)
 each_within (wait_time name waits ∷ row) h = let p = within_parts (wait_time name waits) (limited_members row)
     h in (p.0, each_within row p.1)
-
--- ---- no float
-
-texts_have_no_float : (texts : List (List ℕ)) → items_have_float (items_of (map string texts)) ≡ false
-texts_have_no_float [] = refl
-texts_have_no_float (s ∷ texts) = texts_have_no_float texts
-
-no_float : (m : Member) → has_float (field_of m).1 ≡ false
-no_float (word name bytes) = refl
-no_float (whole name limit n) = refl
-no_float (item_text name bytes) = refl
-no_float (item_texts name texts) = texts_have_no_float texts
-no_float (wait_time name wait.Now) = refl
-no_float (wait_time name (wait.Millis millis)) = refl
-no_float (wait_time name wait.Forever) = refl
-
-pub row_has_no_float : (row : List Member)
-    → AllFields (λ name value. has_float value ≡ false) (map field_of row)
-row_has_no_float [] = tt
-row_has_no_float (m ∷ row) = (no_float m, row_has_no_float row)
 
 -- ---- names and words are short and plain, and limits are below 2 ^ 64
 

@@ -3,12 +3,11 @@ pub mod Sizes
 pub mod Texts
 pub mod ByKind
 pub mod Sound
+pub mod Ordered
 pub mod Kept
 pub mod Steps
 pub mod Readers
 pub mod AnswerReaders
 pub mod Decoding
-pub mod Floats
-pub mod Encoding
 pub mod Fitting
 pub mod Written

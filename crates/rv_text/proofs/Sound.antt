@@ -44,7 +44,7 @@ call_word : (call : Call) → is_plain_word (nature_of call).word ≡ true
 call_word (call.Put queue item) = refl
 call_word _ = refl
 
-abbrev request_row : Key → Nature → List Member
+abbrev pub request_row : Key → Nature → List Member
 request_row key nature = word (codes "kind") (codes "request") ∷ (key_row key ++ nature_row nature)
 
 request_sound : (key : Key) (name : List ℕ) (at : Side) (waits : Option Wait) (drains : Option ℕ) (gives :

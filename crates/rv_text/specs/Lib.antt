@@ -6,5 +6,6 @@ pub mod Rows
 pub mod Limits
 pub mod Bodies
 pub mod Laws
--- Private to proofs, what the decoder finds among the members of an object and what the encoder puts there:
+-- For private clauses, what the decoder finds among the members of an object, and what the encoder writes:
 pub mod Reading
+pub mod Writing

@@ -1,17 +1,13 @@
--- For private clauses: what the decoder looks for among the members of an object, each by its name, and what
--- the encoder puts there.
-use Rattle.std.specs.Prelude.{◌≡◌, ◌==◌, ℕ, Bool, List, [], ◌∷◌, length, map, codes, if◌then◌else◌}
+-- For private clauses: what the decoder looks for among the members of an object, each by its name.
+use Rattle.std.specs.Prelude.{◌≡◌, ◌==◌, ℕ, Bool, List, [], ◌∷◌, length, codes, if◌then◌else◌}
 use Rattle.std.specs.Prelude.{Option, Some, None, nat_eq, Result, Ok, Err}
-use Rattle.std.specs.Prelude.{String, string_bytes, string_cmp, IfOk}
-use Rattle.std.specs.declared.alloc.Global.{Global}
-use Rattle.std.specs.declared.alloc.AllocError.{AllocError}
+use Rattle.std.specs.Prelude.{string_cmp}
 use Rattle.std.specs.BTreeMap.{IsOrdered}
 use Rattle.std.specs.Str.{bytes_eq}
 use Rattle.serde_json.specs.Data.{Data, Items, Members}
 use Rattle.serde_json.specs.Data as json
 use Rattle.serde_json.specs.Events.{members_len}
 use Rattle.serde_json.specs.View.{members_view}
-use Rattle.serde_json.specs.Written.{compact_text}
 use Rattle.rv_json.specs.declared.fault.TextFault.{TextFault}
 use Rattle.rv_json.specs.declared.fault.TextFault.TheVariants as fault
 use Rattle.rv_text.specs.declared.version.Version.{Version}
@@ -30,7 +26,7 @@ use Rattle.rv_text.specs.declared.answer.Refusal.TheVariants as refusal
 use Rattle.rv_text.specs.declared.answer.Answer.{Answer}
 use Rattle.rv_text.specs.declared.answer.Answer.TheVariants as answer
 use Rattle.rv_text.specs.Versions.{version_of}
-use Rattle.rv_text.specs.Members.{Member, Field, field_of, with_fields, members_of, object_of}
+use Rattle.rv_text.specs.Members.{Member}
 use Rattle.rv_json.specs.Bodies.{HasBodyLength, Reads, IsNotJson}
 pub use Rattle.rv_json.specs.Finding.{Map, Finds, FindsAmong, ◌>>=◌}
 pub use Rattle.rv_json.specs.Finding.{whole_among, text_among, item_among, texts_among}
@@ -313,18 +309,3 @@ FindsIn {A} shape bytes (Ok x) = HasBodyLength bytes × IsAloneIn A shape bytes 
 FindsIn shape bytes (Err fault.NotJson) = HasBodyLength bytes × IsNotJson bytes
 FindsIn {A} shape bytes (Err fault.NotMessage) = HasBodyLength bytes → HasNone A shape bytes
 FindsIn shape bytes (Err fault.NoMemory) = HasBodyLength bytes
-
--- ---- what a writer puts
-
--- the new map has these members beside those of the old
-abbrev pub Puts : List Field → Map → Map → Type 0
-Puts fields old new = members_view new.entries ≡ with_fields fields (members_view old.entries)
-
-abbrev pub PutsRow : List Member → Map → Map → Type 0
-PutsRow row old new = Puts (map field_of row) old new
-
--- the text is that of each row whose members the map has
-abbrev pub WritesRows : Map → Result (String Global) AllocError → Type 0
-WritesRows object result =
-    (row : List Member) → members_view object.entries ≡ members_of row
-    → IfOk result (λ s. string_bytes s ≡ compact_text (object_of row))

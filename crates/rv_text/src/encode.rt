@@ -1,12 +1,12 @@
-//! The one text that is written for a message or an answer.
-ghost use Rattle.std.specs.Prelude.{◌≡◌, ◌<◌, [], ◌∷◌, Some, OnOk, IfOk, length, string_bytes};
-ghost use Rattle.serde_json.specs.Data.{string, number, unsigned};
-ghost use Rattle.serde_json.specs.View.{view};
-ghost use Rattle.rv_text.specs.Members.{texts_value};
-ghost use Rattle.rv_text.specs.Rows.{key_row, side_row, wait_row, max_or_wait_row, item_row, call_row};
-ghost use Rattle.rv_text.specs.Rows.{version_row, taker_row};
-ghost use Rattle.rv_text.specs.Rows.{message_row, texts_row, reply_row, detail_row, answer_row};
-ghost use Rattle.rv_text.specs.Reading.{Puts, PutsRow, WritesRows};
+//! The one text that is written for a message or an answer: its members, each in its place by its name.
+ghost use Rattle.std.specs.Prelude.{◌≡◌, ◌<◌, [], ◌∷◌, ◌++◌, codes, Some, OnOk, IfOk};
+ghost use Rattle.std.specs.Prelude.{length, string_bytes, option_map};
+ghost use Rattle.serde_json.specs.Data.{number, unsigned};
+ghost use Rattle.rv_json.specs.Writing.{Writes};
+ghost use Rattle.rv_text.specs.Rows.{version_row, item_row, taker_row, message_row, answer_row};
+ghost use Rattle.rv_text.specs.Writing.{WritesRow, Completes, keyed_row, session_row, word_row};
+ghost use Rattle.rv_text.specs.Writing.{refused_field};
+ghost use Rattle.rv_text.specs.Writing.{exchanger_row, queue_row, max_row, wait_unless_max_row};
 ghost use Rattle.rv_text.specs.Bodies.{HasBodyLength, message_text, answer_text, refused_text};
 ghost use Rattle.rv_text.specs.Limits.{FitsMessage, FitsAnswer};
 
@@ -15,9 +15,8 @@ use crate::call::{Call, Side, Wait};
 use crate::laws::body_constants;
 use crate::message::{Key, Message};
 use crate::version::Version;
-use rv_item::{Item, Items};
-use rv_json::{Members, NoMemory};
-use serde_json::{Map, Value};
+use rv_item::Item;
+use rv_json::{NoMemory, ObjectText};
 use std::alloc::Global;
 
 /// The body of [`Refusal::BadText`], which answers bytes that are no message's body.
@@ -51,9 +50,9 @@ pub fn encode_answer(alloc: Global, answer: &Answer) -> Result<String, NoMemory>
     ensures short { FitsAnswer answer.now → IfOk result (λ s. HasBodyLength (string_bytes s)) }
     ensures shorter { FitsAnswer answer.now → IfOk result (λ s. length (string_bytes s) < 65535) }
 {
-    let mut members = Map::new(alloc);
-    put_answer(&mut members, alloc, answer)?;
-    object_text(alloc, members)
+    let mut body = ObjectText::new(alloc)?;
+    put_answer(&mut body, answer)?;
+    body.finish()
 }
 
 /// The body that is written for a message, as [`encode_answer`] writes an answer. Fails only if memory was
@@ -63,20 +62,13 @@ pub fn encode_message(alloc: Global, message: &Message) -> Result<String, NoMemo
     ensures short { FitsMessage message.now → IfOk result (λ s. HasBodyLength (string_bytes s)) }
     ensures shorter { FitsMessage message.now → IfOk result (λ s. length (string_bytes s) < 65535) }
 {
-    let mut members = Map::new(alloc);
-    put_message(&mut members, alloc, message)?;
-    object_text(alloc, members)
+    let mut body = ObjectText::new(alloc)?;
+    put_message(&mut body, message)?;
+    body.finish()
 }
 
-// The one text of an object with these members.
-fn object_text(alloc: Global, members: Members) -> Result<String, NoMemory>
-    ensures { WritesRows members result }
-{
-    Value::Object(members).to_string(alloc)
-}
-
-fn put_message(members: &mut Members, alloc: Global, message: &Message) -> Result<(), NoMemory>
-    ensures { OnOk result (PutsRow (message_row message.now) members.old members.new) }
+fn put_message(body: &mut ObjectText, message: &Message) -> Result<(), NoMemory>
+    ensures { OnOk result (Completes (message_row message.now) body.old body.new) }
 {
     match message {
         Message::Hello {
@@ -84,91 +76,113 @@ fn put_message(members: &mut Members, alloc: Global, message: &Message) -> Resul
             incarnation,
             version,
         } => {
-            put_text(members, alloc, "kind", "hello")?;
-            put_whole(members, alloc, "client", *client)?;
-            put_whole(members, alloc, "incarnation", *incarnation)?;
-            put_version(members, alloc, *version)
+            body.put_whole("client", *client)?;
+            body.put_whole("incarnation", *incarnation)?;
+            body.put_text("kind", "hello")?;
+            put_version(body, *version)
         }
-        Message::Request { key, call } => {
-            put_text(members, alloc, "kind", "request")?;
-            put_key(members, alloc, key)?;
-            put_call(members, alloc, call)
-        }
-        Message::Cancel { key } => {
-            put_text(members, alloc, "kind", "cancel")?;
-            put_key(members, alloc, key)
-        }
+        Message::Request { key, call } => put_request(body, key, call),
+        Message::Cancel { key } => put_keyed(body, "cancel", key),
     }
 }
 
 // The member of a version but the first, which goes without saying.
-fn put_version(members: &mut Members, alloc: Global, version: Version) -> Result<(), NoMemory>
-    ensures { OnOk result (PutsRow (version_row version) members.old members.new) }
+fn put_version(body: &mut ObjectText, version: Version) -> Result<(), NoMemory>
+    ensures { OnOk result (WritesRow (version_row version) body.old body.new) }
 {
     match version {
         Version::One => Ok(()),
-        Version::Two => put_whole(members, alloc, "version", version.number()),
+        Version::Two => body.put_whole("version", version.number()),
     }
 }
 
-fn put_call(members: &mut Members, alloc: Global, call: &Call) -> Result<(), NoMemory>
-    ensures { OnOk result (PutsRow (call_row call.now) members.old members.new) }
+// The members of what is of this kind and has a key, and no more.
+fn put_keyed(body: &mut ObjectText, kind: &str, key: &Key) -> Result<(), NoMemory>
+    ensures { OnOk result (Completes (keyed_row kind.now key.now) body.old body.new) }
+{
+    put_session(body, key)?;
+    body.put_text("kind", kind)?;
+    body.put_whole("number", key.number)
+}
+
+// The members of a key but its number.
+fn put_session(body: &mut ObjectText, key: &Key) -> Result<(), NoMemory>
+    ensures { OnOk result (WritesRow (session_row key.now) body.old body.new) }
+{
+    body.put_whole("client", key.client)?;
+    body.put_whole("epoch", key.epoch)?;
+    body.put_whole("incarnation", key.incarnation)
+}
+
+fn put_request(body: &mut ObjectText, key: &Key, call: &Call) -> Result<(), NoMemory>
+    ensures { OnOk result (Completes (message_row (Message.Request key.now call.now)) body.old body.new) }
 {
     let nature = call.nature();
-    put_text(members, alloc, "call", nature.word)?;
-    put_side(members, alloc, nature.side)?;
-    put_max_or_wait(members, alloc, nature.drains, nature.wait)?;
-    match nature.item {
-        Some(item) => put_item(members, alloc, item),
-        None => Ok(()),
-    }
+    body.put_text("call", nature.word)?;
+    body.put_whole("client", key.client)?;
+    body.put_whole("epoch", key.epoch)?;
+    put_exchanger(body, nature.side)?;
+    body.put_whole("incarnation", key.incarnation)?;
+    put_item(body, nature.item)?;
+    body.put_text("kind", "request")?;
+    put_max(body, nature.drains)?;
+    body.put_whole("number", key.number)?;
+    put_queue(body, nature.side)?;
+    put_wait(body, nature.drains, nature.wait)
 }
 
-fn put_side(members: &mut Members, alloc: Global, side: Side) -> Result<(), NoMemory>
-    ensures { OnOk result (PutsRow (side_row side) members.old members.new) }
+fn put_exchanger(body: &mut ObjectText, side: Side) -> Result<(), NoMemory>
+    ensures { OnOk result (WritesRow (exchanger_row side) body.old body.new) }
 {
     match side {
-        Side::Gives(queue) | Side::Takes(queue) | Side::Looks(queue) => {
-            put_whole(members, alloc, "queue", queue)
-        }
-        Side::Exchanges(exchanger) => put_whole(members, alloc, "exchanger", exchanger),
+        Side::Exchanges(exchanger) => body.put_whole("exchanger", exchanger),
+        Side::Gives(_) | Side::Takes(_) | Side::Looks(_) => Ok(()),
     }
 }
 
-// How many items it drains, or else its wait.
-fn put_max_or_wait(
-    members: &mut Members,
-    alloc: Global,
-    drains: Option<u64>,
-    wait: Option<Wait>,
-) -> Result<(), NoMemory>
-    ensures { OnOk result (PutsRow (max_or_wait_row drains wait) members.old members.new) }
+fn put_queue(body: &mut ObjectText, side: Side) -> Result<(), NoMemory>
+    ensures { OnOk result (WritesRow (queue_row side) body.old body.new) }
+{
+    match side {
+        Side::Gives(queue) | Side::Takes(queue) | Side::Looks(queue) => body.put_whole(
+            "queue", queue,
+        ),
+        Side::Exchanges(_) => Ok(()),
+    }
+}
+
+fn put_item(body: &mut ObjectText, item: Option<&Item>) -> Result<(), NoMemory>
+    ensures { OnOk result (WritesRow (item_row (option_map (λ i. i.now) item.entry)) body.old body.new) }
+{
+    match item {
+        Some(item) => body.put_text("item", item.as_str()),
+        None => Ok(()),
+    }
+}
+
+fn put_max(body: &mut ObjectText, drains: Option<u64>) -> Result<(), NoMemory>
+    ensures { OnOk result (WritesRow (max_row drains) body.old body.new) }
 {
     match drains {
-        Some(max) => put_whole(members, alloc, "max", max),
-        None => put_wait(members, alloc, wait),
-    }
-}
-
-fn put_wait(members: &mut Members, alloc: Global, wait: Option<Wait>) -> Result<(), NoMemory>
-    ensures { OnOk result (PutsRow (wait_row wait) members.old members.new) }
-{
-    match wait {
+        Some(max) => body.put_whole("max", max),
         None => Ok(()),
-        Some(Wait::Now) => put_text(members, alloc, "wait", "now"),
-        Some(Wait::Millis(millis)) => put_whole(members, alloc, "wait", millis),
-        Some(Wait::Forever) => put_text(members, alloc, "wait", "forever"),
     }
 }
 
-fn put_item(members: &mut Members, alloc: Global, item: &Item) -> Result<(), NoMemory>
-    ensures { OnOk result (PutsRow (item_row (Some item.now)) members.old members.new) }
+// Its wait, unless it tells how many items it drains.
+fn put_wait(body: &mut ObjectText, drains: Option<u64>, wait: Option<Wait>) -> Result<(), NoMemory>
+    ensures { OnOk result (WritesRow (wait_unless_max_row drains wait) body.old body.new) }
 {
-    put_text(members, alloc, "item", item.as_str())
+    match (drains, wait) {
+        (Some(_), _) | (None, None) => Ok(()),
+        (None, Some(Wait::Now)) => body.put_text("wait", "now"),
+        (None, Some(Wait::Millis(millis))) => body.put_whole("wait", millis),
+        (None, Some(Wait::Forever)) => body.put_text("wait", "forever"),
+    }
 }
 
-fn put_answer(members: &mut Members, alloc: Global, answer: &Answer) -> Result<(), NoMemory>
-    ensures { OnOk result (PutsRow (answer_row answer.now) members.old members.new) }
+fn put_answer(body: &mut ObjectText, answer: &Answer) -> Result<(), NoMemory>
+    ensures { OnOk result (Completes (answer_row answer.now) body.old body.new) }
 {
     match answer {
         Answer::Welcome {
@@ -177,125 +191,122 @@ fn put_answer(members: &mut Members, alloc: Global, answer: &Answer) -> Result<(
             incarnation,
             version,
         } => {
-            put_text(members, alloc, "kind", "welcome")?;
-            put_whole(members, alloc, "epoch", *epoch)?;
-            put_whole(members, alloc, "client", *client)?;
-            put_whole(members, alloc, "incarnation", *incarnation)?;
-            put_version(members, alloc, *version)
+            body.put_whole("client", *client)?;
+            body.put_whole("epoch", *epoch)?;
+            body.put_whole("incarnation", *incarnation)?;
+            body.put_text("kind", "welcome")?;
+            put_version(body, *version)
         }
-        Answer::Replied { key, reply } => {
-            put_text(members, alloc, "kind", "reply")?;
-            put_key(members, alloc, key)?;
-            put_reply(members, alloc, reply)
-        }
-        Answer::Waiting { key } => {
-            put_text(members, alloc, "kind", "waiting")?;
-            put_key(members, alloc, key)
-        }
-        Answer::Refused(refusal) => {
-            put_text(members, alloc, "kind", "refused")?;
-            put_whole(members, alloc, "code", refusal.code())?;
-            put_detail(members, alloc, *refusal)
-        }
+        Answer::Replied { key, reply } => put_reply(body, key, reply),
+        Answer::Waiting { key } => put_keyed(body, "waiting", key),
+        Answer::Refused(refusal) => put_refusal(body, *refusal),
     }
 }
 
-fn put_key(members: &mut Members, alloc: Global, key: &Key) -> Result<(), NoMemory>
-    ensures { OnOk result (PutsRow (key_row key.now) members.old members.new) }
-{
-    put_whole(members, alloc, "epoch", key.epoch)?;
-    put_whole(members, alloc, "client", key.client)?;
-    put_whole(members, alloc, "incarnation", key.incarnation)?;
-    put_whole(members, alloc, "number", key.number)
-}
-
-fn put_reply(members: &mut Members, alloc: Global, reply: &Reply) -> Result<(), NoMemory>
-    ensures { OnOk result (PutsRow (reply_row reply.now) members.old members.new) }
+fn put_reply(body: &mut ObjectText, key: &Key, reply: &Reply) -> Result<(), NoMemory>
+    ensures { OnOk result (Completes (answer_row (Answer.Replied key.now reply.now)) body.old body.new) }
 {
     match reply {
-        Reply::Done => put_text(members, alloc, "reply", "done"),
-        Reply::Received => put_text(members, alloc, "reply", "received"),
+        Reply::Done => put_told(body, key, "done"),
+        Reply::Received => put_told(body, key, "received"),
         Reply::ReceivedBy(taker) => {
-            put_text(members, alloc, "reply", "received")?;
-            put_taker(members, alloc, taker)
+            put_taker(body, taker)?;
+            put_told(body, key, "received")
         }
-        Reply::Nobody => put_text(members, alloc, "reply", "nobody"),
-        Reply::Item(item) => {
-            put_text(members, alloc, "reply", "item")?;
-            put_item(members, alloc, item)
-        }
-        Reply::Empty => put_text(members, alloc, "reply", "empty"),
-        Reply::Swapped(item) => {
-            put_text(members, alloc, "reply", "swapped")?;
-            put_item(members, alloc, item)
-        }
-        Reply::TimedOut => put_text(members, alloc, "reply", "timedout"),
-        Reply::Cancelled => put_text(members, alloc, "reply", "cancelled"),
-        Reply::Counted { items, consumers } => {
-            put_text(members, alloc, "reply", "counted")?;
-            put_whole(members, alloc, "items", *items)?;
-            put_whole(members, alloc, "consumers", *consumers)
-        }
-        Reply::Peeked(item) => {
-            put_text(members, alloc, "reply", "peeked")?;
-            put_item(members, alloc, item)
-        }
+        Reply::Nobody => put_told(body, key, "nobody"),
+        Reply::Item(item) => put_told_item(body, key, "item", item),
+        Reply::Empty => put_told(body, key, "empty"),
+        Reply::Swapped(item) => put_told_item(body, key, "swapped", item),
+        Reply::TimedOut => put_told(body, key, "timedout"),
+        Reply::Cancelled => put_told(body, key, "cancelled"),
+        Reply::Counted { items, consumers } => put_counted(body, key, *items, *consumers),
+        Reply::Peeked(item) => put_told_item(body, key, "peeked", item),
         Reply::Drained(items) => {
-            put_text(members, alloc, "reply", "drained")?;
-            put_texts(members, alloc, items)
+            put_told(body, key, "drained")?;
+            body.put_texts("texts", items)
         }
     }
 }
 
 // The key of a consumer. Its epoch is that of the answer.
-fn put_taker(members: &mut Members, alloc: Global, taker: &Key) -> Result<(), NoMemory>
-    ensures { OnOk result (PutsRow (taker_row taker.now) members.old members.new) }
+fn put_taker(body: &mut ObjectText, taker: &Key) -> Result<(), NoMemory>
+    ensures { OnOk result (WritesRow (taker_row taker.now) body.old body.new) }
 {
-    put_whole(members, alloc, "by_client", taker.client)?;
-    put_whole(members, alloc, "by_incarnation", taker.incarnation)?;
-    put_whole(members, alloc, "by_number", taker.number)
+    body.put_whole("by_client", taker.client)?;
+    body.put_whole("by_incarnation", taker.incarnation)?;
+    body.put_whole("by_number", taker.number)
 }
 
-// What a refusal says beside its code.
-fn put_detail(members: &mut Members, alloc: Global, refusal: Refusal) -> Result<(), NoMemory>
-    ensures { OnOk result (PutsRow (detail_row refusal) members.old members.new) }
+// A key and the word of a reply.
+fn put_told(body: &mut ObjectText, key: &Key, word: &str) -> Result<(), NoMemory>
+    ensures { OnOk result
+        (WritesRow (session_row key.now ++ word_row key.now.number word.now) body.old body.new) }
 {
+    put_session(body, key)?;
+    put_word(body, key.number, word)
+}
+
+// A key, an item and the word of a reply.
+fn put_told_item(body: &mut ObjectText, key: &Key, word: &str, item: &Item) -> Result<(), NoMemory>
+    ensures { OnOk result (WritesRow
+        (session_row key.now ++ (item_row (Some item.now) ++ word_row key.now.number word.now))
+        body.old body.new) }
+{
+    put_session(body, key)?;
+    body.put_text("item", item.as_str())?;
+    put_word(body, key.number, word)
+}
+
+// The last members of a key and the word of a reply.
+fn put_word(body: &mut ObjectText, number: u64, word: &str) -> Result<(), NoMemory>
+    ensures { OnOk result (WritesRow (word_row number word.now) body.old body.new) }
+{
+    body.put_text("kind", "reply")?;
+    body.put_whole("number", number)?;
+    body.put_text("reply", word)
+}
+
+fn put_counted(body: &mut ObjectText, key: &Key, items: u64, consumers: u64) -> Result<(), NoMemory>
+    ensures { OnOk result (Completes (answer_row (Answer.Replied key.now (Reply.Counted items consumers)))
+        body.old body.new) }
+{
+    body.put_whole("client", key.client)?;
+    body.put_whole("consumers", consumers)?;
+    body.put_whole("epoch", key.epoch)?;
+    body.put_whole("incarnation", key.incarnation)?;
+    body.put_whole("items", items)?;
+    put_word(body, key.number, "counted")
+}
+
+fn put_refusal(body: &mut ObjectText, refusal: Refusal) -> Result<(), NoMemory>
+    ensures { OnOk result (Completes (answer_row (Answer.Refused refusal)) body.old body.new) }
+{
+    body.put_whole("code", refusal.code())?;
     match refusal {
-        Refusal::OtherEpoch(current) | Refusal::OldIncarnation(current) => {
-            put_whole(members, alloc, "current", current)
-        }
-        Refusal::OldNumber(last) | Refusal::Gap(last) => put_whole(members, alloc, "last", last),
-        Refusal::Busy(number) => put_whole(members, alloc, "open", number),
-        Refusal::OtherVersion(version) => { put_whole(members, alloc, "current", version.number()) }
-        _ => Ok(()),
+        Refusal::OtherEpoch(current) | Refusal::OldIncarnation(current) => put_current(
+            body, current,
+        ),
+        Refusal::OtherVersion(version) => put_current(body, version.number()),
+        Refusal::OldNumber(last) | Refusal::Gap(last) => put_refused(body, "last", last),
+        Refusal::Busy(number) => put_refused(body, "open", number),
+        _ => body.put_text("kind", "refused"),
     }
 }
 
-fn put_text(members: &mut Members, alloc: Global, name: &str, value: &str) -> Result<(), NoMemory>
-    ensures { OnOk result (Puts ((name.now, string value.now) ∷ []) members.old members.new) }
+// What is current, and that a refusal is told.
+fn put_current(body: &mut ObjectText, current: u64) -> Result<(), NoMemory>
+    ensures { OnOk result (Writes ((codes "current", number (unsigned current)) ∷ refused_field ∷ [])
+        body.old body.new) }
 {
-    serde_json::put(members, alloc, name, Value::try_from_str(alloc, value)?)
+    body.put_whole("current", current)?;
+    body.put_text("kind", "refused")
 }
 
-fn put_texts(members: &mut Members, alloc: Global, items: &Items) -> Result<(), NoMemory>
-    ensures { OnOk result (PutsRow (texts_row items.now) members.old members.new) }
+// That a refusal is told, and a number of this name.
+fn put_refused(body: &mut ObjectText, name: &str, value: u64) -> Result<(), NoMemory>
+    ensures { OnOk result (Writes (refused_field ∷ (name.now, number (unsigned value)) ∷ [])
+        body.old body.new) }
 {
-    serde_json::put(members, alloc, "texts", texts_value(alloc, items)?)
-}
-
-// The list of the items' texts, as a value.
-fn texts_value(alloc: Global, items: &Items) -> Result<Value, NoMemory>
-    ensures { IfOk result (λ value. view value ≡ texts_value items.now) }
-{
-    let mut texts = Vec::new(alloc);
-    for item in items.as_slice() {
-        texts.push(Value::try_from_str(alloc, item.as_str())?)?;
-    }
-    Ok(Value::Array(texts))
-}
-
-fn put_whole(members: &mut Members, alloc: Global, name: &str, value: u64) -> Result<(), NoMemory>
-    ensures { OnOk result (Puts ((name.now, number (unsigned value)) ∷ []) members.old members.new) }
-{
-    serde_json::put(members, alloc, name, Value::from(value))
+    body.put_text("kind", "refused")?;
+    body.put_whole(name, value)
 }

@@ -1,0 +1,25 @@
+-- Each member stands behind those before it, and all in byte order.
+use Rattle.std.proofs.Common.{sym, ap, ◌∙◌}
+use Rattle.std.proofs.lemmas.Result.{on_ok_weaker}
+use Rattle.serde_json.specs.Data.{no_members}
+use Rattle.rv_json.specs.Writing.{text_with}
+use Rattle.rv_text.specs.Calls.{nature_of}
+use Rattle.rv_text.specs.Members.{members_of}
+use Rattle.rv_text.proofs.Sound.{request_row}
+use Rattle.rv_text.proofs.Ordered.{request_ordered, same_nature}
+use Rattle.rv_text.proofs.encode.put_request.Goals as goal
+
+pub returns : goal.returns
+returns c =
+    let key = c.args.key.now in
+    let nature = nature_of c.args.call.now in
+    let told = c.nature-nature.ensures in
+    let ordered = sym (request_ordered key _ _ _ _ _)
+    ∙ ap (λ n. members_of (request_row key n))
+    (same_nature nature _ _ _ _ _ told.word told.side told.wait told.drains told.item) in
+    on_ok_weaker c.put_wait.result
+    (λ last. last no_members ∙ (c.in_ok-put_queue.ensures _ ∙ (c.in_ok-put_whole-4.ensures _
+    ∙ (c.in_ok-put_max.ensures _ ∙ (c.in_ok-put_text-2.ensures _ ∙ (c.in_ok-put_item.ensures _
+    ∙ (c.in_ok-put_whole-3.ensures _ ∙ (c.in_ok-put_exchanger.ensures _ ∙ (c.in_ok-put_whole-2.ensures _
+    ∙ (c.in_ok-put_whole.ensures _ ∙ (c.in_ok-put_text.ensures _
+    ∙ ap (λ ms. text_with ms c.args.body.now) ordered))))))))))) c.put_wait.ensures
