@@ -72,9 +72,7 @@ impl ObjectText {
     {
         let ObjectText { mut writer } = self;
         writer.end_object()?;
-        let bytes = writer.into_inner();
-        // What the writer wrote is proved to be UTF-8.
-        Ok(unsafe { String::from_utf8_unchecked(bytes) })
+        Ok(String::from_utf8(writer.into_inner()).unwrap())
     }
 }
 
