@@ -7,6 +7,8 @@ import sys
 import threading
 
 PROGRAM = "crates/rv_app/out/rv_app"
+# The program for tests that makes steps under limits of one's own.
+STEPS = "crates/rv_steps/out/rv_steps"
 # What stands for the seed in the commands below, and the seed where there is no commit.
 SEED, NO_COMMIT = "SEED", 1
 OUTSIDE = [
@@ -22,6 +24,9 @@ OUTSIDE = [
     ["tests/model/compare.py", "--seed", SEED, "--lines", "10000", "--program", PROGRAM],
     ["tests/model/compare.py", "--play", "--seed", SEED, "--lines", "5000", "--program", PROGRAM],
     ["tests/model/compare.py", "--audit", "--seed", SEED, "--accounts", "2000", "--program", PROGRAM],
+    ["tests/model/compare.py", "--limits", "50", "4", "8", "--seed", SEED, "--lines", "5000", "--program", STEPS],
+    ["tests/model/compare.py", "--limits", str(2**53 - 1), "65536", "100000", "--seed", SEED, "--lines", "3000",
+     "--program", STEPS],
     ["tests/model/states.py", "--selftest"],
     ["tests/model/states.py", "--seed", SEED, "--steps", "10000", "--entries", "2000"],
     ["tests/sockets/serve.py", "--seed", SEED, PROGRAM],
@@ -90,8 +95,8 @@ def outcome(words):
 
 
 def outside(seed):
-    """What the runs of the program from outside count, where there is one, and the documents."""
-    runs = OUTSIDE if os.path.exists(PROGRAM) else []
+    """What the runs of the programs from outside count, where they are there, and the documents."""
+    runs = OUTSIDE if all(map(os.path.exists, (PROGRAM, STEPS))) else []
     seeded = [[str(seed) if word == SEED else word for word in words] for words in runs]
     return [count(words) for words in [*seeded, ["tools/docs.py"]]]
 

@@ -1,6 +1,7 @@
 #!/usr/bin/env python3
 """Compares a program with a plain second implementation of docs/MODEL.md, over random scripts: of `rv book`, with
---play of `rv play`, and with --audit over random accounts, most of them spoilt, of `rv audit`.
+--play of `rv play`, with --audit over random accounts, most of them spoilt, of `rv audit`, and with --limits of a machine
+under limits of one's own, of `rv_steps`; under small ones each must be met.
 
 A run of many lines is parted into many scripts of up to 400 lines, each a book or a world of its own: the model looks
 for everything in the account's list of entries, so a line's cost grows faster than the lines before it. Now and then a
@@ -16,6 +17,7 @@ import sys
 ROOT = pathlib.Path(__file__).resolve().parents[2]
 sys.dont_write_bytecode, sys.path[0] = True, str(ROOT)
 from tests.model.audits import compare_audits  # noqa: E402
+from tests.model.bounded import Machines, limits_of  # noqa: E402
 from tests.model.broken import broken_faults  # noqa: E402
 from tests.model.broken_lines import line_faults  # noqa: E402
 from tests.model.plays import make_play, play_fault  # noqa: E402
@@ -25,6 +27,7 @@ from tests.model.spoilt import make_texts  # noqa: E402
 from tests.model.verdicts import Unsure, verdict  # noqa: E402
 from tests.model.version_rows import VERSION_ROWS, VERSION_WORLDS, second_faults  # noqa: E402
 from tests.model.wrong_books import wrong_book_faults  # noqa: E402
+from tools.outside import PROGRAM, STEPS  # noqa: E402
 
 # The most lines of a script with a crowd.
 CROWD_LINES = 1_600
@@ -118,24 +121,38 @@ def compare(program, seed, count, epoch, scripts):
     return True
 
 
+def compare_steps(program, seed, count, limits):
+    """Compares the steps of machines under limits, and tells how often each answer came; none that should may lack."""
+    machines = Machines(limits)
+    same = compare(program, seed, count, None, machines.script)
+    print(f"under {limits}: {machines.told()}")
+    if machines.lacking():
+        print(f"FAILED: these refusals never came: {machines.lacking()}")
+    return same and not machines.lacking()
+
+
 def main():
     parser = argparse.ArgumentParser(description=__doc__)
     parser.add_argument("--seed", type=int, default=random.randrange(10**9), help="default: any")
     parser.add_argument("--lines", type=int, default=10_000)
     parser.add_argument("--epoch", type=int, help="default: some, by the seed")
-    parser.add_argument("--program", default="crates/rv_app/out/rv_app")
+    parser.add_argument("--program", help="default: rv, or rv_steps under limits")
     parser.add_argument("--play", action="store_true", help="events of worlds, in place of messages to books")
     parser.add_argument("--audit", action="store_true", help="accounts, in place of messages to books")
     parser.add_argument("--accounts", type=int, default=2_000, help="how many of them")
+    parser.add_argument("--limits", nargs=3, metavar=("ENTRIES", "CLIENTS", "OPEN"), help="messages to a machine under these")
     parser.add_argument("--selftest", action="store_true", help="test the model itself, with no program")
     asked = parser.parse_args()
     if asked.selftest:
         sys.exit(not selftest())
     scripts = play_script if asked.play else book_script
+    program = asked.program or (STEPS if asked.limits else PROGRAM)
     if asked.audit:
-        same = compare_audits(asked.program, asked.seed, asked.accounts)
+        same = compare_audits(program, asked.seed, asked.accounts)
+    elif asked.limits:
+        same = compare_steps(program, asked.seed, asked.lines, limits_of(asked.limits))
     else:
-        same = compare(asked.program, asked.seed, asked.lines, asked.epoch, scripts)
+        same = compare(program, asked.seed, asked.lines, asked.epoch, scripts)
     print("1 passed, 0 failed" if same else "0 passed, 1 failed")
     sys.exit(not same)
 

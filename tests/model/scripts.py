@@ -5,6 +5,7 @@ from tests.model.account import (
     MAX_CLIENTS, Account, Key, Request, incarnation, last_number, limit, reply, version, waiting, waiting_of)
 from tests.model.audit import audit
 from tests.model.calls import KINDS
+from tests.model.limits import BOOK
 from tests.model.steps import replied, told
 from tests.model.texts import KEY, MAX_BODY_BYTES, MAX_IDENTIFIER, members_of_call, members_of_version, written
 
@@ -40,10 +41,11 @@ MOST_CROWD = MAX_CLIENTS + 76
 
 
 class Script:
-    """One book's lines. What comes next is chosen by the account that the model has so far."""
+    """One book's lines, or those of a machine under other limits. What comes next is chosen by the account that the model
+    has so far."""
 
-    def __init__(self, chance, epoch):
-        self.chance = chance
+    def __init__(self, chance, epoch, limits=BOOK):
+        self.chance, self.limits = chance, limits
         self.account = Account(epoch, 0)
         self.now = 0
         count = chance.choice([1, 2, 3, 4, 5, 6, 9, 12, 16])
@@ -83,7 +85,7 @@ class Script:
     def line(self):
         """One line more, and the text that answers it."""
         line = self.newcomer() if self.newcomers and self.odds(0.95) else self.any_line()
-        self.account, text = told(self.account, line)
+        self.account, text = told(self.account, line, self.limits)
         return line, text.encode()
 
     def newcomer(self):

@@ -12,13 +12,13 @@ from tests.model.texts import MAX_DRAIN, NoReading, members_of, read_line, writt
 FEW = 3
 
 
-def told(account, line):
-    """The account after a line of `rv book`, and the text that answers it."""
+def told(account, line, limits=BOOK):
+    """The account after a line of `rv book`, or of a machine under other limits, and the text that answers it."""
     try:
         moment, message = read_line(line)
     except NoReading:
         return account, written(refused(1))
-    account, members = step(account, moment, message)
+    account, members = step(account, moment, message, limits)
     return account, written(members)
 
 

@@ -1,0 +1,68 @@
+//! The answer that is made of what is said of a step, and of the state after it.
+ghost use Rattle.std.specs.Prelude.{◌≡◌, IfOk};
+ghost use Rattle.rv_text.specs.declared.answer.Answer.{Answer as AnswerOf};
+ghost use Rattle.rv_state.specs.Moves.{answer_told, told_again};
+ghost use Rattle.rv_machine.specs.Machines.{Says, state_in};
+
+use rv_machine::{Machine, Said};
+use rv_session::LastRequest;
+use rv_text::{Answer, Key, NoMemory, Reply};
+use std::alloc::Global;
+
+/// The answer that is said, which the state must have. Fails only if memory was refused.
+pub(crate) fn answer_of(alloc: Global, machine: &Machine, said: Said) -> Result<Answer, NoMemory>
+    requires said { (answer : AnswerOf) × Says (state_in machine.now) said answer }
+    ensures says { IfOk result (Says (state_in machine.now) said) }
+{
+    match said {
+        Said::Welcome(epoch, client, incarnation, version) => Ok(Answer::Welcome {
+            epoch,
+            client,
+            incarnation,
+            version,
+        }),
+        Said::Told(key) => told(alloc, key, &machine.client(key.client).unwrap().request),
+        Said::Refused(refusal) => Ok(Answer::Refused(refusal)),
+    }
+}
+
+// What a session's last request was told, or that it waits.
+fn told(alloc: Global, key: Key, request: &LastRequest) -> Result<Answer, NoMemory>
+    ensures { IfOk result (λ answer. answer ≡ answer_told key (told_again request.now)) }
+{
+    match request {
+        LastRequest::Fresh => Ok(Answer::Waiting { key }),
+        LastRequest::Waits { .. } => Ok(Answer::Waiting { key }),
+        LastRequest::RepliedTo { reply, .. } => Ok(Answer::Replied {
+            key,
+            reply: copy(alloc, reply)?,
+        }),
+        LastRequest::CancelledUnseen => Ok(Answer::Replied {
+            key,
+            reply: Reply::Cancelled,
+        }),
+    }
+}
+
+// A copy of a reply. Fails only if memory for its items was refused.
+fn copy(alloc: Global, reply: &Reply) -> Result<Reply, NoMemory>
+    ensures { IfOk result (λ copy. copy ≡ reply.now) }
+{
+    match reply {
+        Reply::Done => Ok(Reply::Done),
+        Reply::Received => Ok(Reply::Received),
+        Reply::ReceivedBy(taker) => Ok(Reply::ReceivedBy(*taker)),
+        Reply::Nobody => Ok(Reply::Nobody),
+        Reply::Item(item) => Ok(Reply::Item(item.copy(alloc)?)),
+        Reply::Empty => Ok(Reply::Empty),
+        Reply::Swapped(item) => Ok(Reply::Swapped(item.copy(alloc)?)),
+        Reply::Cancelled => Ok(Reply::Cancelled),
+        Reply::TimedOut => Ok(Reply::TimedOut),
+        Reply::Counted { items, consumers } => Ok(Reply::Counted {
+            items: *items,
+            consumers: *consumers,
+        }),
+        Reply::Peeked(item) => Ok(Reply::Peeked(item.copy(alloc)?)),
+        Reply::Drained(items) => Ok(Reply::Drained(items.copy(alloc)?)),
+    }
+}
