@@ -215,8 +215,8 @@ module _ (s : State) (resumes : CanResume s) (moment : ℕ) (move : Move) where
     | inr next ↦ (
       λ waits. ends waits,
       may_redo s moment (Cancel key) move (answer_after s moment key (act.Cancel key))
-      (told_answers key (following s moment (act.Cancel key)).reply)
-      (entry_passes 1 _ _ (omega arith) (next_passes s key _ _ _ next moves)),
+          (told_answers key (following s moment (act.Cancel key)).reply)
+          (entry_passes 1 _ _ (omega arith) (next_passes s key _ _ _ next moves)),
     )
   ]
     where

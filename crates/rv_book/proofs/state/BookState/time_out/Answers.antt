@@ -17,7 +17,7 @@ returns-in-Some-clause-quiet c =
     let tick = c.elapse-moment.result in
     let made = c.elapse-moment.ensures in
     quiet_then c.args.self.now c.args.now tick.moment c.requires made.exact c.elapse-moment.new.self
-        made.ready
+    made.ready
     made.numbered made.later made.time tick refl made.ticks c.record.new.self c.record.ensures.sound
     c.record.ensures.machine
 
@@ -35,5 +35,5 @@ returns-in-None-clause-ticks c =
     let tick = c.elapse-moment.result in
     let made = c.elapse-moment.ensures in
     still_ticks c.args.self.now c.args.now tick.moment c.requires made.exact c.elapse-moment.new.self
-        made.ready
+    made.ready
     made.numbered made.later made.time tick refl made.ticks c.in-None.is
