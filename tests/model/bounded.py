@@ -8,10 +8,8 @@ from tests.model.steps import told
 
 # The epoch of the program's machine.
 EPOCH = 1
-# Limits as small as these must each be met.
-SMALL = Limits(100, 8, 20)
-# In a run of so many lines.
-FULL_RUN = 1_000
+# Under these limits each must be met, in a run of so many lines.
+SMALL, FULL_RUN = Limits(50, 4, 8), 5_000
 # Of two refusals by one code: no entry more may come, and no place more may stand open.
 CLIENTS, ENTRIES, OPEN_PLACES = "9", "10 of entries", "10 of open places"
 
@@ -72,11 +70,10 @@ class Machines:
         return ENTRIES if told(before, line, unbounded)[1].encode() == text else OPEN_PLACES
 
     def lacking(self):
-        """The refusals that never came, and should have under limits as small as these, in a run as long as this."""
-        limits = [(CLIENTS, self.limits.clients, SMALL.clients), (ENTRIES, self.limits.entries, SMALL.entries),
-                  (OPEN_PLACES, self.limits.open_places, SMALL.open_places)]
-        small = [name for name, limit, few in limits if limit is not None and limit <= few]
-        return [name for name in small if not self.met[name]] if self.met.total() >= FULL_RUN else []
+        """The refusals that never came, and should have under small limits."""
+        if self.limits != SMALL or self.met.total() < FULL_RUN:
+            return []
+        return [name for name in (CLIENTS, ENTRIES, OPEN_PLACES) if not self.met[name]]
 
     def told(self):
         """The counts in words."""

@@ -1,7 +1,7 @@
 #!/usr/bin/env python3
 """Compares a program with a plain second implementation of docs/MODEL.md, over random scripts: of `rv book`, with
 --play of `rv play`, with --audit over random accounts, most of them spoilt, of `rv audit`, and with --limits of a machine
-under limits of one's own, of `rv_steps`; under small ones each must be met.
+under limits of one's own, of `rv_steps`: under 50 entries, 4 clients and 8 open places each must be met.
 
 A run of many lines is parted into many scripts of up to 400 lines, each a book or a world of its own: the model looks
 for everything in the account's list of entries, so a line's cost grows faster than the lines before it. Now and then a
