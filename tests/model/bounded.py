@@ -36,7 +36,7 @@ class Machines:
         """The program's words for one machine, its lines, and that nothing is wrong with the model. A script ends some lines
         after the machine can take no entry more."""
         script, lines = Script(chance, EPOCH, self.limits), []
-        if chance.random() < 0.4:
+        if chance.random() < 0.5:
             self.scatter(script)
         most, late = min(self.length(script), left), chance.randint(5, 40)
         while len(lines) < most and late > 0:
@@ -51,7 +51,7 @@ class Machines:
         """What is asked mostly stays: givers and takers seldom meet in so many queues."""
         script.queues = script.chance.sample(range(64), 20)
         script.clients = script.clients[: self.limits.clients + 1]
-        script.gives, script.drains, script.restarts = 0.7, 0, 0.05
+        script.gives, script.puts, script.drains, script.restarts = 0.7, 0.8, 0, 0.05
 
     def length(self, script):
         """How many lines a script has at most: now and then, where there may be as many clients, it is one with a crowd."""
