@@ -4,6 +4,7 @@
 
 mod answers;
 mod steps;
+mod turns;
 
 use rv_frame::Source;
 use rv_lines::{first_line, read_number};
@@ -13,6 +14,7 @@ use std::env;
 use std::io::{BufWriter, Write};
 use std::process::ExitCode;
 use steps::answer_line;
+use turns::take_turns;
 
 // The epoch of the machine.
 const EPOCH: u64 = 1;
@@ -20,23 +22,45 @@ const EPOCH: u64 = 1;
 // Other words than those of limits, or limits that no step may have, are told on standard error.
 fn main(rt: HostRuntime) -> anyhow::Result<ExitCode> {
     let words: Vec<String> = env::args(&rt)?.collect(rt.alloc())?;
-    match limits_of(&words) {
-        Some(limits) => {
+    match work_of(&words) {
+        Some(Work::Lines(limits)) => {
             run_steps(&rt, &limits)?;
             Ok(ExitCode::SUCCESS)
         }
+        Some(Work::Turns(limits, turns)) => run_turns(&rt, &limits, turns),
         None => {
             eprintln!(rt;
-                "usage: rv_steps ENTRIES CLIENTS OPEN|none, limits that a step may have"
+                "usage: rv_steps ENTRIES CLIENTS OPEN|none [turns COUNT], limits that a step may have"
             )?;
             Ok(ExitCode::from(2))
         }
     }
 }
 
-// The limits that the words name, behind the program's name.
+// What to do, and under which limits.
+#[derive(Drop)]
+enum Work {
+    // A step for each line of standard input.
+    Lines(Limits),
+    // So many turns of the program's own.
+    Turns(Limits, u64),
+}
+
+// What the words name, behind the program's name.
+fn work_of(words: &[String]) -> Option<Work> {
+    match words.len() {
+        4 => Some(Work::Lines(limits_of(words)?)),
+        6 if words[4].as_bytes() == b"turns".as_slice() => {
+            let turns = read_number(words[5].as_bytes())?;
+            Some(Work::Turns(limits_of(words)?, turns))
+        }
+        _ => None,
+    }
+}
+
+// The limits that the words name.
 fn limits_of(words: &[String]) -> Option<Limits> {
-    if words.len() != 4 {
+    if words.len() < 4 {
         return None;
     }
     let entries = read_number(words[1].as_bytes())?;
@@ -71,4 +95,15 @@ fn run_steps(rt: &HostRuntime, limits: &Limits) -> anyhow::Result<()> {
     }
     output.flush()?;
     Ok(())
+}
+
+// Opens a machine at moment 0, and takes turns in it.
+fn run_turns(rt: &HostRuntime, limits: &Limits, turns: u64) -> anyhow::Result<ExitCode> {
+    let mut machine = Machine::open(rt.alloc(), EPOCH, 0)?;
+    if take_turns(rt.alloc(), limits, &mut machine, turns)? {
+        println!(rt; "{turns} turns")?;
+        return Ok(ExitCode::SUCCESS);
+    }
+    eprintln!(rt; "a turn was refused")?;
+    Ok(ExitCode::FAILURE)
 }
