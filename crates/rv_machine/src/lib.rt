@@ -5,7 +5,6 @@ mod cancels;
 mod drains;
 mod hellos;
 mod leaves;
-mod limits;
 mod looks;
 mod machine;
 mod meets;
@@ -16,7 +15,6 @@ mod stays;
 mod steps;
 mod ticks;
 
-pub use limits::Limits;
 pub use machine::{Machine, Said};
 pub use space::message_need;
 pub use steps::{Heard, TickMade};

@@ -10,10 +10,10 @@ ghost use Rattle.rv_machine.specs.Needing.{EntersWithSpace, MayLackMemory, Needs
 ghost use Rattle.rv_machine.specs.Numbering.{AreNumbered};
 ghost use Rattle.rv_open.specs.OpenMap.{count_waiting};
 
-use crate::limits::Limits;
 use crate::machine::Machine;
 use crate::requests::stays;
 use rv_account::need_of;
+use rv_rules::Limits;
 use rv_session::{Greeting, KeyStanding};
 use rv_text::{Call, Message};
 

@@ -10,12 +10,9 @@ use Rattle.rv_text.specs.declared.call.Side.{Side}
 use Rattle.rv_session.specs.OwedDuty.{OwedDuty}
 use Rattle.rv_account.specs.Calls.{opposite}
 use Rattle.rv_due.specs.Deadlines.{Deadline, Deadlines, by_moment}
+pub use Rattle.rv_rules.specs.Reach.{most_counted}
 use Rattle.rv_state.specs.State.{OpenPlace, same_side}
 use Rattle.rv_state.specs.After.{deadline_of_place}
-
--- how far a machine counts entries and those that wait, past the limits of any step
-abbrev pub most_counted : ℕ
-most_counted = 18014398509481984
 
 -- each stands before those of greater places
 abbrev pub PlacesRise : List OpenPlace → Type 0

@@ -1,0 +1,61 @@
+-- A state to resume from is one that a machine can hold.
+use Rattle.std.proofs.Common.{◌≡◌, ◌≤◌, ◌∙◌, ◌<◌, ℕ, Some, None, sym, ap, arith, refl, slice_get, subst}
+use Rattle.rv_text.specs.declared.call.Call.{Call}
+use Rattle.rv_session.specs.declared.client.LastRequest.TheVariants.{Waits}
+use Rattle.rv_open.specs.OpenMap.{found_at}
+use Rattle.rv_open.proofs.Indexing.{stands_found}
+use Rattle.rv_resume.specs.Resuming.{CanResume}
+use Rattle.rv_state.specs.State.{ClientState, OpenPlace, State, Waiter, client_at}
+use Rattle.rv_machine.specs.Machines.{AwaitsPlace, IsConsistent, IsWaiter, LiesThere}
+use Rattle.rv_machine.specs.Numbering.{AreNumbered}
+
+module _ (s : State) (is : CanResume s) where
+  waiter_is : (i : ℕ) (there : OpenPlace) (w : Waiter) → slice_get s.open_places i ≡ Some there
+      → there.waiter ≡ Some w → IsWaiter s there w
+  waiter_is i there w at waits =
+      let own = is.awaited there w (i, at) waits in
+      record {
+        session = own.session;
+        known = own.known;
+        key_is = own.key_is;
+        call = own.call;
+        waits = own.waits;
+        side = own.side;
+        item = own.item;
+        lasts = (own.may_wait, own.lasts);
+      }
+
+  lies_there : (i : ℕ) (there : OpenPlace) → slice_get s.open_places i ≡ Some there → there.waiter ≡ None
+      → LiesThere there
+  lies_there i there at none =
+      let own = is.lies there (i, at) none in
+      record { queue = own.queue; side = own.side; item = own.item; has = own.has }
+
+  awaits_place : (client : ℕ) (session : ClientState) (place : ℕ) (call : Call)
+      → client_at s client ≡ Some session → session.request ≡ Waits place call → AwaitsPlace s client place
+  awaits_place client session place call known waits =
+      let own = is.standing client session place call known waits in
+      record {
+        there = own.there;
+        found = subst (λ p. found_at s.open_places p ≡ Some own.there) own.at_place
+            (stands_found s.open_places own.is_open.0 own.there is.rise own.is_open.1);
+        waiter = own.waiter;
+        waits = own.waits;
+        client_is = own.client_is;
+      }
+
+  pub resumed_consistent : IsConsistent s
+  resumed_consistent = record {
+    rise = is.rise;
+    below = λ i there at. is.below there (i, at);
+    waiters = waiter_is;
+    lie = lies_there;
+    clients = awaits_place;
+    time = is.room.time;
+    space = let space = is.room.space in omega (arith, space);
+  }
+
+  pub resumed_numbered : AreNumbered s
+  resumed_numbered client session known =
+      let own = is.sessions client session known in
+      record { unasked = own.unasked; zero = own.fresh }
