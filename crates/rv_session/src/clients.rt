@@ -122,6 +122,16 @@ impl Clients {
         }
     }
 
+    /// The duty to settle the client's request, if it waits. It is for whoever makes the tables of a state
+    /// anew: each duty of the state must be made once.
+    pub fn owed(&self, client: u64) -> Option<Duty>
+        ensures { result ≡ option_map (λ place. record { place = place; client = client })
+            (place_awaited self.now.clients client) }
+    {
+        let place = self.get(client)?.waiting()?;
+        Some(Duty::new(place, client))
+    }
+
     /// Makes room for one client more, if there is none. It fails only if memory is refused. All clients
     /// stay, and there is no less room, also where it fails.
     pub fn reserve(&mut self) -> Result<(), NoMemory>
