@@ -75,7 +75,8 @@ impl LastRequest {
 }
 
 impl ClientState {
-    ghost use Rattle.rv_session.specs.Clients.{answered, fresh_state, with_last_number, with_request};
+    ghost use Rattle.rv_session.specs.Clients.{answered, fresh_state, place_waiting};
+    ghost use Rattle.rv_session.specs.Clients.{with_last_number, with_request};
     ghost use Rattle.rv_session.specs.ClientStandings.{client_greeting, client_standing, stands_as};
 
     // A session in which nothing was asked yet.
@@ -113,6 +114,13 @@ impl ClientState {
     {
         let request = mem::replace(&mut self.request, LastRequest::Fresh);
         self.request = request.answered(reply);
+    }
+
+    // Where the last request waits, if it does.
+    pub(crate) fn waiting(&self) -> Option<Place>
+        ensures { result ≡ place_waiting self.now.request }
+    {
+        self.request.waiting()
     }
 
     // What a hello of an incarnation and a version is to the state.
