@@ -1,5 +1,5 @@
 -- A state to resume from is one that a machine can hold.
-use Rattle.std.proofs.Common.{◌≡◌, ◌≤◌, ◌∙◌, ◌<◌, ℕ, Some, None, sym, ap, arith, refl, slice_get, subst}
+use Rattle.std.proofs.Common.{◌≡◌, ℕ, Some, None, arith, slice_get, subst}
 use Rattle.rv_text.specs.declared.call.Call.{Call}
 use Rattle.rv_session.specs.declared.client.LastRequest.TheVariants.{Waits}
 use Rattle.rv_open.specs.OpenMap.{found_at}

@@ -26,8 +26,8 @@ returns-then-is_full-clause-err c =
     (omega arith))
     (c.is_full.ensures.full c.if-is_full.true)
 
-pub welcome-requires-clause : goal.welcome-requires-clause
-welcome-requires-clause c = omega (arith, c.is_full.ensures.counts c.if-is_full.false)
+pub welcome-requires : goal.welcome-requires
+welcome-requires c = omega (arith, c.is_full.ensures.counts c.if-is_full.false)
 
 pub returns-in-Ok-clause-ready : goal.returns-in-Ok-clause-ready
 returns-in-Ok-clause-ready c =
