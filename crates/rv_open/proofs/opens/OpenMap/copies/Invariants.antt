@@ -1,6 +1,6 @@
-use Rattle.std.proofs.Common.{◌≡◌, [], ◌∷◌, ◌++◌, IfOk, OnOk, OnErr, length, option_map, ℕ, ◌+◌, ◌-◌, ◌*◌, ◌<◌, ◌≤◌}
-use Rattle.rv_open.specs.OpenMap.{StandBelow, found_at, all_but}
+-- What was copied, and behind it what is left, are all that is open.
+use Rattle.std.proofs.Common.{◌≡◌, ◌++◌}
 use Rattle.rv_open.proofs.opens.OpenMap.copies.Given as goal
 
 abbrev pub invariant-loop-opened : goal.invariant-loop-opened
-invariant-loop-opened l = ?
+invariant-loop-opened l = l.places.items ++ l.opened-iterator ≡ l.fn.self
