@@ -4,4 +4,6 @@ pub mod Meaning
 pub mod RisingClients
 pub mod KeyMeaning
 pub mod OrderedMap
+pub mod FirstAbove
+pub mod RisingStates
 pub mod Writing

@@ -1,6 +1,10 @@
 //! The table of clients: of each its session, its last number, and the texts of its last request.
-ghost use Rattle.std.specs.Prelude.{◌≡◌, ◌<◌, ◌≤◌, Some, None, IsSome, OnErr, OnOk};
+ghost use Rattle.std.specs.Prelude.{◌≡◌, ◌<◌, ◌≤◌, ℕ, Some, None, IfOk, IsSome, OnErr, OnOk, length};
 ghost use Rattle.std.specs.FinMap.{get, insert, len};
+ghost use Rattle.std.specs.Ordering.{nat_cmp};
+ghost use Rattle.std.specs.BTreeMap.Range.{range_contains};
+ghost use Rattle.std.specs.declared.ops.Bound.TheVariants.{Unbounded};
+ghost use Rattle.rv_session.specs.ClientOrder.{is_above};
 
 use crate::client::{ClientState, LastRequest};
 use crate::duty::Duty;
@@ -10,6 +14,7 @@ use rv_text::{Call, Key, NoMemory, Refusal, Reply, Version};
 use std::alloc::Global;
 use std::collections::BTreeMap;
 use std::marker::Model;
+use std::ops::Bound;
 
 /// The clients of an epoch, which contracts see as a map from clients to their [`ClientState`]s, beside the
 /// most that there can be.
@@ -43,6 +48,16 @@ impl Model for Clients {
     ghost invariant = { λ c. IsOrderedTable c.most c.clients.entries };
 }
 
+// Where the numbers above another begin; each is above none.
+fn bound_above(after: Option<u64>) -> Bound<u64>
+    ensures { (client : ℕ) → range_contains nat_cmp result Unbounded client ≡ is_above after client }
+{
+    match after {
+        Some(client) => Bound::Excluded(client),
+        None => Bound::Unbounded,
+    }
+}
+
 impl Clients {
     ghost use Rattle.std.specs.Prelude.{option_map};
     ghost use Rattle.std.specs.FinMap.{empty};
@@ -51,6 +66,8 @@ impl Clients {
     ghost use Rattle.rv_session.specs.Clients.{client_version, with_clients};
     ghost use Rattle.rv_session.specs.ClientStandings.{hello_greeting, key_standing, stands_as};
     ghost use Rattle.rv_session.specs.ClientMeanings.{GreetingSays, StandingSays};
+    ghost use Rattle.rv_session.specs.ClientOrder.{ClientsRise, next_client};
+    ghost use Rattle.rv_session.specs.Entries.{map_of};
 
     /// The table of an epoch, whatever its number, with no client, for at most so many clients. It takes no
     /// memory yet.
@@ -65,6 +82,26 @@ impl Clients {
             most,
             clients,
         }
+    }
+
+    /// The table of an epoch with these clients, which stand in the order of their numbers. It can have so
+    /// many at most. It fails only if memory was refused.
+    pub fn from_states(
+        alloc: Global,
+        epoch: u64,
+        most: usize,
+        states: Vec<(u64, ClientState)>,
+    ) -> Result<Clients, NoMemory>
+        requires rise { ClientsRise states.items }
+        requires most { length states.items ≤ most }
+        ensures { IfOk result (λ t. t ≡ record { epoch = epoch; most = most; clients = map_of states.items }) }
+    {
+        let clients: BTreeMap<u64, ClientState> = states.into_iter().collect(alloc)?;
+        Ok(Clients {
+            epoch,
+            most,
+            clients,
+        })
     }
 
     /// The epoch.
@@ -88,6 +125,16 @@ impl Clients {
         ensures { option_map (λ c. c.now) result ≡ get self.now.clients client }
     {
         self.clients.get(&client)
+    }
+
+    /// The client of the least number above `after`, or of the least of all, with its state. So a caller can
+    /// read all clients, in the order of their numbers.
+    pub fn next(&self, after: Option<u64>) -> Option<(u64, &ClientState)>
+        ensures { option_map (λ p. (p.0, p.1.now)) result ≡ next_client self.now.clients after }
+    {
+        let numbers = (bound_above(after), Bound::Unbounded);
+        let (client, state) = self.clients.range(numbers).next()?;
+        Some((*client, state))
     }
 
     /// What the hello of an incarnation and a version of a client is to the table.

@@ -1,5 +1,5 @@
 //! The exchangers, with the request that waits at each.
-ghost use Rattle.std.specs.Prelude.{◌≡◌, IfOk, Some, length};
+ghost use Rattle.std.specs.Prelude.{◌≡◌, IfOk, None, Some, length};
 ghost use Rattle.rv_text.specs.Limits.{FitsSide};
 ghost use Rattle.rv_text.specs.declared.call.Side.TheVariants.{Exchanges};
 ghost use Rattle.rv_waiters.specs.Meeting.{Exchanged, LeftExchanger};
@@ -38,6 +38,17 @@ fn exchange(exchanger: &mut Swap, wait: Wait, duty: Duty) -> Arrived
             SwapTry::Met(earlier, later) => swapped(earlier, later),
             SwapTry::Alone(duty) => Arrived::alone(Some(duty)),
         }
+    }
+}
+
+// Lays a request at an exchanger where none waits.
+fn lay(exchanger: &mut Swap, duty: Duty)
+    requires { exchanger.old ≡ None }
+    ensures { exchanger.new ≡ Some duty }
+{
+    match exchanger.arrive(duty) {
+        SwapOutcome::Met(_earlier, _later) => unreachable!(),
+        SwapOutcome::Parked => {}
     }
 }
 
@@ -87,6 +98,16 @@ impl Exchangers {
         ensures others { OnlyExchanger exchanger self.old self.new }
     {
         exchange(&mut self.exchangers[exchanger as usize], wait, duty)
+    }
+
+    /// A request is laid at an exchanger where none waits.
+    pub(crate) fn lay(&mut self, exchanger: u64, duty: Duty)
+        requires fits { FitsSide (Exchanges exchanger) }
+        requires free { exchanger_at self.old exchanger ≡ None }
+        ensures laid { exchanger_at self.new exchanger ≡ Some duty }
+        ensures others { OnlyExchanger exchanger self.old self.new }
+    {
+        lay(&mut self.exchangers[exchanger as usize], duty)
     }
 
     /// The request that waits at an exchanger, if it is of this place, leaves it, and its duty comes back.
