@@ -59,3 +59,51 @@ module _ (s : State) (is : CanResume s) where
   resumed_numbered client session known =
       let own = is.sessions client session known in
       record { unasked = own.unasked; zero = own.fresh }
+
+  -- ---- what is open
+
+  stays_by : (c : Call) → IsSome (wait_of c) → IsSome (opposite (side_of c))
+  stays_by (call.Put queue item) waits = refl
+  stays_by (call.Transfer queue item wait) waits = refl
+  stays_by (call.Take queue wait) waits = refl
+  stays_by (call.Swap exchanger item wait) waits = refl
+  stays_by (call.Count queue) ()
+  stays_by (call.Peek queue) ()
+  stays_by (call.Drain queue max) waits = refl
+
+  awaited_at : (there : OpenPlace) (w : Waiter) → IsLastAt s there w
+      → place_awaited s.clients w.key.client ≡ Some there.place
+  awaited_at there w own =
+      ap (option_and_then (λ (c : ClientState). place_waiting c.request)) own.known
+      ∙ ap place_waiting own.waits
+
+  stands_by : (i : ℕ) (there : OpenPlace) → slice_get s.open_places i ≡ Some there → (o : Option Waiter)
+      → there.waiter ≡ o → StandsOpen there s.clients
+  stands_by i there at None none =
+      let own = is.lies there (i, at) none in
+      record {
+        fits = subst FitsSide (sym own.side) own.queue_fits;
+        stays = subst (λ (side : Side). IsSome (opposite side)) (sym own.side) refl;
+        limited = λ limit. absurd (none-is-some (subst (λ (o : Option ℕ). IsSome o) own.unlimited limit));
+        awaited = λ w waits. absurd (none-some w (sym none ∙ waits));
+        lies = λ _. (own.queue, own.side);
+      }
+  stands_by i there at (Some w) waits =
+      let own = is.awaited there w (i, at) waits in
+      record {
+        fits = subst FitsSide (sym own.side) (side_fits own.call
+            (subst (FitsLastRequest s.epoch own.session.version) own.waits
+            (is.sessions w.key.client own.session own.known).request));
+        stays = subst (λ (side : Side). IsSome (opposite side)) (sym own.side) (stays_by own.call own.may_wait);
+        limited = λ _. subst (λ (o : Option Waiter). IsSome o) (sym waits) refl;
+        awaited = λ other has. awaited_at there other (is.awaited there other (i, at) has);
+        lies = λ none. absurd (none-some w (sym none ∙ waits));
+      }
+
+  pub resumed_opens : MayResume s.open_places s.clients
+  resumed_opens = record {
+    few = let places = is.room.places in omega (arith, places);
+    rise = is.rise;
+    stand = λ i there at. stands_by i there at there.waiter refl;
+    apart = λ i j one other at there. is.apart one other (i, at) (j, there);
+  }

@@ -38,7 +38,7 @@ all_by P xs each k d less = each k (get_or xs k d) (slice_get-get_or xs k d less
 
 -- ---- sides
 
-side_fits : (c : Call) → FitsCall c → FitsSide (side_of c)
+pub side_fits : (c : Call) → FitsCall c → FitsSide (side_of c)
 side_fits (call.Put queue item) fits = fits.0.0
 side_fits (call.Transfer queue item wait) fits = fits.0.0
 side_fits (call.Take queue wait) fits = fits.0.0
