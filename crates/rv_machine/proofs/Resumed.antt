@@ -67,8 +67,8 @@ module _ (s : State) (is : CanResume s) where
   stays_by (call.Transfer queue item wait) waits = refl
   stays_by (call.Take queue wait) waits = refl
   stays_by (call.Swap exchanger item wait) waits = refl
-  stays_by (call.Count queue) ()
-  stays_by (call.Peek queue) ()
+  stays_by (call.Count queue) waits = absurd (false≢true waits)
+  stays_by (call.Peek queue) waits = absurd (false≢true waits)
   stays_by (call.Drain queue max) waits = refl
 
   awaited_at : (there : OpenPlace) (w : Waiter) → IsLastAt s there w
@@ -84,7 +84,7 @@ module _ (s : State) (is : CanResume s) where
       record {
         fits = subst FitsSide (sym own.side) own.queue_fits;
         stays = subst (λ (side : Side). IsSome (opposite side)) (sym own.side) refl;
-        limited = λ limit. absurd (none-is-some (subst (λ (o : Option ℕ). IsSome o) own.unlimited limit));
+        limited = λ limit. absurd (false≢true (subst (λ (o : Option ℕ). IsSome o) own.unlimited limit));
         awaited = λ w waits. absurd (none-some w (sym none ∙ waits));
         lies = λ _. (own.queue, own.side);
       }

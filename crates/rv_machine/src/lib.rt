@@ -11,10 +11,12 @@ mod meets;
 mod redo;
 mod requests;
 mod space;
+mod state;
 mod stays;
 mod steps;
 mod ticks;
 
 pub use machine::{Machine, Said};
 pub use space::message_need;
+pub use state::NoMachine;
 pub use steps::{Heard, TickMade};

@@ -3,7 +3,7 @@ ghost use Rattle.std.specs.Prelude.{◌≡◌, IfErr, IfOk};
 ghost use Rattle.rv_resume.specs.Resuming.{CanResume};
 ghost use Rattle.rv_machine.specs.Machines.{IsWhole, state_in};
 ghost use Rattle.rv_machine.specs.Numbering.{AreNumbered};
-ghost use Rattle.rv_machine.specs.Redoing.{IsWhyNot};
+ghost use Rattle.rv_machine.specs.Remaking.{IsWhyNot};
 
 use crate::machine::Machine;
 use rv_open::OpenTable;
@@ -20,12 +20,6 @@ pub enum NoMachine {
     Unfit,
     /// Memory was refused.
     NoMemory,
-}
-
-impl From<NoMemory> for NoMachine {
-    fn from(_refused: NoMemory) -> NoMachine {
-        NoMachine::NoMemory
-    }
 }
 
 impl Machine {
@@ -52,6 +46,19 @@ impl Machine {
         if !state.can_resume() {
             return Err(NoMachine::Unfit);
         }
+        match Machine::holding(alloc, state) {
+            Ok(machine) => Ok(machine),
+            Err(_) => Err(NoMachine::NoMemory),
+        }
+    }
+
+    // The machine that holds a state to resume from. Fails only if memory was refused.
+    fn holding(alloc: Global, state: Snapshot) -> Result<Machine, NoMemory>
+        requires { CanResume state }
+        ensures state { IfOk result (λ m. state_in m ≡ state) }
+        ensures ready { IfOk result IsWhole }
+        ensures numbered { IfOk result (λ m. AreNumbered (state_in m)) }
+    {
         let (epoch, moment, length, places, clients) = state.into_parts();
         let clients = Clients::from_states(alloc, epoch, MOST_KNOWN, clients)?;
         let table = OpenTable::resume(alloc, &clients, places)?;
