@@ -1,10 +1,9 @@
 -- What one who is laid in a queue or at an exchanger is to all who wait, side by side.
-use Rattle.rv_waiters.proofs.Words.{◌≡◌, ◌∷◌, ◌++◌, ◌∙◌, ℕ, List, [], Option, Some, None, refl, sym, ap, subst}
-use Rattle.rv_waiters.proofs.Words.{same_Some, Exchanges, Gives, Takes, OwedDuty, place_of, places_of}
-use Rattle.rv_waiters.proofs.Words.{arith, length}
+use Rattle.rv_waiters.proofs.Words.{◌≡◌, ◌∷◌, ◌++◌, ◌∙◌, ℕ, List, [], Option, Some, None, refl, sym, ap}
+use Rattle.rv_waiters.proofs.Words.{arith, length, subst, same_Some, Exchanges, Gives, Takes, OwedDuty}
+use Rattle.rv_waiters.proofs.Words.{place_of, places_of, FindsNobody, Waiters, place_of_duty, queue_at}
+use Rattle.rv_waiters.proofs.Words.{takers_places, waiting_on}
 use Rattle.std.specs.Prelude.{map}
-use Rattle.rv_waiters.proofs.Words.{FindsNobody, Waiters, place_of_duty, queue_at, takers_places}
-use Rattle.rv_waiters.proofs.Words.{waiting_on}
 use Rattle.rv_dual.specs.Meanings.{ParksGiver, ParksTaker}
 use Rattle.rv_dual.specs.Offers.{duty_of}
 use Rattle.rv_waiters.specs.Laying.{LaidOn, MayWaitBy, offer_with}

@@ -1,5 +1,6 @@
 -- Who parks: it stays, and nobody is there whom it meets. Its room.
-use Rattle.rv_waiters.proofs.Words.{◌≡◌, ◌∷◌, ◌∙◌, ℕ, List, [], None, Some, arith, length, sym, Option, refl, ap, subst, same_Some, Side, Exchanges}
+use Rattle.rv_waiters.proofs.Words.{◌≡◌, ◌∷◌, ◌∙◌, ℕ, List, [], None, Some, arith, length, sym, Option, refl}
+use Rattle.rv_waiters.proofs.Words.{ap, subst, same_Some, Side, Exchanges}
 use Rattle.rv_waiters.proofs.Words.{Gives, Looks, Takes, Wait, opposite, FindsNobody, opposed_by, Waiters}
 use Rattle.rv_waiters.proofs.Words.{queue_at, takers_places, waiting_on, places_of}
 use Rattle.rv_waiters.specs.Meeting.{HasRoomOn, HasRoomToGive, HasRoomToTake, MakesRoomFor, MakesRoomOn}

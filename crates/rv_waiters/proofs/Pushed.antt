@@ -1,5 +1,6 @@
 -- A queue in which one more is parked, with the duty that is owed at its place.
-use Rattle.rv_waiters.proofs.Words.{◌≡◌, ◌∷◌, ◌++◌, ◌∙◌, inl, inr, ℕ, [], Option, Some, sym, ap, subst, slice_get}
+use Rattle.rv_waiters.proofs.Words.{◌≡◌, ◌∷◌, ◌++◌, ◌∙◌, inl, inr, ℕ, [], Option, Some, sym, ap, subst}
+use Rattle.rv_waiters.proofs.Words.{slice_get}
 use Rattle.rv_waiters.proofs.Words.{OwedDuty, place_of, Queue, IsParked}
 use Rattle.rv_dual.specs.Offers.{duty_of}
 use Rattle.rv_dual.specs.declared.giver.Offer.{Offer}

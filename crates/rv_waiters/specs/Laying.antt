@@ -25,8 +25,8 @@ abbrev pub offer_with : ℕ → Option OwedDuty → Offer
 offer_with place None = Put place
 offer_with place (Some duty) = Waits duty
 
--- one more waits on the side, behind all others there, and its duty, or none, is parked at its place: whatever
--- duties are owed, those that are parked now are owed too, where those before and this one are
+-- one more waits on the side, behind all others there, with its duty, if it has one; whatever duties are
+-- owed, those that are parked after it are owed too, where those before and this one are
 pub record LaidOn (old new : Waiters) (side : Side) (place : ℕ) (duty : Option OwedDuty) : Type 0 where
   pub waits : StartsToWait old new side place
   pub parked : (owed : ℕ → Option OwedDuty) → AreParked owed old → owed place ≡ duty → AreParked owed new

@@ -1,5 +1,6 @@
 //! The exchangers, with the request that waits at each.
 ghost use Rattle.std.specs.Prelude.{◌≡◌, IfOk, None, Some, length};
+ghost use Rattle.rv_dual.specs.Above.{first_above, is_above};
 ghost use Rattle.rv_text.specs.Limits.{FitsSide};
 ghost use Rattle.rv_text.specs.declared.call.Side.TheVariants.{Exchanges};
 ghost use Rattle.rv_waiters.specs.Meeting.{Exchanged, LeftExchanger};
@@ -52,6 +53,13 @@ fn lay(exchanger: &mut Swap, duty: Duty)
     }
 }
 
+// Whether a place is above another, or above none.
+fn is_above(after: Option<Place>, place: Place) -> bool
+    ensures { result ≡ is_above after place }
+{
+    after.is_none_or(|least| least < place)
+}
+
 /// All exchangers, by their numbers.
 #[derive(Drop)]
 pub(crate) struct Exchangers {
@@ -88,6 +96,15 @@ impl Exchangers {
         ensures { result ≡ length (place_of_duty (exchanger_at self.now exchanger)) }
     {
         usize::from(self.exchangers[exchanger as usize].waiting().is_some())
+    }
+
+    /// The place of the request that waits at an exchanger, if it is above another place.
+    pub(crate) fn behind(&self, exchanger: u64, after: Option<Place>) -> Option<Place>
+        requires { FitsSide (Exchanges exchanger) }
+        ensures { result ≡ first_above after (place_of_duty (exchanger_at self.now exchanger)) }
+    {
+        let place = self.exchangers[exchanger as usize].waiting()?;
+        is_above(after, place).then_some(place)
     }
 
     /// An arrival meets the one that waits at the exchanger, which leaves. Alone it waits, if its wait lasts.

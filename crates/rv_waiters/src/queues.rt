@@ -1,7 +1,8 @@
 //! The queues: all that wait in each, the oldest first.
 ghost use Rattle.std.specs.Prelude.{◌≡◌, ◌<◌, [], None, Some, OnOk, OnErr, IfOk, length, slice_get};
 ghost use Rattle.rv_text.specs.Limits.{FitsQueue};
-ghost use Rattle.rv_dual.specs.Offers.{duty_of, offer_of, place_of, places_of};
+ghost use Rattle.rv_dual.specs.Above.{first_above};
+ghost use Rattle.rv_dual.specs.Offers.{duty_of, offer_of, place_of, places_of, takers_places};
 ghost use Rattle.rv_dual.specs.Meanings.{ParksGiver, ParksTaker, TakenFront};
 ghost use Rattle.rv_dual.specs.Queue.{IsAbove};
 ghost use Rattle.rv_dual.specs.Withdrawing.{Withdraws};
@@ -160,6 +161,22 @@ impl Queues {
         ensures { result ≡ slice_get (places_of (queue_at self.now queue).givers) 0 }
     {
         self.queues[queue as usize].front()
+    }
+
+    /// The place of a queue's first item above another place, or of its oldest.
+    pub(crate) fn giver_behind(&self, queue: u64, after: Option<Place>) -> Option<Place>
+        requires { FitsQueue queue }
+        ensures { result ≡ first_above after (places_of (queue_at self.now queue).givers) }
+    {
+        self.queues[queue as usize].giver_behind(after)
+    }
+
+    /// The place of a queue's first consumer above another place, or of its oldest.
+    pub(crate) fn taker_behind(&self, queue: u64, after: Option<Place>) -> Option<Place>
+        requires { FitsQueue queue }
+        ensures { result ≡ first_above after (takers_places (queue_at self.now queue).takers) }
+    {
+        self.queues[queue as usize].taker_behind(after)
     }
 
     /// How many items and how many consumers wait in a queue.

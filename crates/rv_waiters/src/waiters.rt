@@ -4,10 +4,11 @@ ghost use Rattle.rv_text.specs.Calls.{side_of, wait_of};
 ghost use Rattle.rv_text.specs.Limits.{FitsQueue, FitsSide};
 ghost use Rattle.rv_text.specs.declared.call.Side.TheVariants.{Gives, Takes};
 ghost use Rattle.rv_account.specs.Calls.{opposite};
-ghost use Rattle.rv_waiters.specs.Meeting.{ArrivedOn, HasRoomOn, LacksRoomOn, MakesRoomFor, TakenFor};
-ghost use Rattle.rv_waiters.specs.Meeting.{FindsNobody, MakesRoomOn, StaysAlone, Withdrew, opposed_by, room_on};
-ghost use Rattle.rv_waiters.specs.Laying.{LaidOn, MayWaitBy, offer_with};
+ghost use Rattle.rv_dual.specs.Above.{first_above};
 ghost use Rattle.rv_dual.specs.Offers.{offer_of};
+ghost use Rattle.rv_waiters.specs.Laying.{LaidOn, MayWaitBy, offer_with};
+ghost use Rattle.rv_waiters.specs.Meeting.{ArrivedOn, FindsNobody, HasRoomOn, LacksRoomOn, MakesRoomFor};
+ghost use Rattle.rv_waiters.specs.Meeting.{MakesRoomOn, StaysAlone, TakenFor, Withdrew, opposed_by, room_on};
 ghost use Rattle.rv_waiters.specs.Views.{AreBelow, NobodyWaits, waiting_on};
 
 use crate::exchangers::Exchangers;
@@ -64,6 +65,20 @@ impl Waiters {
         ensures { result ≡ slice_get (waiting_on self.now (Gives queue)) 0 }
     {
         self.queues.front(queue)
+    }
+
+    /// The place of the first who waits on a side above another place, or of the oldest there; nobody waits
+    /// on one that looks.
+    pub fn behind(&self, side: Side, after: Option<Place>) -> Option<Place>
+        requires { FitsSide side }
+        ensures { result ≡ first_above after (waiting_on self.now side) }
+    {
+        match side {
+            Side::Gives(queue) => self.queues.giver_behind(queue, after),
+            Side::Takes(queue) => self.queues.taker_behind(queue, after),
+            Side::Looks(_) => None,
+            Side::Exchanges(exchanger) => self.exchangers.behind(exchanger, after),
+        }
     }
 
     /// How many items and how many consumers wait in a queue from 0 to 63.
