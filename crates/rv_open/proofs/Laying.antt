@@ -25,6 +25,12 @@ use Rattle.rv_open.proofs.Kept.{in_end, rise_more}
 use Rattle.rv_open.proofs.Limits.{limits_more}
 use Rattle.rv_open.proofs.Meetings.{are_below}
 
+-- nobody waits whom an arrival could meet, where no open place faces it
+pub finds_nobody : (all : List OpenPlace) (waiters : Waiters) (waiting : ℕ) (due : Deadlines) (side : Side)
+    → AreIndexed all waiters waiting due → opposed_in all side ≡ [] → FindsNobody waiters side
+finds_nobody all waiters waiting due side is alone other opposes =
+    is.lines other ∙ ap place_list (sym (ap (facing all) opposes) ∙ alone)
+
 module _ (all : List OpenPlace) (old : Waiters) (waiting : ℕ) (due : Deadlines) (o : OpenPlace)
     (is : AreIndexed all old waiting due) (below : StandBelow all o.place) where
   abbrev pub more : List OpenPlace
@@ -57,10 +63,6 @@ module _ (all : List OpenPlace) (old : Waiters) (waiting : ℕ) (due : Deadlines
 
   pub all_below : AreBelow old o.place
   all_below = are_below all old waiting o.place due is below
-
-  -- nobody waits whom it could meet, where no open place faces it
-  pub not_met : opposed_in all o.side ≡ [] → FindsNobody old o.side
-  not_met alone other opposes = is.lines other ∙ ap place_list (sym (ap (facing all) opposes) ∙ alone)
 
   pub counted_more : count_waiting more ≡ count_waiting all + cond (is_some o.waiter) 1 0
   counted_more =

@@ -15,19 +15,19 @@ use Rattle.rv_text.specs.Calls.{side_of, wait_of}
 use Rattle.rv_text.specs.Limits.{FitsSide}
 use Rattle.rv_session.specs.OwedDuty.{OwedDuty}
 use Rattle.rv_due.specs.Deadlines.{Deadlines}
-use Rattle.rv_state.specs.State.{OpenPlace, Waiter, place_list}
+use Rattle.rv_state.specs.State.{OpenPlace, Waiter}
 use Rattle.rv_state.proofs.Words.{none-some}
 use Rattle.rv_waiters.specs.declared.outcome.Arrived.{Arrived}
 use Rattle.rv_waiters.specs.Meeting.{ArrivedOn, FindsNobody, MeetsFirst, MeetsOrWaits, OwnDuty, PartnersDuty}
 use Rattle.rv_waiters.specs.Meeting.{StartsToWait}
 use Rattle.rv_waiters.specs.Views.{SameWaiters, Waiters, waiting_on}
 use Rattle.rv_waiters.proofs.Tabled.{same_parked, same_waiting}
-use Rattle.rv_open.specs.OpenMap.{StandBelow, duty_at, facing, owed_among}
+use Rattle.rv_open.specs.OpenMap.{StandBelow, duty_at, owed_among}
 use Rattle.rv_open.specs.OpenMap.{count_waiting, with_limit, all_but}
 use Rattle.rv_open.specs.Indexed.{AreIndexed, MayPark, own_duty}
 use Rattle.rv_open.proofs.Firsts.{count_owed}
 use Rattle.rv_open.proofs.Kept.{filter_these}
-use Rattle.rv_open.proofs.Laying.{counted_more, laid_index}
+use Rattle.rv_open.proofs.Laying.{counted_more, finds_nobody, laid_index}
 
 -- ---- with other room alone
 
@@ -74,7 +74,7 @@ module _ (all : List OpenPlace) (old new : Waiters) (waiting : ℕ) (due : Deadl
   as_some (Some w) = refl
 
   not_met : FindsNobody old (side_of call)
-  not_met other opposes = is.lines other ∙ ap place_list (sym (ap (facing all) opposes) ∙ may.alone)
+  not_met = finds_nobody all old waiting due (side_of call) is may.alone
 
   module _ (arrived : ArrivedOn old new (side_of call) (wait_of call) duty result) where
     cons_nil : (p : ℕ) (ps : List ℕ) → [] ≡ p ∷ ps → ⊥

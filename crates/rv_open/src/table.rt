@@ -8,6 +8,7 @@ ghost use Rattle.rv_text.specs.Limits.{FitsQueue, FitsSide};
 ghost use Rattle.rv_text.specs.declared.call.Side.TheVariants.{Gives, Takes};
 ghost use Rattle.rv_open.specs.OpenMap.{StandBelow, due_in, found_at, line_in, opposed_in, count_waiting};
 ghost use Rattle.rv_open.specs.OpenMap.{IsFirstDue, NeverDue, with_limit, all_but, without_limit};
+ghost use Rattle.rv_open.specs.OpenMap.{first_behind};
 ghost use Rattle.rv_open.specs.Indexed.{ClosesPlace, ClosesDue, ClosesFirst, MayPark, ParksPlace, WaitsIn};
 ghost use Rattle.rv_open.specs.Reopening.{MayReopen, MayResume, duty_of_waiter};
 
@@ -246,6 +247,14 @@ impl OpenTable {
         ensures { option_map (λ o. o.now) result ≡ slice_get (line_in self.now (Gives queue)) 0 }
     {
         self.opens.get(self.waiters.front(queue)?)
+    }
+
+    /// The first of a side's line at a place above another, or the oldest of the line.
+    pub fn behind(&self, side: Side, after: Option<Place>) -> Option<&OpenPlace>
+        requires { FitsSide side }
+        ensures { option_map (λ o. o.now) result ≡ first_behind after (line_in self.now side) }
+    {
+        self.opens.get(self.waiters.behind(side, after)?)
     }
 
     /// How many wait that an arrival of this side can meet.
