@@ -3,3 +3,5 @@
 #![tactic(auto)]
 
 pub mod laws;
+mod moments;
+mod numbers;
