@@ -13,6 +13,20 @@ use rv_session::{ClientState, OpenPlace, Place};
 use rv_text::Key;
 
 impl Machine {
+    /// The epoch.
+    pub fn epoch(&self) -> u64
+        ensures { result ≡ (state_in self.now).epoch }
+    {
+        self.clients.epoch()
+    }
+
+    /// How many entries there were.
+    pub fn length(&self) -> usize
+        ensures { result ≡ (state_in self.now).length }
+    {
+        self.length
+    }
+
     /// The moment of the last entry, or the opening moment, in milliseconds.
     pub fn moment(&self) -> u64
         ensures { result ≡ (state_in self.now).moment }
