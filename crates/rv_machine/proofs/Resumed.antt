@@ -1,11 +1,23 @@
 -- A state to resume from is one that a machine can hold.
-use Rattle.std.proofs.Common.{◌≡◌, ℕ, Some, None, arith, slice_get, subst}
+use Rattle.std.proofs.Common.{◌≡◌, ◌≤◌, ◌∙◌, ℕ, Option, Some, None, IsSome, sym, ap, arith, refl, slice_get}
+use Rattle.std.proofs.Common.{subst}
+use Rattle.std.proofs.lemmas.Bool.{false≢true}
+use Rattle.std.specs.Prelude.{option_and_then}
+use Rattle.rv_account.specs.Calls.{opposite}
+use Rattle.rv_text.specs.Calls.{side_of, wait_of}
+use Rattle.rv_text.specs.Limits.{FitsSide}
 use Rattle.rv_text.specs.declared.call.Call.{Call}
+use Rattle.rv_text.specs.declared.call.Call.TheVariants as call
+use Rattle.rv_text.specs.declared.call.Side.{Side}
+use Rattle.rv_session.specs.Clients.{place_awaited, place_waiting}
 use Rattle.rv_session.specs.declared.client.LastRequest.TheVariants.{Waits}
-use Rattle.rv_open.specs.OpenMap.{found_at}
 use Rattle.rv_open.proofs.Indexing.{stands_found}
-use Rattle.rv_resume.specs.Resuming.{CanResume}
+use Rattle.rv_open.specs.OpenMap.{found_at}
+use Rattle.rv_open.specs.Reopening.{MayResume, StandsOpen}
+use Rattle.rv_resume.proofs.Decided.{side_fits}
+use Rattle.rv_resume.specs.Resuming.{CanResume, FitsLastRequest, IsLastAt}
 use Rattle.rv_state.specs.State.{ClientState, OpenPlace, State, Waiter, client_at}
+use Rattle.rv_state.proofs.Words.{none-some}
 use Rattle.rv_machine.specs.Machines.{AwaitsPlace, IsConsistent, IsWaiter, LiesThere}
 use Rattle.rv_machine.specs.Numbering.{AreNumbered}
 
