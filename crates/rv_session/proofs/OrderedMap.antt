@@ -9,7 +9,7 @@ use Rattle.std.specs.Cmp.{nat_cmp_total, eq_by_cmp_equiv}
 use Rattle.std.specs.Map.{lookup, keys_of}
 use Rattle.std.specs.BTreeMap.{is_at}
 use Rattle.std.specs.List.Sorted.{IsStrictlySortedBy}
-use Rattle.std.specs.FinMap.{get, insert, len, find, entries, from_sorted, is_sorted, same_map, get-insert}
+use Rattle.std.specs.FinMap.{FinMap, get, get-entries, insert, len, find, entries, from_sorted, is_sorted, same_map, get-insert}
 use Rattle.std.specs.FinMap.{get-from_entries, get-from_sorted, entries-from_sorted, len-entries}
 use Rattle.std.specs.FinMap.{nat_cmp-IsAntisymmetric}
 use Rattle.std.specs.FinMap.Entries.{below_all}
@@ -65,6 +65,11 @@ own_entries es ordered =
     ap entries (same_map nat_cmp_total nat_cmp-IsAntisymmetric (map_of es) (from_sorted es)
     (λ q. get-from_entries nat_cmp_total es q ∙ sym (get-from_sorted nat_cmp es q (sorted es ordered))))
     ∙ entries-from_sorted nat_cmp es (sorted es ordered)
+
+-- and a map is that of its own entries
+pub own_map : {V : Type 0} (m : FinMap nat_cmp V) → map_of (entries m) ≡ m
+own_map m = same_map nat_cmp_total nat_cmp-IsAntisymmetric (map_of (entries m)) m
+    (λ q. get-from_entries nat_cmp_total (entries m) q ∙ sym (get-entries m q))
 
 pub len_tree : {V : Type 0} (es : List (ℕ × V)) → IsStrictlySortedBy nat_cmp (keys_of es)
     → len (map_of es) ≡ length es

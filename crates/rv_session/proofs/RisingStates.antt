@@ -1,13 +1,13 @@
 -- Clients in the order of their numbers, in the words of a contract and in those of an ordered map; and the
 -- map that is collected from them.
-use Rattle.std.proofs.Common.{◌≡◌, ◌<◌, ◌≤◌, ◌∙◌, ℕ, zero, suc, List, [], ◌∷◌, Some, None, length, slice_get}
+use Rattle.std.proofs.Common.{◌≡◌, ◌<◌, ◌≤◌, ◌∙◌, ℕ, zero, suc, List, [], ◌∷◌, Some, length, slice_get}
 use Rattle.std.proofs.Common.{refl, sym, ap, subst, arith}
 use Rattle.std.specs.declared.cmp.Ordering.TheVariants.{Less}
 use Rattle.std.specs.Ordering.{nat_cmp, eq_by_cmp}
 use Rattle.std.specs.Cmp.{nat_cmp_is, nat_cmp_total, ranked, eq_by_cmp_equiv}
 use Rattle.std.specs.List.{AllByRecursion}
 use Rattle.std.specs.List.Sorted.{IsStrictlySortedBy}
-use Rattle.std.specs.Map.{keys_of, update_all}
+use Rattle.std.specs.Map.{keys_of}
 use Rattle.std.specs.BTreeMap.{BTreeMap, IsFromIterResult}
 use Rattle.std.specs.FinMap.{len, same_map, nat_cmp-IsAntisymmetric}
 use Rattle.std.proofs.lemmas.Map.Keys.{sorted_head, sorted_tail, IsDistinct-from_sorted}

@@ -1,6 +1,6 @@
 //! The table of clients: of each its session, its last number, and the texts of its last request.
 ghost use Rattle.std.specs.Prelude.{◌≡◌, ◌<◌, ◌≤◌, ℕ, Some, None, IfOk, IsSome, OnErr, OnOk, length};
-ghost use Rattle.std.specs.FinMap.{get, insert, len};
+ghost use Rattle.std.specs.FinMap.{entries, get, insert, len};
 ghost use Rattle.std.specs.Ordering.{nat_cmp};
 ghost use Rattle.std.specs.BTreeMap.Range.{range_contains};
 ghost use Rattle.std.specs.declared.ops.Bound.TheVariants.{Unbounded};
@@ -19,8 +19,9 @@ use std::ops::Bound;
 /// The clients of an epoch, which contracts see as a map from clients to their [`ClientState`]s, beside the
 /// most that there can be.
 ///
-/// Only [`admit`](Clients::admit) takes memory, and what a call replaces is freed. Each call but `open`,
-/// `len` and `epoch` takes time logarithmic in the number of clients, whatever numbers they choose.
+/// Only [`admit`](Clients::admit), [`states`](Clients::states) and [`from_states`](Clients::from_states) take
+/// memory, and what a call replaces is freed. `states` and `from_states` read all clients. Each other call
+/// takes time logarithmic in the number of clients, whatever numbers they have.
 #[derive(Drop)]
 pub struct Clients {
     epoch: u64,
@@ -135,6 +136,20 @@ impl Clients {
         let numbers = (bound_above(after), Bound::Unbounded);
         let (client, state) = self.clients.range(numbers).next()?;
         Some((*client, state))
+    }
+
+    /// A copy of all clients with their states, in the order of their numbers. It fails only if memory was
+    /// refused.
+    pub fn states(&self, alloc: Global) -> Result<Vec<(u64, ClientState)>, NoMemory>
+        ensures states { IfOk result (λ states. states.items ≡ entries self.now.clients) }
+        ensures rise { IfOk result (λ states. ClientsRise states.items) }
+        ensures same { IfOk result (λ states. map_of states.items ≡ self.now.clients) }
+    {
+        let mut states = Vec::with_capacity(alloc, self.clients.len())?;
+        for (client, state) in &self.clients {
+            states.push((*client, state.copy(alloc)?))?;
+        }
+        Ok(states)
     }
 
     /// What the hello of an incarnation and a version of a client is to the table.
