@@ -1,6 +1,5 @@
 //! A slot of a line: who waits there, or the mark of who was withdrawn.
-ghost use Rattle.std.specs.Prelude.{◌≡◌, true, ℕ, Bool};
-ghost use Rattle.std.specs.Prelude.{option_map};
+ghost use Rattle.std.specs.Prelude.{◌≡◌, true, ℕ, Bool, option_map};
 ghost use Rattle.rv_dual.specs.Slots.{holder, is_held, passes_in, slot_place};
 
 use crate::giver::Offer;
