@@ -1,7 +1,7 @@
 //! Hellos: the first one of a client, and those of a later incarnation.
 ghost use Rattle.std.specs.Prelude.{◌≡◌, ◌≤◌, ◌<◌, ◌+◌, [], None, IfOk, IfErr, option_to_list};
 ghost use Rattle.std.specs.FinMap.{get};
-ghost use Rattle.rv_open.specs.OpenMap.{most_counted};
+ghost use Rattle.rv_open.specs.OpenMap.{count_waiting, most_counted};
 ghost use Rattle.rv_text.specs.declared.message.Message.TheVariants.{Hello};
 ghost use Rattle.rv_account.specs.Account.{entry};
 ghost use Rattle.rv_account.specs.declared.entry.Act.TheVariants as act;
@@ -14,7 +14,6 @@ ghost use Rattle.rv_machine.specs.Ending.{counted};
 ghost use Rattle.rv_machine.specs.Entering.{CanReopen};
 ghost use Rattle.rv_machine.specs.Machines.{WasHeard, IsWhole, SameListRoom, WasRefused, state_in};
 ghost use Rattle.rv_machine.specs.Numbering.{AreNumbered};
-ghost use Rattle.rv_open.specs.OpenMap.{count_waiting};
 
 use crate::machine::Machine;
 use rv_account::{Act, Entry, Partners};
@@ -137,13 +136,7 @@ impl Machine {
     }
 
     // Opens a session of a client that is known, in which nothing was asked yet, and counts its entry.
-    fn reopen(
-        &mut self,
-        moment: u64,
-        client: u64,
-        incarnation: u64,
-        version: Version,
-    ) -> Entry
+    fn reopen(&mut self, moment: u64, client: u64, incarnation: u64, version: Version) -> Entry
         requires ready { IsWhole self.old }
         requires numbered { AreNumbered (state_in self.old) }
         requires time { moment ≤ max_moment }
@@ -161,13 +154,7 @@ impl Machine {
     }
 
     // Counts the entry of a hello, and gives it. What is whole stays so if there is space for it.
-    fn welcome(
-        &mut self,
-        moment: u64,
-        client: u64,
-        incarnation: u64,
-        version: Version,
-    ) -> Entry
+    fn welcome(&mut self, moment: u64, client: u64, incarnation: u64, version: Version) -> Entry
         requires { self.old.length < most_counted }
         ensures entry { result ≡ entry moment (act.Hello client incarnation version) [] }
         ensures ready { IsWhole self.old → moment ≤ max_moment

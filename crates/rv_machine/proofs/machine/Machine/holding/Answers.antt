@@ -1,5 +1,5 @@
 -- The parts of a state to resume from are those that tables are made of.
-use Rattle.std.proofs.Common.{◌≡◌, ◌≤◌, ◌∙◌, arith, ap, length, sym, subst}
+use Rattle.std.proofs.Common.{◌≡◌, ◌≤◌, ◌∙◌, arith, ap, sym, subst}
 use Rattle.std.specs.FinMap.{FinMap, len}
 use Rattle.std.specs.Ordering.{nat_cmp}
 use Rattle.rv_open.specs.Reopening.{MayResume}
@@ -30,7 +30,7 @@ returns-clause-ready c =
     let clients = c.in_ok-clients.ensures in
     let table = c.in_ok-table.ensures in
     let parts : state_by c.into_parts-epoch.result.0 c.into_parts-epoch.result.1 c.into_parts-epoch.result.2
-        c.into_parts-epoch.result.3.items c.into_parts-epoch.result.4.items ≡ c.args.state =
+    c.into_parts-epoch.result.3.items c.into_parts-epoch.result.4.items ≡ c.args.state =
     sym c.into_parts-epoch.ensures.parts in
     let is : record {
       epoch = c.in_ok-clients.clients.epoch;
