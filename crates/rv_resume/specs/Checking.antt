@@ -25,11 +25,6 @@ use Rattle.rv_text.specs.Members.{max_identifier}
 use Rattle.rv_account.specs.Limits.{max_moment}
 use Rattle.rv_rules.specs.StepLimits.{most_open_places}
 
--- clients in the order of their numbers, each once
-abbrev pub ClientsRise : List (ℕ × ClientState) → Type 0
-ClientsRise clients = (i j : ℕ) (one other : ℕ × ClientState) → i < j → slice_get clients i ≡ Some one
-    → slice_get clients j ≡ Some other → one.0 < other.0
-
 -- open places in their order, each once
 abbrev pub OpensRise : List OpenPlace → Type 0
 OpensRise opens = (i j : ℕ) (one other : OpenPlace) → i < j → slice_get opens i ≡ Some one

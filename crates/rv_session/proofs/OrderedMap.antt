@@ -1,7 +1,7 @@
 -- The map that entries are which stand in the order of their keys: what a look-up finds in it, what it is
 -- after an insertion, and that its own entries are these.
-use Rattle.std.proofs.Common.{◌≡◌, ℕ, ◌+◌, ◌<◌, ◌≤◌, Bool, true, false, ◌&&◌, T, cond, List, [], ◌∷◌, length, Some}
-use Rattle.std.proofs.Common.{None, refl, sym, ap, ◌∙◌, subst, arith}
+use Rattle.std.proofs.Common.{◌≡◌, ℕ, ◌+◌, ◌<◌, ◌≤◌, Bool, true, false, ◌&&◌, T, cond, List, [], ◌∷◌}
+use Rattle.std.proofs.Common.{length, Some, None, refl, sym, ap, ◌∙◌, subst, arith}
 use Rattle.std.specs.List.{AllByRecursion}
 use Rattle.std.specs.declared.cmp.Ordering.TheVariants.{Less}
 use Rattle.std.specs.Ordering.{nat_cmp, is_lt}
@@ -9,7 +9,8 @@ use Rattle.std.specs.Cmp.{nat_cmp_total, eq_by_cmp_equiv}
 use Rattle.std.specs.Map.{lookup, keys_of}
 use Rattle.std.specs.BTreeMap.{is_at}
 use Rattle.std.specs.List.Sorted.{IsStrictlySortedBy}
-use Rattle.std.specs.FinMap.{FinMap, get, get-entries, insert, len, find, entries, from_sorted, is_sorted, same_map, get-insert}
+use Rattle.std.specs.FinMap.{FinMap, get, get-entries, insert, len, find, entries}
+use Rattle.std.specs.FinMap.{from_sorted, is_sorted, same_map, get-insert}
 use Rattle.std.specs.FinMap.{get-from_entries, get-from_sorted, entries-from_sorted, len-entries}
 use Rattle.std.specs.FinMap.{nat_cmp-IsAntisymmetric}
 use Rattle.std.specs.FinMap.Entries.{below_all}

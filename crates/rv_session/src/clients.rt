@@ -21,7 +21,7 @@ use std::ops::Bound;
 ///
 /// Only [`admit`](Clients::admit), [`states`](Clients::states) and [`from_states`](Clients::from_states) take
 /// memory, and what a call replaces is freed. `states` and `from_states` read all clients. Each other call
-/// takes time logarithmic in the number of clients, whatever numbers they have.
+/// takes time at most logarithmic in the number of clients, whatever numbers they have.
 #[derive(Drop)]
 pub struct Clients {
     epoch: u64,
@@ -85,8 +85,8 @@ impl Clients {
         }
     }
 
-    /// The table of an epoch with these clients, which stand in the order of their numbers. It can have so
-    /// many at most. It fails only if memory was refused.
+    /// The table of an epoch, for at most so many clients, with these, which must stand in the order of their
+    /// numbers. It fails only if memory was refused.
     pub fn from_states(
         alloc: Global,
         epoch: u64,
@@ -95,7 +95,8 @@ impl Clients {
     ) -> Result<Clients, NoMemory>
         requires rise { ClientsRise states.items }
         requires most { length states.items ≤ most }
-        ensures { IfOk result (λ t. t ≡ record { epoch = epoch; most = most; clients = map_of states.items }) }
+        ensures { IfOk result
+            (λ t. t ≡ record { epoch = epoch; most = most; clients = map_of states.items }) }
     {
         let clients: BTreeMap<u64, ClientState> = states.into_iter().collect(alloc)?;
         Ok(Clients {
@@ -193,8 +194,8 @@ impl Clients {
     }
 
     /// Opens the session of an incarnation and a version of a client that isn't known, in which nothing was
-    /// asked yet. There must be fewer clients than there can be. It fails only if memory was refused, and then
-    /// nothing changes.
+    /// asked yet. There must be fewer clients than there can be. It fails only if memory was refused, and
+    /// then nothing changes.
     pub fn admit(&mut self, client: u64, incarnation: u64, version: Version) -> Result<(), NoMemory>
         requires unknown { get self.old.clients client ≡ None }
         requires most { len self.old.clients < self.old.most }
@@ -207,8 +208,8 @@ impl Clients {
         Ok(())
     }
 
-    /// Opens the session of an incarnation and a version of a client that is known, in which nothing was asked
-    /// yet, in place of the one that it has. It takes no memory.
+    /// Opens the session of an incarnation and a version of a client that is known, in which nothing was
+    /// asked yet, in place of the one that it has. It takes no memory.
     pub fn renew(&mut self, client: u64, incarnation: u64, version: Version)
         requires known { IsSome (get self.old.clients client) }
         ensures { self.new ≡ with_clients self.old
