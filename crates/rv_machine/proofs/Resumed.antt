@@ -106,7 +106,8 @@ module _ (s : State) (is : CanResume s) where
         fits = subst FitsSide (sym own.side) (side_fits own.call
             (subst (FitsLastRequest s.epoch own.session.version) own.waits
             (is.sessions w.key.client own.session own.known).request));
-        stays = subst (λ (side : Side). IsSome (opposite side)) (sym own.side) (stays_by own.call own.may_wait);
+        stays = subst (λ (side : Side). IsSome (opposite side)) (sym own.side)
+            (stays_by own.call own.may_wait);
         limited = λ _. subst (λ (o : Option Waiter). IsSome o) (sym waits) refl;
         awaited = λ other has. awaited_at there other (is.awaited there other (i, at) has);
         lies = λ none. absurd (none-some w (sym none ∙ waits));

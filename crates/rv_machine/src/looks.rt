@@ -88,8 +88,8 @@ impl Machine {
         Some(self.table.front(queue)?.place)
     }
 
-    /// The oldest that is open on a side behind a place, or on the whole side. So a line is read in its order,
-    /// without a copy.
+    /// The oldest that is open on a side behind a place, or on the whole side. So a line is read in its
+    /// order, without a copy.
     pub fn behind(&self, side: Side, after: Option<Place>) -> Option<&OpenPlace>
         requires { FitsSide side }
         ensures { option_map (λ o. o.now) result ≡ first_behind after (line (state_in self.now) side) }
