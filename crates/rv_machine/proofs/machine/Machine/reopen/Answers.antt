@@ -13,7 +13,8 @@ returns-clause-ready c =
     c.welcome.ensures.ready
     (put_ready c.args.self.now c.requires.ready c.args.client (fresh_state c.args.incarnation c.args.version)
     c.renew.new.self
-    (ap (λ (t : ClientStates). t.clients) c.renew.ensures) (ap (λ (t : ClientStates). t.epoch) c.renew.ensures) (ap (λ (t : ClientStates). t.most) c.renew.ensures)
+    (ap (λ (t : ClientStates). t.clients) c.renew.ensures) (ap (λ (t : ClientStates). t.epoch) c.renew.ensures)
+    (ap (λ (t : ClientStates). t.most) c.renew.ensures)
     c.requires.reopens.idle
     refl) c.requires.time c.requires.space
 
@@ -22,6 +23,7 @@ returns-clause-numbered c =
     subst (λ (m : Machine). AreNumbered (state_in m)) (sym c.welcome.ensures.counted)
     (subst AreNumbered (sym (put_state c.args.self.now c.requires.ready c.args.client
     (fresh_state c.args.incarnation c.args.version) c.renew.new.self
-    (ap (λ (t : ClientStates). t.clients) c.renew.ensures) (ap (λ (t : ClientStates). t.epoch) c.renew.ensures)))
+    (ap (λ (t : ClientStates). t.clients) c.renew.ensures)
+    (ap (λ (t : ClientStates). t.epoch) c.renew.ensures)))
     (put_numbered (state_in c.args.self.now) c.args.client (fresh_state c.args.incarnation c.args.version)
     c.requires.numbered (record { unasked = λ none. refl; zero = λ fresh. refl })))
