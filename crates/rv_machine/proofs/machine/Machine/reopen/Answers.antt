@@ -13,9 +13,9 @@ returns-clause-ready c =
     c.welcome.ensures.ready
     (put_ready c.args.self.now c.requires.ready c.args.client (fresh_state c.args.incarnation c.args.version)
     c.renew.new.self
-    (ap (λ (t : ClientStates). t.clients) c.renew.ensures) (ap (λ (t : ClientStates). t.epoch) c.renew.ensures)
-    (ap (λ (t : ClientStates). t.most) c.renew.ensures)
-    c.requires.reopens.idle
+    (ap (λ (t : ClientStates). t.clients) c.renew.ensures)
+    (ap (λ (t : ClientStates). t.epoch) c.renew.ensures)
+    (ap (λ (t : ClientStates). t.most) c.renew.ensures) c.requires.reopens.idle
     refl) c.requires.time c.requires.space
 
 pub returns-clause-numbered : goal.returns-clause-numbered
