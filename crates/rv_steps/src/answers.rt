@@ -35,34 +35,11 @@ fn told(alloc: Global, key: Key, request: &LastRequest) -> Result<Answer, NoMemo
         LastRequest::Waits { .. } => Ok(Answer::Waiting { key }),
         LastRequest::RepliedTo { reply, .. } => Ok(Answer::Replied {
             key,
-            reply: copy(alloc, reply)?,
+            reply: reply.copy(alloc)?,
         }),
         LastRequest::CancelledUnseen => Ok(Answer::Replied {
             key,
             reply: Reply::Cancelled,
         }),
-    }
-}
-
-// A copy of a reply. Fails only if memory for its items was refused.
-fn copy(alloc: Global, reply: &Reply) -> Result<Reply, NoMemory>
-    ensures { IfOk result (λ copy. copy ≡ reply.now) }
-{
-    match reply {
-        Reply::Done => Ok(Reply::Done),
-        Reply::Received => Ok(Reply::Received),
-        Reply::ReceivedBy(taker) => Ok(Reply::ReceivedBy(*taker)),
-        Reply::Nobody => Ok(Reply::Nobody),
-        Reply::Item(item) => Ok(Reply::Item(item.copy(alloc)?)),
-        Reply::Empty => Ok(Reply::Empty),
-        Reply::Swapped(item) => Ok(Reply::Swapped(item.copy(alloc)?)),
-        Reply::Cancelled => Ok(Reply::Cancelled),
-        Reply::TimedOut => Ok(Reply::TimedOut),
-        Reply::Counted { items, consumers } => Ok(Reply::Counted {
-            items: *items,
-            consumers: *consumers,
-        }),
-        Reply::Peeked(item) => Ok(Reply::Peeked(item.copy(alloc)?)),
-        Reply::Drained(items) => Ok(Reply::Drained(items.copy(alloc)?)),
     }
 }

@@ -2,10 +2,12 @@
 //! told.
 #![tactic(auto)]
 
+mod anew;
 mod answers;
 mod steps;
 mod turns;
 
+use anew::made_anew;
 use rv_frame::Source;
 use rv_lines::{first_line, read_number};
 use rv_machine::Machine;
@@ -24,14 +26,11 @@ const EPOCH: u64 = 1;
 fn main(rt: HostRuntime) -> anyhow::Result<ExitCode> {
     let words: Vec<String> = env::args(&rt)?.collect(rt.alloc())?;
     match work_of(&words) {
-        Some(Work::Lines(limits)) => {
-            run_steps(&rt, &limits)?;
-            Ok(ExitCode::SUCCESS)
-        }
+        Some(Work::Lines(limits, anew)) => run_steps(&rt, &limits, anew),
         Some(Work::Turns(limits, turns)) => run_turns(&rt, &limits, turns),
         None => {
             eprintln!(rt;
-                "usage: rv_steps ENTRIES CLIENTS OPEN|none [turns COUNT], limits that a step may have"
+                "usage: rv_steps ENTRIES CLIENTS OPEN|none [anew | turns COUNT], limits that a step may have"
             )?;
             Ok(ExitCode::from(2))
         }
@@ -41,8 +40,8 @@ fn main(rt: HostRuntime) -> anyhow::Result<ExitCode> {
 // What to do, and under which limits.
 #[derive(Drop)]
 enum Work {
-    // A step for each line of standard input.
-    Lines(Limits),
+    // A step for each line of standard input, and whether the machine is made anew behind each.
+    Lines(Limits, bool),
     // So many turns of the program's own.
     Turns(Limits, u64),
 }
@@ -50,7 +49,10 @@ enum Work {
 // What the words name, behind the program's name.
 fn work_of(words: &[String]) -> Option<Work> {
     match words.len() {
-        4 => Some(Work::Lines(limits_of(words)?)),
+        4 => Some(Work::Lines(limits_of(words)?, false)),
+        5 if words[4].as_bytes() == b"anew".as_slice() => {
+            Some(Work::Lines(limits_of(words)?, true))
+        }
         6 if words[4].as_bytes() == b"turns".as_slice() => {
             let turns = read_number(words[5].as_bytes())?;
             Some(Work::Turns(limits_of(words)?, turns))
@@ -81,21 +83,34 @@ fn bound_of(word: &[u8]) -> Option<Option<usize>> {
     Some(Some(read_number(word)? as usize))
 }
 
-// Opens a machine at moment 0, and answers each line of standard input.
-fn run_steps(rt: &HostRuntime, limits: &Limits) -> anyhow::Result<()> {
+// Opens a machine at moment 0, and answers each line of standard input, if need be by one made anew.
+fn run_steps(rt: &HostRuntime, limits: &Limits, anew: bool) -> anyhow::Result<ExitCode> {
     let alloc = rt.alloc();
     let input = read_input(alloc, &mut Source::new(rt.stdin()))?;
     let mut machine = Machine::open(alloc, EPOCH, 0)?;
     let mut output = BufWriter::new(alloc, rt.stdout())?;
     let mut rest = input.as_slice();
     while let Some((line, after)) = first_line(rest) {
-        let body = answer_line(alloc, limits, &mut machine, line)?;
+        let before = if anew { Some(machine.state()?) } else { None };
+        let (body, made) = answer_line(alloc, limits, &mut machine, line)?;
         output.write_all(body.as_bytes())?;
         output.write_all(b"\n")?;
+        if let (Some(before), Some(made)) = (before, made) {
+            machine = match made_anew(alloc, before, made, machine.settled()) {
+                Some(again) => again,
+                None => return told_otherwise(rt),
+            };
+        }
         rest = after;
     }
     output.flush()?;
-    Ok(())
+    Ok(ExitCode::SUCCESS)
+}
+
+// Tells that a machine made anew isn't the one that heard the line.
+fn told_otherwise(rt: &HostRuntime) -> anyhow::Result<ExitCode> {
+    eprintln!(rt; "a machine made anew differs")?;
+    Ok(ExitCode::FAILURE)
 }
 
 // Opens a machine at moment 0, and takes turns in it.

@@ -6,23 +6,35 @@ ghost use Rattle.rv_machine.specs.Machines.{IsWhole, state_in};
 ghost use Rattle.rv_machine.specs.Numbering.{AreNumbered};
 
 use crate::answers::answer_of;
+use rv_account::Entry;
 use rv_lines::{LineFault, cut_at, read_number};
 use rv_machine::Machine;
 use rv_rules::Limits;
 use rv_text::{
-    Answer, BAD_TEXT_BODY, Message, NO_MEMORY_BODY, NoMemory, decode_message, encode_answer,
+    Answer, BAD_TEXT_BODY, Key, Message, NO_MEMORY_BODY, NoMemory, decode_message, encode_answer,
 };
 use std::alloc::Global;
 
-/// Makes the step of a line, and gives the body that answers it. A line of another form than a moment of 1 to
-/// 19 digits, one space and a message's body makes none, nor does one for which memory was refused when it
-/// was read, and both are told so.
+/// What a line made, but for whom its message settled, which the machine tells.
+#[derive(Drop)]
+pub(crate) struct Made {
+    /// The entry of its tick.
+    pub(crate) tick: Option<Entry>,
+    /// Whom that settled.
+    pub(crate) ended: Vec<Key>,
+    /// The entry of its message.
+    pub(crate) entry: Option<Entry>,
+}
+
+/// Makes the step of a line, and gives the body that answers it and what it made. A line of another form than
+/// a moment of 1 to 19 digits, one space and a message's body makes nothing, nor does one for which memory was
+/// refused when it was read, and both are told so.
 pub(crate) fn answer_line(
     alloc: Global,
     limits: &Limits,
     machine: &mut Machine,
     line: &[u8],
-) -> Result<String, NoMemory>
+) -> Result<(String, Option<Made>), NoMemory>
     requires ready { IsWhole machine.old }
     requires numbered { AreNumbered (state_in machine.old) }
     ensures ready { IsWhole machine.new }
@@ -30,11 +42,11 @@ pub(crate) fn answer_line(
 {
     match read_line(alloc, line) {
         Ok((moment, message)) => {
-            let answer = step(alloc, limits, machine, moment, message)?;
-            encode_answer(alloc, &answer)
+            let (answer, made) = step(alloc, limits, machine, moment, message)?;
+            Ok((encode_answer(alloc, &answer)?, Some(made)))
         }
-        Err(LineFault::Bad) => String::from_str(alloc, BAD_TEXT_BODY),
-        Err(LineFault::NoMemory) => String::from_str(alloc, NO_MEMORY_BODY),
+        Err(LineFault::Bad) => Ok((String::from_str(alloc, BAD_TEXT_BODY)?, None)),
+        Err(LineFault::NoMemory) => Ok((String::from_str(alloc, NO_MEMORY_BODY)?, None)),
     }
 }
 
@@ -47,25 +59,32 @@ fn read_line(alloc: Global, line: &[u8]) -> Result<(u64, Message), LineFault>
     Ok((moment, decode_message(alloc, body)?))
 }
 
-// One step of the machine under limits, and its answer. If memory for the answer was refused, the step was
-// made.
+// One step of the machine under limits, its answer, and what it made. If memory for these was refused, the step
+// may have been made.
 fn step(
     alloc: Global,
     limits: &Limits,
     machine: &mut Machine,
     now: u64,
     message: Message,
-) -> Result<Answer, NoMemory>
+) -> Result<(Answer, Made), NoMemory>
     requires ready { IsWhole machine.old }
     requires numbered { AreNumbered (state_in machine.old) }
     requires fits { FitsMessage message }
     ensures ready { IsWhole machine.new }
     ensures numbered { AreNumbered (state_in machine.new) }
-    ensures steps { IfOk result (λ answer. (move : Move)
+    ensures steps { IfOk result (λ out. (move : Move)
         × StateNextUnder limits.now (state_in machine.old) now message move
-        × (answer ≡ move.answer) × (state_in machine.new ≡ move.after)) }
+        × (out.0 ≡ move.answer) × (state_in machine.new ≡ move.after)) }
 {
-    let made = machine.elapse(now);
-    let heard = machine.hear(limits, made.moment, message);
-    answer_of(alloc, machine, heard.said)
+    let ticked = machine.elapse(now);
+    let ended = machine.settled().to_vec(alloc)?;
+    let heard = machine.hear(limits, ticked.moment, message);
+    let answer = answer_of(alloc, machine, heard.said)?;
+    let made = Made {
+        tick: ticked.entry,
+        ended,
+        entry: heard.entry,
+    };
+    Ok((answer, made))
 }
