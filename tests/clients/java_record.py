@@ -6,7 +6,7 @@ import pathlib
 import tempfile
 import threading
 
-from records import lines_of
+from record_lines import lines_of
 from scripted import SILENCE, Scripted, frame, received_by, reply, waiting, welcome
 from tests.clients import java
 from tests.clients.java import opened

@@ -14,7 +14,7 @@ from unittest import mock
 
 from context import GENEROUS, Case, behind, impatient, key, raised_by, rv, session, unhurried
 from let_in import handled
-from records import ending_of, lines_of
+from record_lines import ending_of, lines_of
 from rendezvous import record
 from scripted import HANG_UP, SILENCE, Scripted, frame, received_by, refused, reply, running_first, waiting, welcome
 from test_aio import CALLS, cancelled, made, run
