@@ -27,7 +27,7 @@ MILLIS = (0, 1, 3, 10, 30, 100)
 # So many seconds longer a crowd asks at most, where the machine is slow.
 LONGER = 600
 # The first client of Java's, and how long a crowd asks at the double of the server, in seconds.
-FIRST_OF_JAVA, SHORT = 100, 1.5
+FIRST_OF_JAVA, SHORT = 100, 3
 
 
 def add(ledger, call, answer):

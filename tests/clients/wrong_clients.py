@@ -20,7 +20,7 @@ from tests.clients.wrong_java import IN_JAVA
 from tests.clients.wrong_python import IN_PYTHON, TESTS
 from tests.sockets.wire import demand
 
-FOLDERS = ["clients", "examples", "tests", "tools"]
+FOLDERS = ["clients", "examples", "tests"]
 # What has cases, and what it says at last where all of them passed.
 RUNNER, PASSED = "tests/clients/run.py", " passed, 0 failed\n"
 PATIENCE = 1200
@@ -85,7 +85,9 @@ def said_in_python(test, edits):
     """What a test of the Python client says where these edits are made, and whether it passes."""
     with copied(edits) as folder:
         if is_case(test):
-            told, ends = ran([folder / RUNNER, "--only", test], folder, edits)
+            # so that a copy doesn't build what it has not changed
+            built = {} if java.missing() else {java.CLASSES: java.classes()}
+            told, ends = ran([folder / RUNNER, "--only", test], folder, edits, **built)
             return told, ends and told.endswith(PASSED)
         told, ends = ran(["-B", "-m", "unittest", test], folder / TESTS, edits)
     return told, ends and told.endswith("\nOK\n") and "\nRan 0 " not in told
@@ -116,8 +118,12 @@ def is_right(said, cases):
 
 def selftest(count):
     """A client without an edit runs and passes, by some cases of each language; each wrong one is found."""
-    judge_all(count, "Python", wanted(count, "Python", IN_PYTHON), said_in_python)
     in_java = wanted(count, "Java", IN_JAVA)
+    in_python = wanted(count, "Python", IN_PYTHON)
+    if not java.missing() and in_java + in_python:
+        # so that they are not built by more than one thread
+        java.classes()
+    judge_all(count, "Python", in_python, said_in_python)
     if java.missing():
         print(f"Java was left out: {java.missing()}", flush=True)
     elif in_java:

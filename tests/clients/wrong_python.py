@@ -152,7 +152,7 @@ IN_PYTHON = [
         Edit(ENDINGS, "return outcome.item if", "return outcome.item[1:] if")]),
     WrongClient(NOTHING_GIVEN, "crowds, at the double", [
         Edit(ENDINGS, "isinstance(outcome, (replies.Item, replies.Swapped,", "isinstance(outcome, (replies.Swapped,")]),
-    WrongClient("tells a receipt without its consumer", "crowds, at the double", [
+    WrongClient("tells a receipt without its consumer", "test_record.Lines.test_each_reply", [
         Edit(ENDINGS, "return cast(Receipt, outcome)", "return Receipt(outcome.key)")]),
     WrongClient(CANCEL_RECORDED, "test_record.Lines.test_once_it_is_known", [
         Edit(COURSE, "if made.machine.flying is m.Flying.REQUEST:", "if made.machine.key is not None:")]),
@@ -175,6 +175,9 @@ IN_PYTHON = [
         Edit(ERRORS, "self.outcome, self.line = outcome, line", "self.outcome, self.line = Outcome(outcome.key), line")]),
     WrongClient("tells nobody what a handler hid of its record", "test_record.NotWritten.test_what_a_handler_hides", [
         Edit(SESSION, '            self._hidden["fault"] = fault\n', "            pass\n")]),
+    WrongClient("swallows an item with what its block's end hides", "test_record.NotWritten.test_a_close_behind_it", [
+        Edit(SESSION, "        if kind is None:\n            self._tell_hidden()\n",
+             "        try:\n            self._tell_hidden()\n        except errors.NotRecorded:\n            pass\n")]),
     WrongClient("tells nobody what of a cancelled task can't be recorded", "test_record.Tasks.test_where_it_has_none", [
         Edit(AIO, "        if left.job.unrecorded is not None:\n", "        if False:\n")]),
     WrongClient("gives an item that its exception has told", "test_record.Tasks.test_where_it_has_none", [

@@ -354,6 +354,7 @@ class NotWritten(Recorded):
             with session(server, record=self.folder) as one:
                 self.hidden_behind(server, one)
                 raise KeyError
+        self.assertEqual([each.item for each in one.unclaimed()], ["a"])
 
 
 class Tasks(Recorded):
@@ -399,14 +400,18 @@ class Tasks(Recorded):
             return fault
 
     def test_a_block_that_ends_otherwise(self):
-        """That stands before what could not be recorded."""
+        """That is raised in place of what could not be recorded, whose item stands in `unclaimed()`."""
+        left = []
+
         async def ends(server):
             async with made(server, record=self.folder) as one:
+                left.append(one)
                 await cancelled(one, lambda one: one.take(3), server, 2)
                 raise KeyError
         with Scripted(welcome) as server, self.raises(KeyError):
-            server.otherwise = at_cancel(reply("cancelled"))
+            server.otherwise = at_cancel(reply("item", item="a"))
             run(ends(server))
+        self.assertEqual([each.item for each in left[0].unclaimed()], ["a"])
 
 
 if __name__ == "__main__":

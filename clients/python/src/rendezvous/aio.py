@@ -78,11 +78,9 @@ class Session:
 
     async def __aexit__(self, kind: Optional[Type[BaseException]], fault: Optional[BaseException],
                         trace: Optional[TracebackType]) -> None:
-        try:
-            await self.close()
-        except errors.NotRecorded:
-            if kind is None:
-                raise
+        await self._close()
+        if kind is None:
+            self._tell_left()
 
     async def connect(self) -> None:
         """Says hello, again and again, until the welcome comes. Every call does so by itself where need be."""
@@ -90,8 +88,14 @@ class Session:
 
     async def close(self) -> None:
         """Closes the connection, for good, ends the call that runs, and gives a leased number back. What a request comes to whose
-        task was cancelled is waited for, for up to a second, and where it could not be recorded that is raised. One that is
-        unsettled goes on standing, until a greater incarnation says hello, as the next session does that leases the number."""
+        task was cancelled is waited for, for up to a second. One that is unsettled goes on standing, until a greater
+        incarnation says hello, as the next session does that leases the number. `NotRecorded` where what was waited for could
+        not be recorded, unless the end of a block by an exception closes the session."""
+        await self._close()
+        self._tell_left()
+
+    async def _close(self) -> None:
+        """Closes, and tells nothing."""
         if self._closed or os.getpid() != self._process:
             return
         self._closed = True
@@ -103,8 +107,6 @@ class Session:
                 await self._left.to_its_end()
         finally:
             self._end()
-        if self._left is not None:
-            self._tell_unrecorded(self._left)
 
     def _end(self) -> None:
         """Nothing is asked any more."""
@@ -273,6 +275,11 @@ class Session:
         if fault is not None:
             raise fault
         return cast(Result, value)
+
+    def _tell_left(self) -> None:
+        """Raises that what was left was not recorded, where that is so."""
+        if self._left is not None:
+            self._tell_unrecorded(self._left)
 
     def _tell_unrecorded(self, under_way: UnderWay) -> None:
         """Raises that a reply was not recorded, where that is so: once, and then nothing else tells the outcome."""

@@ -20,7 +20,7 @@ class Record:
         checked("\0" not in self.path, f"a record is a file: {path!r}")
 
     def append(self, line: bytes) -> None:
-        """Appends a line to the file, which is made where there is none. An OSError, which names it, where that isn't done whole."""
+        """Appends a line to the file, which is made if need be. An OSError, with its path, where the line isn't written whole."""
         try:
             file = os.open(self.path, os.O_WRONLY | os.O_APPEND | os.O_CREAT, 0o666)
             try:

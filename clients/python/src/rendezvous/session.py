@@ -71,11 +71,9 @@ class Session:
         return self
 
     def __exit__(self, kind: Optional[Type[BaseException]], *_: object) -> None:
-        try:
-            self.close()
-        except errors.NotRecorded:
-            if kind is None:
-                raise
+        self._close()
+        if kind is None:
+            self._tell_hidden()
 
     def connect(self) -> None:
         """Says hello, again and again, until the welcome comes. Every call does so by itself where need be."""
@@ -83,11 +81,16 @@ class Session:
 
     def close(self) -> None:
         """Closes the connection, for good, ends the call that runs, and gives a leased number back. An unsettled request goes on
-        standing, until a greater incarnation says hello, as the next session does that leases the number."""
+        standing, until a greater incarnation says hello, as the next session does that leases the number. `NotRecorded` where a
+        handler's exception hid that, unless the end of a block by an exception closes the session."""
+        self._close()
+        self._tell_hidden()
+
+    def _close(self) -> None:
+        """Closes, and tells nothing."""
         self._driver.close()
         if os.getpid() == self._process and self._driver.ended.acquire(timeout=1.0):
             self._driver.ended.release()
-        self._tell_hidden()
 
     @property
     def client(self) -> int:

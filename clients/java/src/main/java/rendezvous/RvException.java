@@ -66,7 +66,7 @@ public abstract sealed class RvException extends RuntimeException {
         private final String line;
 
         NotRecorded(Outcome outcome, byte[] line, RecordFile file, Exception cause) {
-            super(outcome.key(), "a reply is not in the record " + file + ": " + cause.getMessage() + ": " + outcome);
+            super(outcome.key(), "a reply is not in the record " + file + ": " + cause + ": " + outcome);
             this.outcome = outcome;
             this.line = new String(line, 0, line.length - 1, StandardCharsets.UTF_8);
             initCause(cause);
