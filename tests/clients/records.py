@@ -1,10 +1,12 @@
 """What calls told beside the record that their clients kept: each call's own line tells what it gave or raised, and no other."""
 import copy
+import json
 import pathlib
 from typing import NamedTuple
 
 import rendezvous as rv
 from record_lines import Line, ending_of, read
+from tests import ROOT
 from tests.clients.outcomes import answer_members
 from tests.sockets.wire import Wrong, demand
 
@@ -124,4 +126,14 @@ def the_judges_find_lies():
         demand(is_found(judged_java, lines, PRINTED), f"a lie is not found: {lines}")
 
 
-CASES = [the_judges_find_lies]
+def the_page_of_formats():
+    """Its lines are of the example that it names: each with a request and the reply that this is told there."""
+    page, examples = (ROOT / "docs/FORMATS.md").read_text(), ROOT / "examples"
+    lines = [read(text.encode()) for text in page.split("\n") if text.startswith('{"asked":{')]
+    asked = [json.loads(line.split(" ", 1)[1]) for line in (examples / "handover.in").read_text().splitlines()]
+    told = [json.loads(line) for line in (examples / "handover.out").read_text().splitlines()]
+    there = [pair for pair in zip(asked, told) if pair[1]["kind"] == "reply"]
+    demand(len(lines) == 2 and all(line in there for line in lines), f"{lines} stand in FORMATS, and {there} in the example")
+
+
+CASES = [the_judges_find_lies, the_page_of_formats]
