@@ -310,9 +310,10 @@ def lies():
 
 
 def kept():
-    """What the sessions of that record kept: also the reply to the one that was killed."""
-    return [line_of(1, 1, GIVE, reply="received", by_client=2, by_incarnation=1, by_number=1), line_of(2, 1, TAKE, reply="item", item="a"),
-            line_of(1, 2, TRY, reply="nobody"), line_of(3, 1, TAKE, reply="cancelled")]
+    """What the sessions of that record kept: the call in which its process was killed had no reply."""
+    received = {"reply": "received", "by_client": 2, "by_incarnation": 1, "by_number": 1}
+    return [line_of(1, 1, GIVE, **received), line_of(2, 1, TAKE, reply="item", item="a"), line_of(1, 2, TRY, reply="nobody"),
+            line_of(3, 1, TAKE, reply="cancelled")]
 
 
 def line_of(client, number, call, **reply):
@@ -324,8 +325,8 @@ def line_of(client, number, call, **reply):
 def lies_of_sessions():
     """Each lie in what sessions kept: the rule that must find it, the line, and what stands there, if anything."""
     return [
-        ("kept_false", 1, line_of(2, 1, TAKE, reply="item", item="b")), ("kept_false", 1, line_of(2, 1, POLL, reply="item", item="b")),
-        ("kept_false", 3, line_of(3, 1, GIVE, reply="cancelled")), ("kept_false", 0, line_of(1, 1, GIVE, reply="received")),
+        ("kept_false", 1, line_of(2, 1, TAKE, reply="item", item="b")), ("kept_false", 0, line_of(1, 1, GIVE, reply="received")),
+        ("kept_false", 3, line_of(3, 1, GIVE, reply="cancelled")), ("kept_false", 1, line_of(2, 1, TRY, reply="item", item="a")),
         ("kept_twice", 1, line_of(1, 2, TRY, reply="nobody")), ("not_kept", 2, None), ("not_kept", 3, None)]
 
 
