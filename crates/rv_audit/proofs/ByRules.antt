@@ -50,7 +50,7 @@ legal_by_rules a = (
 
 -- ---- one audit
 
-one_rank : (r s : Rule) → rank_of r ≡ rank_of s → r ≡ s
+pub one_rank : (r s : Rule) → rank_of r ≡ rank_of s → r ≡ s
 one_rank r s same = grind arith
 
 one_place : (a : Account) (p q : ℕ) (r s : Rule) → FirstFault a p r → FirstFault a q s → p ≡ q

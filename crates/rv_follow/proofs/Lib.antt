@@ -1,0 +1,4 @@
+pub mod Rules
+pub mod RuleLaws
+pub mod DueNow
+pub mod OfSession

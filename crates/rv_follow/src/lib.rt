@@ -1,0 +1,7 @@
+//! Entries that were written before: whether one follows what a machine holds, which rule it breaks first if
+//! not, and the machine behind it.
+#![tactic(auto)]
+
+pub mod laws;
+mod moments;
+mod numbers;
