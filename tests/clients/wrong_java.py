@@ -95,9 +95,9 @@ IN_JAVA = [
     WrongClient("writes LF within a line", "java_record, byte by byte", [
         Edit(RECORD, "line.put(each == '\\n' ? (byte) ' ' : each);", 'line.put(each);')]),
     WrongClient("records in the environment's file though another is chosen", "java_record, the environment", [
-        Edit(CLIENTS, 'recordIsChosen ? Optional', 'recordIsChosen && System.getenv(RecordFile.VARIABLE) == null ? Optional')]),
+        Edit(CLIENTS, 'recordIsChosen ? Optional', 'recordIsChosen && System.getenv("RV_RECORD") == null ? Optional')]),
     WrongClient("drops an item of a cancelled future that it can't record", "java_record, futures", [
-        Edit(FUTURE, 'completeExceptionally(unrecorded) ? null : unrecorded.outcome();', 'completeExceptionally(unrecorded) ? null : null;')]),
+        Edit(FUTURE, 'unrecorded) ? null : unrecorded.outcome();', 'unrecorded) ? null : null;')]),
     WrongClient("leaves descriptors behind", "java_scenes, no descriptors", [
         Edit(LINK, 'if (registered == null) {', 'if (registered == null && opened != null) {')]),
 ]

@@ -160,15 +160,14 @@ IN_PYTHON = [
         Edit(RECORD, "os.O_WRONLY | os.O_APPEND |", "os.O_WRONLY | os.O_TRUNC |")]),
     WrongClient("writes where it believes the end to be", "test_record.Lines.test_one_write", [
         Edit(RECORD, "os.O_WRONLY | os.O_APPEND |", "os.O_WRONLY |"),
-        Edit(RECORD, "            try:\n                written", "            os.lseek(file, 0, os.SEEK_END)\n            try:\n                written")]),
+        Edit(RECORD, "                written", "                os.lseek(file, 0, os.SEEK_END)\n                written")]),
     WrongClient("writes a line in two pieces", "test_record.Lines.test_one_write", [
         Edit(RECORD, "written = os.write(file, line)", "written = os.write(file, line[:9]) + os.write(file, line[9:])")]),
     WrongClient("records a reply once its call is told", "test_record.Lines.test_before_anybody_is_told", [
-        Edit(COURSE, "            job.unrecorded = self._recorded(made.tell.outcome, body)\n            self.last = made.tell.outcome\n",
-             "            self.last = made.tell.outcome\n            job.unrecorded = self._recorded(made.tell.outcome, body)\n")]),
+        Edit(COURSE, "            job.unrecorded = self", "            self.last = made.tell.outcome\n            job.unrecorded = self")]),
     WrongClient("records that a request waits", "test_record.Lines.test_what_is_no_reply", [
-        Edit(COURSE, "        if made.send is not None:\n            self._heard_at", "        if made.send is not None:\n            "
-             "self._recorded(Outcome(self.machine.key), body)\n            self._heard_at")]),
+        Edit(COURSE, "            self._heard_at, self._bound = time",
+             "            self._recorded(Outcome(self.machine.key), body)\n            self._heard_at, self._bound = time")]),
     WrongClient("takes a line that was cut for a whole one", "test_record.NotWritten.test_a_line_that_is_cut", [
         Edit(RECORD, "if written < len(line):", "if written < 1:")]),
     WrongClient(DROPS_REPLY, "test_record.NotWritten.test_whatever_is_in_the_way", [

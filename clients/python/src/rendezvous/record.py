@@ -8,6 +8,8 @@ from typing import Optional, Union
 from .calls import checked
 
 VARIABLE = "RV_RECORD"
+# How a record is opened: each write goes to its end, whoever wrote there meanwhile; and LF stays LF.
+FLAGS = os.O_WRONLY | os.O_APPEND | os.O_CREAT | getattr(os, "O_BINARY", 0)
 
 Path = Union[str, "os.PathLike[str]"]
 
@@ -22,7 +24,7 @@ class Record:
     def append(self, line: bytes) -> None:
         """Appends a line to the file, which is made if need be. An OSError, with its path, where the line isn't written whole."""
         try:
-            file = os.open(self.path, os.O_WRONLY | os.O_APPEND | os.O_CREAT, 0o666)
+            file = os.open(self.path, FLAGS, 0o666)
             try:
                 written = os.write(file, line)
             finally:
