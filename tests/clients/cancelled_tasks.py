@@ -1,10 +1,14 @@
-"""Takes in asyncio whose tasks are cancelled at any time, beside a producer, on a live server: no item is lost or doubled."""
+"""Takes in asyncio whose tasks are cancelled at any time, beside a producer, on a live server: no item is lost or doubled, and
+each stands in the record."""
 import asyncio
+import pathlib
 import random
+import tempfile
 import threading
 import time
 
 import rendezvous as rv
+from record_lines import lines_of
 from rendezvous import aio
 from tests.sockets.programs import Server
 from tests.sockets.wire import demand
@@ -44,11 +48,11 @@ class Producer:
         return self.put
 
 
-async def takes(port, seed, how_many):
+async def takes(port, seed, how_many, record):
     """So many takes, and what they gave; and then what is left, unclaimed and in the queue."""
     chance, span, got, late = random.Random(seed), SPAN, [], 0
     producer = Producer(port, seed)
-    async with aio.Session(("127.0.0.1", port), 2, 1) as one:
+    async with aio.Session(("127.0.0.1", port), 2, 1, record=record) as one:
         while len(got) + late < how_many or min(len(got), late) < EACH_AT_LEAST:
             try:
                 got.append(await asyncio.wait_for(one.take(QUEUE), chance.random() * span))
@@ -66,9 +70,15 @@ async def takes(port, seed, how_many):
 def cancelled_takes(program, seed, how_many=TAKES):
     """Each item is given once, in the order in which they were put, whether its take was cancelled or not."""
     began = time.monotonic()
-    with Server(program, WORKERS, AT_ALL_EVENTS + EACH_TAKE * how_many) as server:
+    with Server(program, WORKERS, AT_ALL_EVENTS + EACH_TAKE * how_many) as server, \
+            tempfile.TemporaryDirectory(prefix="rv-record-") as folder:
         server.connect().close()
-        got, put, late = asyncio.run(takes(server.port, seed, how_many))
+        record = pathlib.Path(folder, "record")
+        got, put, late = asyncio.run(takes(server.port, seed, how_many, record))
+        lines = lines_of(record)
+    told = [line.reply["item"] for line in lines if line.reply["reply"] == "item"]
+    demand(told == got, f"{len(got)} items were taken, and {len(told)} are recorded")
+    demand([line.key.number for line in lines] == list(range(1, len(lines) + 1)), "a request is not recorded, or twice")
     first = next((place for place, pair in enumerate(zip(got, put)) if pair[0] != pair[1]), min(len(got), len(put)))
     demand(got == put, f"{len(put)} items were put and {len(got)} taken; from {first} on {got[first:][:9]} for {put[first:][:9]}")
     return f"{late} takes were cancelled, {len(got)} items taken, {time.monotonic() - began:.0f} seconds"

@@ -1,16 +1,21 @@
 """Crowds of Python and Java clients on one server, of version 1 and 2 in turn, over a link that loses,
 repeats, cuts and delays: what each was told must stand in the account, which must be legal by the model's
-audit and by `rv audit`."""
+audit and by `rv audit`; and in the record that all of them share, as soon as they are told it."""
 import json
+import pathlib
 import random
 import subprocess
+import tempfile
 import threading
 import time
 
 import rendezvous as rv
+from record_lines import lines_of
 from tests.clients import java
 from tests.clients.outcomes import answer_members
 from tests.clients.proxy import Proxy
+from tests.clients.records import Ended, Reader, judged, judged_java
+from tests.sockets.cases import DOUBLE
 from tests.sockets.driver import Ledger, drive
 from tests.sockets.programs import Server
 from tests.sockets.wire import PATIENCE, demand, key_of, reply_of
@@ -21,6 +26,8 @@ CONNECTIONS, AT_ALL_EVENTS = 600, 2_000
 MILLIS = (0, 1, 3, 10, 30, 100)
 # So many seconds longer a crowd asks at most, where the machine is slow.
 LONGER = 600
+# The first client of Java's, and how long a crowd asks at the double of the server, in seconds.
+FIRST_OF_JAVA, SHORT = 100, 3
 
 
 def add(ledger, call, answer):
@@ -31,9 +38,10 @@ def add(ledger, call, answer):
 class Client:
     """A Python client that asks random calls, and gives up some that wait."""
 
-    def __init__(self, address, number, chance, ledger):
-        self.session = rv.Session(address, number, 1, version=1 + number % 2, patience=PATIENCE, answer=2)
+    def __init__(self, address, number, chance, ledger, record):
+        self.session = rv.Session(address, number, 1, version=1 + number % 2, patience=PATIENCE, answer=2, record=record)
         self.chance, self.ledger, self.number, self.items = chance, ledger, number, 0
+        self.record = Reader(record, number)
 
     def run(self, goes_on):
         """Asks for as long as that holds."""
@@ -44,23 +52,24 @@ class Client:
                 threading.Thread(target=self.give_up, args=(over, self.chance.random() * 0.08),
                                  daemon=True).start()
             try:
-                outcome = self.outcome(ask)
+                ended = self.ended(ask)
             finally:
                 over.set()
-            if outcome is not None:
-                add(self.ledger, call, answer_members(outcome))
+            if judged(self.record.new(), call, ended):
+                add(self.ledger, call, answer_members(ended.outcome))
             time.sleep(self.chance.random() * 0.01)
         self.session.close()
 
-    def outcome(self, ask):
-        """What a call came to; None where nothing was asked, for its time was over or it was given up before."""
+    def ended(self, ask):
+        """How a call ended. Nothing was asked where its time was over, or it was given up, before."""
         try:
-            ask()
-        except (rv.Cancelled, rv.TimedOut, rv.NotAsked) as ended:
-            return self.session.last if ended.key else None
+            value = ask()
+        except (rv.Cancelled, rv.TimedOut, rv.NotAsked) as fault:
+            return Ended(None, fault, self.session.last if fault.key else None)
         except rv.Unsettled:
-            return self.session.again()
-        return self.session.last
+            outcome = self.session.again()
+            return Ended(outcome, None, outcome, again=True)
+        return Ended(value, None, self.session.last)
 
     def give_up(self, over, pause):
         """Cancels the running call a little later, unless it is over."""
@@ -91,15 +100,17 @@ class Client:
         ])
 
 
-def java_crowd(port, seconds, seed, ledger):
-    """Java's clients, for so many seconds."""
-    words = java.command("rendezvous.Crowd", port, 100, JAVAS, seconds, seed)
+def java_crowd(port, seconds, seed, ledger, record):
+    """Java's clients, for so many seconds; each of their replies must stand in the record."""
+    words = java.command("rendezvous.Crowd", port, FIRST_OF_JAVA, JAVAS, seconds, seed, record)
     ran = subprocess.run(words, capture_output=True, text=True, timeout=seconds + LONGER)
     demand((ran.returncode, ran.stderr) == (0, ""), f"Java says {ran.stderr[:2000]}")
-    for line in ran.stdout.splitlines():
-        members = json.loads(line)
-        add(ledger, members["call"], members["told"])
-    return len(ran.stdout.splitlines())
+    printed = list(map(json.loads, ran.stdout.splitlines()))
+    for one in printed:
+        add(ledger, one["call"], one["told"])
+    # what others append at this moment comes behind them
+    readers = [Reader(record, client) for client in range(FIRST_OF_JAVA, FIRST_OF_JAVA + JAVAS)]
+    judged_java([line for reader in readers for line in reader.new()], printed)
 
 
 def receipts_of(ledger):
@@ -126,25 +137,33 @@ def lacking(ledger, proxy, seconds):
     return None if 0 < named < received else f"{named} of {received} receipts name the consumer"
 
 
-def a_crowd(program, seed, seconds):
+def a_crowd(program, seed, seconds, at_all_events=AT_ALL_EVENTS):
     """Python's and Java's clients at once; then what they were told is looked up in the account."""
     ledger, chance = Ledger(), random.Random(seed)
-    began, connections = time.monotonic(), AT_ALL_EVENTS + int(CONNECTIONS * seconds)
-    with Server(program, WORKERS, connections) as server, Proxy(server, seed, connections * 3 // 4) as proxy:
-        address = ("127.0.0.1", proxy.port)
+    began, connections = time.monotonic(), at_all_events + int(CONNECTIONS * seconds)
+    with Server(program, WORKERS, connections) as server, Proxy(server, seed, connections * 3 // 4) as proxy, \
+            tempfile.TemporaryDirectory(prefix="rv-record-") as folder:
+        address, record = ("127.0.0.1", proxy.port), pathlib.Path(folder, "record")
 
         def goes_on():
             took = time.monotonic() - began
             return took < seconds or took < seconds + LONGER and lacking(ledger, proxy, seconds) is not None
 
-        clients = [lambda one=Client(address, number, random.Random(chance.random()), ledger): one.run(goes_on)
+        clients = [lambda one=Client(address, number, random.Random(chance.random()), ledger, record): one.run(goes_on)
                    for number in range(1, PYTHONS + 1)]
         if not java.missing():
-            clients.append(lambda: java_crowd(proxy.port, seconds, seed, ledger))
+            clients.append(lambda: java_crowd(proxy.port, seconds, seed, ledger, record))
         drive(server, ledger, clients, limit=seconds + 2 * LONGER, calm=proxy.close, end=server.use_up)
+        recorded = len(lines_of(record))
+        demand(recorded == len(ledger.asked), f"{len(ledger.asked)} calls were told, and {recorded} are recorded")
     demand(not lacking(ledger, proxy, seconds), lacking(ledger, proxy, seconds))
     named, received = receipts_of(ledger)
     return f"{len(ledger.asked)} calls, {received} receipts, of which {named} name the consumer"
+
+
+def at_the_double():
+    """A short crowd at the double of the server: what each call told must stand in the record, whatever the program does."""
+    return a_crowd(DOUBLE, 1, SHORT, 0)
 
 
 def beside_the_jdk(program, seed, scripts):

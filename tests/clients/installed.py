@@ -17,7 +17,7 @@ from tests.sockets.wire import demand
 
 SOURCES = ROOT / "clients/python"
 PATIENCE = 600
-VERSION = "3.1.0"
+VERSION = "3.2.0"
 # The interpreters whose packages are looked at: Debian's packages are of the first.
 INTERPRETERS = ["/usr/bin/python3", sys.executable]
 # What is imported to see that a tool is there.
@@ -32,6 +32,7 @@ with rendezvous.Session(("127.0.0.1", int(sys.argv[1])), client=1, incarnation=1
 PACKS = "import sys\nfrom setuptools import build_meta\nbuild_meta.build_sdist(sys.argv[1])\n"
 # A program of a user, whose types must hold.
 TYPED = """
+import pathlib
 from typing import List, Optional
 import rendezvous
 
@@ -41,6 +42,14 @@ def asks(session: rendezvous.Session) -> Optional[rendezvous.Key]:
     items: List[str] = [session.take(3), *session.drain(3, max=len(names))]
     receipt: Optional[rendezvous.Receipt] = session.try_transfer(3, items[0], timeout=1.5)
     return receipt.by if receipt else None
+
+
+def records(folder: pathlib.Path) -> Optional[rendezvous.Outcome]:
+    try:
+        rendezvous.Session("127.0.0.1:7411", record=folder / "record").put(3, "a")
+    except rendezvous.NotRecorded as fault:
+        return fault.outcome
+    return None
 """
 
 

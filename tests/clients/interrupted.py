@@ -1,5 +1,6 @@
 """A crowd of Python processes under fire, on a live server: their calls are interrupted at any time by SIGINT, SIGTERM and an
-alarm, and some of them are killed and started anew. What each was told is compared with the server's account.
+alarm, and some of them are killed and started anew. What each was told is compared with the server's account, and with the
+record that their sessions kept.
 
 The long form goes on over several epochs until so many calls were interrupted.
 """
@@ -13,6 +14,7 @@ import sys
 import tempfile
 import time
 
+from record_lines import lines_of
 from tests.clients.interrupted_judged import LIMIT, Book, calls_of, faults_of, the_judge_finds_lies
 from tests.model.account import Request, reply
 from tests.model.tables import table_audit
@@ -28,6 +30,8 @@ HOLD_EACH, HELD = 3.0, 1.4
 LOOK_EACH = 0.25
 # Calls of an epoch: more than it has room for. Connections that a crowd may make at all events, and for each call.
 CALLS, FEW_CALLS, AT_ALL_EVENTS, EACH_CALL = 100_000, 4_000, 6_000, 0.8
+# The record that the sessions of all processes keep.
+KEPT = "kept"
 # So many keys of an account are looked at by the plain model too, and a count or a peek where so few entries stand before:
 # there the model looks at each pair of them.
 SAMPLE, FEW = 20, 1_000
@@ -39,7 +43,7 @@ class One:
     def __init__(self, port, client, incarnation, seed, calls, folder):
         self.client, self.incarnation, self.calls = client, incarnation, calls
         self.path, self.said = (pathlib.Path(folder) / f"{client}.{incarnation}.{end}" for end in ("record", "said"))
-        words = [port, client, incarnation, seed, calls, self.path]
+        words = [port, client, incarnation, seed, calls, self.path, pathlib.Path(folder, KEPT)]
         program = pathlib.Path(__file__).with_name("interrupted_process.py")
         with open(self.said, "wb") as said:
             self.process = subprocess.Popen([sys.executable, program, *map(str, words)], stdout=said, stderr=said)
@@ -182,15 +186,16 @@ def an_epoch(program, chance, epoch, calls, sums):
         finally:
             crowd.end()
         sums["connections"] += connections - use_up(server)
-        account, record = server.ended(), crowd.record()
+        account, record, kept = server.ended(), crowd.record(), lines_of(pathlib.Path(folder, KEPT))
         server.audited()
     fault = table_audit(account)
     demand(not fault, f"place {fault} of the account")
-    found = faults_of(record, account)
+    found = faults_of(record, account, kept)
     demand(not found, "; ".join(f"{rule}, {len(faults)} times: {faults[:3]}" for rule, faults in found.items()))
     by_definition(record, account, chance)
     sums["epochs"], sums["kills"], sums["entries"] = sums["epochs"] + 1, sums["kills"] + crowd.kills, \
         sums["entries"] + len(account.entries)
+    sums["replies recorded"] += len(kept)
     add_up(record, account, sums)
 
 

@@ -1,11 +1,14 @@
 """Compares what processes under fire were told with the server's account: no word of theirs may be false.
 
-A record has the lines of each process, by its client and incarnation. Each rule gives what it finds against its sentence.
-The rules themselves are tried on a record that is written down, with one lie in it each time.
+A record has the lines of each process, by its client and incarnation; what their sessions kept of themselves is lines of another
+kind, each with a request and its reply. Each rule gives what it finds against its sentence. The rules themselves are tried on a
+record that is written down, with one lie in it each time.
 """
+import collections
 import copy
 from typing import NamedTuple
 
+from record_lines import Line
 from tests.model.account import Account, Call, Cancel, Entry, Hello, Key, Request
 from tests.sockets.accounts import call_members
 from tests.sockets.standing import Replies
@@ -66,10 +69,11 @@ def calls_of(record, epoch):
 
 
 class Book:
-    """What an account says of each key: what arrived, its reply, and whether it went to a pair."""
+    """What an account says of each key: what arrived, its reply, and whether it went to a pair; and what sessions kept of it."""
 
-    def __init__(self, account):
+    def __init__(self, account, kept=()):
         entries = account.entries
+        self.kept = [(Key(*line.key), line) for line in kept]
         self.arrived = {entry.act.key: call_members(entry.act.call) for entry in entries if isinstance(entry.act, Request)}
         self.cancelled = [entry.act.key for entry in entries if isinstance(entry.act, Cancel)]
         self.replies = Replies(account).made
@@ -205,13 +209,34 @@ def texts_of(reply):
     return reply.get("texts", [reply["item"]] if reply["reply"] in ("item", "swapped") else [])
 
 
+def kept_false(calls, book):
+    """A session kept a reply that is not the account's, or a request that its process did not ask under that key."""
+    asked = collections.defaultdict(list)
+    for one in calls:
+        asked[one.key].append(one.call)
+    return [f"{line} was kept, and {book.replies.get(key)} stands" for key, line in book.kept
+            if book.replies.get(key) != line.reply or line.call not in asked[key]]
+
+
+def kept_twice(calls, book):
+    """A session kept two replies to one key."""
+    counted = collections.Counter(key for key, _ in book.kept)
+    return [f"{key} was kept {count} times" for key, count in counted.items() if count > 1]
+
+
+def not_kept(calls, book):
+    """A reply was told that no session kept."""
+    kept = {key for key, _ in book.kept}
+    return [f"{key} was told {reply}, and it was not kept" for one in calls for key, reply in one.replies if key not in kept]
+
+
 RULES = [wrong, hung, other_key, told_twice, false_reply, false_value, false_no, false_denial, denied_and_told, false_waiting,
-         silence, not_asked, cancelled_by_nobody, taken_twice]
+         silence, not_asked, cancelled_by_nobody, taken_twice, kept_false, kept_twice, not_kept]
 
 
-def faults_of(record, account):
-    """What is false in a record, by rule."""
-    calls, book = list(calls_of(record, account.epoch)), Book(account)
+def faults_of(record, account, kept):
+    """What is false in a record, or in what sessions kept, by rule."""
+    calls, book = list(calls_of(record, account.epoch)), Book(account, kept)
     found = {rule.__name__: rule(calls, book) for rule in RULES}
     return {name: faults for name, faults in found.items() if faults}
 
@@ -284,15 +309,43 @@ def lies():
     ]
 
 
+def kept():
+    """What the sessions of that record kept: the call in which its process was killed had no reply."""
+    received = {"reply": "received", "by_client": 2, "by_incarnation": 1, "by_number": 1}
+    return [line_of(1, 1, GIVE, **received), line_of(2, 1, TAKE, reply="item", item="a"), line_of(1, 2, TRY, reply="nobody"),
+            line_of(3, 1, TAKE, reply="cancelled")]
+
+
+def line_of(client, number, call, **reply):
+    """A line of what a session kept."""
+    key = {"epoch": 1, "client": client, "incarnation": 1, "number": number}
+    return Line({"kind": "request", **key, **call}, {"kind": "reply", **key, **reply})
+
+
+def lies_of_sessions():
+    """Each lie in what sessions kept: the rule that must find it, the line, and what stands there, if anything."""
+    return [
+        ("kept_false", 1, line_of(2, 1, TAKE, reply="item", item="b")), ("kept_false", 0, line_of(1, 1, GIVE, reply="received")),
+        ("kept_false", 3, line_of(3, 1, GIVE, reply="cancelled")), ("kept_false", 1, line_of(2, 1, TRY, reply="item", item="a")),
+        ("kept_twice", 1, line_of(1, 2, TRY, reply="nobody")), ("not_kept", 2, None), ("not_kept", 3, None)]
+
+
 def the_judge_finds_lies():
     """The record that is written down is true; with each of the lies it is not, and the lie's rule finds it."""
     account, record = written()
-    demand(faults_of(record, account) == {}, f"a true record: {faults_of(record, account)}")
+    demand(faults_of(record, account, kept()) == {}, f"a true record: {faults_of(record, account, kept())}")
     tried = set()
     for rule, client, place, lie in lies():
         spoilt = copy.deepcopy(record)
         spoilt[client, 1][place] = lie
-        demand(rule in faults_of(spoilt, account), f"{rule} does not find {lie}: {faults_of(spoilt, account)}")
+        found = faults_of(spoilt, account, kept())
+        demand(rule in found, f"{rule} does not find {lie}: {found}")
+        tried.add(rule)
+    for rule, place, lie in lies_of_sessions():
+        spoilt = kept()
+        spoilt[place : place + 1] = [lie] if lie else []
+        found = faults_of(record, account, spoilt)
+        demand(rule in found, f"{rule} does not find {lie}: {found}")
         tried.add(rule)
     demand(tried == {rule.__name__ for rule in RULES}, "a rule is not tried")
 

@@ -1,10 +1,10 @@
 """One process under fire: it asks random calls of a live server, signals interrupt them at any time, and what it is told it
-writes down, each line before its next call.
+writes down, each line before its next call. Its session keeps another record beside that, which all processes share.
 
 A first signal may come anywhere in a call, and a second one where the package deals with the first. A signal that comes
 while nothing is asked does nothing.
 
-usage: tests/clients/interrupted_process.py PORT CLIENT INCARNATION SEED CALLS RECORD
+usage: tests/clients/interrupted_process.py PORT CLIENT INCARNATION SEED CALLS RECORD KEPT
 """
 import faulthandler
 import json
@@ -126,11 +126,12 @@ def told_by(fault):
 class Caller:
     """Asks calls, and writes down what it is told."""
 
-    def __init__(self, port, client, incarnation, seed, calls, record):
+    def __init__(self, port, client, incarnation, seed, calls, record, kept):
         self.fire, self.chance, self.name = Fire(), random.Random(seed), f"{client}.{incarnation}"
         self.record = os.open(record, os.O_WRONLY | os.O_CREAT | os.O_APPEND)
         self.left, self.number, self.asked, self.settled_at = calls, 1, 0, time.monotonic()
-        self.session = rv.Session(("127.0.0.1", port), client, incarnation, version=1 + client % 2, patience=5, answer=2)
+        self.session = rv.Session(("127.0.0.1", port), client, incarnation, version=1 + client % 2, patience=5, answer=2,
+                                  record=kept)
 
     def write(self, **members):
         """Writes a line, in one step."""
@@ -237,4 +238,4 @@ class Caller:
 
 if __name__ == "__main__":
     faulthandler.enable()
-    Caller(*map(int, sys.argv[1:6]), sys.argv[6]).run()
+    Caller(*map(int, sys.argv[1:6]), *sys.argv[6:]).run()

@@ -102,9 +102,9 @@ def in_time(case):
 class Driver:
     """A Java program that does what it is told, line by line, by one thread at a time."""
 
-    def __init__(self, name):
+    def __init__(self, name, **environment):
         self.process = subprocess.Popen(command(name), stdin=subprocess.PIPE, stdout=subprocess.PIPE, text=True,
-                                        encoding="utf-8")
+                                        encoding="utf-8", env={**os.environ, **environment})
         self.lock = threading.Lock()
 
     def tell(self, line):
@@ -121,9 +121,9 @@ class Driver:
 
 
 @contextlib.contextmanager
-def driver(name="rendezvous.Driver"):
-    """A driver that ends with the block."""
-    made = Driver(name)
+def driver(name="rendezvous.Driver", **environment):
+    """A driver that ends with the block, with this environment beside its own."""
+    made = Driver(name, **environment)
     try:
         yield made
     finally:

@@ -16,7 +16,8 @@ ROOT = pathlib.Path(__file__).resolve().parents[2]
 sys.dont_write_bytecode, sys.path[0] = True, str(ROOT)
 from tests.clients import (  # noqa: E402
     browser, cancelled_tasks, crowds, drains, guide, installed, interrupted, interrupted_judged, java, java_leases,
-    java_packages, java_scenes, long_waits, python_page, python_tests, receipts, table_cases, wrong_clients)
+    java_packages, java_record, java_scenes, long_waits, python_page, python_tests, receipts, records, table_cases,
+    wrong_clients)
 from tests.sockets.wire import Wrong  # noqa: E402
 
 # How many cases that mostly wait run at once.
@@ -79,7 +80,7 @@ def run(program, asked, count):
     for case in table_cases.CASES + table_cases.WITH_PROGRAM:
         count.run(case, program)
     run_python(count)
-    for case in long_waits.CASES + interrupted_judged.CASES:
+    for case in long_waits.CASES + interrupted_judged.CASES + records.CASES:
         count.run(case)
     lacking = java.missing()
     if lacking:
@@ -89,6 +90,7 @@ def run(program, asked, count):
         count.run(crowds.beside_the_jdk, program, asked.seed, asked.scripts)
         for case in receipts.WITH_JAVA:
             count.run(case, program)
+    count.run(crowds.at_the_double)
     count.run(crowds.a_crowd, program, asked.seed, asked.seconds)
     for case in interrupted.CASES + cancelled_tasks.CASES:
         count.run(case, program, asked.seed)
@@ -121,7 +123,8 @@ def run_java(program, count):
     count.run(java.the_java_process)
     packages, left_out = java_packages.cases()
     print("\n".join(left_out), end="\n" if left_out else "", flush=True)
-    cases = [case for case in packages + java.CASES + java_leases.CASES + java_scenes.CASES if count.wants(name_of(case))]
+    cases = [case for case in packages + java.CASES + java_leases.CASES + java_record.CASES + java_scenes.CASES
+             if count.wants(name_of(case))]
     if cases:
         # so that they are not built by more than one thread
         java.classes()

@@ -1,7 +1,8 @@
 """Clients that are wrong: they have another body in them, which a test must find.
 
-A test in Python is one of the client's own, which its runner finds in a copy of the clients and their tests. A case of
-the Java client is one that tests/clients/run.py has, and is run with other classes in place of some that were built.
+A test in Python is one of the client's own, which its runner finds in a copy of the clients and their tests, or a case that
+tests/clients/run.py has there. A case of the Java client is one of those too, and is run with other classes in place of some
+that were built.
 """
 import concurrent.futures
 import contextlib
@@ -20,6 +21,8 @@ from tests.clients.wrong_python import IN_PYTHON, TESTS
 from tests.sockets.wire import demand
 
 FOLDERS = ["clients", "examples", "tests"]
+# What has cases, and what it says at last where all of them passed.
+RUNNER, PASSED = "tests/clients/run.py", " passed, 0 failed\n"
 PATIENCE = 1200
 # How many are run at once: those in Python mostly wait.
 AT_ONCE = {"Python": 16, "Java": 8}
@@ -73,9 +76,19 @@ def ran(words, folder, edits, **more):
     return done.stdout + done.stderr, done.returncode == 0
 
 
+def is_case(name):
+    """Whether this names a case of the runner's, and no test of the Python client."""
+    return ", " in name
+
+
 def said_in_python(test, edits):
     """What a test of the Python client says where these edits are made, and whether it passes."""
     with copied(edits) as folder:
+        if is_case(test):
+            # so that a copy doesn't build what it has not changed
+            built = {} if java.missing() else {java.CLASSES: java.classes()}
+            told, ends = ran([folder / RUNNER, "--only", test], folder, edits, **built)
+            return told, ends and told.endswith(PASSED)
         told, ends = ran(["-B", "-m", "unittest", test], folder / TESTS, edits)
     return told, ends and told.endswith("\nOK\n") and "\nRan 0 " not in told
 
@@ -84,14 +97,14 @@ def said_in_java(compiler, case, edits):
     """The same of a case of the Java client."""
     with tempfile.TemporaryDirectory(prefix="rv-wrong-") as folder:
         classes = {java.CLASSES: compiled(compiler, folder, edits)}
-        told, ends = ran([ROOT / "tests/clients/run.py", "--only", case], ROOT, edits, **classes)
-    return told, ends and told.endswith(" passed, 0 failed\n")
+        told, ends = ran([ROOT / RUNNER, "--only", case], ROOT, edits, **classes)
+    return told, ends and told.endswith(PASSED)
 
 
 def is_found(said, wrong):
     """The test of a wrong client must fail, and not for want of a program that runs."""
     told, passes = said(wrong.case, wrong.edits)
-    sign = f"FAILED: {wrong.case}: " if wrong.case.startswith("java") else "\nFAILED ("
+    sign = f"FAILED: {wrong.case}: " if is_case(wrong.case) else "\nFAILED ("
     demand(not passes and sign in told, f"passes {wrong.case}: {told[-2000:]}")
     demand(not any(none in told for none in BROKEN), f"{wrong.case}: {told[-2000:]}")
     return told.rstrip("\n").rpartition("\n")[2]
@@ -105,8 +118,12 @@ def is_right(said, cases):
 
 def selftest(count):
     """A client without an edit runs and passes, by some cases of each language; each wrong one is found."""
-    judge_all(count, "Python", wanted(count, "Python", IN_PYTHON), said_in_python)
     in_java = wanted(count, "Java", IN_JAVA)
+    in_python = wanted(count, "Python", IN_PYTHON)
+    if not java.missing() and in_java + in_python:
+        # so that they are not built by more than one thread
+        java.classes()
+    judge_all(count, "Python", in_python, said_in_python)
     if java.missing():
         print(f"Java was left out: {java.missing()}", flush=True)
     elif in_java:

@@ -2,12 +2,13 @@
 bodies, for the classes of the other files are not built anew."""
 from tests.clients.wrong import (
     ANOTHER_NUMBER, NEW_KEY, OTHER_EPOCH, NOBODY, NEWEST_FIRST, TOO_MANY, SHORT_FRAMES, OTHER_WELCOME,
-    OLD_HELLO, OWN_NUMBER, PART_OF_A_KEY, OTHER_VERSION, Edit, WrongClient)
+    OLD_HELLO, OWN_NUMBER, PART_OF_A_KEY, OTHER_VERSION, TELLS_WRONG, NOTHING_GIVEN, CANCEL_RECORDED, NEW_RECORD, DROPS_REPLY,
+    Edit, WrongClient)
 
-MACHINE, REPLIES, SESSION, RUNNING, POOL, LEASES, QUEUE, FUTURE, UNCLAIMED, CONSUMER, BODIES, LINK = (
+MACHINE, REPLIES, SESSION, RUNNING, POOL, LEASES, QUEUE, FUTURE, UNCLAIMED, CONSUMER, BODIES, LINK, CLIENTS, RECORD = (
     f"clients/java/src/main/java/rendezvous/{name}.java"
     for name in ("Machine", "Replies", "RvSession", "Running", "Pool", "Leases", "RvTransferQueue", "RequestFuture", "Unclaimed",
-                 "RvConsumer", "Bodies", "SocketLink"))
+                 "RvConsumer", "Bodies", "SocketLink", "RvClients", "RecordFile"))
 
 IN_JAVA = [
     WrongClient(ANOTHER_NUMBER, "java, the java process", [
@@ -79,6 +80,24 @@ IN_JAVA = [
         Edit(FUTURE, 'return cancelAndWait();', 'return super.cancel(mayInterrupt);')]),
     WrongClient("drops the item that came with a consumer's end", "java_scenes, a consumer", [
         Edit(CONSUMER, '                item.ifPresent(action);\n', '                if (!closed) {\n                    item.ifPresent(action);\n                }\n')]),
+    WrongClient(TELLS_WRONG, "crowds, at the double", [
+        Edit(QUEUE, 'return outcome instanceof Outcome.Item taken ? taken.item() : null;',
+             'return outcome instanceof Outcome.Item taken ? taken.item() + " " : null;')]),
+    WrongClient(NOTHING_GIVEN, "crowds, at the double", [
+        Edit(QUEUE, 'return outcome instanceof Outcome.Item taken ? taken.item() : null;', 'return null;')]),
+    WrongClient(CANCEL_RECORDED, "java_record, an interrupt", [
+        Edit(SESSION, 'if (machine.flying() == Machine.Flying.REQUEST) {', 'if (machine.key() != null) {')]),
+    WrongClient(NEW_RECORD, "java_record, it goes on", [
+        Edit(RECORD, 'StandardOpenOption.APPEND)', 'StandardOpenOption.TRUNCATE_EXISTING)')]),
+    WrongClient(DROPS_REPLY, "java_record, where it can not be written", [
+        Edit(SESSION, 'throw new RvException.NotRecorded(outcome, line, file, fault);',
+             'throw new IllegalStateException("not recorded", fault);')]),
+    WrongClient("writes LF within a line", "java_record, byte by byte", [
+        Edit(RECORD, "line.put(each == '\\n' ? (byte) ' ' : each);", 'line.put(each);')]),
+    WrongClient("records in the environment's file though another is chosen", "java_record, the environment", [
+        Edit(CLIENTS, 'recordIsChosen ? Optional', 'recordIsChosen && System.getenv("RV_RECORD") == null ? Optional')]),
+    WrongClient("drops an item of a cancelled future that it can't record", "java_record, futures", [
+        Edit(FUTURE, 'unrecorded) ? null : unrecorded.outcome();', 'unrecorded) ? null : null;')]),
     WrongClient("leaves descriptors behind", "java_scenes, no descriptors", [
         Edit(LINK, 'if (registered == null) {', 'if (registered == null && opened != null) {')]),
 ]

@@ -2,13 +2,13 @@
 from tests.clients.wrong import (
     ANOTHER_NUMBER, NEW_KEY, OTHER_EPOCH, NOBODY, NEWEST_FIRST, TOO_MANY, SHORT_FRAMES, OUT_OF_STEP,
     OTHER_WELCOME, OLD_HELLO, OWN_NUMBER, PART_OF_A_KEY, OTHER_VERSION, FULL_TOO_EARLY, REPEATS_ANEW,
-    ANY_REPLY, LAST_OUTCOME, ANY_CALL, Edit, WrongClient)
+    ANY_REPLY, LAST_OUTCOME, ANY_CALL, TELLS_WRONG, NOTHING_GIVEN, CANCEL_RECORDED, NEW_RECORD, DROPS_REPLY, Edit, WrongClient)
 
 PACKAGE, TESTS = "clients/python/src/rendezvous", "clients/python/tests"
-MACHINE, SESSION, BODIES, CALLS, REPLIES, LINK, DRIVER, ERRORS, COURSE, ENDINGS, LEASES, UNCLAIMED, AIO, STREAM = (
+MACHINE, SESSION, BODIES, CALLS, REPLIES, LINK, DRIVER, ERRORS, COURSE, ENDINGS, LEASES, UNCLAIMED, AIO, STREAM, RECORD = (
     f"{PACKAGE}/{name}.py" for name in (
         "machine", "session", "bodies", "calls", "replies", "link", "driver", "errors", "course", "endings", "leases", "unclaimed",
-        "aio", "stream"))
+        "aio", "stream", "record"))
 # Where a link was lost, and what goes on to another number there.
 LOST = "            self._failed()\n            return None\n"
 SKIP = ("            key = self.machine.key\n            if key and %s:\n"
@@ -146,6 +146,41 @@ IN_PYTHON = [
         Edit(AIO, "        if self._job is not None:\n            raise", "        if False:\n            raise")]),
     WrongClient("closes before a cancelled request is settled", "test_aio.Tasks.test_a_block_that_is_left_by_a_timeout", [
         Edit(AIO, "                await self._left.to_its_end()\n", "                pass\n")]),
+    WrongClient(TELLS_WRONG, "crowds, at the double", [
+        Edit(ENDINGS, "return outcome.item if", "return outcome.item[::-1] if")]),
+    WrongClient(TELLS_WRONG + ", once", "test_record.Lines.test_each_reply", [
+        Edit(ENDINGS, "return outcome.item if", "return outcome.item[1:] if")]),
+    WrongClient(NOTHING_GIVEN, "crowds, at the double", [
+        Edit(ENDINGS, "isinstance(outcome, (replies.Item, replies.Swapped,", "isinstance(outcome, (replies.Swapped,")]),
+    WrongClient("tells a receipt without its consumer", "test_record.Lines.test_each_reply", [
+        Edit(ENDINGS, "return cast(Receipt, outcome)", "return Receipt(outcome.key)")]),
+    WrongClient(CANCEL_RECORDED, "test_record.Lines.test_once_it_is_known", [
+        Edit(COURSE, "if made.machine.flying is m.Flying.REQUEST:", "if made.machine.key is not None:")]),
+    WrongClient(NEW_RECORD, "test_record.Places.test_what_is_there_stays", [
+        Edit(RECORD, "os.O_WRONLY | os.O_APPEND |", "os.O_WRONLY | os.O_TRUNC |")]),
+    WrongClient("writes where it believes the end to be", "test_record.Lines.test_one_write", [
+        Edit(RECORD, "os.O_WRONLY | os.O_APPEND |", "os.O_WRONLY |"),
+        Edit(RECORD, "                written", "                os.lseek(file, 0, os.SEEK_END)\n                written")]),
+    WrongClient("writes a line in two pieces", "test_record.Lines.test_one_write", [
+        Edit(RECORD, "written = os.write(file, line)", "written = os.write(file, line[:9]) + os.write(file, line[9:])")]),
+    WrongClient("records a reply once its call is told", "test_record.Lines.test_before_anybody_is_told", [
+        Edit(COURSE, "            job.unrecorded = self", "            self.last = made.tell.outcome\n            job.unrecorded = self")]),
+    WrongClient("records that a request waits", "test_record.Lines.test_what_is_no_reply", [
+        Edit(COURSE, "            self._heard_at, self._bound = time",
+             "            self._recorded(Outcome(self.machine.key), body)\n            self._heard_at, self._bound = time")]),
+    WrongClient("takes a line that was cut for a whole one", "test_record.NotWritten.test_a_line_that_is_cut", [
+        Edit(RECORD, "if written < len(line):", "if written < 1:")]),
+    WrongClient(DROPS_REPLY, "test_record.NotWritten.test_whatever_is_in_the_way", [
+        Edit(ERRORS, "self.outcome, self.line = outcome, line", "self.outcome, self.line = Outcome(outcome.key), line")]),
+    WrongClient("tells nobody what a handler hid of its record", "test_record.NotWritten.test_what_a_handler_hides", [
+        Edit(SESSION, '            self._hidden["fault"] = fault\n', "            pass\n")]),
+    WrongClient("swallows an item with what its block's end hides", "test_record.NotWritten.test_a_close_behind_it", [
+        Edit(SESSION, "        if kind is None:\n            self._tell_hidden()\n",
+             "        try:\n            self._tell_hidden()\n        except errors.NotRecorded:\n            pass\n")]),
+    WrongClient("tells nobody what of a cancelled task can't be recorded", "test_record.Tasks.test_where_it_has_none", [
+        Edit(AIO, "        if left.job.unrecorded is not None:\n", "        if False:\n")]),
+    WrongClient("gives an item that its exception has told", "test_record.Tasks.test_where_it_has_none", [
+        Edit(AIO, "            self._shelf.forget(fault.outcome.key)\n", "")]),
     WrongClient("waits in its close as long as for an answer", "test_aio.Tasks.test_a_close_beside_a_silent_server", [
         Edit(AIO, "                self._left.job.give_up(FAREWELL)\n", "")]),
 ]

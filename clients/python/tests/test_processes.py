@@ -17,10 +17,12 @@ EXCEPTIONS = [
     rv.EpochEnded(key(5), 1), rv.EpochEnded(key(5), 7), rv.EpochEnded(None, 7), rv.Replaced(None, 2), rv.Replaced(key(1), 2),
     rv.Refused(key(6), 6, None, ": another process"), rv.Refused(None, 12, 1), rv.Misused("a call runs"),
     rv.AllLeased(None, 1, 1024, "/run/user/1000/rendezvous"),
+    rv.NotRecorded(rv.replies.Item(key(1), "a"), '{"asked":{},"told":{}}', OSError(28, "No space left on device", "/tmp/record")),
 ]
 INTERRUPTS = [
     rv.Interrupted(key(1), rv.replies.Item(key(1), "a")), rv.Interrupted(key(1), None, rv.EpochEnded(key(1), 2)),
     rv.Interrupted(None, None, rv.NotAsked()), rv.Interrupted(None, None),
+    rv.Interrupted(key(1), rv.replies.Done(key(1)), rv.NotRecorded(rv.replies.Done(key(1)), "{}", OSError(28, "none", "record"))),
 ]
 
 

@@ -20,17 +20,21 @@ A worker is a loop over `Session.items`, which another thread or a signal's hand
 Each session has a client number of its own, which it leases among the programs of one user on one host. Hosts that share a
 server part the numbers by RV_CLIENTS in their environments: 1-512 and 513-1024, say.
 
+`Session(address, record=FILE)`, or RV_RECORD in the environment, keeps a record of what the session was told: each reply has its
+line in that file before its call returns.
+
 `rendezvous.aio` has the same session for asyncio. `rendezvous.replies` has the types of what a request came to.
 """
 from .errors import (
-    AllLeased, Cancelled, EpochEnded, Full, Interrupted, Misused, NotAsked, Refused, RendezvousError, Replaced, TimedOut,
-    Unsettled)
+    AllLeased, Cancelled, EpochEnded, Full, Interrupted, Misused, NotAsked, NotRecorded, Refused, RendezvousError, Replaced,
+    TimedOut, Unsettled)
 from .course import Running
 from .replies import Counted, Key, Outcome, Receipt
 from .session import Items, Session
 from .unclaimed import Unclaimed
 
 __all__ = [
-    "AllLeased", "Cancelled", "Counted", "EpochEnded", "Full", "Interrupted", "Items", "Key", "Misused", "NotAsked", "Outcome",
-    "Receipt", "Refused", "RendezvousError", "Replaced", "Running", "Session", "TimedOut", "Unclaimed", "Unsettled",
+    "AllLeased", "Cancelled", "Counted", "EpochEnded", "Full", "Interrupted", "Items", "Key", "Misused", "NotAsked",
+    "NotRecorded", "Outcome", "Receipt", "Refused", "RendezvousError", "Replaced", "Running", "Session", "TimedOut", "Unclaimed",
+    "Unsettled",
 ]

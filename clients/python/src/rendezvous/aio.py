@@ -28,6 +28,7 @@ from .endings import (
     Result, counts_of, ending, item_if_any, item_of, items_of, itself, known_of, nothing, receipt_if_any, receipt_of)
 from .leases import name_of
 from .link import Address, address_of
+from .record import Path, record_of
 from .replies import Counted, Outcome, Receipt
 from .stream import StreamCourse, UnderWay, let_go
 from .unclaimed import Shelf, Unclaimed
@@ -39,22 +40,23 @@ FAREWELL = 1.0
 
 
 class Session:
-    """One client in one incarnation, in one event loop. Its numbers, its version and its times are as those of
-    `rendezvous.Session`.
+    """One client in one incarnation, in one event loop. Its numbers, its version, its times and its record are as those of
+    `rendezvous.Session`; the event loop writes the record, and waits for that.
 
     It asks one request at a time: a second task that calls meanwhile gets `Misused` at once, for it might wait for ever behind a
     take. Tasks have a session each. Behind a call whose task was cancelled, the next call waits until it is known what that
     request came to, as long as its own time and the session's patience allow; then it is `NotAsked`. Where the request before
-    it ended the session, the next call raises what is known of that one, by its key, and asks nothing.
+    it ended the session or could not be recorded, the next call raises what is known of that one, by its key, and asks nothing.
     """
 
     def __init__(self, address: Address, client: Optional[int] = None, incarnation: Optional[int] = None, *,
                  clients: Optional[range] = None, version: int = GREATEST_VERSION, patience: Optional[float] = 60.0,
-                 answer: float = 30.0) -> None:
+                 answer: float = 30.0, record: Optional[Path] = None) -> None:
         checked(is_whole(version, 1, GREATEST_VERSION), f"the version is 1 to {GREATEST_VERSION}: {version!r}")
+        kept = record_of(record)
         self.address, self.patience = address_of(address), patience
         self._process = os.getpid()
-        self._course = StreamCourse(self.address, name_of(client, incarnation, clients), version, answer)
+        self._course = StreamCourse(self.address, name_of(client, incarnation, clients), version, answer, kept)
         self._event_loop: Optional[asyncio.AbstractEventLoop] = None
         self._closed = False
         # the call whose task waits, and the one whose task was cancelled, with the task that settles it
@@ -76,7 +78,9 @@ class Session:
 
     async def __aexit__(self, kind: Optional[Type[BaseException]], fault: Optional[BaseException],
                         trace: Optional[TracebackType]) -> None:
-        await self.close()
+        await self._close()
+        if kind is None:
+            self._tell_left()
 
     async def connect(self) -> None:
         """Says hello, again and again, until the welcome comes. Every call does so by itself where need be."""
@@ -85,7 +89,13 @@ class Session:
     async def close(self) -> None:
         """Closes the connection, for good, ends the call that runs, and gives a leased number back. What a request comes to whose
         task was cancelled is waited for, for up to a second. One that is unsettled goes on standing, until a greater
-        incarnation says hello, as the next session does that leases the number."""
+        incarnation says hello, as the next session does that leases the number. `NotRecorded` where what was waited for could
+        not be recorded, unless the end of a block by an exception closes the session."""
+        await self._close()
+        self._tell_left()
+
+    async def _close(self) -> None:
+        """Closes, and tells nothing."""
         if self._closed or os.getpid() != self._process:
             return
         self._closed = True
@@ -260,10 +270,23 @@ class Session:
         except BaseException:
             self._leave(under_way)
             raise
+        self._tell_unrecorded(under_way)
         value, fault = ending(under_way.job, result)
         if fault is not None:
             raise fault
         return cast(Result, value)
+
+    def _tell_left(self) -> None:
+        """Raises that what was left was not recorded, where that is so."""
+        if self._left is not None:
+            self._tell_unrecorded(self._left)
+
+    def _tell_unrecorded(self, under_way: UnderWay) -> None:
+        """Raises that a reply was not recorded, where that is so: once, and then nothing else tells the outcome."""
+        fault, under_way.job.unrecorded = under_way.job.unrecorded, None
+        if fault is not None:
+            self._shelf.forget(fault.outcome.key)
+            raise fault
 
     async def _resumed(self, timeout: Optional[float], gives_up: bool) -> Outcome:
         """Goes on with what is unsettled: what a cancelled task left, or the machine's request."""
@@ -329,7 +352,11 @@ class Session:
             self._shelf.keep(self._left.job)
 
     def _has_room(self, left: UnderWay) -> bool:
-        """Whether what was left leaves room for the next request. Where it ended the session, that is told, once."""
+        """Whether what was left leaves room for the next request. Where it ended the session, or could not be recorded, that is
+        told, once."""
+        if left.job.unrecorded is not None:
+            self._left = None
+            self._tell_unrecorded(left)
         if left.over and self._course.machine.state is m.State.ENDED:
             self._left = None
             _, fault = known_of(left.job)

@@ -10,9 +10,10 @@ import time
 from typing import Callable, Generator, Optional, Protocol
 
 from . import machine as m
-from .bodies import Members, NoAnswer
-from .errors import Misused
+from .bodies import Members, NoAnswer, body_of, read_answer
+from .errors import Misused, NotRecorded
 from .leases import Name
+from .record import Record, line_of
 from .replies import Outcome
 
 # A request whose own time is over is cancelled behind so many seconds, in which the server's own word may still come,
@@ -38,10 +39,10 @@ class Channel(Protocol):
     def used(self) -> bool:
         """Whether something was said there."""
 
-    def go_on(self) -> Optional[Members]:
-        """Does what can be done at once, and gives an answer that has come whole."""
+    def go_on(self) -> Optional[bytes]:
+        """Does what can be done at once, and gives an answer's body that has come whole."""
 
-    def say(self, members: Members) -> None:
+    def say(self, body: bytes) -> None:
         """Begins to send a message."""
 
     def is_stale(self) -> bool:
@@ -53,7 +54,8 @@ class Channel(Protocol):
 
 class Job:
     """One call and what came of it. `call` is None where only the hello is to be said; `resumes` where it goes on with the
-    unsettled request. `own` is the call's own time in seconds. `asked` has the members of the call that it is about."""
+    unsettled request. `own` is the call's own time in seconds. `asked` has the members of the call that it is about.
+    `unrecorded` is there where its reply could not be written into the record."""
 
     def __init__(self, call: Optional[Members], own: Optional[float], patience: Optional[float], resumes: bool = False) -> None:
         self.call, self.resumes = call, resumes
@@ -64,6 +66,7 @@ class Job:
         self.given_up = False
         self.cancelled = False
         self.told: Optional[m.Told] = None
+        self.unrecorded: Optional[NotRecorded] = None
         self.misused = ""
         self.fault = ""
 
@@ -110,14 +113,17 @@ class Running:
 
 class Course:
     """What one session does. `machine` is replaced by one assignment a step, here alone. `last` is the outcome of the last
-    request that was settled. `closing`: what is known is to be told, and nothing more is to be asked."""
+    request that was settled. `closing`: what is known is to be told, and nothing more is to be asked. `record`, where there is
+    one, has each reply before anybody is told it."""
 
-    def __init__(self, name: Name, version: int, answer: float) -> None:
-        self.name, self.answer = name, answer
+    def __init__(self, name: Name, version: int, answer: float, record: Optional[Record]) -> None:
+        self.name, self.answer, self.record = name, answer, record
         self.machine = m.Machine(name.client, name.incarnation, version)
         self.last: Optional[Outcome] = None
         self.closing = False
         self._link: Optional[Channel] = None
+        # the body of the request that was sent last
+        self._asked = b""
         self._resume_at = self._answer_by = self._heard_at = 0.0
         self._bound = LEAST_PAUSE
 
@@ -208,10 +214,10 @@ class Course:
         elif now >= self._answer_by:
             raise NoAnswer(f"no answer within {self.answer:g} seconds")
         elif (yield self._until(job, self._answer_by)) and self._link is not None:
-            answer = self._link.go_on()
+            body = self._link.go_on()
             self._watch()
-            if answer is not None:
-                return self._hear(answer)
+            if body is not None:
+                return self._hear(job, body)
         return None
 
     def _connect(self, now: float) -> None:
@@ -234,13 +240,17 @@ class Course:
         self.machine = made.machine
         if made.send is not None and self._link is not None:
             self._answer_by = now + self.answer
-            self._link.say(made.send)
+            body = body_of(made.send)
+            if made.machine.flying is m.Flying.REQUEST:
+                self._asked = body
+            self._link.say(body)
             self._watch()
 
-    def _hear(self, answer: Members) -> Optional[m.Told]:
+    def _hear(self, job: Job, body: bytes) -> Optional[m.Told]:
         """Takes in an answer."""
-        made = m.step(self.machine, m.Hear(answer))
+        made = m.step(self.machine, m.Hear(read_answer(body)))
         if isinstance(made.tell, m.Settled):
+            job.unrecorded = self._recorded(made.tell.outcome, body)
             self.last = made.tell.outcome
         if made.send is not None:
             self._heard_at, self._bound = time.monotonic(), LEAST_PAUSE
@@ -252,6 +262,17 @@ class Course:
         if made.tell is None:
             self._pause()
         return made.tell
+
+    def _recorded(self, outcome: Outcome, told: bytes) -> Optional[NotRecorded]:
+        """Writes the reply to the request into the record, if there is one; the exception where it can't be written."""
+        if self.record is None:
+            return None
+        line = line_of(self._asked, told)
+        try:
+            self.record.append(line)
+        except OSError as fault:
+            return NotRecorded(outcome, line[:-1].decode(), fault)
+        return None
 
     def _step(self, event: m.Event) -> Optional[m.Told]:
         """Takes a step that sends nothing."""

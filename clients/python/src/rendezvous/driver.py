@@ -20,6 +20,7 @@ from .bodies import Members
 from .course import FOREVER, Channel, Course
 from .leases import Name
 from .link import Link
+from .record import Record
 
 CLOSED = "the session is closed"
 
@@ -53,8 +54,8 @@ class Job(course.Job):
 class Driver(Course):
     """The thread of one session. The session's name is given back once nothing is done in that name any more."""
 
-    def __init__(self, address: Tuple[str, int], name: Name, version: int, answer: float) -> None:
-        super().__init__(name, version, answer)
+    def __init__(self, address: Tuple[str, int], name: Name, version: int, answer: float, record: Optional[Record]) -> None:
+        super().__init__(name, version, answer, record)
         self.address, self.gone = address, False
         self._process = os.getpid()
         self.ended = threading.Lock()

@@ -16,7 +16,7 @@ def ending(job: Job, result: Callable[[Outcome], Result]) -> Tuple[Optional[Resu
     if job.misused:
         return None, errors.Misused(job.misused)
     outcome, fault = known_of(job)
-    if outcome is not None and result is not itself:
+    if outcome is not None and fault is None and result is not itself:
         fault = ended_without(job, outcome)
     return None if outcome is None or fault is not None else result(outcome), fault
 
@@ -33,10 +33,10 @@ def ended_without(job: Job, outcome: Outcome) -> Optional[errors.RendezvousError
 
 
 def known_of(job: Job) -> Tuple[Optional[Outcome], Optional[errors.RendezvousError]]:
-    """The outcome of a job, or the exception that says what is known."""
+    """The outcome of a job, or the exception that says what is known; both where the outcome could not be recorded."""
     told = job.told
     if isinstance(told, m.Settled):
-        return told.outcome, None
+        return told.outcome, job.unrecorded
     if isinstance(told, m.Unsettled):
         return None, errors.Unsettled(told.key, told.accepted, job.fault)
     if isinstance(told, m.NotAsked):

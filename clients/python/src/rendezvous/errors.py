@@ -1,13 +1,13 @@
 """What ends a call without a result, each with what is known of its request."""
 from __future__ import annotations
 
-from typing import Any, Optional
+from typing import Any, Optional, Tuple
 
 from .replies import Key, Outcome
 
 __all__ = [
-    "AllLeased", "Cancelled", "EpochEnded", "Full", "Interrupted", "Misused", "NotAsked", "Refused", "RendezvousError", "Replaced",
-    "TimedOut", "Unsettled",
+    "AllLeased", "Cancelled", "EpochEnded", "Full", "Interrupted", "Misused", "NotAsked", "NotRecorded", "Refused",
+    "RendezvousError", "Replaced", "TimedOut", "Unsettled",
 ]
 
 REFUSALS = {
@@ -126,17 +126,34 @@ class Refused(RendezvousError):
         return f"refused {self.number}, {self.name}{self.why}"
 
 
+class NotRecorded(RendezvousError, OSError):
+    """The request has its reply, which could not be written into the session's record. `outcome` is the reply, and nothing else
+    tells it; `line` is what was to be written, without its LF. `errno`, `strerror` and `filename` say why not. The session
+    goes on: the next call is asked, and recorded, as if nothing had been."""
+
+    def __init__(self, outcome: Outcome, line: str, fault: OSError) -> None:
+        super().__init__(outcome.key)
+        self.outcome, self.line = outcome, line
+        self.errno, self.strerror, self.filename = fault.errno, fault.strerror, fault.filename
+
+    def __reduce__(self) -> Tuple[Any, ...]:
+        return type(self), (self.outcome, self.line, OSError(self.errno, self.strerror, self.filename))
+
+    def words(self) -> str:
+        return f"a reply is not in the record {self.filename}: {str(self.strerror).lower()}: {self.outcome}"
+
+
 class Interrupted(KeyboardInterrupt):
     """An interrupt from the keyboard came in a call, which was cancelled. `outcome` has what its request came to, which is
-    not always that it was cancelled; where it is None, `fault` has the exception that says what is known instead. `key`
-    is the request's, or None where nothing was asked."""
+    not always that it was cancelled; where it is None, `fault` has the exception that says what is known instead. Beside an
+    outcome `fault` is None, or the `NotRecorded` of it. `key` is the request's, or None where nothing was asked."""
 
     def __init__(self, key: Optional[Key], outcome: Optional[Outcome], fault: Optional[RendezvousError] = None) -> None:
         super().__init__(key, outcome, fault)
         self.key, self.outcome, self.fault = key, outcome, fault
 
     def __str__(self) -> str:
-        return f"interrupted: {self.outcome or self.fault}"
+        return f"interrupted: {self.fault or self.outcome}"
 
 
 class Misused(RuntimeError):

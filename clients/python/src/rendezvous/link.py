@@ -7,7 +7,7 @@ import socket
 import struct
 from typing import Any, List, Optional, Tuple, Union
 
-from .bodies import Members, NoAnswer, body_of, read_answer
+from .bodies import NoAnswer
 
 Address = Union[str, Tuple[str, int]]
 # What a connect that is under way answers.
@@ -39,14 +39,13 @@ def ways_to(address: Tuple[str, int]) -> List[Any]:
         raise OSError(fault.errno, f"{named(address)}: {str(fault.strerror).lower()}") from fault
 
 
-def frame_of(members: Members) -> bytes:
+def frame_of(body: bytes) -> bytes:
     """A message, as it is sent: its body behind its length."""
-    body = body_of(members)
     return struct.pack(">H", len(body)) + body
 
 
 class Inbox:
-    """What came in, in pieces, of which answers are made."""
+    """What came in, in pieces, of which answers' bodies are made."""
 
     def __init__(self) -> None:
         self._came = b""
@@ -58,8 +57,8 @@ class Inbox:
         """The next piece."""
         self._came += piece
 
-    def taken(self) -> Optional[Members]:
-        """The first answer, if it is whole."""
+    def taken(self) -> Optional[bytes]:
+        """The first body, if it is whole."""
         if len(self._came) < 2:
             return None
         end = 2 + struct.unpack(">H", self._came[:2])[0]
@@ -68,12 +67,12 @@ class Inbox:
         if len(self._came) < end:
             return None
         body, self._came = self._came[2:end], self._came[end:]
-        return read_answer(body)
+        return body
 
 
 class Link:
-    """A connection to the server. It is being made until `connected`; then it takes a message, and gives its answer. `used`
-    tells whether something was said there.
+    """A connection to the server. It is being made until `connected`; then it takes a message's body, and gives its answer's.
+    `used` tells whether something was said there.
     Every fault of it is an OSError or NoAnswer, and then it is of no more use."""
 
     def __init__(self, address: Tuple[str, int]) -> None:
@@ -104,8 +103,8 @@ class Link:
         """Whether it waits for room to write, and not for something to read."""
         return not self.connected or bool(self._out)
 
-    def go_on(self) -> Optional[Members]:
-        """Does what can be done at once, and gives an answer that has come whole."""
+    def go_on(self) -> Optional[bytes]:
+        """Does what can be done at once, and gives an answer's body that has come whole."""
         if not self.connected:
             self._finish()
         elif self._out:
@@ -125,10 +124,10 @@ class Link:
         else:
             raise OSError(code, f"{named(self.address)}: {os.strerror(code).lower()}")
 
-    def say(self, members: Members) -> None:
+    def say(self, body: bytes) -> None:
         """Begins to send a message."""
         self.used = True
-        self._out = frame_of(members)
+        self._out = frame_of(body)
         self._write()
 
     def _write(self) -> None:
@@ -138,8 +137,8 @@ class Link:
         except (BlockingIOError, InterruptedError):
             pass
 
-    def _read(self) -> Optional[Members]:
-        """Reads what is there; an answer, if it is whole."""
+    def _read(self) -> Optional[bytes]:
+        """Reads what is there; an answer's body, if it is whole."""
         try:
             piece = self.socket.recv(AT_ONCE)
         except (BlockingIOError, InterruptedError):

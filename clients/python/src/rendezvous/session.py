@@ -5,7 +5,7 @@ import os
 import threading
 import weakref
 from functools import partial
-from typing import Callable, Iterator, List, NoReturn, Optional, Tuple, cast
+from typing import Callable, Iterator, List, NoReturn, Optional, Tuple, Type, cast
 
 from . import errors
 from .bodies import GREATEST_VERSION, Members, is_whole
@@ -16,7 +16,8 @@ from .endings import (
     Result, counts_of, ending, item_if_any, item_of, items_of, itself, known_of, nothing, receipt_if_any, receipt_of)
 from .leases import Name, name_of
 from .link import Address, address_of
-from .replies import Counted, Outcome, Receipt
+from .record import Path, Record, record_of
+from .replies import Cancelled, Counted, Outcome, Receipt
 from .unclaimed import Shelf, Unclaimed
 
 # How many seconds an interrupt leaves for the cancel of its call.
@@ -38,17 +39,25 @@ class Session:
     connection away.
 
     A call with a time of its own ends within that and a second, also where the server is silent or away.
+
+    `record` is a file that gets a line for each reply, with the request, before anybody is told the reply; it is opened for each,
+    and made where there is none. Left out, it is what the environment says in RV_RECORD; an empty one is no record. A line is
+    appended by one write, so any number of sessions and processes may share a local file. It is handed to the system, which
+    keeps it whatever becomes of the process, and is not forced to the disk. `NotRecorded` where it can't be written.
     """
 
     def __init__(self, address: Address, client: Optional[int] = None, incarnation: Optional[int] = None, *,
                  clients: Optional[range] = None, version: int = GREATEST_VERSION, patience: Optional[float] = 60.0,
-                 answer: float = 30.0) -> None:
+                 answer: float = 30.0, record: Optional[Path] = None) -> None:
         checked(is_whole(version, 1, GREATEST_VERSION), f"the version is 1 to {GREATEST_VERSION}: {version!r}")
+        kept = record_of(record)
         self.address, self.patience = address_of(address), patience
         self._process = os.getpid()
-        self._driver = driver_of(self.address, name_of(client, incarnation, clients), version, answer)
+        self._driver = driver_of(self.address, name_of(client, incarnation, clients), version, answer, kept)
         # The job that runs, or that its caller left: setdefault and pop are single steps.
         self._jobs: "dict[str, Job]" = {}
+        # what was not recorded, and a handler's exception hid
+        self._hidden: "dict[str, errors.NotRecorded]" = {}
         self._shelf = Shelf()
         self._loop: "Callable[[], Optional[Items]]" = no_loop
         self._closes = weakref.finalize(self, self._driver.close)
@@ -61,8 +70,10 @@ class Session:
             raise
         return self
 
-    def __exit__(self, *_: object) -> None:
-        self.close()
+    def __exit__(self, kind: Optional[Type[BaseException]], *_: object) -> None:
+        self._close()
+        if kind is None:
+            self._tell_hidden()
 
     def connect(self) -> None:
         """Says hello, again and again, until the welcome comes. Every call does so by itself where need be."""
@@ -70,7 +81,13 @@ class Session:
 
     def close(self) -> None:
         """Closes the connection, for good, ends the call that runs, and gives a leased number back. An unsettled request goes on
-        standing, until a greater incarnation says hello, as the next session does that leases the number."""
+        standing, until a greater incarnation says hello, as the next session does that leases the number. `NotRecorded` where a
+        handler's exception hid that, unless the end of a block by an exception closes the session."""
+        self._close()
+        self._tell_hidden()
+
+    def _close(self) -> None:
+        """Closes, and tells nothing."""
         self._driver.close()
         if os.getpid() == self._process and self._driver.ended.acquire(timeout=1.0):
             self._driver.ended.release()
@@ -172,8 +189,8 @@ class Session:
 
     def unclaimed(self) -> List[Unclaimed]:
         """The items that requests took and no call gave, oldest first: an exception of a signal's handler came meanwhile, which
-        says nothing of the request. They stay here, also behind `close`, until `claim` or `items` takes them. `Interrupted` and
-        `again` tell an outcome themselves, so that it doesn't stand here."""
+        says nothing of the request. They stay here, also behind `close`, until `claim` or `items` takes them. `Interrupted`,
+        `NotRecorded` and `again` tell an outcome themselves, so that it doesn't stand here."""
         return self._shelf.listed()
 
     def claim(self, one: Unclaimed) -> str:
@@ -194,7 +211,7 @@ class Session:
         """Has a job done, and gives its result; what it took is kept where an exception that doesn't tell it comes instead."""
         try:
             return self._told(job, result)
-        except errors.Interrupted:
+        except (errors.Interrupted, errors.NotRecorded):
             raise
         except BaseException:
             if self._jobs.get("job") is not job:
@@ -218,6 +235,7 @@ class Session:
             raise errors.Misused(f"this session is of process {self._process}: behind a fork make one anew")
         if self._driver.closing:
             raise errors.Misused("the session is closed")
+        self._tell_hidden()
         owner, value, fault = None, None, None
         try:
             owner = self._jobs.setdefault("job", job)
@@ -246,7 +264,16 @@ class Session:
         if isinstance(thrown, KeyboardInterrupt):
             key = outcome.key if outcome else fault.key if fault else None
             raise errors.Interrupted(key, outcome, fault) from None
+        if isinstance(fault, errors.NotRecorded):
+            self._hidden["fault"] = fault
         raise thrown
+
+    def _tell_hidden(self) -> None:
+        """Raises what was not recorded, where a handler's exception hid that: once, and then nothing else tells the outcome."""
+        fault = self._hidden.pop("fault", None)
+        if fault is not None:
+            self._shelf.forget(fault.outcome.key)
+            raise fault
 
 
 class Items(Iterator[str]):
@@ -277,6 +304,9 @@ class Items(Iterator[str]):
         except errors.Cancelled:
             self._stopped = True
             raise StopIteration from None
+        except errors.NotRecorded as fault:
+            self._stopped = self._stopped or job.cancelled or isinstance(fault.outcome, Cancelled)
+            raise
 
     def stop(self) -> bool:
         """Ends this loop, from any thread and from a signal's handler: its take that waits, or else before the next one, and no
@@ -296,10 +326,10 @@ def no_loop() -> Optional[Items]:
     return None
 
 
-def driver_of(address: Tuple[str, int], name: Name, version: int, answer: float) -> Driver:
+def driver_of(address: Tuple[str, int], name: Name, version: int, answer: float, record: Optional[Record]) -> Driver:
     """The driver of a new session, which gives its name back at its end."""
     try:
-        return Driver(address, name, version, answer)
+        return Driver(address, name, version, answer, record)
     except BaseException:
         name.close()
         raise

@@ -7,10 +7,11 @@ import os
 import time
 from typing import Optional, Tuple, cast
 
-from .bodies import Members, NoAnswer
+from .bodies import NoAnswer
 from .course import FOREVER, Channel, Course, Job
 from .leases import Name
 from .link import Inbox, frame_of, named
+from .record import Record
 
 
 class Connection(asyncio.Protocol):
@@ -59,19 +60,19 @@ class Connection(asyncio.Protocol):
         self.news = True
         self._course.wake()
 
-    def go_on(self) -> Optional[Members]:
-        """An answer that has come whole."""
+    def go_on(self) -> Optional[bytes]:
+        """An answer's body that has come whole."""
         self.news = False
-        answer = self._inbox.taken()
-        if answer is None and self._fault is not None:
+        body = self._inbox.taken()
+        if body is None and self._fault is not None:
             raise self._fault
-        return answer
+        return body
 
-    def say(self, members: Members) -> None:
+    def say(self, body: bytes) -> None:
         """Sends a message."""
         assert self._transport is not None
         self.used = True
-        self._transport.write(frame_of(members))
+        self._transport.write(frame_of(body))
 
     def is_stale(self) -> bool:
         """Whether something is there though nothing is awaited: the peer's end, or an answer to nothing."""
@@ -93,8 +94,8 @@ class Connection(asyncio.Protocol):
 class StreamCourse(Course):
     """A course that waits in an event loop."""
 
-    def __init__(self, address: Tuple[str, int], name: Name, version: int, answer: float) -> None:
-        super().__init__(name, version, answer)
+    def __init__(self, address: Tuple[str, int], name: Name, version: int, answer: float, record: Optional[Record]) -> None:
+        super().__init__(name, version, answer, record)
         self.address = address
         self._ordered = False
         self._waker: "Optional[asyncio.Future[None]]" = None

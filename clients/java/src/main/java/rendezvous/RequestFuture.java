@@ -57,6 +57,11 @@ class RequestFuture<T> extends CompletableFuture<T> {
         } catch (InterruptedException cancelled) {
             super.cancel(false);
             Thread.currentThread().interrupt();
+        } catch (RvException.NotRecorded unrecorded) {
+            // where something else completed the future, the thread's handler is told
+            if (!handle((value, fault) -> fault == unrecorded).join()) {
+                throw unrecorded;
+            }
         } catch (RvException.NotAsked | RvException.Full | IllegalStateException nothing) {
             // nobody has or will have the item, and none was taken
             if (!abort.isAsked() || !super.cancel(false)) {
@@ -67,11 +72,16 @@ class RequestFuture<T> extends CompletableFuture<T> {
         }
     }
 
+    /** Asks; an item that the future does not get is kept. */
     private Outcome outcome(Asking asking) throws InterruptedException {
         Outcome outcome = null;
         try {
             outcome = asking.ask(this, abort);
             return outcome;
+        } catch (RvException.NotRecorded unrecorded) {
+            // where the future has the exception, that tells the outcome
+            outcome = completeExceptionally(unrecorded) ? null : unrecorded.outcome();
+            throw unrecorded;
         } finally {
             unclaimed.ends(this, outcome);
         }

@@ -25,6 +25,8 @@ import java.util.function.LongFunction;
  * run at a time, however many threads there are. A thread gets the session of its last call again, unless another thread
  * took it meanwhile. One whose request is unsettled is nobody's, and stands in {@link #unsettled} until it is settled.
  *
+ * <p>They keep a {@linkplain Builder#record record} of what they were told, where a file is chosen for that.
+ *
  * <p>Each session has a client number of its own, which is leased by the lock of a file, so that no two programs of a host
  * have the same; its incarnation is above each that was leased under that number. Numbers are leased as sessions are needed.
  * They are given back when the session has ended, when its thread ended and nobody used it for two seconds, and by
@@ -71,6 +73,8 @@ public final class RvClients implements AutoCloseable {
         private int version = RvSession.VERSION;
         private Executor executor;
         private Path folder;
+        private boolean recordIsChosen;
+        private Path record;
         private long idle = Pool.IDLE;
         private long grace = Running.GRACE;
 
@@ -139,6 +143,26 @@ public final class RvClients implements AutoCloseable {
             return this;
         }
 
+        /**
+         * A file that gets a line for each reply, with the request, before any call gives or throws what it tells. It is opened
+         * for each line, and made where there is none. A line is appended by one write, so any number of sessions, threads and
+         * processes may share a local file. It is handed to the system, which keeps it whatever becomes of the process, and is
+         * not forced to the disk. A reply that cannot be written is {@link RvException.NotRecorded}. Unless it is chosen here,
+         * the environment variable {@code RV_RECORD} names the file, and where that is empty or missing there is no record.
+         */
+        public Builder record(Path file) {
+            record = Objects.requireNonNull(file, "no record is unrecorded()");
+            recordIsChosen = true;
+            return this;
+        }
+
+        /** No record is kept, whatever the environment names. */
+        public Builder unrecorded() {
+            record = null;
+            recordIsChosen = true;
+            return this;
+        }
+
         /** Leases in another folder than the environment tells, for tests. */
         Builder folder(Path leases) {
             folder = leases;
@@ -160,7 +184,8 @@ public final class RvClients implements AutoCloseable {
         /**
          * The clients. Nothing is leased and nothing is sent before the first call.
          *
-         * @throws IllegalArgumentException if the port, the version, the patience or {@code RV_CLIENTS} is none
+         * @throws IllegalArgumentException if the port, the version, the patience, {@code RV_CLIENTS} or {@code RV_RECORD} is
+         *     none
          * @throws IllegalStateException if the folder of leases is not this user's alone; or numbers are not leased, and
          *     none are chosen
          * @throws java.io.UncheckedIOException if the folder of leases cannot be made
@@ -178,9 +203,12 @@ public final class RvClients implements AutoCloseable {
             Duration time = patience;
             int spoken = version;
             long nanos = grace;
+            Optional<RecordFile> kept = recordIsChosen ? Optional.ofNullable(record).map(RecordFile::new)
+                : RecordFile.of(System.getenv());
             return (client, each) -> {
                 RvSession session = new RvSession(host, port, client, each, time, RvSession.ANSWER, spoken);
                 session.grace(nanos);
+                session.record(kept);
                 return session;
             };
         }

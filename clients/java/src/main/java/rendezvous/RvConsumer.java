@@ -32,8 +32,9 @@ public final class RvConsumer implements AutoCloseable {
      * Gives the action an item after another, in the thread that asks, and waits for each. It returns when another thread
      * closed the consumer, or when this thread is interrupted, and then that stays interrupted. Where nothing is heard of
      * the cancel of a take, the exception is {@link RvException.Unsettled}, and {@link RvClients#unsettled} has the
-     * session that tells what became of it. What the action throws is thrown: its item was given to it, and the consumer
-     * goes on where it is asked again.
+     * session that tells what became of it. An item whose reply could not be recorded is in the
+     * {@link RvException.NotRecorded}, and is not given to the action. What the action throws is thrown: its item was
+     * given to it. The consumer goes on where it is asked again.
      */
     public void forEach(Consumer<? super String> action) {
         Objects.requireNonNull(action);

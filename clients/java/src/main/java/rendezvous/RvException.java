@@ -1,5 +1,6 @@
 package rendezvous;
 
+import java.nio.charset.StandardCharsets;
 import java.util.Map;
 
 /** What ends a call without a result. {@link #key()} names its request; it is null where nothing but the hello was said. */
@@ -51,6 +52,34 @@ public abstract sealed class RvException extends RuntimeException {
 
         Full(Key key) {
             super(key, "the server has no room, and nothing is in the queue");
+        }
+    }
+
+    /**
+     * The request has its reply, which could not be written into the record that the clients keep; the cause says why not.
+     * {@link #outcome()} is the reply, and nothing else gives what it gives. The session goes on: its next call is asked, and
+     * recorded, as if nothing had been.
+     */
+    public static final class NotRecorded extends RvException {
+        private static final long serialVersionUID = 2;
+        private final transient Outcome outcome;
+        private final String line;
+
+        NotRecorded(Outcome outcome, byte[] line, RecordFile file, Exception cause) {
+            super(outcome.key(), "a reply is not in the record " + file + ": " + cause + ": " + outcome);
+            this.outcome = outcome;
+            this.line = new String(line, 0, line.length - 1, StandardCharsets.UTF_8);
+            initCause(cause);
+        }
+
+        /** The reply; null in a copy that was serialized. */
+        public Outcome outcome() {
+            return outcome;
+        }
+
+        /** The line that was to be written, without the LF at its end. */
+        public String line() {
+            return line;
         }
     }
 

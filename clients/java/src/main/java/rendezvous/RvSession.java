@@ -37,6 +37,10 @@ public final class RvSession implements AutoCloseable {
     private volatile boolean closed;
     private volatile Runnable whenLeft = () -> { };
     private volatile long grace = Running.GRACE;
+    private volatile Optional<RecordFile> record = Optional.empty();
+    /** The bodies of the request that was sent last, and of what was heard last. */
+    private byte[] asked;
+    private byte[] heard;
     private Running running;
 
     /** A session of version 2 that says hello with its first call, and has a patience of a minute. */
@@ -129,6 +133,11 @@ public final class RvSession implements AutoCloseable {
     /** Within so many nanoseconds a call ends that is to end, from the next one on: for tests. */
     void grace(long nanos) {
         grace = nanos;
+    }
+
+    /** Keeps this record, from the next call on. */
+    void record(Optional<RecordFile> file) {
+        record = file;
     }
 
     /** Tells the outcome of the last request no more, for the session is another thread's now. */
@@ -272,12 +281,28 @@ public final class RvSession implements AutoCloseable {
             lose();
         }
         if (told instanceof Told.Settled settled) {
-            return last = settled.outcome();
+            return recorded(settled.outcome());
         }
         if (told instanceof Told.NotAsked) {
             obeyed("nothing was sent");
         }
         throw ended(told).orElseThrow();
+    }
+
+    /** Records what was heard last, if a record is kept, and then tells that this is the outcome. */
+    private Outcome recorded(Outcome outcome) {
+        RecordFile file = record.orElse(null);
+        byte[] line = file == null ? null : RecordFile.line(asked, heard);
+        try {
+            if (file != null) {
+                file.append(line);
+            }
+            return outcome;
+        } catch (IOException | RuntimeException fault) {
+            throw new RvException.NotRecorded(outcome, line, file, fault);
+        } finally {
+            last = outcome;
+        }
     }
 
     /** The exception of what ends a call without an outcome. */
@@ -343,8 +368,13 @@ public final class RvSession implements AutoCloseable {
             connect();
         }
         JsonObject message = next == null ? take(Plain.SPEAK).send() : next;
-        link.send(Bodies.written(message), running.left(answerTime));
-        JsonObject answer = Bodies.readAnswer(link.hear(running.left(answerTime)));
+        byte[] said = Bodies.written(message);
+        if (machine.flying() == Machine.Flying.REQUEST) {
+            asked = said;
+        }
+        link.send(said, running.left(answerTime));
+        heard = link.hear(running.left(answerTime));
+        JsonObject answer = Bodies.readAnswer(heard);
         Step step = take(new Event.Hear(answer));
         if (step.send() != null) {
             running.heard();

@@ -29,7 +29,7 @@ import java.util.function.Function;
  *     What is not known is an {@link RvException}, which names the request's key; {@link RvClients#unsettled} has the
  *     session whose request is unsettled, which asks it {@link RvSession#again} or {@link RvSession#giveUp gives it up}.
  *     The server's epoch that ended, a newer incarnation and refusals are such exceptions, and so are that nothing was
- *     sent, and that the server has no room.
+ *     sent, that the server has no room, and {@link RvException.NotRecorded}, which has the outcome.
  * <li>{@link #transferReceipt} and {@link #tryTransferReceipt(String)} are {@link #transfer} and {@link #tryTransfer}
  *     with a {@link Receipt}, which names the request that was assigned the item.
  * <li>An interrupt cancels {@link #transfer}, {@link #take} and the timed calls. Where the request was met before the
@@ -188,7 +188,8 @@ public final class RvTransferQueue extends AbstractQueue<String> implements Tran
      * ends. A cancel of the future cancels the request, and so does whatever else completes it, such as
      * {@link CompletableFuture#orTimeout}: then an item that was assigned before is the next one of this object, or
      * {@link #unclaimed} gives it out. The future ends by the exceptions of {@link #take}. Where one that was cancelled
-     * has not heard of its request within a second, {@link RvClients#unsettled} has that.
+     * has not heard of its request within a second, {@link RvClients#unsettled} has that; and where what came of it could not
+     * be recorded, the thread's handler of uncaught exceptions is told.
      */
     public CompletableFuture<String> takeAsync() {
         return taken(Calls.waiting(call("take"), "forever"), Optional::orElseThrow);
@@ -216,8 +217,8 @@ public final class RvTransferQueue extends AbstractQueue<String> implements Tran
      * {@link #transferReceipt} by a thread of the clients' {@linkplain RvClients.Builder#executor executor}, which it
      * keeps until it ends. {@link CompletableFuture#cancel} cancels the request and waits for the server's word, a second
      * at most: it is true where nobody has the item, now or later. Else the future has the receipt, or ends by
-     * {@link RvException.Unsettled} where nothing was heard. Whatever else completes the future cancels the request too;
-     * then what became of the item is told to nobody.
+     * {@link RvException.Unsettled} where nothing was heard, or by {@link RvException.NotRecorded}, which has the outcome.
+     * Whatever else completes the future cancels the request too; then what became of the item is told to nobody.
      *
      * @throws IllegalArgumentException if the item is none that may be asked, before anything is
      */

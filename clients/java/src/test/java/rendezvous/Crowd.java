@@ -1,6 +1,10 @@
 package rendezvous;
 
+import com.google.gson.Gson;
+import com.google.gson.GsonBuilder;
+import com.google.gson.JsonElement;
 import com.google.gson.JsonObject;
+import java.nio.file.Path;
 import java.time.Duration;
 import java.util.ArrayList;
 import java.util.List;
@@ -10,17 +14,19 @@ import java.util.concurrent.TimeoutException;
 import java.util.concurrent.locks.LockSupport;
 
 /**
- * Threads that ask random calls for so many seconds, and print a line of JSON for each: its call and its reply. Their
- * sessions are of version 1 and 2 in turn. Words: port, first client, how many, seconds, seed.
+ * Threads that ask random calls for so many seconds, and print a line of JSON for each: its call, its reply, and by what it
+ * ended. Their sessions are of version 1 and 2 in turn. Words: port, first client, how many, seconds, seed, record.
  */
 final class Crowd {
     private static final long[] MILLIS = {0, 1, 3, 10, 30, 100};
+    private static final Gson GSON = new GsonBuilder().serializeNulls().create();
     private final RvClients clients;
     private final Random chance;
     private final RvTransferQueue queue;
     private final RvExchanger exchanger;
     private int number;
     private JsonObject call;
+    private JsonObject ended;
 
     private Crowd(RvClients clients, long seed) {
         this.clients = clients;
@@ -36,7 +42,7 @@ final class Crowd {
         for (int each = 0; each < count; each++) {
             long client = Long.parseLong(words[1]) + each;
             RvClients clients = RvClients.builder("127.0.0.1", Integer.parseInt(words[0])).clients(client, client).unleased()
-                .incarnation(1).patience(Duration.ofSeconds(120)).version(1 + each % 2).build();
+                .incarnation(1).patience(Duration.ofSeconds(120)).version(1 + each % 2).record(Path.of(words[5])).build();
             Crowd one = new Crowd(clients, Long.parseLong(words[4]) * 1000 + each);
             threads.add(new Thread(() -> one.run(ends)));
         }
@@ -49,12 +55,14 @@ final class Crowd {
     private void run(long ends) {
         while (System.nanoTime() - ends < 0) {
             Outcome before = last();
+            ended = new JsonObject();
             try {
-                ask();
+                ended.add("gave", members(ask()));
             } catch (InterruptedException | TimeoutException | RvException.NotAsked told) {
                 // its outcome is there, or it asked nothing
+                ended.addProperty("threw", told.getClass().getSimpleName());
             } catch (RvException.Unsettled unsettled) {
-                settle();
+                ended.add("again", Answers.of(settled()));
             }
             Thread.interrupted();
             LockSupport.parkNanos(chance.nextInt(10_000_000));
@@ -70,10 +78,10 @@ final class Crowd {
     }
 
     /** Settles the request that an interrupt left unsettled, as it does where nothing is heard for a second. */
-    private void settle() {
+    private Outcome settled() {
         Thread.interrupted();
         try {
-            clients.session().again();
+            return clients.session().again();
         } catch (InterruptedException cancelled) {
             throw new IllegalStateException(cancelled);
         }
@@ -83,9 +91,15 @@ final class Crowd {
         JsonObject line = new JsonObject();
         line.add("call", call);
         line.add("told", Answers.of(last()));
+        line.add("ended", ended);
         synchronized (System.out) {
             System.out.println(line);
         }
+    }
+
+    /** What a call gave, in members; a receipt's are those of its reply. */
+    private static JsonElement members(Object given) {
+        return given instanceof Receipt receipt ? Answers.of(receipt) : GSON.toJsonTree(given);
     }
 
     private String item() {
@@ -93,46 +107,54 @@ final class Crowd {
     }
 
     /** One call, some of which are interrupted, and all that wait for ever. */
-    private void ask() throws InterruptedException, TimeoutException {
+    private Object ask() throws InterruptedException, TimeoutException {
         long millis = MILLIS[chance.nextInt(MILLIS.length)];
-        switch (chance.nextInt(11)) {
-            case 0 -> queue.put(given("put", null));
-            case 1 -> forever(() -> queue.transfer(given("transfer", "forever")));
-            case 2 -> queue.tryTransfer(given("transfer", "now"));
-            case 3 -> queue.tryTransfer(given("transfer", millis), millis, TimeUnit.MILLISECONDS);
+        return switch (chance.nextInt(11)) {
+            case 0 -> put();
+            case 1 -> forever(() -> queue.transferReceipt(given("transfer", "forever")));
+            case 2 -> queue.tryTransferReceipt(given("transfer", "now")).orElse(null);
+            case 3 -> queue.tryTransferReceipt(given("transfer", millis), millis, TimeUnit.MILLISECONDS).orElse(null);
             case 4 -> forever(() -> {
                 taken("forever");
-                queue.take();
+                return queue.take();
             });
             case 5 -> {
                 taken("now");
-                queue.poll();
+                yield queue.poll();
             }
             case 6 -> {
                 taken(millis);
-                queue.poll(millis, TimeUnit.MILLISECONDS);
+                yield queue.poll(millis, TimeUnit.MILLISECONDS);
             }
             case 7 -> exchanger.exchange(swapped(millis), millis, TimeUnit.MILLISECONDS);
             case 8 -> forever(() -> exchanger.exchange(swapped("forever")));
-            case 9 -> {
-                int most = 1 + chance.nextInt(16);
-                call = Calls.at("drain", "queue", 3);
-                call.addProperty("max", most);
-                queue.drainTo(new ArrayList<>(), most);
-            }
+            case 9 -> drained(1 + chance.nextInt(16));
             default -> {
                 call = Calls.at("count", "queue", 3);
-                queue.size();
+                yield queue.size();
             }
-        }
+        };
+    }
+
+    private Object put() {
+        queue.put(given("put", null));
+        return null;
+    }
+
+    private List<String> drained(int most) {
+        call = Calls.at("drain", "queue", 3);
+        call.addProperty("max", most);
+        List<String> into = new ArrayList<>();
+        queue.drainTo(into, most);
+        return into;
     }
 
     private interface Waits {
-        void run() throws InterruptedException;
+        Object run() throws InterruptedException;
     }
 
     /** A call that waits for ever: it is interrupted a little later. */
-    private void forever(Waits waits) throws InterruptedException {
+    private Object forever(Waits waits) throws InterruptedException {
         Thread asking = Thread.currentThread();
         long pause = chance.nextInt(80);
         Thread later = new Thread(() -> {
@@ -145,7 +167,7 @@ final class Crowd {
         });
         later.start();
         try {
-            waits.run();
+            return waits.run();
         } finally {
             later.interrupt();
             joined(later);

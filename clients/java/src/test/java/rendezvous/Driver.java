@@ -12,7 +12,12 @@ import java.util.List;
 import java.util.Optional;
 import java.util.Set;
 import java.util.concurrent.ArrayBlockingQueue;
+import java.util.concurrent.BlockingQueue;
+import java.util.concurrent.CompletableFuture;
+import java.util.concurrent.CompletionException;
+import java.util.concurrent.LinkedBlockingQueue;
 import java.util.concurrent.TimeUnit;
+import java.util.function.UnaryOperator;
 
 /**
  * Does what each line of standard input says, and prints one line for it: "result" or "threw", what came, and whether
@@ -22,6 +27,11 @@ final class Driver {
     private RvClients clients;
     private RvTransferQueue queue;
     private final List<String> drained = new ArrayList<>();
+    /** What is chosen of a record, where a line says something of it. */
+    private UnaryOperator<RvClients.Builder> record = UnaryOperator.identity();
+    private CompletableFuture<String> taken;
+    /** What no caller was told. */
+    private final BlockingQueue<Throwable> uncaught = new LinkedBlockingQueue<>();
     /** The grace of calls in nanoseconds: as good as no end, where a line does not say otherwise. */
     private long grace = Answering.LONG;
     /** What the last exception said. */
@@ -31,6 +41,7 @@ final class Driver {
 
     public static void main(String[] words) throws IOException {
         Driver driver = new Driver();
+        Thread.setDefaultUncaughtExceptionHandler((thread, fault) -> driver.uncaught.add(fault));
         BufferedReader lines = new BufferedReader(new InputStreamReader(System.in, StandardCharsets.UTF_8));
         for (String line = lines.readLine(); line != null; line = lines.readLine()) {
             System.out.println(driver.told(line.split(" ")));
@@ -62,13 +73,17 @@ final class Driver {
         if (fault instanceof RvException.Unsettled left) {
             return left.accepted() ? " accepted" : "";
         }
+        if (fault instanceof RvException.NotRecorded unrecorded) {
+            return " " + unrecorded.outcome();
+        }
         return fault instanceof RvException.Replaced replaced ? " " + replaced.current() : "";
     }
 
     private Object does(String word, List<String> given) throws Exception {
         switch (word) {
             case "open":
-                clients = RvClients.builder("127.0.0.1", number(given, 0)).clients(number(given, 1), number(given, 1))
+                clients = record.apply(RvClients.builder("127.0.0.1", number(given, 0)))
+                    .clients(number(given, 1), number(given, 1))
                     .unleased().incarnation(1).grace(grace).patience(Duration.ofMillis(number(given, 2)))
                     .version(given.size() > 3 ? number(given, 3) : RvSession.VERSION).build();
                 queue = new RvTransferQueue(clients, 3);
@@ -95,6 +110,11 @@ final class Driver {
                 return clients.session().last();
             case "words":
                 return words;
+            case "record":
+                record = given.isEmpty() ? RvClients.Builder::unrecorded : builder -> builder.record(Path.of(given.get(0)));
+                return "chosen";
+            case "uncaught":
+                throw (Exception) uncaught.take();
             case "left-out":
                 return leftOut();
             case "bad":
@@ -131,6 +151,15 @@ final class Driver {
                 return queue.getWaitingConsumerCount();
             case "drain":
                 return given.isEmpty() ? queue.drainTo(drained) : queue.drainTo(drained, number(given, 0));
+            case "take-async":
+                taken = queue.takeAsync();
+                return "begun";
+            case "cancel-async":
+                return taken.cancel(true);
+            case "join-async":
+                return joined(taken);
+            case "unclaimed":
+                return queue.unclaimed();
             case "drain-into":
                 return queue.drainTo(new ArrayBlockingQueue<>(number(given, 0)));
             default:
@@ -141,6 +170,14 @@ final class Driver {
     private Optional<Receipt> tryReceipt(List<String> given) throws InterruptedException {
         return given.size() == 1 ? queue.tryTransferReceipt(given.get(0))
             : queue.tryTransferReceipt(given.get(0), number(given, 1), TimeUnit.MICROSECONDS);
+    }
+
+    private static Object joined(CompletableFuture<?> future) throws Exception {
+        try {
+            return future.join();
+        } catch (CompletionException fault) {
+            throw (Exception) fault.getCause();
+        }
     }
 
     /** A receipt's two keys. */

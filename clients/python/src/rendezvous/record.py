@@ -1,0 +1,46 @@
+"""A record of what clients were told: a file that gets a line for each reply before its call returns."""
+from __future__ import annotations
+
+import errno
+import os
+from typing import Optional, Union
+
+from .calls import checked
+
+VARIABLE = "RV_RECORD"
+# How a record is opened: each write goes to its end, whoever wrote there meanwhile; and LF stays LF.
+FLAGS = os.O_WRONLY | os.O_APPEND | os.O_CREAT | getattr(os, "O_BINARY", 0)
+
+Path = Union[str, "os.PathLike[str]"]
+
+
+class Record:
+    """A file, to which lines are appended, each by one write. Any number of sessions and processes may share it."""
+
+    def __init__(self, path: Path) -> None:
+        self.path = os.path.abspath(path)
+        checked("\0" not in self.path, f"a record is a file: {path!r}")
+
+    def append(self, line: bytes) -> None:
+        """Appends a line to the file, which is made if need be. An OSError, with its path, where the line isn't written whole."""
+        try:
+            file = os.open(self.path, FLAGS, 0o666)
+            try:
+                written = os.write(file, line)
+            finally:
+                os.close(file)
+        except OSError as fault:
+            raise OSError(fault.errno, os.strerror(fault.errno or errno.EIO), self.path) from fault
+        if written < len(line):
+            raise OSError(errno.ENOSPC, f"only {written} of {len(line)} bytes were written", self.path)
+
+
+def line_of(asked: bytes, told: bytes) -> bytes:
+    """The line of a reply: the request's body and the reply's. In that LF is white space alone, for which a space stands."""
+    return b'{"asked":%s,"told":%s}\n' % (asked, told.replace(b"\n", b" "))
+
+
+def record_of(path: Optional[Path]) -> Optional[Record]:
+    """The record in the file that is given, or else in the one that the environment names. Where that is empty there is none."""
+    named = os.environ.get(VARIABLE, "") if path is None else path
+    return Record(named) if os.fspath(named) else None
