@@ -16,8 +16,8 @@ use std::alloc::Global;
 // The greatest moment, 2^62.
 const MAX_MOMENT: u64 = 4_611_686_018_427_387_904;
 
-/// The machine of the state before a line, behind the entries that the line made. None if it can't be made, or
-/// if it settles others than these.
+/// The machine of the state before a line, behind the entries that the line made. None if it can't be made,
+/// or if it settles others than these.
 pub(crate) fn made_anew(
     alloc: Global,
     before: Snapshot,

@@ -26,9 +26,9 @@ pub(crate) struct Made {
     pub(crate) entry: Option<Entry>,
 }
 
-/// Makes the step of a line, and gives the body that answers it and what it made. A line of another form than
-/// a moment of 1 to 19 digits, one space and a message's body makes nothing, nor does one for which memory was
-/// refused when it was read, and both are told so.
+/// Makes the step of a line, and gives the body that answers it and what it made. A line of another form
+/// than a moment of 1 to 19 digits, one space and a message's body makes nothing, nor does one for which
+/// memory was refused when it was read, and both are told so.
 pub(crate) fn answer_line(
     alloc: Global,
     limits: &Limits,
@@ -59,8 +59,8 @@ fn read_line(alloc: Global, line: &[u8]) -> Result<(u64, Message), LineFault>
     Ok((moment, decode_message(alloc, body)?))
 }
 
-// One step of the machine under limits, its answer, and what it made. If memory for these was refused, the step
-// may have been made.
+// One step of the machine under limits, its answer, and what it made. If memory for these was refused, the
+// step may have been made.
 fn step(
     alloc: Global,
     limits: &Limits,
