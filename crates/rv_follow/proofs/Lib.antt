@@ -2,3 +2,8 @@ pub mod Rules
 pub mod RuleLaws
 pub mod DueNow
 pub mod OfSession
+pub mod Asked
+pub mod Naming
+pub mod Facing
+pub mod Prefixes
+pub mod Lines

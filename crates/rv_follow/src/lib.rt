@@ -3,5 +3,7 @@
 #![tactic(auto)]
 
 pub mod laws;
+mod line;
 mod moments;
 mod numbers;
+mod partners;
