@@ -7,3 +7,5 @@ pub mod Naming
 pub mod Facing
 pub mod Prefixes
 pub mod Lines
+pub mod AllKept
+pub mod Closed

@@ -106,7 +106,7 @@ module _ (Is : Side → Type 0) (s : State) (e : Entry) (is : CanResume s) (call
   its : (other : Call) → call_in e.act ≡ Some other → call ≡ other
   its other calls = same_Some _ _ (sym arrives.arrives ∙ calls)
 
-  front_kept : NamesWell s e → NamesOpposites s e → NamesOldest s e → IsFront e.partners (facing s call)
+  pub front_kept : NamesWell s e → NamesOpposites s e → NamesOldest s e → IsFront e.partners (facing s call)
   front_kept well named oldest =
       front_from e.partners (facing s call) (rise_from e.partners well.rising) (facing_rises s is call)
       (λ p names. named p call names arrives.arrives)

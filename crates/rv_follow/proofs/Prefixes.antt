@@ -24,7 +24,7 @@ rise_from places rising i j p q less first second =
     let up = later_is_greater places i j rising less inside in
     omega (arith, one, two, up)
 
-rest_rises : (x : ℕ) (rest : List ℕ) → Rise (x ∷ rest) → Rise rest
+pub rest_rises : (x : ℕ) (rest : List ℕ) → Rise (x ∷ rest) → Rise rest
 rest_rises x rest rise i j p q less first second = rise (suc i) (suc j) p q (omega arith) first second
 
 head_below : (x : ℕ) (rest : List ℕ) → Rise (x ∷ rest) → (i p : ℕ) → slice_get rest i ≡ Some p → x < p
@@ -93,7 +93,7 @@ front_closed places line rise front p r at of less =
       ]
     ]
 
-in_rest : (y : ℕ) (rest : List ℕ) (q : ℕ) → y < q → Among (y ∷ rest) q → Among rest q
+pub in_rest : (y : ℕ) (rest : List ℕ) (q : ℕ) → y < q → Among (y ∷ rest) q → Among rest q
 in_rest y rest q less (zero, at) = let same : y ≡ q = same_Some _ _ at in absurd (omega arith)
 in_rest y rest q less (suc i, at) = (i, at)
 

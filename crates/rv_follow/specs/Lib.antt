@@ -3,3 +3,4 @@ pub mod Ruling
 pub mod Laws
 -- What only private clauses and proofs cite.
 pub mod Walking
+pub mod Outcomes

@@ -7,3 +7,4 @@ mod line;
 mod moments;
 mod numbers;
 mod partners;
+mod ruling;

@@ -1,0 +1,14 @@
+-- What becomes of an entry that was written before.
+use Rattle.std.specs.Prelude.{◌≡◌, ℕ}
+use Rattle.rv_account.specs.declared.entry.Entry.{Entry}
+use Rattle.rv_state.specs.Follows.{FollowsState}
+use Rattle.rv_state.specs.State.{State}
+use Rattle.rv_follow.specs.declared.ruling.Ruling.{Ruling}
+use Rattle.rv_follow.specs.declared.ruling.Ruling.TheVariants.{Breaks, Follows, NotOpen}
+use Rattle.rv_follow.specs.Ruling.{BreaksFirst, NamesClosed}
+
+-- what the state tells of the entry is so
+abbrev pub IsRulingOf : State → Entry → Ruling → Type 0
+IsRulingOf s e Follows = FollowsState s e
+IsRulingOf s e (Breaks rule) = BreaksFirst s e rule
+IsRulingOf s e NotOpen = NamesClosed s e
