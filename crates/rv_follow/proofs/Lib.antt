@@ -9,3 +9,6 @@ pub mod Prefixes
 pub mod Lines
 pub mod AllKept
 pub mod Closed
+pub mod Calm
+pub mod Hellos
+pub mod Comers

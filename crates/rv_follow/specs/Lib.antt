@@ -2,5 +2,6 @@
 pub mod Ruling
 pub mod Laws
 -- What only private clauses and proofs cite.
+pub mod Rooming
 pub mod Walking
 pub mod Outcomes

@@ -7,4 +7,5 @@ mod line;
 mod moments;
 mod numbers;
 mod partners;
+mod room;
 mod ruling;
