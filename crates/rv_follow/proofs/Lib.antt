@@ -12,3 +12,4 @@ pub mod Closed
 pub mod Calm
 pub mod Hellos
 pub mod Comers
+pub mod Redone

@@ -2,6 +2,7 @@
 //! not, and the machine behind it.
 #![tactic(auto)]
 
+mod following;
 pub mod laws;
 mod line;
 mod moments;
@@ -9,3 +10,5 @@ mod numbers;
 mod partners;
 mod room;
 mod ruling;
+
+pub use following::{Followed, follow};

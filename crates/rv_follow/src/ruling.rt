@@ -8,7 +8,7 @@ ghost use Rattle.rv_machine.specs.Machines.{state_in};
 ghost use Rattle.rv_resume.specs.Resuming.{CanResume};
 ghost use Rattle.rv_state.specs.Kept.{NamesOpen};
 ghost use Rattle.rv_follow.specs.Ruling.{BreaksFirst, KeepsBefore, KeepsRule};
-ghost use Rattle.rv_follow.specs.Outcomes.{IsRulingOf};
+ghost use Rattle.rv_follow.specs.Told.{IsRulingOf};
 
 use crate::moments::{keeps_limits, keeps_time, ticks_rightly};
 use crate::numbers::{hello_rises, in_session, in_turn};
