@@ -21,16 +21,19 @@ def limits_of(words):
 
 
 class Machines:
-    """Scripts of one machine each, all under the same limits, and how often each answer came."""
+    """Scripts of one machine each, all under the same limits, and how often each answer came. Where they are made anew,
+    each line is heard by a machine that was made of the state before the last line and then followed that line's entries."""
 
-    def __init__(self, limits):
+    def __init__(self, limits, anew=False):
         self.limits = limits
+        self.anew = anew
         self.met = Counter()
 
     def words(self):
         """The program's words."""
         open_places = self.limits.open_places
-        return [str(self.limits.entries), str(self.limits.clients), "none" if open_places is None else str(open_places)]
+        bound = "none" if open_places is None else str(open_places)
+        return [str(self.limits.entries), str(self.limits.clients), bound, *(["anew"] if self.anew else [])]
 
     def script(self, chance, _, left):
         """The program's words for one machine, its lines, and that nothing is wrong with the model. A script ends some lines

@@ -1,7 +1,8 @@
 #!/usr/bin/env python3
 """Compares a program with a plain second implementation of docs/MODEL.md, over random scripts: of `rv book`, with
 --play of `rv play`, with --audit over random accounts, most of them spoilt, of `rv audit`, and with --limits of a machine
-under limits of one's own, of `rv_steps`: under 50 entries, 4 clients and 8 open places each must be met.
+under limits of one's own, of `rv_steps`: under 50 entries, 4 clients and 8 open places each must be met. With --anew
+that machine is made anew behind each line: of the state before it, and by following the entries that it made.
 
 A run of many lines is parted into many scripts of up to 400 lines, each a book or a world of its own: the model looks
 for everything in the account's list of entries, so a line's cost grows faster than the lines before it. Now and then a
@@ -121,11 +122,10 @@ def compare(program, seed, count, epoch, scripts):
     return True
 
 
-def compare_steps(program, seed, count, limits):
+def compare_steps(program, seed, count, machines):
     """Compares the steps of machines under limits, and tells how often each answer came; none that should may lack."""
-    machines = Machines(limits)
     same = compare(program, seed, count, None, machines.script)
-    print(f"under {limits}: {machines.told()}")
+    print(f"under {machines.limits}: {machines.told()}")
     if machines.lacking():
         print(f"FAILED: these refusals never came: {machines.lacking()}")
     return same and not machines.lacking()
@@ -141,6 +141,7 @@ def main():
     parser.add_argument("--audit", action="store_true", help="accounts, in place of messages to books")
     parser.add_argument("--accounts", type=int, default=2_000, help="how many of them")
     parser.add_argument("--limits", nargs=3, metavar=("ENTRIES", "CLIENTS", "OPEN"), help="messages to a machine under these")
+    parser.add_argument("--anew", action="store_true", help="a machine that is made anew behind each line")
     parser.add_argument("--selftest", action="store_true", help="test the model itself, with no program")
     asked = parser.parse_args()
     if asked.selftest:
@@ -150,7 +151,7 @@ def main():
     if asked.audit:
         same = compare_audits(program, asked.seed, asked.accounts)
     elif asked.limits:
-        same = compare_steps(program, asked.seed, asked.lines, limits_of(asked.limits))
+        same = compare_steps(program, asked.seed, asked.lines, Machines(limits_of(asked.limits), asked.anew))
     else:
         same = compare(program, asked.seed, asked.lines, asked.epoch, scripts)
     print("1 passed, 0 failed" if same else "0 passed, 1 failed")

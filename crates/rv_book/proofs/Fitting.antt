@@ -12,7 +12,7 @@ use Rattle.rv_book.specs.Steps.{GapDue, NoSessionDue, OldIncarnationDue, OldNumb
 use Rattle.rv_book.specs.Steps.{OtherVersionDue, BusyDue}
 use Rattle.rv_text.specs.Limits.{FitsAnswer, FitsIdentifier, FitsKey, FitsLast, FitsMessage, FitsRefusal}
 use Rattle.rv_text.proofs.Kept.{cancelled_fits}
-use Rattle.rv_rules.proofs.Limits.{key_of_act}
+use Rattle.rv_rules.proofs.WithinLimits.{key_of_act}
 use Rattle.rv_rules.proofs.Lines.{RefuseOr-elim, WhereElse-elim}
 use Rattle.rv_book.proofs.RepliesFit.{FitsIn, replied_fits}
 use Rattle.rv_rules.proofs.Keys.{act_arrives}

@@ -18,7 +18,7 @@ use Rattle.rv_book.specs.Replies.{IsFrontItem, RepliesMet, RepliesUnmet}
 use Rattle.rv_rules.proofs.Counting.{number_below}
 use Rattle.rv_rules.proofs.Deciding.{find_waiting}
 use Rattle.rv_rules.proofs.Getting.{given_fits}
-use Rattle.rv_rules.proofs.Limits.{call_of_act, key_of_act}
+use Rattle.rv_rules.proofs.WithinLimits.{call_of_act, key_of_act}
 use Rattle.rv_state.proofs.UnmetReplies.{by_lasting, told_at_once}
 use Rattle.rv_book.proofs.Drains.{fits_drained}
 

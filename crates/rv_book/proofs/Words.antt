@@ -31,7 +31,7 @@ pub use Rattle.rv_rules.proofs.Fronts.{read_front, read_whole}
 pub use Rattle.rv_rules.proofs.Growing.{act_read, call_read, read_there, reads_on}
 pub use Rattle.rv_rules.proofs.Growing.{reads_within}
 pub use Rattle.rv_rules.proofs.Keys.{key_read, no_hello}
-pub use Rattle.rv_rules.proofs.Limits.{act_fits, act_there}
+pub use Rattle.rv_rules.proofs.WithinLimits.{act_fits, act_there}
 pub use Rattle.rv_rules.proofs.OnePartner.{partner_open}
 pub use Rattle.rv_rules.proofs.Opposites.{one_opposite}
 pub use Rattle.rv_rules.proofs.Places.{get-append_within}

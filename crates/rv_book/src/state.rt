@@ -11,7 +11,8 @@ ghost use Rattle.rv_book.specs.Operations.{AreKnown, MayKeep, kept_after, kept_i
 use crate::verdict::KeptAnswer;
 use rv_account::{Account, Act, Entry};
 use rv_kept::{KeptReplies, kept_again, source};
-use rv_machine::{Heard, Limits, Machine, Said, TickMade, message_need};
+use rv_machine::{Heard, Machine, Said, TickMade, message_need};
+use rv_rules::Limits;
 use rv_session::Place;
 use rv_text::{Message, NoMemory, Refusal, Side};
 use std::alloc::Global;

@@ -67,6 +67,7 @@ line_with place_of slots n x is above = record {
     length-append (waiting_in slots)
         (x ∷ []),
   );
+  few = omega (arith, is.few, length-append slots (Holds x ∷ []));
 }
 
 -- those who wait are at most as many as the slots

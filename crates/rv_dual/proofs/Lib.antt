@@ -6,3 +6,5 @@ pub mod Arriving
 pub mod Searching
 pub mod Marking
 pub mod Sides
+pub mod Sweeping
+pub mod Reading

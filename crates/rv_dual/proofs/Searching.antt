@@ -33,7 +33,7 @@ compared : (a b p : ℕ) → a ≤ b → ordering_index (nat_cmp a p) ≤ orderi
 compared a b p le = grind (arith, nat_tests)
 
 module _ {X : Type 0} (place_of : X → ℕ) (slots : List (Slot X)) (p : ℕ) where
-  not_above : Rises place_of slots → (i j : ℕ) → i ≤ j → j < length slots
+  pub not_above : Rises place_of slots → (i j : ℕ) → i ≤ j → j < length slots
       → slot_place place_of (get_or slots i (Withdrawn 0)) ≤ slot_place place_of
       (get_or slots j (Withdrawn 0))
   not_above rises i j le within = elim (cases_lt i j) [

@@ -23,6 +23,10 @@ place_of (Waits duty) = duty.place
 abbrev pub places_of : List Offer → List ℕ
 places_of givers = map place_of givers
 
+-- where the consumers arrived, in their order
+abbrev pub takers_places : List OwedDuty → List ℕ
+takers_places takers = map (λ (duty : OwedDuty). duty.place) takers
+
 -- the duty of the request that waits with the item, if one does
 abbrev pub duty_of : Offer → Option OwedDuty
 duty_of (Put place) = None

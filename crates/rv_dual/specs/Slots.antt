@@ -1,5 +1,5 @@
 -- A line of slots: those who wait, in rising order, and marks where somebody was withdrawn.
-use Rattle.std.specs.Prelude.{◌≡◌, ◌≢◌, ◌-◌, ◌<◌, ℕ, Bool, true, false, List}
+use Rattle.std.specs.Prelude.{◌≡◌, ◌≢◌, ◌+◌, ◌-◌, ◌<◌, ◌≤◌, ℕ, Bool, true, false, List}
 use Rattle.std.specs.Prelude.{map, length, slice_get, Option, Some, None}
 use Rattle.std.specs.List.{All, AllPairs, filter_map}
 use Rattle.rv_dual.specs.Room.{Room}
@@ -19,6 +19,11 @@ module _ {X : Type 0} where
 
   abbrev pub waiting_in : List (Slot X) → List X
   waiting_in slots = filter_map holder slots
+
+  -- whether somebody waits in the slot
+  abbrev pub is_held : Slot X → Bool
+  is_held (Holds x) = true
+  is_held (Withdrawn place) = false
 
   -- whether there is a slot, and it is marked
   abbrev pub is_marked : Option (Slot X) → Bool
@@ -62,9 +67,11 @@ module _ {X : Type 0} where
   abbrev pub NoSlotAt : (X → ℕ) → ℕ → List (Slot X) → Type 0
   NoSlotAt place_of place slots = All (λ k. k ≢ place) (slot_places place_of slots)
 
-  -- a line whose places rise, with a mark at neither end, and the number of those who wait
+  -- a line whose places rise, with a mark at neither end and no more marks than there are who wait, and the
+  -- number of these
   pub record IsSlotLine (place_of : X → ℕ) (slots : List (Slot X)) (count : ℕ) : Type 0 where
     pub rises : Rises place_of slots
     pub first : FirstHolds slots
     pub last : LastHolds slots
     pub counted : count ≡ length (waiting_in slots)
+    pub few : length slots ≤ count + count

@@ -19,9 +19,10 @@ use std::marker::Model;
 /// gives it back.
 ///
 /// Places arrive in rising order, so a place stands at most once. [`withdraw`](Dual::withdraw) finds it in
-/// time logarithmic in the slots between the oldest that waits and the newest. All else takes constant time,
-/// on average over the calls so far: a slot that a withdrawal left is passed over once. Until then it keeps
-/// its memory.
+/// time logarithmic in the slots between the oldest that waits and the newest, of which at most half were
+/// left by a withdrawal. So do [`giver_behind`](Dual::giver_behind) and [`taker_behind`](Dual::taker_behind),
+/// and pass over such slots, each once in a walk of a line. All else takes constant time, on average over
+/// the calls so far.
 #[derive(Drop)]
 pub struct Dual {
     givers: SlotLine<Offer>,
@@ -66,7 +67,8 @@ fn withdraw_taker(takers: &mut SlotLine<Parked>, place: Place) -> Option<Duty>
 }
 
 impl Dual {
-    ghost use Rattle.rv_dual.specs.Offers.{offer_of, places_of};
+    ghost use Rattle.rv_dual.specs.Above.{first_above};
+    ghost use Rattle.rv_dual.specs.Offers.{offer_of, places_of, takers_places};
     ghost use Rattle.rv_dual.specs.Queue.{GrowRooms, HasRooms, IsQueue, IsAbove, SameLists};
     ghost use Rattle.rv_dual.specs.Room.{GrowsRoom};
     ghost use Rattle.rv_dual.specs.Meanings.{GiveMeans, TakeMeans, TakenFront, TriedGive, TriedTake};
@@ -200,6 +202,20 @@ impl Dual {
         ensures sound { IsQueue self.now }
     {
         self.givers.front()
+    }
+
+    /// The place of the first item above another place, or of the oldest item.
+    pub fn giver_behind(&self, after: Option<Place>) -> Option<Place>
+        ensures { result ≡ first_above after (places_of self.now.givers) }
+    {
+        self.givers.behind(after)
+    }
+
+    /// The place of the first consumer above another place, or of the oldest consumer.
+    pub fn taker_behind(&self, after: Option<Place>) -> Option<Place>
+        ensures { result ≡ first_above after (takers_places self.now.takers) }
+    {
+        self.takers.behind(after)
     }
 
     /// How many items wait.

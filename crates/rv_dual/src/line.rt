@@ -1,6 +1,7 @@
 //! A line of those who wait, the oldest first, in which a withdrawn place is marked.
 ghost use Rattle.std.specs.Prelude.{◌≡◌, ◌<◌, [], ◌∷◌, ◌++◌, true, length, Some, IfNone, IfSome};
-ghost use Rattle.std.specs.Prelude.{option_and_then, option_to_list, slice_get, slice_set};
+ghost use Rattle.std.specs.Prelude.{◌≤◌, drop, map, option_and_then, option_to_list, slice_get, slice_set};
+ghost use Rattle.rv_dual.specs.Above.{first_above};
 ghost use Rattle.rv_dual.specs.Entries.{PassesAt, PassesNowhere};
 ghost use Rattle.rv_dual.specs.Room.{KeepsRoom, UsesRoom, room_in};
 ghost use Rattle.rv_dual.specs.Slots.{FirstHolds, IsSlotLine, LastHolds, NoSlotAt, Rises, waiting_in};
@@ -18,6 +19,8 @@ use std::mem;
 /// Those who wait, the oldest first, which contracts see as their list and its room.
 /// A withdrawn place is marked where it stands, and neither end is ever marked: so the places rise, marks
 /// included, whatever place above those that wait comes next, and a line in which nobody waits is empty.
+/// There are never more marks than there are who wait: before there would be, all go at once, in a time that
+/// is constant on average over the withdrawals that made them.
 #[derive(Drop)]
 pub(crate) struct SlotLine<T: StandsInLine> {
     slots: VecDeque<Slot<T>>,
@@ -87,15 +90,32 @@ fn trim_back<T: StandsInLine>(slots: &mut VecDeque<Slot<T>>)
     }
 }
 
-// Takes the marks off both ends.
-fn trim<T: StandsInLine>(slots: &mut VecDeque<Slot<T>>)
-    requires { Rises T.place_of slots.old.items }
+// Takes all marks out of a line where they are more than those who wait.
+fn sweep<T: StandsInLine>(slots: &mut VecDeque<Slot<T>>, count: usize)
+    requires rises { Rises T.place_of slots.old.items }
+    requires first { FirstHolds slots.old.items }
+    requires last { LastHolds slots.old.items }
+    requires counted { count ≡ length (waiting_in slots.old.items) }
     ensures same { waiting_in slots.new.items ≡ waiting_in slots.old.items }
-    ensures line { IsSlotLine T.place_of slots.new.items (length (waiting_in slots.old.items)) }
+    ensures line { IsSlotLine T.place_of slots.new.items count }
+    ensures room { KeepsRoom (room_in slots.old) (room_in slots.new) }
+{
+    if slots.len() - count > count {
+        slots.retain(|slot| slot.is_held());
+    }
+}
+
+// Takes the marks off both ends, and all of them where they are more than those who wait.
+fn trim<T: StandsInLine>(slots: &mut VecDeque<Slot<T>>, count: usize)
+    requires rises { Rises T.place_of slots.old.items }
+    requires counted { count ≡ length (waiting_in slots.old.items) }
+    ensures same { waiting_in slots.new.items ≡ waiting_in slots.old.items }
+    ensures line { IsSlotLine T.place_of slots.new.items count }
     ensures room { KeepsRoom (room_in slots.old) (room_in slots.new) }
 {
     trim_front(slots);
     trim_back(slots);
+    sweep(slots, count);
 }
 
 // The index of the slot of a place.
@@ -127,8 +147,35 @@ fn mark<T: StandsInLine>(slots: &mut VecDeque<Slot<T>>, index: usize, place: Pla
     mem::replace(&mut slots[index], Slot::Withdrawn(place)).into_holder()
 }
 
+// The index behind all slots up to a place.
+fn index_above<T: StandsInLine>(slots: &VecDeque<Slot<T>>, after: Option<Place>) -> usize
+    requires { Rises T.place_of slots.now.items }
+    ensures within { result ≤ length slots.now.items }
+    ensures above { slice_get (map T.place_of (waiting_in (drop result slots.now.items))) 0
+        ≡ first_above after (map T.place_of (waiting_in slots.now.items)) }
+{
+    match after {
+        Some(place) => slots.partition_point(|slot| slot.place() <= place),
+        None => 0,
+    }
+}
+
+// The place of the first who waits in a slot from an index on.
+fn first_from<T: StandsInLine>(slots: &VecDeque<Slot<T>>, start: usize) -> Option<Place>
+    requires { start ≤ length slots.now.items }
+    ensures { result ≡ slice_get (map T.place_of (waiting_in (drop start slots.now.items))) 0 }
+{
+    for index in start..slots.len() {
+        let waiting = slots[index].waiting_place();
+        if waiting.is_some() {
+            return waiting;
+        }
+    }
+    None
+}
+
 impl<T: StandsInLine> SlotLine<T> {
-    ghost use Rattle.std.specs.Prelude.{OnErr, OnOk, drop, map, not, Contains};
+    ghost use Rattle.std.specs.Prelude.{OnErr, OnOk, not, Contains};
     ghost use Rattle.std.specs.List.{All, filter};
     ghost use Rattle.rv_dual.specs.Room.{GrowsRoom};
 
@@ -173,7 +220,7 @@ impl<T: StandsInLine> SlotLine<T> {
     {
         let oldest = self.slots.pop_front()?.into_holder().unwrap();
         self.count -= 1;
-        trim(&mut self.slots);
+        trim(&mut self.slots, self.count);
         Some(oldest)
     }
 
@@ -188,7 +235,7 @@ impl<T: StandsInLine> SlotLine<T> {
         let index = index_of(&self.slots, place)?;
         let out = mark(&mut self.slots, index, place).unwrap();
         self.count -= 1;
-        trim(&mut self.slots);
+        trim(&mut self.slots, self.count);
         Some(out)
     }
 
@@ -197,6 +244,13 @@ impl<T: StandsInLine> SlotLine<T> {
         ensures { result ≡ slice_get (map T.place_of self.now.waiting) 0 }
     {
         self.slots.front().map(Slot::place)
+    }
+
+    // The place of the first who waits above another place, or of the oldest.
+    pub(crate) fn behind(&self, after: Option<Place>) -> Option<Place>
+        ensures { result ≡ first_above after (map T.place_of self.now.waiting) }
+    {
+        first_from(&self.slots, index_above(&self.slots, after))
     }
 
     // How many wait.

@@ -1,6 +1,6 @@
 //! A slot of a line: who waits there, or the mark of who was withdrawn.
-ghost use Rattle.std.specs.Prelude.{◌≡◌, true, ℕ, Bool};
-ghost use Rattle.rv_dual.specs.Slots.{holder, passes_in, slot_place};
+ghost use Rattle.std.specs.Prelude.{◌≡◌, true, ℕ, Bool, option_map};
+ghost use Rattle.rv_dual.specs.Slots.{holder, is_held, passes_in, slot_place};
 
 use crate::giver::Offer;
 use rv_session::{Parked, Place};
@@ -48,6 +48,23 @@ impl<T: StandsInLine> Slot<T> {
     {
         match self {
             Slot::Holds(waiting) => Some(waiting),
+            Slot::Withdrawn(_) => None,
+        }
+    }
+
+    // Whether somebody waits there.
+    pub(crate) fn is_held(&self) -> bool
+        ensures { result ≡ is_held self.now }
+    {
+        matches!(self, Slot::Holds(_))
+    }
+
+    // The place of who waits there.
+    pub(crate) fn waiting_place(&self) -> Option<Place>
+        ensures { result ≡ option_map T.place_of (holder self.now) }
+    {
+        match self {
+            Slot::Holds(waiting) => Some(waiting.place()),
             Slot::Withdrawn(_) => None,
         }
     }

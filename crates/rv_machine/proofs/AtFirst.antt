@@ -7,7 +7,7 @@ use Rattle.rv_rules.specs.Steps.{max_moment}
 use Rattle.rv_state.specs.State.{ClientState, OpenPlace, client_at}
 use Rattle.rv_state.proofs.Words.{none-some}
 use Rattle.rv_machine.specs.declared.machine.Machine.{Machine}
-use Rattle.rv_machine.specs.Limiting.{most_known}
+use Rattle.rv_rules.specs.Reach.{most_known}
 use Rattle.rv_machine.specs.Machines.{IsWhole, state_in}
 use Rattle.rv_machine.specs.Numbering.{AreNumbered}
 use Rattle.rv_open.specs.OpenMap.{count_waiting}

@@ -34,3 +34,4 @@ pub mod Deciding
 pub mod RoomTaken
 pub mod NoRoom
 pub mod Redoing
+pub mod Resumed

@@ -34,7 +34,7 @@ use Rattle.rv_machine.specs.declared.machine.Machine.{Machine}
 use Rattle.rv_machine.specs.declared.machine.Said.{Said}
 use Rattle.rv_machine.specs.declared.machine.Said.TheVariants as said
 use Rattle.rv_machine.specs.declared.steps.Heard.{Heard}
-use Rattle.rv_machine.specs.Limiting.{widest}
+use Rattle.rv_rules.specs.Reach.{widest}
 use Rattle.rv_machine.specs.Machines.{Says, keys_settled, state_in}
 use Rattle.rv_machine.specs.Stepping.{IsHearing}
 use Rattle.rv_machine.specs.Needing.{act_of}

@@ -1,5 +1,5 @@
 -- What it is to enter an entry that meets no partner: the space for it, and the clients that may enter.
-use Rattle.std.specs.Prelude.{◌≡◌, ◌+◌, ◌<◌, ◌≤◌, ℕ, Some, None}
+use Rattle.std.specs.Prelude.{◌≡◌, ◌+◌, ◌<◌, ◌≤◌, ℕ, Some, None, IsSome}
 use Rattle.std.specs.FinMap.{len}
 use Rattle.rv_text.specs.declared.call.Call.{Call}
 use Rattle.rv_text.specs.declared.message.Key.{Key}
@@ -22,11 +22,10 @@ abbrev pub WaitsForNothing : State → ℕ → Type 0
 WaitsForNothing s client = (session : ClientState) → client_at s client ≡ Some session
     → place_waiting session.request ≡ None
 
--- no request of the client waits, which is known, or can be entered without memory
-pub record CanOpen (m : Machine) (client : ℕ) : Type 0 where
+-- the client is known, and no request of its waits
+pub record CanReopen (m : Machine) (client : ℕ) : Type 0 where
+  pub known : IsSome (client_at (state_in m) client)
   pub idle : WaitsForNothing (state_in m) client
-  pub most : client_at (state_in m) client ≡ None → len m.clients.clients < m.clients.most
-  pub room : client_at (state_in m) client ≡ None → 0 < m.clients.room
 
 -- the incarnation is a new one of the client, which is known, or fewer are known than there can be
 pub record IsNewHello (limits : StepLimits) (s : State) (client incarnation : ℕ) : Type 0 where

@@ -11,3 +11,4 @@ pub mod Stepping
 pub mod Needing
 pub mod Taking
 pub mod Redoing
+pub mod Remaking

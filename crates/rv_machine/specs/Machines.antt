@@ -19,7 +19,7 @@ use Rattle.rv_rules.specs.Steps.{max_moment}
 use Rattle.rv_state.specs.State.{ClientState, OpenPlace, State, Waiter, client_at}
 use Rattle.rv_state.specs.After.{Settled}
 use Rattle.rv_state.specs.Moves.{Move, StateNextAtUnder, answer_told, told_again}
-use Rattle.rv_machine.specs.Limiting.{most_known}
+use Rattle.rv_rules.specs.Reach.{most_known}
 use Rattle.rv_machine.specs.declared.machine.Machine.{Machine}
 use Rattle.rv_machine.specs.declared.machine.Said.{Said}
 use Rattle.rv_machine.specs.declared.machine.Said.TheVariants as said

@@ -9,9 +9,9 @@ ghost use Rattle.rv_machine.specs.Entering.{LastWaits};
 ghost use Rattle.rv_machine.specs.Machines.{WasHeard, IsWhole, SameListRoom, MovesBy, WasRefused, state_in};
 ghost use Rattle.rv_machine.specs.Numbering.{AreNumbered};
 
-use crate::limits::Limits;
 use crate::machine::Machine;
 use rv_account::{Act, Entry, Partners};
+use rv_rules::Limits;
 use rv_session::{KeyStanding, Place};
 use rv_text::{Key, Refusal, Reply};
 

@@ -1,7 +1,7 @@
 //! Hellos: the first one of a client, and those of a later incarnation.
 ghost use Rattle.std.specs.Prelude.{◌≡◌, ◌≤◌, ◌<◌, ◌+◌, [], None, IfOk, IfErr, option_to_list};
 ghost use Rattle.std.specs.FinMap.{get};
-ghost use Rattle.rv_open.specs.OpenMap.{most_counted};
+ghost use Rattle.rv_open.specs.OpenMap.{count_waiting, most_counted};
 ghost use Rattle.rv_text.specs.declared.message.Message.TheVariants.{Hello};
 ghost use Rattle.rv_account.specs.Account.{entry};
 ghost use Rattle.rv_account.specs.declared.entry.Act.TheVariants as act;
@@ -10,14 +10,14 @@ ghost use Rattle.rv_session.specs.ClientMeanings.{HasLowerState};
 ghost use Rattle.rv_session.specs.Clients.{fresh_state};
 ghost use Rattle.rv_state.specs.After.{advanced, with_client};
 ghost use Rattle.rv_machine.specs.declared.machine.Said.TheVariants as said;
-ghost use Rattle.rv_machine.specs.Entering.{CanOpen};
+ghost use Rattle.rv_machine.specs.Ending.{counted};
+ghost use Rattle.rv_machine.specs.Entering.{CanReopen};
 ghost use Rattle.rv_machine.specs.Machines.{WasHeard, IsWhole, SameListRoom, WasRefused, state_in};
 ghost use Rattle.rv_machine.specs.Numbering.{AreNumbered};
-ghost use Rattle.rv_open.specs.OpenMap.{count_waiting};
 
-use crate::limits::Limits;
 use crate::machine::Machine;
 use rv_account::{Act, Entry, Partners};
+use rv_rules::Limits;
 use rv_session::{Greeting, Place};
 use rv_text::{Refusal, Reply, Version};
 
@@ -94,8 +94,8 @@ impl Machine {
         if self.is_full(limits, 1) {
             return Err(Refusal::EpochFull);
         }
-        match self.clients.reserve() {
-            Ok(()) => Ok(Some(self.enter(moment, client, incarnation, version))),
+        match self.clients.admit(client, incarnation, version) {
+            Ok(()) => Ok(Some(self.welcome(moment, client, incarnation, version))),
             Err(_) => Err(Refusal::NoMemory),
         }
     }
@@ -129,18 +129,18 @@ impl Machine {
         match waiting {
             Some(place) => {
                 self.end(place, Reply::Cancelled);
-                Ok(Some(self.enter(moment, client, incarnation, version)))
+                Ok(Some(self.reopen(moment, client, incarnation, version)))
             }
-            None => Ok(Some(self.enter(moment, client, incarnation, version))),
+            None => Ok(Some(self.reopen(moment, client, incarnation, version))),
         }
     }
 
-    // Opens a session in which nothing was asked yet, and counts its entry. It takes no memory.
-    fn enter(&mut self, moment: u64, client: u64, incarnation: u64, version: Version) -> Entry
+    // Opens a session of a client that is known, in which nothing was asked yet, and counts its entry.
+    fn reopen(&mut self, moment: u64, client: u64, incarnation: u64, version: Version) -> Entry
         requires ready { IsWhole self.old }
         requires numbered { AreNumbered (state_in self.old) }
         requires time { moment ≤ max_moment }
-        requires opens { CanOpen self.old client }
+        requires reopens { CanReopen self.old client }
         requires space { self.old.length + count_waiting self.old.table < most_counted }
         ensures ready { IsWhole self.new }
         ensures numbered { AreNumbered (state_in self.new) }
@@ -149,7 +149,18 @@ impl Machine {
             (fresh_state incarnation version)) moment }
         ensures settles { self.new.settled ≡ self.old.settled }
     {
-        self.clients.enter(client, incarnation, version);
+        self.clients.renew(client, incarnation, version);
+        self.welcome(moment, client, incarnation, version)
+    }
+
+    // Counts the entry of a hello, and gives it. What is whole stays so if there is space for it.
+    fn welcome(&mut self, moment: u64, client: u64, incarnation: u64, version: Version) -> Entry
+        requires { self.old.length < most_counted }
+        ensures entry { result ≡ entry moment (act.Hello client incarnation version) [] }
+        ensures ready { IsWhole self.old → moment ≤ max_moment
+            → self.old.length + count_waiting self.old.table < most_counted → IsWhole self.new }
+        ensures counted { self.new ≡ counted self.old moment }
+    {
         let partners = Partners::none(self.allocator());
         let hello = Act::Hello {
             client,

@@ -1,7 +1,9 @@
 //! What is read off a machine.
 ghost use Rattle.std.specs.Prelude.{◌≡◌, IfNone, IfSome, length, option_map, slice_get, ℕ, []};
 ghost use Rattle.std.specs.FinMap.{len};
-ghost use Rattle.rv_text.specs.Limits.{FitsQueue};
+ghost use Rattle.rv_text.specs.Limits.{FitsQueue, FitsSide};
+ghost use Rattle.rv_open.specs.OpenMap.{first_behind};
+ghost use Rattle.rv_session.specs.ClientOrder.{next_client};
 ghost use Rattle.rv_text.specs.declared.call.Side.TheVariants.{Gives, Takes};
 ghost use Rattle.rv_state.specs.After.{due_at};
 ghost use Rattle.rv_state.specs.State.{client_at, line, open_at, place_list, waiting_count};
@@ -10,7 +12,7 @@ ghost use Rattle.rv_machine.specs.Redoing.{IsNextLimit};
 
 use crate::machine::Machine;
 use rv_session::{ClientState, OpenPlace, Place};
-use rv_text::Key;
+use rv_text::{Key, Side};
 
 impl Machine {
     /// The epoch.
@@ -84,6 +86,23 @@ impl Machine {
         ensures { result ≡ slice_get (place_list (line (state_in self.now) (Gives queue))) 0 }
     {
         Some(self.table.front(queue)?.place)
+    }
+
+    /// The oldest that is open on a side behind a place, or on the whole side. So a line is read in its
+    /// order, without a copy.
+    pub fn behind(&self, side: Side, after: Option<Place>) -> Option<&OpenPlace>
+        requires { FitsSide side }
+        ensures { option_map (λ o. o.now) result ≡ first_behind after (line (state_in self.now) side) }
+    {
+        self.table.behind(side, after)
+    }
+
+    /// The client of the least number above another, or of all, with its state. So clients are read in the
+    /// order of their numbers, without a copy.
+    pub fn next_client(&self, after: Option<u64>) -> Option<(u64, &ClientState)>
+        ensures { option_map (λ p. (p.0, p.1.now)) result ≡ next_client (state_in self.now).clients after }
+    {
+        self.clients.next(after)
     }
 
     /// The least limit of a request that waits, if one has a limit: the first moment at which something is

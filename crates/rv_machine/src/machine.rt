@@ -1,12 +1,11 @@
 //! The machine of a book: the state of an account in tables, and what changes them together.
 ghost use Rattle.std.specs.Prelude.{◌≡◌, ◌+◌, ◌<◌, ◌≤◌};
-ghost use Rattle.rv_open.specs.OpenMap.{most_counted};
+ghost use Rattle.rv_open.specs.OpenMap.{count_waiting, most_counted};
 ghost use Rattle.rv_open.specs.Indexed.{WaitsIn};
 ghost use Rattle.rv_machine.specs.Machines.{IsWhole, SameListRoom, state_in};
 ghost use Rattle.rv_machine.specs.Ending.{EndsWaiting, counted};
 ghost use Rattle.rv_account.specs.Account.{entry};
 ghost use Rattle.rv_rules.specs.Steps.{max_moment};
-ghost use Rattle.rv_open.specs.OpenMap.{count_waiting};
 
 use rv_account::{Act, Entry, Partners};
 use rv_open::OpenTable;

@@ -8,9 +8,9 @@ ghost use Rattle.rv_machine.specs.Needing.{act_of};
 ghost use Rattle.rv_machine.specs.Numbering.{AreNumbered};
 ghost use Rattle.rv_machine.specs.Redoing.{MayRedo, IsRedone, NeedsNoMemory};
 
-use crate::limits::Limits;
 use crate::machine::{Machine, Said};
 use rv_account::Act;
+use rv_rules::Limits;
 use rv_text::Message;
 
 impl Machine {

@@ -12,9 +12,9 @@ ghost use Rattle.rv_machine.specs.declared.machine.Said.TheVariants as said;
 ghost use Rattle.rv_machine.specs.Machines.{WasHeard, IsWhole, SameListRoom, WasRefused, state_in};
 ghost use Rattle.rv_machine.specs.Numbering.{AreNumbered};
 
-use crate::limits::Limits;
 use crate::machine::Machine;
 use rv_account::{Entry, lasts, need_of};
+use rv_rules::Limits;
 use rv_session::KeyStanding;
 use rv_text::{Call, Key, NoMemory, Refusal, Side};
 

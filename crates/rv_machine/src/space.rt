@@ -2,18 +2,17 @@
 ghost use Rattle.std.specs.Prelude.{◌≡◌, ◌↔◌, ◌≤◌, ◌<◌, ◌+◌, true, false, IsTrue};
 ghost use Rattle.rv_rules.specs.Steps.{max_entries};
 ghost use Rattle.rv_text.specs.Limits.{FitsCall, FitsMessage};
-ghost use Rattle.rv_open.specs.OpenMap.{most_counted};
+ghost use Rattle.rv_open.specs.OpenMap.{count_waiting, most_counted};
 ghost use Rattle.rv_machine.specs.Entering.{HasSpaceFor};
 ghost use Rattle.rv_machine.specs.Limiting.{LacksPlace, LacksPlaceFor};
 ghost use Rattle.rv_machine.specs.Machines.{IsWhole, state_in};
 ghost use Rattle.rv_machine.specs.Needing.{EntersWithSpace, MayLackMemory, NeedsNoRoom, message_need};
 ghost use Rattle.rv_machine.specs.Numbering.{AreNumbered};
-ghost use Rattle.rv_open.specs.OpenMap.{count_waiting};
 
-use crate::limits::Limits;
 use crate::machine::Machine;
 use crate::requests::stays;
 use rv_account::need_of;
+use rv_rules::Limits;
 use rv_session::{Greeting, KeyStanding};
 use rv_text::{Call, Message};
 

@@ -9,10 +9,10 @@ ghost use Rattle.rv_machine.specs.Machines.{IsWhole, SameListRoom, state_in};
 ghost use Rattle.rv_machine.specs.Numbering.{AreNumbered};
 ghost use Rattle.rv_machine.specs.Stepping.{IsHearing, IsNoRequest, MadeNothing, IsTick};
 
-use crate::limits::{Limits, MOST_KNOWN};
 use crate::machine::{Machine, Said};
 use rv_account::Entry;
 use rv_open::OpenTable;
+use rv_rules::{Limits, MOST_KNOWN};
 use rv_session::Clients;
 use rv_text::{Message, NoMemory, Refusal};
 use std::alloc::Global;

@@ -1,11 +1,12 @@
 -- What stands first: of what is due, and on a line.
 use Rattle.std.proofs.Common.{◌≡◌, ◌<◌, ◌≤◌, ◌∷◌, ◌∙◌, inl, inr, arith, ℕ, List, [], Option, Some, IsSome}
-use Rattle.std.proofs.Common.{refl, sym, ap, subst, slice_get, nat_eq}
+use Rattle.std.proofs.Common.{refl, sym, ap, subst, slice_get, nat_eq, Bool, true, false, cond, None}
 use Rattle.std.specs.FinSet.{contains, contains-from_list, remove}
-use Rattle.std.specs.Prelude.{filter_map}
+use Rattle.std.specs.Prelude.{filter_map, option_map}
 use Rattle.std.proofs.lemmas.Bool.{eqb-true}
 use Rattle.rv_text.specs.declared.call.Side.{Side}
 use Rattle.rv_session.specs.OwedDuty.{OwedDuty}
+use Rattle.rv_dual.specs.Above.{first_above, is_above}
 use Rattle.rv_due.specs.Deadlines.{AllAbove, Deadline, Deadlines, IsLeastUntil}
 use Rattle.rv_due.proofs.Order.{by_moment_total}
 use Rattle.rv_state.specs.State.{OpenPlace, place_list, same_side}
@@ -14,7 +15,7 @@ use Rattle.rv_state.specs.After.{deadline_of_place}
 use Rattle.rv_state.proofs.Filtered.{filter_get, find_get}
 use Rattle.rv_waiters.specs.Views.{Waiters, waiting_on}
 use Rattle.rv_open.specs.OpenMap.{IsFirstDue, NeverDue, PlacesRise, due_in, duty_at, found_at, line_in}
-use Rattle.rv_open.specs.OpenMap.{all_but}
+use Rattle.rv_open.specs.OpenMap.{all_but, first_behind}
 use Rattle.rv_open.specs.OpenMap.{without_limit}
 use Rattle.rv_open.specs.Indexed.{AreIndexed, ClosesDue}
 use Rattle.rv_open.proofs.DueFirst.{first_due, none_due}
@@ -77,6 +78,46 @@ pub first_found : (all : List OpenPlace) (waiters : Waiters) (waiting place : �
 first_found all waiters waiting place due side is first =
     found_first all (line_in all side) (line_found all side is.rise) place
     (sym (ap (λ l. slice_get l 0) (is.lines side)) ∙ first)
+
+-- ---- what stands on a line above a place
+
+-- the places of a line above a place are those of its own above it
+behind_places : (after : Option ℕ) (line : List OpenPlace)
+    → first_above after (place_list line) ≡ option_map (λ o. o.place) (first_behind after line)
+behind_places after [] = refl
+behind_places after (o ∷ line) = by_head (is_above after o.place) (behind_places after line)
+  where
+    by_head : (b : Bool) → first_above after (place_list line)
+        ≡ option_map (λ o. o.place) (first_behind after line)
+        → cond b (Some o.place) (first_above after (place_list line))
+        ≡ option_map (λ o. o.place) (cond b (Some o) (first_behind after line))
+    by_head true rest = refl
+    by_head false rest = rest
+
+module _ (all : List OpenPlace) (waiters : Waiters) (waiting : ℕ) (due : Deadlines) (side : Side)
+    (after : Option ℕ) (is : AreIndexed all waiters waiting due) where
+  waits_behind : first_above after (waiting_on waiters side)
+      ≡ option_map (λ o. o.place) (first_behind after (line_in all side))
+  waits_behind = ap (first_above after) (is.lines side) ∙ behind_places after (line_in all side)
+
+  pub found_behind : (place : ℕ) → first_above after (waiting_on waiters side) ≡ Some place
+      → found_at all place ≡ first_behind after (line_in all side)
+  found_behind place first = by_found (first_behind after (line_in all side)) refl (sym waits_behind ∙ first)
+    where
+      by_found : (o : Option OpenPlace) → first_behind after (line_in all side) ≡ o
+          → option_map (λ o. o.place) o ≡ Some place → found_at all place ≡ o
+      by_found None found at = absurd (none-some place at)
+      by_found (Some o) found at =
+          let there = find_get (λ (x : OpenPlace). is_above after x.place) (line_in all side) o found in
+          ap (found_at all) (sym (same_Some _ _ at)) ∙ line_found all side is.rise there.0 o there.1
+
+  pub none_behind : first_above after (waiting_on waiters side) ≡ None
+      → first_behind after (line_in all side) ≡ None
+  none_behind none = by_found (first_behind after (line_in all side)) (sym waits_behind ∙ none)
+    where
+      by_found : (o : Option OpenPlace) → option_map (λ o. o.place) o ≡ None → o ≡ None
+      by_found None none = refl
+      by_found (Some o) some = absurd (none-some o.place (sym some))
 
 -- what stood at the place of the least deadline
 pub record DueOut (all : List OpenPlace) (moment : ℕ) (d : Deadline) (there : OpenPlace) : Type 0 where

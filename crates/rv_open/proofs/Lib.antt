@@ -7,4 +7,7 @@ pub mod Indexing
 mod Fronts
 mod Firsts
 mod Meetings
+mod Laying
 mod Parking
+mod Reopened
+mod Fronting

@@ -9,13 +9,11 @@ use Rattle.std.specs.Map.{values_of}
 use Rattle.rv_text.specs.declared.call.Side.{Side}
 use Rattle.rv_session.specs.OwedDuty.{OwedDuty}
 use Rattle.rv_account.specs.Calls.{opposite}
+use Rattle.rv_dual.specs.Above.{is_above}
 use Rattle.rv_due.specs.Deadlines.{Deadline, Deadlines, by_moment}
+pub use Rattle.rv_rules.specs.Reach.{most_counted}
 use Rattle.rv_state.specs.State.{OpenPlace, same_side}
 use Rattle.rv_state.specs.After.{deadline_of_place}
-
--- how far a machine counts entries and those that wait, past the limits of any step
-abbrev pub most_counted : ℕ
-most_counted = 18014398509481984
 
 -- each stands before those of greater places
 abbrev pub PlacesRise : List OpenPlace → Type 0
@@ -37,6 +35,10 @@ all_but all place = filter (λ o. not (nat_eq o.place place)) all
 -- those of a side
 abbrev pub line_in : List OpenPlace → Side → List OpenPlace
 line_in all side = filter (λ o. same_side o.side side) all
+
+-- the first of a line at a place above another, or the first of all
+abbrev pub first_behind : Option ℕ → List OpenPlace → Option OpenPlace
+first_behind after line = find (λ o. is_above after o.place) line
 
 -- those of a side, if there is one
 abbrev pub facing : List OpenPlace → Option Side → List OpenPlace

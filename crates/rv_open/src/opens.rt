@@ -1,5 +1,5 @@
 //! What is open, by its place.
-ghost use Rattle.std.specs.Prelude.{◌≡◌, [], ◌∷◌, ◌++◌, OnOk, OnErr, length, option_map};
+ghost use Rattle.std.specs.Prelude.{◌≡◌, [], ◌∷◌, ◌++◌, IfOk, OnOk, OnErr, length, option_map};
 ghost use Rattle.rv_open.specs.OpenMap.{StandBelow, found_at, all_but};
 
 use rv_session::{OpenPlace, Place};
@@ -69,5 +69,16 @@ impl OpenMap {
         ensures { option_map (λ o. o.now) result ≡ found_at self.now place }
     {
         self.places.get(&place)
+    }
+
+    /// A copy of what is open, the oldest first. Fails only if memory was refused.
+    pub(crate) fn copies(&self, alloc: Global) -> Result<Vec<OpenPlace>, NoMemory>
+        ensures { IfOk result (λ places. places.items ≡ self.now) }
+    {
+        let mut places = Vec::with_capacity(alloc, self.places.len())?;
+        for opened in self.places.values() {
+            places.push(opened.copy(alloc)?)?;
+        }
+        Ok(places)
     }
 }

@@ -8,11 +8,13 @@ ghost use Rattle.rv_text.specs.Limits.{FitsQueue, FitsSide};
 ghost use Rattle.rv_text.specs.declared.call.Side.TheVariants.{Gives, Takes};
 ghost use Rattle.rv_open.specs.OpenMap.{StandBelow, due_in, found_at, line_in, opposed_in, count_waiting};
 ghost use Rattle.rv_open.specs.OpenMap.{IsFirstDue, NeverDue, with_limit, all_but, without_limit};
+ghost use Rattle.rv_open.specs.OpenMap.{first_behind};
 ghost use Rattle.rv_open.specs.Indexed.{ClosesPlace, ClosesDue, ClosesFirst, MayPark, ParksPlace, WaitsIn};
+ghost use Rattle.rv_open.specs.Reopening.{MayReopen, MayResume, duty_of_waiter};
 
 use crate::opens::OpenMap;
 use rv_due::Due;
-use rv_session::{Clients, Duty, OpenPlace, Place};
+use rv_session::{Clients, Duty, OpenPlace, Place, Waiter};
 use rv_text::{Call, Key, NoMemory, Side};
 use rv_waiters::{Arrived, Waiters};
 use std::alloc::Global;
@@ -100,6 +102,13 @@ fn owing(duty: &Option<Duty>) -> usize
     usize::from(duty.is_some())
 }
 
+// The duty that is owed to who waits, if somebody does.
+fn owed(clients: &Clients, waiter: Option<Waiter>) -> Option<Duty>
+    ensures { result ≡ duty_of_waiter clients.now.clients waiter }
+{
+    clients.owed(waiter?.key.client)
+}
+
 // The duty of an arrival that met nobody, if it came back.
 fn parked(arrived: Arrived) -> Option<Duty>
     requires { arrived.other ≡ None }
@@ -127,6 +136,45 @@ impl OpenTable {
             waiting: 0,
             due: Due::new(alloc),
         })
+    }
+
+    /// The tables of what was open before, the oldest first, and of the duties that their clients are owed.
+    /// Fails only if memory was refused.
+    pub fn resume(
+        alloc: Global,
+        clients: &Clients,
+        places: Vec<OpenPlace>,
+    ) -> Result<OpenTable, NoMemory>
+        requires { MayResume places.items clients.now.clients }
+        ensures { IfOk result (λ table. table ≡ places.items) }
+    {
+        let mut table = OpenTable::empty(alloc)?;
+        for opened in places {
+            table.reopen(clients, opened)?;
+        }
+        Ok(table)
+    }
+
+    // One more that was open before is open, behind all others. Fails only if memory was refused.
+    fn reopen(&mut self, clients: &Clients, opened: OpenPlace) -> Result<(), NoMemory>
+        requires { MayReopen self.old opened clients.now.clients }
+        ensures ok { OnOk result (self.new ≡ self.old ++ opened ∷ []) }
+        ensures err { OnErr result (self.new ≡ self.old) }
+    {
+        let (place, side, waiter) = (opened.place, opened.side, opened.waiter);
+        self.waiters.reserve_on(side)?;
+        lay(&mut self.opens, &mut self.due, opened)?;
+        let duty = owed(clients, waiter);
+        self.waiting += owing(&duty);
+        self.waiters.lay(side, place, duty);
+        Ok(())
+    }
+
+    /// A copy of what is open, the oldest first. Fails only if memory was refused.
+    pub fn places(&self, alloc: Global) -> Result<Vec<OpenPlace>, NoMemory>
+        ensures { IfOk result (λ places. places.items ≡ self.now) }
+    {
+        self.opens.copies(alloc)
     }
 
     /// How many places are open.
@@ -199,6 +247,14 @@ impl OpenTable {
         ensures { option_map (λ o. o.now) result ≡ slice_get (line_in self.now (Gives queue)) 0 }
     {
         self.opens.get(self.waiters.front(queue)?)
+    }
+
+    /// The first of a side's line at a place above another, or the oldest of the line.
+    pub fn behind(&self, side: Side, after: Option<Place>) -> Option<&OpenPlace>
+        requires { FitsSide side }
+        ensures { option_map (λ o. o.now) result ≡ first_behind after (line_in self.now side) }
+    {
+        self.opens.get(self.waiters.behind(side, after)?)
     }
 
     /// How many wait that an arrival of this side can meet.

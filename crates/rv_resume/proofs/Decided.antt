@@ -18,7 +18,8 @@ use Rattle.rv_state.specs.State.{ClientState, OpenPlace, State, Waiter, client_a
 use Rattle.rv_state.proofs.Filtered.{filter_get, filter_order, get_filter}
 use Rattle.rv_state.proofs.SideLines.{same_side_is, same_side_itself}
 use Rattle.rv_state.proofs.Words.{none-some, same_Some}
-use Rattle.rv_resume.specs.Checking.{ClientsRise, HasSide, IsCalmExchanger}
+use Rattle.rv_session.specs.ClientOrder.{ClientsRise}
+use Rattle.rv_resume.specs.Checking.{HasSide, IsCalmExchanger}
 use Rattle.rv_resume.specs.Checking.{IsCalmQueue}
 use Rattle.rv_resume.specs.Checking.{IsLastAmong, IsSettledIn, PassesAll, StandsWell, state_by}
 use Rattle.rv_resume.specs.Resuming.{CanResume, FitsLastRequest, IsAwaitedBy, IsLastAt, IsOpenIn}
@@ -38,7 +39,7 @@ all_by P xs each k d less = each k (get_or xs k d) (slice_get-get_or xs k d less
 
 -- ---- sides
 
-side_fits : (c : Call) → FitsCall c → FitsSide (side_of c)
+pub side_fits : (c : Call) → FitsCall c → FitsSide (side_of c)
 side_fits (call.Put queue item) fits = fits.0.0
 side_fits (call.Transfer queue item wait) fits = fits.0.0
 side_fits (call.Take queue wait) fits = fits.0.0

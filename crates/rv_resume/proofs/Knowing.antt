@@ -6,7 +6,8 @@ use Rattle.std.proofs.lemmas.Bool.{cases_order, false≢true}
 use Rattle.std.proofs.lemmas.Option.{get_or_from_slice_get}
 use Rattle.rv_state.specs.State.{ClientState, OpenPlace, Waiter}
 use Rattle.rv_state.proofs.Words.{same_Some}
-use Rattle.rv_resume.specs.Checking.{ClientsRise, IsFoundAt, IsLastAmong, IsLastOf}
+use Rattle.rv_session.specs.ClientOrder.{ClientsRise}
+use Rattle.rv_resume.specs.Checking.{IsFoundAt, IsLastAmong, IsLastOf}
 
 pub one_client : (clients : List (ℕ × ClientState)) → ClientsRise clients → (i j : ℕ) (x y : ℕ × ClientState)
     → slice_get clients i ≡ Some x → slice_get clients j ≡ Some y → x.0 ≡ y.0 → x ≡ y

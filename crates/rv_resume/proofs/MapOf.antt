@@ -17,7 +17,7 @@ use Rattle.rv_session.proofs.Mapping.{get_kept, len_unknown}
 use Rattle.rv_state.specs.State.{ClientState}
 use Rattle.rv_state.proofs.Filtered.{take_get}
 use Rattle.rv_state.proofs.Words.{none-some, same_Some}
-use Rattle.rv_resume.specs.Checking.{ClientsRise}
+use Rattle.rv_session.specs.ClientOrder.{ClientsRise}
 use Rattle.rv_resume.proofs.Ordered.{there_is}
 use Rattle.rv_resume.proofs.Knowing.{one_client}
 

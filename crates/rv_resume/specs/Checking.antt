@@ -9,6 +9,7 @@ use Rattle.rv_text.specs.declared.call.Side.TheVariants.{Exchanges, Gives, Takes
 use Rattle.rv_text.specs.declared.call.Call.{Call}
 use Rattle.rv_text.specs.Calls.{item_of, side_of, wait_of}
 use Rattle.rv_session.specs.Entries.{map_of}
+pub use Rattle.rv_session.specs.ClientOrder.{ClientsRise}
 use Rattle.rv_session.specs.declared.client.LastRequest.TheVariants.{Waits}
 use Rattle.rv_account.specs.Calls.{Lasts, limit_of}
 use Rattle.rv_state.specs.Agreement.{last_key_of}
@@ -24,11 +25,6 @@ use Rattle.rv_text.specs.Limits.{FitsIdentifier}
 use Rattle.rv_text.specs.Members.{max_identifier}
 use Rattle.rv_account.specs.Limits.{max_moment}
 use Rattle.rv_rules.specs.StepLimits.{most_open_places}
-
--- clients in the order of their numbers, each once
-abbrev pub ClientsRise : List (ℕ × ClientState) → Type 0
-ClientsRise clients = (i j : ℕ) (one other : ℕ × ClientState) → i < j → slice_get clients i ≡ Some one
-    → slice_get clients j ≡ Some other → one.0 < other.0
 
 -- open places in their order, each once
 abbrev pub OpensRise : List OpenPlace → Type 0

@@ -1,6 +1,7 @@
 //! What is found in the parts of a state, which rise.
 ghost use Rattle.std.specs.Prelude.{◌↔◌, IsTrue};
-ghost use Rattle.rv_resume.specs.Checking.{ClientsRise, IsFoundAt, OpensRise};
+ghost use Rattle.rv_session.specs.ClientOrder.{ClientsRise};
+ghost use Rattle.rv_resume.specs.Checking.{IsFoundAt, OpensRise};
 
 use rv_session::{ClientState, OpenPlace, Place};
 

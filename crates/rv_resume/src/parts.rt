@@ -1,7 +1,8 @@
 //! The parts of a state to resume from: each open place with its session, each client with its place.
 ghost use Rattle.std.specs.Prelude.{◌↔◌, IsTrue};
 ghost use Rattle.std.specs.List.{All};
-ghost use Rattle.rv_resume.specs.Checking.{ClientsRise, HasRoomIn, IsAwaitedAmong, IsLastAmong};
+ghost use Rattle.rv_session.specs.ClientOrder.{ClientsRise};
+ghost use Rattle.rv_resume.specs.Checking.{HasRoomIn, IsAwaitedAmong, IsLastAmong};
 ghost use Rattle.rv_resume.specs.Checking.{IsSettledIn, OpensRise, StandsWell};
 
 use crate::clients::fits_session;

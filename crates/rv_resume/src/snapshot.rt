@@ -1,6 +1,7 @@
 //! A state in memory, to resume from.
 ghost use Rattle.std.specs.Prelude.{◌≡◌, ◌↔◌, IfNone, IfSome, IsTrue};
-ghost use Rattle.rv_resume.specs.Checking.{ClientsRise, PassesAll, state_by};
+ghost use Rattle.rv_session.specs.ClientOrder.{ClientsRise};
+ghost use Rattle.rv_resume.specs.Checking.{PassesAll, state_by};
 ghost use Rattle.rv_resume.specs.Resuming.{CanResume};
 
 use crate::finding::{clients_rise, opens_rise};
@@ -57,7 +58,8 @@ pub struct Snapshot {
 
 impl Model for Snapshot {
     ghost use Rattle.rv_state.specs.State.{State};
-    ghost use Rattle.rv_resume.specs.Checking.{ClientsRise, state_by, state_code};
+    ghost use Rattle.rv_session.specs.ClientOrder.{ClientsRise};
+    ghost use Rattle.rv_resume.specs.Checking.{state_by, state_code};
     ghost use Rattle.rv_session.specs.contracts.open.OpenPlace as opened;
     ghost use Rattle.rv_session.specs.contracts.client.ClientState as known;
 

@@ -7,7 +7,7 @@ use Rattle.rv_text.proofs.Kept.{item_fits}
 use Rattle.rv_rules.specs.Limits.{FitsAccount}
 use Rattle.rv_rules.specs.Replies.{GetsItem, Meet}
 use Rattle.rv_rules.proofs.Growing.{NamesPartner-on, call_read, reads_on}
-use Rattle.rv_rules.proofs.Limits.{act_fits, act_there, call_of_act}
+use Rattle.rv_rules.proofs.WithinLimits.{act_fits, act_there, call_of_act}
 use Rattle.rv_rules.proofs.OnePartner.{meets_one}
 
 pub Meet-on : (es more : List Entry) (r s : ℕ) → Meet es r s → Meet (es ++ more) r s

@@ -15,7 +15,7 @@ pub mod Versions
 pub mod Sides
 pub mod Lines
 pub mod OnePartner
-pub mod Limits
+pub mod WithinLimits
 pub mod FirstStops
 pub mod Getting
 pub mod Looking

@@ -5,6 +5,7 @@ pub mod Sessions
 pub mod Legal
 pub mod Replies
 pub mod StepLimits
+pub mod Reach
 pub mod Steps
 pub mod Limits
 pub mod Order

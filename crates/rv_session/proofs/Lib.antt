@@ -3,4 +3,7 @@ pub mod Setting
 pub mod Meaning
 pub mod RisingClients
 pub mod KeyMeaning
+pub mod OrderedMap
+pub mod FirstAbove
+pub mod RisingStates
 pub mod Writing

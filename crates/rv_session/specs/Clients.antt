@@ -1,4 +1,4 @@
--- A table of clients: the epoch, the most clients, a map from clients to their states, and the room for more.
+-- A table of clients: the epoch, the most clients, and a map from clients to their states.
 use Rattle.std.specs.Prelude.{ℕ, Option, Some, None, option_and_then, option_map, refl}
 use Rattle.std.specs.Ordering.{nat_cmp}
 use Rattle.std.specs.Coded.{Coded, code_by, coded×, coded_ℕ}
@@ -17,15 +17,12 @@ pub record ClientStates : Type 0 where
   -- how many clients there can be
   pub most : ℕ
   pub clients : FinMap nat_cmp ClientState
-  -- how many more clients can enter before the table takes memory
-  pub room : ℕ
 
 -- a table is stored as its fields
 abbrev pub clients_code : Coded ClientState → Coded ClientStates
-clients_code code = code_by (((ℕ × ℕ) × FinMap nat_cmp ClientState) × ℕ)
-    (coded× (coded× (coded× coded_ℕ coded_ℕ) (map.code coded_ℕ code)) coded_ℕ)
-    (λ t. (((t.epoch, t.most), t.clients), t.room))
-    (λ p. record { epoch = p.0.0.0; most = p.0.0.1; clients = p.0.1; room = p.1 }) (λ _. refl)
+clients_code code = code_by ((ℕ × ℕ) × FinMap nat_cmp ClientState)
+    (coded× (coded× coded_ℕ coded_ℕ) (map.code coded_ℕ code)) (λ t. ((t.epoch, t.most), t.clients))
+    (λ p. record { epoch = p.0.0; most = p.0.1; clients = p.1 }) (λ _. refl)
 
 -- ---- a last request
 
@@ -105,11 +102,6 @@ clients_told clients client reply =
 
 -- ---- the table
 
--- the table with other clients; all else stays, the room too
+-- the table with other clients; all else stays
 abbrev pub with_clients : ClientStates → FinMap nat_cmp ClientState → ClientStates
-with_clients t clients =
-    record { epoch = t.epoch; most = t.most; clients = clients; room = t.room }
-
--- the table with other room
-abbrev pub with_room : ClientStates → ℕ → ClientStates
-with_room t room = record { epoch = t.epoch; most = t.most; clients = t.clients; room = room }
+with_clients t clients = record { epoch = t.epoch; most = t.most; clients = clients }

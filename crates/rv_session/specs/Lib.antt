@@ -7,5 +7,6 @@ pub mod Meanings
 pub mod Clients
 pub mod ClientStandings
 pub mod ClientMeanings
--- What only the invariants of the tables and proofs cite.
+pub mod ClientOrder
+-- The map that entries are; and what only the invariants of the tables and proofs cite.
 pub mod Entries

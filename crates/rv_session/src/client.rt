@@ -1,9 +1,10 @@
 //! What an epoch keeps of a client: its session, its last number, and what became of the request with that.
-ghost use Rattle.std.specs.Prelude.{◌≡◌};
+ghost use Rattle.std.specs.Prelude.{◌≡◌, IfOk};
 
 use crate::kept::Place;
 use crate::standing::{Greeting, KeyStanding};
-use rv_text::{Call, Key, Refusal, Reply, Version};
+use rv_text::{Call, Key, NoMemory, Refusal, Reply, Version};
+use std::alloc::Global;
 use std::mem;
 
 /// What became of the last request of a session.
@@ -61,6 +62,24 @@ impl LastRequest {
         }
     }
 
+    // A copy. Fails only if memory for its texts was refused.
+    fn copy(&self, alloc: Global) -> Result<LastRequest, NoMemory>
+        ensures { IfOk result (λ request. request ≡ self.now) }
+    {
+        match self {
+            LastRequest::Fresh => Ok(LastRequest::Fresh),
+            LastRequest::Waits { place, call } => Ok(LastRequest::Waits {
+                place: *place,
+                call: call.copy(alloc)?,
+            }),
+            LastRequest::RepliedTo { call, reply } => Ok(LastRequest::RepliedTo {
+                call: call.copy(alloc)?,
+                reply: reply.copy(alloc)?,
+            }),
+            LastRequest::CancelledUnseen => Ok(LastRequest::CancelledUnseen),
+        }
+    }
+
     // What stands of the last number. No request has the number 0 of a fresh session.
     fn standing(&self, last: u64) -> KeyStanding<'_>
         ensures { stands_as result ≡ last_standing last self.now }
@@ -75,7 +94,8 @@ impl LastRequest {
 }
 
 impl ClientState {
-    ghost use Rattle.rv_session.specs.Clients.{answered, fresh_state, with_last_number, with_request};
+    ghost use Rattle.rv_session.specs.Clients.{answered, fresh_state, place_waiting};
+    ghost use Rattle.rv_session.specs.Clients.{with_last_number, with_request};
     ghost use Rattle.rv_session.specs.ClientStandings.{client_greeting, client_standing, stands_as};
 
     // A session in which nothing was asked yet.
@@ -88,6 +108,18 @@ impl ClientState {
             last: 0,
             request: LastRequest::Fresh,
         }
+    }
+
+    // A copy. Fails only if memory for its texts was refused.
+    pub(crate) fn copy(&self, alloc: Global) -> Result<ClientState, NoMemory>
+        ensures { IfOk result (λ state. state ≡ self.now) }
+    {
+        Ok(ClientState {
+            incarnation: self.incarnation,
+            version: self.version,
+            last: self.last,
+            request: self.request.copy(alloc)?,
+        })
     }
 
     // Replaces the state.
@@ -113,6 +145,13 @@ impl ClientState {
     {
         let request = mem::replace(&mut self.request, LastRequest::Fresh);
         self.request = request.answered(reply);
+    }
+
+    // Where the last request waits, if it does.
+    pub(crate) fn waiting(&self) -> Option<Place>
+        ensures { result ≡ place_waiting self.now.request }
+    {
+        self.request.waiting()
     }
 
     // What a hello of an incarnation and a version is to the state.

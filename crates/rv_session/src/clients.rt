@@ -1,34 +1,38 @@
 //! The table of clients: of each its session, its last number, and the texts of its last request.
-ghost use Rattle.std.specs.Prelude.{◌≡◌, ◌<◌, ◌≤◌, Some, None, IsSome, IsOk, OnOk};
-ghost use Rattle.std.specs.FinMap.{get, insert, len};
+ghost use Rattle.std.specs.Prelude.{◌≡◌, ◌<◌, ◌≤◌, ℕ, Some, None, IfOk, IsSome, OnErr, OnOk, length};
+ghost use Rattle.std.specs.FinMap.{entries, get, insert, len};
+ghost use Rattle.std.specs.Ordering.{nat_cmp};
+ghost use Rattle.std.specs.BTreeMap.Range.{range_contains};
+ghost use Rattle.std.specs.declared.ops.Bound.TheVariants.{Unbounded};
+ghost use Rattle.rv_session.specs.ClientOrder.{is_above};
 
 use crate::client::{ClientState, LastRequest};
 use crate::duty::Duty;
 use crate::kept::Place;
 use crate::standing::{Greeting, KeyStanding};
-use indexmap::IndexMap;
 use rv_text::{Call, Key, NoMemory, Refusal, Reply, Version};
 use std::alloc::Global;
+use std::collections::BTreeMap;
 use std::marker::Model;
+use std::ops::Bound;
 
 /// The clients of an epoch, which contracts see as a map from clients to their [`ClientState`]s, beside the
-/// most that there can be, and for how many more of them there is room.
+/// most that there can be.
 ///
-/// Only [`reserve`](Clients::reserve) takes memory, and what a call replaces is freed. Each call but `open`,
-/// `len`, `epoch` and `reserve` looks a client up in a hash table, once or twice, and searches nothing else:
-/// it takes constant time on average.
+/// Only [`admit`](Clients::admit), [`states`](Clients::states) and [`from_states`](Clients::from_states) take
+/// memory, and what a call replaces is freed. `states` and `from_states` read all clients. Each other call
+/// takes time at most logarithmic in the number of clients, whatever numbers they have.
 #[derive(Drop)]
 pub struct Clients {
     epoch: u64,
     // The most clients that there can be.
     most: usize,
     // Of each client its state.
-    clients: IndexMap<u64, ClientState>,
+    clients: BTreeMap<u64, ClientState>,
 }
 
 impl Model for Clients {
-    ghost use Rattle.indexmap.specs.IndexMap.{spare};
-    ghost use Rattle.rv_session.specs.Entries.{map_of, IsTable};
+    ghost use Rattle.rv_session.specs.Entries.{map_of, IsOrderedTable};
     ghost use Rattle.rv_session.specs.Clients.{ClientStates, clients_code};
     ghost use Rattle.rv_session.specs.contracts.client.ClientState as state;
 
@@ -40,20 +44,31 @@ impl Model for Clients {
       epoch = c.epoch;
       most = c.most;
       clients = map_of c.clients.entries;
-      room = spare c.clients;
     } };
 
-    ghost invariant = { λ c. IsTable c.most c.clients.entries };
+    ghost invariant = { λ c. IsOrderedTable c.most c.clients.entries };
+}
+
+// Where the numbers above another begin; each is above none.
+fn bound_above(after: Option<u64>) -> Bound<u64>
+    ensures { (client : ℕ) → range_contains nat_cmp result Unbounded client ≡ is_above after client }
+{
+    match after {
+        Some(client) => Bound::Excluded(client),
+        None => Bound::Unbounded,
+    }
 }
 
 impl Clients {
-    ghost use Rattle.std.specs.Prelude.{◌+◌, option_map};
+    ghost use Rattle.std.specs.Prelude.{option_map};
     ghost use Rattle.std.specs.FinMap.{empty};
     ghost use Rattle.rv_session.specs.declared.client.LastRequest.TheVariants as requests;
     ghost use Rattle.rv_session.specs.Clients.{clients_asked, fresh_state, clients_told, place_awaited};
-    ghost use Rattle.rv_session.specs.Clients.{client_version, with_clients, with_room};
+    ghost use Rattle.rv_session.specs.Clients.{client_version, with_clients};
     ghost use Rattle.rv_session.specs.ClientStandings.{hello_greeting, key_standing, stands_as};
     ghost use Rattle.rv_session.specs.ClientMeanings.{GreetingSays, StandingSays};
+    ghost use Rattle.rv_session.specs.ClientOrder.{ClientsRise, next_client};
+    ghost use Rattle.rv_session.specs.Entries.{map_of};
 
     /// The table of an epoch, whatever its number, with no client, for at most so many clients. It takes no
     /// memory yet.
@@ -62,12 +77,33 @@ impl Clients {
         ensures most { result.most ≡ most }
         ensures clients { result.clients ≡ empty }
     {
-        let clients = IndexMap::new(alloc);
+        let clients = BTreeMap::new(alloc);
         Clients {
             epoch,
             most,
             clients,
         }
+    }
+
+    /// The table of an epoch, for at most so many clients, with these, which must stand in the order of their
+    /// numbers. It fails only if memory was refused.
+    pub fn from_states(
+        alloc: Global,
+        epoch: u64,
+        most: usize,
+        states: Vec<(u64, ClientState)>,
+    ) -> Result<Clients, NoMemory>
+        requires rise { ClientsRise states.items }
+        requires most { length states.items ≤ most }
+        ensures { IfOk result
+            (λ t. t ≡ record { epoch = epoch; most = most; clients = map_of states.items }) }
+    {
+        let clients: BTreeMap<u64, ClientState> = states.into_iter().collect(alloc)?;
+        Ok(Clients {
+            epoch,
+            most,
+            clients,
+        })
     }
 
     /// The epoch.
@@ -78,6 +114,7 @@ impl Clients {
     }
 
     /// How many clients there are.
+    #[tactic(auto, using(crate::proofs::OrderedMap::len_tree))]
     pub fn len(&self) -> usize
         ensures length { result ≡ len self.now.clients }
         ensures bounded { len self.now.clients ≤ self.now.most }
@@ -92,13 +129,37 @@ impl Clients {
         self.clients.get(&client)
     }
 
+    /// The client of the least number above `after`, or of the least of all, with its state. So a caller can
+    /// read all clients, in the order of their numbers.
+    pub fn next(&self, after: Option<u64>) -> Option<(u64, &ClientState)>
+        ensures { option_map (λ p. (p.0, p.1.now)) result ≡ next_client self.now.clients after }
+    {
+        let numbers = (bound_above(after), Bound::Unbounded);
+        let (client, state) = self.clients.range(numbers).next()?;
+        Some((*client, state))
+    }
+
+    /// A copy of all clients with their states, in the order of their numbers. It fails only if memory was
+    /// refused.
+    pub fn states(&self, alloc: Global) -> Result<Vec<(u64, ClientState)>, NoMemory>
+        ensures states { IfOk result (λ states. states.items ≡ entries self.now.clients) }
+        ensures rise { IfOk result (λ states. ClientsRise states.items) }
+        ensures same { IfOk result (λ states. map_of states.items ≡ self.now.clients) }
+    {
+        let mut states = Vec::with_capacity(alloc, self.clients.len())?;
+        for (client, state) in &self.clients {
+            states.push((*client, state.copy(alloc)?))?;
+        }
+        Ok(states)
+    }
+
     /// What the hello of an incarnation and a version of a client is to the table.
     pub fn greet(&self, client: u64, incarnation: u64, version: Version) -> Greeting
         ensures greeting { result ≡ hello_greeting self.now client incarnation version }
         ensures means { GreetingSays self.now client incarnation version result }
         ensures bounded { len self.now.clients ≤ self.now.most }
     {
-        let has_room = self.clients.len() < self.most;
+        let has_room = self.len() < self.most;
         match self.get(client) {
             Some(state) => state.greeting(incarnation, version),
             None if has_room => Greeting::Unknown,
@@ -122,58 +183,42 @@ impl Clients {
         }
     }
 
-    /// Makes room for one client more, if there is none. It fails only if memory is refused. All clients
-    /// stay, and there is no less room, also where it fails.
-    pub fn reserve(&mut self) -> Result<(), NoMemory>
-        ensures ok { OnOk result (0 < self.new.room) }
-        ensures succeeds { 0 < self.old.room → IsOk result }
-        ensures stays { self.new ≡ with_room self.old self.new.room }
-        ensures room { self.old.room ≤ self.new.room }
+    /// The duty to settle the client's request, if it waits. It is for whoever makes the tables of a state
+    /// anew: each duty of the state must be made once.
+    pub fn owed(&self, client: u64) -> Option<Duty>
+        ensures { result ≡ option_map (λ place. record { place = place; client = client })
+            (place_awaited self.now.clients client) }
     {
-        self.clients.reserve(1)?;
+        let place = self.get(client)?.waiting()?;
+        Some(Duty::new(place, client))
+    }
+
+    /// Opens the session of an incarnation and a version of a client that isn't known, in which nothing was
+    /// asked yet. There must be fewer clients than there can be. It fails only if memory was refused, and
+    /// then nothing changes.
+    pub fn admit(&mut self, client: u64, incarnation: u64, version: Version) -> Result<(), NoMemory>
+        requires unknown { get self.old.clients client ≡ None }
+        requires most { len self.old.clients < self.old.most }
+        ensures ok { OnOk result (self.new ≡ with_clients self.old
+            (insert self.old.clients client (fresh_state incarnation version))) }
+        ensures err { OnErr result (self.new ≡ self.old) }
+    {
+        self.clients
+            .insert(client, ClientState::fresh(incarnation, version))?;
         Ok(())
     }
 
-    // Replaces the state of a client that is known, and takes no memory.
-    fn renew(&mut self, client: u64, state: ClientState)
-        requires { IsSome (get self.old.clients client) }
-        ensures { self.new ≡ with_clients self.old (insert self.old.clients client state) }
+    /// Opens the session of an incarnation and a version of a client that is known, in which nothing was
+    /// asked yet, in place of the one that it has. It takes no memory.
+    pub fn renew(&mut self, client: u64, incarnation: u64, version: Version)
+        requires known { IsSome (get self.old.clients client) }
+        ensures { self.new ≡ with_clients self.old
+            (insert self.old.clients client (fresh_state incarnation version)) }
     {
-        self.clients.get_mut(&client).unwrap().replace(state);
-    }
-
-    // Gives a client that isn't known this state. There must be room for it.
-    fn add(&mut self, client: u64, state: ClientState)
-        requires none { get self.old.clients client ≡ None }
-        requires most { len self.old.clients < self.old.most }
-        requires room { 0 < self.old.room }
-        ensures clients { self.new.clients ≡ insert self.old.clients client state }
-        ensures epoch { self.new.epoch ≡ self.old.epoch }
-        ensures most { self.new.most ≡ self.old.most }
-        ensures room { self.old.room ≤ self.new.room + 1 }
-    {
-        self.clients.insert(client, state).unwrap();
-    }
-
-    /// Opens the session of an incarnation and a version of a client, in which nothing was asked yet. The
-    /// client must be known, or there must be fewer clients than there can be, and room for one. It takes no
-    /// memory; a client that is known leaves the room as it was.
-    pub fn enter(&mut self, client: u64, incarnation: u64, version: Version)
-        requires most { get self.old.clients client ≡ None → len self.old.clients < self.old.most }
-        requires room { get self.old.clients client ≡ None → 0 < self.old.room }
-        ensures clients { self.new.clients
-            ≡ insert self.old.clients client (fresh_state incarnation version) }
-        ensures epoch { self.new.epoch ≡ self.old.epoch }
-        ensures most { self.new.most ≡ self.old.most }
-        ensures known { IsSome (get self.old.clients client) → self.new.room ≡ self.old.room }
-        ensures room { self.old.room ≤ self.new.room + 1 }
-    {
-        let fresh = ClientState::fresh(incarnation, version);
-        if self.get(client).is_some() {
-            self.renew(client, fresh);
-        } else {
-            self.add(client, fresh);
-        }
+        self.clients
+            .get_mut(&client)
+            .unwrap()
+            .replace(ClientState::fresh(incarnation, version));
     }
 
     // Makes a key's number the last of its client, with what became of its request, and gives the session's
@@ -199,7 +244,7 @@ impl Clients {
 
     /// Makes a key's number its client's last, whose request arrived at a place with this call and waits
     /// there, and gives the duty to settle it and the version of its session. The client must be known. All
-    /// else stays, the room too.
+    /// else stays.
     pub fn begin(&mut self, key: &Key, place: Place, call: Call) -> (Duty, Version)
         requires { IsSome (get self.old.clients key.now.client) }
         ensures duty { result.0 ≡ record { place = place; client = key.now.client } }
@@ -212,7 +257,7 @@ impl Clients {
     }
 
     /// Settles the request that a duty is for: from now on it has this reply. The duty's client must wait at
-    /// the duty's place. All else stays, the room too.
+    /// the duty's place. All else stays.
     pub fn settle(&mut self, duty: Duty, reply: Reply)
         requires { place_awaited self.old.clients duty.client ≡ Some duty.place }
         ensures { self.new ≡ with_clients self.old (clients_told self.old.clients duty.client reply) }
@@ -222,7 +267,7 @@ impl Clients {
     }
 
     /// Makes a key's number its client's last, which was cancelled before a request came with it. The client
-    /// must be known. All else stays, the room too.
+    /// must be known. All else stays.
     pub fn bury(&mut self, key: &Key)
         requires { IsSome (get self.old.clients key.now.client) }
         ensures { self.new ≡ with_clients self.old
@@ -232,7 +277,7 @@ impl Clients {
     }
 
     /// Makes a key's number its client's last, whose request came with this call and was answered at once.
-    /// The client must be known. All else stays, the room too.
+    /// The client must be known. All else stays.
     pub fn conclude(&mut self, key: &Key, call: Call, reply: Reply)
         requires { IsSome (get self.old.clients key.now.client) }
         ensures { self.new ≡ with_clients self.old

@@ -1,6 +1,9 @@
 //! What is open: an item that lies at its place, or a request that waits there.
+ghost use Rattle.std.specs.Prelude.{◌≡◌, IfOk};
+
 use crate::kept::Place;
-use rv_text::{Item, Key, Side};
+use rv_text::{Item, Key, NoMemory, Side};
+use std::alloc::Global;
 
 /// Who waits at an open place.
 #[derive(Clone, Copy, Debug, PartialEq, Eq)]
@@ -24,4 +27,29 @@ pub struct OpenPlace {
     pub limit: Option<u64>,
     /// Who waits there; nobody where it is a put's item.
     pub waiter: Option<Waiter>,
+}
+
+// A copy of an item, if there is one. Fails only if memory was refused.
+fn copy_item(item: &Option<Item>, alloc: Global) -> Result<Option<Item>, NoMemory>
+    ensures { IfOk result (λ copy. copy ≡ item.now) }
+{
+    match item {
+        Some(item) => Ok(Some(item.copy(alloc)?)),
+        None => Ok(None),
+    }
+}
+
+impl OpenPlace {
+    /// A copy of the open place. Fails only if memory for its item was refused.
+    pub fn copy(&self, alloc: Global) -> Result<OpenPlace, NoMemory>
+        ensures { IfOk result (λ copy. copy ≡ self.now) }
+    {
+        Ok(OpenPlace {
+            place: self.place,
+            side: self.side,
+            item: copy_item(&self.item, alloc)?,
+            limit: self.limit,
+            waiter: self.waiter,
+        })
+    }
 }

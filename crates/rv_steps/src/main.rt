@@ -8,7 +8,8 @@ mod turns;
 
 use rv_frame::Source;
 use rv_lines::{first_line, read_number};
-use rv_machine::{Limits, Machine};
+use rv_machine::Machine;
+use rv_rules::Limits;
 use rv_run::read_input;
 use std::env;
 use std::io::{BufWriter, Write};

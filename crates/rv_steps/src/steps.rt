@@ -7,7 +7,8 @@ ghost use Rattle.rv_machine.specs.Numbering.{AreNumbered};
 
 use crate::answers::answer_of;
 use rv_lines::{LineFault, cut_at, read_number};
-use rv_machine::{Limits, Machine};
+use rv_machine::Machine;
+use rv_rules::Limits;
 use rv_text::{
     Answer, BAD_TEXT_BODY, Message, NO_MEMORY_BODY, NoMemory, decode_message, encode_answer,
 };

@@ -3,7 +3,8 @@ ghost use Rattle.rv_machine.specs.Machines.{IsWhole, state_in};
 ghost use Rattle.rv_machine.specs.Numbering.{AreNumbered};
 
 use crate::EPOCH;
-use rv_machine::{Limits, Machine, Said};
+use rv_machine::{Machine, Said};
+use rv_rules::Limits;
 use rv_text::{Call, Item, Key, Message, NoMemory, Version, Wait};
 use std::alloc::Global;
 

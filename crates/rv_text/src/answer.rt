@@ -1,10 +1,11 @@
 //! What the server answers: welcomes, replies and refusals.
-ghost use Rattle.std.specs.Prelude.{◌≡◌, ◌↔◌, IsTrue, length};
+ghost use Rattle.std.specs.Prelude.{◌≡◌, ◌↔◌, IfOk, IsTrue, length};
 
 use crate::message::{Key, MAX_IDENTIFIER, fits_identifier};
 use crate::version::Version;
 use rv_item::{Item, Items};
 use rv_json::NoMemory;
+use std::alloc::Global;
 use thiserror::Error;
 
 /// The greatest number that a count tells: as many items or consumers as an epoch can have.
@@ -118,6 +119,29 @@ impl Reply {
                 *items <= MAX_COUNTED && *consumers <= MAX_COUNTED
             }
             _ => true,
+        }
+    }
+
+    /// A copy of the reply. Fails only if memory for its items was refused.
+    pub fn copy(&self, alloc: Global) -> Result<Reply, NoMemory>
+        ensures same { IfOk result (λ reply. reply ≡ self.now) }
+    {
+        match self {
+            Reply::Done => Ok(Reply::Done),
+            Reply::Received => Ok(Reply::Received),
+            Reply::ReceivedBy(taker) => Ok(Reply::ReceivedBy(*taker)),
+            Reply::Nobody => Ok(Reply::Nobody),
+            Reply::Item(item) => Ok(Reply::Item(item.copy(alloc)?)),
+            Reply::Empty => Ok(Reply::Empty),
+            Reply::Swapped(item) => Ok(Reply::Swapped(item.copy(alloc)?)),
+            Reply::TimedOut => Ok(Reply::TimedOut),
+            Reply::Cancelled => Ok(Reply::Cancelled),
+            Reply::Counted { items, consumers } => Ok(Reply::Counted {
+                items: *items,
+                consumers: *consumers,
+            }),
+            Reply::Peeked(item) => Ok(Reply::Peeked(item.copy(alloc)?)),
+            Reply::Drained(items) => Ok(Reply::Drained(items.copy(alloc)?)),
         }
     }
 

@@ -35,7 +35,7 @@ module _ (old new : Waiters) (exchanger : ℕ) (changed : ExchangerChanged old n
       (λ is. apart (ap Exchanges is)))
 
   -- who is parked, where what is parked at the exchanger is
-  parked_at : (owed : ℕ → Option OwedDuty) → AreParked owed old
+  pub parked_at : (owed : ℕ → Option OwedDuty) → AreParked owed old
       → ((duty : OwedDuty) → after ≡ Some duty → owed duty.place ≡ Some duty) → AreParked owed new
   parked_at owed parked here = record {
     queues = λ queue. subst (λ l. IsParked owed (queue_at l queue)) (sym changed.queues)
@@ -56,7 +56,7 @@ module _ (old new : Waiters) (exchanger : ℕ) (changed : ExchangerChanged old n
     ];
   }
 
-  nobody_there : before ≡ None → FindsNobody old (Exchanges exchanger)
+  pub nobody_there : before ≡ None → FindsNobody old (Exchanges exchanger)
   nobody_there none other opposes = subst (λ side. waiting_on old side ≡ []) (same_Some _ _ opposes)
       (ap place_of_duty none)
 

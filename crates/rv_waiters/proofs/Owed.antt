@@ -1,7 +1,7 @@
 -- Duties that stay parked where what is owed at their places stays, and none where nobody waits.
-use Rattle.rv_waiters.proofs.Words.{◌≡◌, ◌<◌, ◌∙◌, ℕ, [], Option, refl, sym, ap, option_map, slice_get}
-use Rattle.rv_waiters.proofs.Words.{none-some, slice_get-map, Side, Exchanges, Gives, Looks, Takes, OwedDuty}
-use Rattle.rv_waiters.proofs.Words.{place_of, places_of, AreParked, AreBelow, Waiters, place_of_duty}
+use Rattle.rv_waiters.proofs.Words.{◌≡◌, [], refl, ap}
+use Rattle.rv_waiters.proofs.Words.{Side, Exchanges, Gives, Looks, Takes}
+use Rattle.rv_waiters.proofs.Words.{places_of, Waiters, place_of_duty}
 use Rattle.rv_waiters.proofs.Words.{takers_places, waiting_on}
 use Rattle.rv_waiters.specs.Views.{NobodyWaits}
 

@@ -1,8 +1,10 @@
 -- Who parks: it stays, and nobody is there whom it meets. Its room.
-use Rattle.rv_waiters.proofs.Words.{◌≡◌, ℕ, [], length, Option, refl, ap, subst, same_Some, Side, Exchanges}
+use Rattle.rv_waiters.proofs.Words.{◌≡◌, ◌∷◌, ◌∙◌, ℕ, List, [], None, Some, arith, length, sym, Option, refl}
+use Rattle.rv_waiters.proofs.Words.{ap, subst, same_Some, Side, Exchanges}
 use Rattle.rv_waiters.proofs.Words.{Gives, Looks, Takes, Wait, opposite, FindsNobody, opposed_by, Waiters}
 use Rattle.rv_waiters.proofs.Words.{queue_at, takers_places, waiting_on, places_of}
-use Rattle.rv_waiters.specs.Meeting.{HasRoomOn, HasRoomToGive, HasRoomToTake, ParksOn, StaysAlone}
+use Rattle.rv_waiters.specs.Meeting.{HasRoomOn, HasRoomToGive, HasRoomToTake, MakesRoomFor, MakesRoomOn}
+use Rattle.rv_waiters.specs.Meeting.{ParksOn, StaysAlone}
 
 -- ---- nobody is there
 
@@ -16,6 +18,42 @@ nobody_opposed waiters (Exchanges exchanger) nobody = ap length (nobody (Exchang
 pub parks_alone : (waiters : Waiters) (side : Side) (wait : Option Wait) → ParksOn waiters side wait
     → StaysAlone waiters side wait
 parks_alone waiters side wait parks = (parks.stays.1, nobody_opposed waiters side parks.nobody)
+
+none_long : {X : Type 0} (xs : List X) → length xs ≡ 0 → xs ≡ []
+none_long [] none = refl
+none_long (x ∷ xs) none = absurd (omega (arith, none))
+
+found_nobody : (waiters : Waiters) (side other : Side) → opposite side ≡ Some other
+    → length (waiting_on waiters other) ≡ 0 → FindsNobody waiters side
+found_nobody waiters side other opposes none third also = subst (λ s. waiting_on waiters s ≡ [])
+    (same_Some _ _ (sym opposes ∙ also)) (none_long _ none)
+
+-- who stays alone and doesn't park looks
+pub alone_looks : (waiters : Waiters) (side : Side) (wait : Option Wait) → StaysAlone waiters side wait
+    → (ParksOn waiters side wait → ⊥) → opposite side ≡ None
+alone_looks waiters (Gives queue) wait alone goes = absurd (goes (record {
+  stays = (refl, alone.0);
+  nobody = found_nobody waiters (Gives queue) (Takes queue) refl alone.1;
+}))
+alone_looks waiters (Takes queue) wait alone goes = absurd (goes (record {
+  stays = (refl, alone.0);
+  nobody = found_nobody waiters (Takes queue) (Gives queue) refl alone.1;
+}))
+alone_looks waiters (Looks queue) wait alone goes = refl
+alone_looks waiters (Exchanges exchanger) wait alone goes = absurd (goes (record {
+  stays = (refl, alone.0);
+  nobody = found_nobody waiters (Exchanges exchanger) (Exchanges exchanger) refl alone.1;
+}))
+
+-- room on a side is room for who parks there
+pub room_for : (old new : Waiters) (side : Side) (wait : Option Wait) → StaysAlone old side wait
+    → MakesRoomOn old new side → MakesRoomFor old new side wait
+room_for old new side wait alone makes = record {
+  same = makes.same;
+  own = makes.own;
+  others = makes.others;
+  needless = λ goes. makes.looks (alone_looks old side wait alone goes);
+}
 
 -- ---- its room
 

@@ -14,7 +14,7 @@ use Rattle.rv_waiters.specs.Meeting.{Gave, GaveNobody, GaveTo, LaysDown, LeftFro
 use Rattle.rv_waiters.specs.Meeting.{TookNothing, offer_by, own_by}
 use Rattle.rv_waiters.specs.Views.{OnlyQueue, exchanger_at}
 use Rattle.std.proofs.lemmas.List.{map-append}
-use Rattle.rv_waiters.proofs.Lists.{pushed_cases}
+use Rattle.rv_waiters.proofs.Pushed.{pushed_giver, pushed_taker}
 
 -- ---- one queue
 
@@ -138,12 +138,12 @@ above waiters queue place below =
 
 -- ---- an arrival that gives
 
-no_takers : (waiters : Waiters) (queue : ℕ) → (queue_at waiters.queues queue).takers ≡ []
+pub no_takers : (waiters : Waiters) (queue : ℕ) → (queue_at waiters.queues queue).takers ≡ []
     → FindsNobody waiters (Gives queue)
 no_takers waiters queue none other opposes = subst (λ side. waiting_on waiters side ≡ [])
     (same_Some _ _ opposes) (ap takers_places none)
 
-no_givers : (waiters : Waiters) (queue : ℕ) → (queue_at waiters.queues queue).givers ≡ []
+pub no_givers : (waiters : Waiters) (queue : ℕ) → (queue_at waiters.queues queue).givers ≡ []
     → FindsNobody waiters (Takes queue)
 no_givers waiters queue none other opposes = subst (λ side. waiting_on waiters side ≡ [])
     (same_Some _ _ opposes) (ap places_of none)
@@ -230,20 +230,6 @@ module _ (old new : Waiters) (queue : ℕ) (changed : ChangedAt old new queue) (
   own_of None lasts = (refl, λ unmet may. refl)
   own_of (Some wait) lasts = (refl, (refl, lasts), refl)
 
-  pushed_givers : (owed : ℕ → Option OwedDuty) (wait : Option Wait)
-      → owed duty.place ≡ option_and_then (λ w. Some duty) wait
-      → after.givers ≡ before.givers ++ offer_by wait duty ∷ [] → after.takers ≡ before.takers
-      → IsParked owed before → IsParked owed after
-  pushed_givers owed wait is_owed givers takers was = record {
-    givers = λ i offer at. elim (pushed_cases before.givers (offer_by wait duty) offer i
-        (sym (ap (λ l. slice_get l i) givers) ∙ at)) [
-          | inl inside ↦ was.givers i offer inside
-          | inr last ↦ subst (λ (o : Offer). owed (place_of o) ≡ duty_of o) last
-              (ap owed (place_of_offer_by wait duty) ∙ is_owed ∙ sym (duty_of_offer_by wait duty))
-        ];
-    takers = λ i other at. was.takers i other (sym (ap (λ l. slice_get l i) takers) ∙ at);
-  }
-
   lays_down : (wait : Option Wait) (result : Arrived) → Lasts wait → LaysDown before after wait duty result
       → ArrivedOn old new (Gives queue) wait duty result
   lays_down wait result lasts lays = subst (ArrivedOn old new (Gives queue) wait duty) (sym lays.is) (record {
@@ -258,8 +244,9 @@ module _ (old new : Waiters) (queue : ℕ) (changed : ChangedAt old new queue) (
     );
     own = own_of wait lasts;
     other = λ owed parked. refl;
-    parked = λ owed parked is_owed. parked_changed old new queue changed owed parked (pushed_givers owed wait
-        is_owed lays.givers lays.takers);
+    parked = λ owed parked is_owed. parked_changed old new queue changed owed parked
+        (pushed_giver owed before after (offer_by wait duty) (ap owed (place_of_offer_by wait duty) ∙ is_owed
+        ∙ sym (duty_of_offer_by wait duty)) lays.givers lays.takers);
   })
 
   gave_nobody : (wait : Option Wait) (result : Arrived) → (Lasts wait → ⊥)
@@ -292,18 +279,6 @@ module _ (old new : Waiters) (queue : ℕ) (changed : ChangedAt old new queue) (
         parked = λ owed parked is_owed. leaves.parked owed parked;
       })
 
-  pushed_takers : (owed : ℕ → Option OwedDuty) → owed duty.place ≡ Some duty
-      → after.takers ≡ before.takers ++ duty ∷ [] → after.givers ≡ before.givers → IsParked owed before
-      → IsParked owed after
-  pushed_takers owed is_owed takers givers was = record {
-    givers = λ i offer at. was.givers i offer (sym (ap (λ l. slice_get l i) givers) ∙ at);
-    takers = λ i other at. elim (pushed_cases before.takers duty other i
-        (sym (ap (λ l. slice_get l i) takers) ∙ at)) [
-          | inl inside ↦ was.takers i other inside
-          | inr last ↦ subst (λ (d : OwedDuty). owed d.place ≡ Some d) last is_owed
-        ];
-  }
-
   stands_by : (wait : Wait) (result : Arrived) → Lasts (Some wait) → StandsBy before after duty result
       → ArrivedOn old new (Takes queue) (Some wait) duty result
   stands_by wait result lasts stands = subst (ArrivedOn old new (Takes queue) (Some wait) duty)
@@ -320,7 +295,7 @@ module _ (old new : Waiters) (queue : ℕ) (changed : ChangedAt old new queue) (
         own = (refl, (refl, lasts), refl);
         other = λ owed parked. refl;
         parked = λ owed parked is_owed. parked_changed old new queue changed owed parked
-            (pushed_takers owed is_owed stands.takers stands.givers);
+            (pushed_taker owed before after duty is_owed stands.takers stands.givers);
       })
 
   took_nothing : (wait : Option Wait) (result : Arrived) → (Lasts wait → ⊥)

@@ -1,6 +1,6 @@
 -- What many proofs of this crate cite of the library, of the crates below and of its own definitions.
 pub use Rattle.rv_account.specs.Calls.{Lasts, opposite}
-pub use Rattle.rv_dual.specs.Offers.{place_of, places_of}
+pub use Rattle.rv_dual.specs.Offers.{place_of, places_of, takers_places}
 pub use Rattle.rv_dual.specs.Queue.{Queue}
 pub use Rattle.rv_session.specs.OwedDuty.{OwedDuty}
 pub use Rattle.rv_text.specs.Calls.{side_of, wait_of}
@@ -11,7 +11,7 @@ pub use Rattle.rv_waiters.specs.Meeting.{ArrivedOn, FindsNobody, LeavesFirst, Le
 pub use Rattle.rv_waiters.specs.Meeting.{opposed_by}
 pub use Rattle.rv_waiters.specs.Parked.{AreParked, IsParked}
 pub use Rattle.rv_waiters.specs.Views.{AllEmpty, AllFree, AreBelow, SameWaiters, Waiters, place_of_duty}
-pub use Rattle.rv_waiters.specs.Views.{queue_at, takers_places, waiting_on}
+pub use Rattle.rv_waiters.specs.Views.{queue_at, waiting_on}
 pub use Rattle.rv_waiters.specs.declared.outcome.Arrived.{Arrived}
 pub use Rattle.std.proofs.Common.{Bool, List, None, Option, Some, [], ap, arith, cond, false, inl, inr}
 pub use Rattle.std.proofs.Common.{length, length-append, option_and_then, refl, subst, suc, sym, true, zero}

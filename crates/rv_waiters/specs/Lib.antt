@@ -2,3 +2,4 @@
 pub mod Views
 pub mod Parked
 pub mod Meeting
+pub mod Laying

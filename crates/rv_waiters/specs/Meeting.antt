@@ -282,6 +282,13 @@ HasRoomOn waiters side wait = ParksOn waiters side wait → 0 < (room_on waiters
 abbrev pub LacksRoomOn : Waiters → Side → Option Wait → Type 0
 LacksRoomOn waiters side wait = ParksOn waiters side wait × ((room_on waiters side).spare ≡ 0)
 
+-- room was made on one side alone; who looks needs none
+pub record MakesRoomOn (old new : Waiters) (side : Side) : Type 0 where
+  pub same : SameWaiters old new
+  pub own : GrowsRoom (room_on old side) (room_on new side)
+  pub others : (third : Side) → third ≢ side → room_on new third ≡ room_on old third
+  pub looks : opposite side ≡ None → new ≡ old
+
 -- room was made for an arrival that parks, on its own side alone; for any other nothing changed
 pub record MakesRoomFor (old new : Waiters) (side : Side) (wait : Option Wait) : Type 0 where
   pub same : SameWaiters old new

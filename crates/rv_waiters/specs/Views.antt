@@ -1,9 +1,9 @@
 -- What contracts see of who waits: the queues and the exchangers, and for each side the places on it.
-use Rattle.std.specs.Prelude.{◌≡◌, ◌≢◌, ◌<◌, ℕ, List, [], ◌∷◌, Option, Some, None, map, unwrap_or, slice_get}
+use Rattle.std.specs.Prelude.{◌≡◌, ◌≢◌, ◌<◌, ℕ, List, [], ◌∷◌, Option, Some, None, unwrap_or, slice_get}
 use Rattle.rv_text.specs.declared.call.Side.{Side}
 use Rattle.rv_text.specs.declared.call.Side.TheVariants.{Gives, Takes, Looks, Exchanges}
 use Rattle.rv_session.specs.OwedDuty.{OwedDuty}
-use Rattle.rv_dual.specs.Offers.{places_of}
+use Rattle.rv_dual.specs.Offers.{places_of, takers_places}
 use Rattle.rv_dual.specs.Queue.{Queue, SameLists}
 use Rattle.rv_dual.specs.Room.{Room}
 
@@ -18,10 +18,6 @@ empty_queue = record { givers = []; takers = []; giver_room = no_room; taker_roo
 -- the queue of this number; an empty one where there is no such queue
 abbrev pub queue_at : List Queue → ℕ → Queue
 queue_at queues queue = unwrap_or (slice_get queues queue) empty_queue
-
--- where the consumers arrived, in their order
-abbrev pub takers_places : List OwedDuty → List ℕ
-takers_places takers = map (λ (duty : OwedDuty). duty.place) takers
 
 -- nobody waits in any queue
 abbrev pub AllEmpty : List Queue → Type 0

@@ -1,5 +1,6 @@
 //! The exchangers, with the request that waits at each.
-ghost use Rattle.std.specs.Prelude.{◌≡◌, IfOk, Some, length};
+ghost use Rattle.std.specs.Prelude.{◌≡◌, IfOk, None, Some, length};
+ghost use Rattle.rv_dual.specs.Above.{first_above, is_above};
 ghost use Rattle.rv_text.specs.Limits.{FitsSide};
 ghost use Rattle.rv_text.specs.declared.call.Side.TheVariants.{Exchanges};
 ghost use Rattle.rv_waiters.specs.Meeting.{Exchanged, LeftExchanger};
@@ -41,6 +42,24 @@ fn exchange(exchanger: &mut Swap, wait: Wait, duty: Duty) -> Arrived
     }
 }
 
+// Lays a request at an exchanger where none waits.
+fn lay(exchanger: &mut Swap, duty: Duty)
+    requires { exchanger.old ≡ None }
+    ensures { exchanger.new ≡ Some duty }
+{
+    match exchanger.arrive(duty) {
+        SwapOutcome::Met(_earlier, _later) => unreachable!(),
+        SwapOutcome::Parked => {}
+    }
+}
+
+// Whether a place is above another, or above none.
+fn is_above(after: Option<Place>, place: Place) -> bool
+    ensures { result ≡ is_above after place }
+{
+    after.is_none_or(|least| least < place)
+}
+
 /// All exchangers, by their numbers.
 #[derive(Drop)]
 pub(crate) struct Exchangers {
@@ -79,6 +98,15 @@ impl Exchangers {
         usize::from(self.exchangers[exchanger as usize].waiting().is_some())
     }
 
+    /// The place of the request that waits at an exchanger, if it is above another place.
+    pub(crate) fn behind(&self, exchanger: u64, after: Option<Place>) -> Option<Place>
+        requires { FitsSide (Exchanges exchanger) }
+        ensures { result ≡ first_above after (place_of_duty (exchanger_at self.now exchanger)) }
+    {
+        let place = self.exchangers[exchanger as usize].waiting()?;
+        is_above(after, place).then_some(place)
+    }
+
     /// An arrival meets the one that waits at the exchanger, which leaves. Alone it waits, if its wait lasts.
     pub(crate) fn exchange(&mut self, exchanger: u64, wait: Wait, duty: Duty) -> Arrived
         requires { FitsSide (Exchanges exchanger) }
@@ -87,6 +115,16 @@ impl Exchangers {
         ensures others { OnlyExchanger exchanger self.old self.new }
     {
         exchange(&mut self.exchangers[exchanger as usize], wait, duty)
+    }
+
+    /// A request is laid at an exchanger where none waits.
+    pub(crate) fn lay(&mut self, exchanger: u64, duty: Duty)
+        requires fits { FitsSide (Exchanges exchanger) }
+        requires free { exchanger_at self.old exchanger ≡ None }
+        ensures laid { exchanger_at self.new exchanger ≡ Some duty }
+        ensures others { OnlyExchanger exchanger self.old self.new }
+    {
+        lay(&mut self.exchangers[exchanger as usize], duty)
     }
 
     /// The request that waits at an exchanger, if it is of this place, leaves it, and its duty comes back.

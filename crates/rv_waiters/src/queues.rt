@@ -1,8 +1,9 @@
 //! The queues: all that wait in each, the oldest first.
 ghost use Rattle.std.specs.Prelude.{◌≡◌, ◌<◌, [], None, Some, OnOk, OnErr, IfOk, length, slice_get};
 ghost use Rattle.rv_text.specs.Limits.{FitsQueue};
-ghost use Rattle.rv_dual.specs.Offers.{duty_of, place_of, places_of};
-ghost use Rattle.rv_dual.specs.Meanings.{TakenFront};
+ghost use Rattle.rv_dual.specs.Above.{first_above};
+ghost use Rattle.rv_dual.specs.Offers.{duty_of, offer_of, place_of, places_of, takers_places};
+ghost use Rattle.rv_dual.specs.Meanings.{ParksGiver, ParksTaker, TakenFront};
 ghost use Rattle.rv_dual.specs.Queue.{IsAbove};
 ghost use Rattle.rv_dual.specs.Withdrawing.{Withdraws};
 ghost use Rattle.rv_waiters.specs.Meeting.{Gave, GrowsGivers, GrowsTakers, HasRoomToGive, HasRoomToTake};
@@ -98,6 +99,32 @@ fn receive(queue: &mut Dual, wait: Wait, duty: Duty) -> Arrived
     }
 }
 
+// Lays an item behind the others, where no consumer waits.
+fn lay_giver(queue: &mut Dual, giver: Giver)
+    requires nobody { queue.old.takers ≡ [] }
+    requires room { 0 < queue.old.giver_room.spare }
+    requires above { IsAbove queue.old (place_of (offer_of giver)) }
+    ensures { ParksGiver queue.old queue.new (offer_of giver) }
+{
+    match queue.give(giver) {
+        DualOutcome::Met(_pair) => unreachable!(),
+        DualOutcome::Parked => {}
+    }
+}
+
+// Lays a consumer behind the others, where no item waits.
+fn lay_taker(queue: &mut Dual, duty: Duty)
+    requires nobody { queue.old.givers ≡ [] }
+    requires room { 0 < queue.old.taker_room.spare }
+    requires above { IsAbove queue.old duty.place }
+    ensures { ParksTaker queue.old queue.new duty }
+{
+    match queue.take(duty) {
+        DualOutcome::Met(_pair) => unreachable!(),
+        DualOutcome::Parked => {}
+    }
+}
+
 /// All queues, by their numbers.
 #[derive(Drop)]
 pub(crate) struct Queues {
@@ -134,6 +161,22 @@ impl Queues {
         ensures { result ≡ slice_get (places_of (queue_at self.now queue).givers) 0 }
     {
         self.queues[queue as usize].front()
+    }
+
+    /// The place of a queue's first item above another place, or of its oldest.
+    pub(crate) fn giver_behind(&self, queue: u64, after: Option<Place>) -> Option<Place>
+        requires { FitsQueue queue }
+        ensures { result ≡ first_above after (places_of (queue_at self.now queue).givers) }
+    {
+        self.queues[queue as usize].giver_behind(after)
+    }
+
+    /// The place of a queue's first consumer above another place, or of its oldest.
+    pub(crate) fn taker_behind(&self, queue: u64, after: Option<Place>) -> Option<Place>
+        requires { FitsQueue queue }
+        ensures { result ≡ first_above after (takers_places (queue_at self.now queue).takers) }
+    {
+        self.queues[queue as usize].taker_behind(after)
     }
 
     /// How many items and how many consumers wait in a queue.
@@ -192,6 +235,30 @@ impl Queues {
         ensures others { OnlyQueue queue self.old self.new }
     {
         receive(&mut self.queues[queue as usize], wait, duty)
+    }
+
+    /// An item is laid behind the others of a queue in which no consumer waits.
+    pub(crate) fn lay_giver(&mut self, queue: u64, giver: Giver)
+        requires fits { FitsQueue queue }
+        requires nobody { (queue_at self.old queue).takers ≡ [] }
+        requires room { 0 < (queue_at self.old queue).giver_room.spare }
+        requires above { IsAbove (queue_at self.old queue) (place_of (offer_of giver)) }
+        ensures laid { ParksGiver (queue_at self.old queue) (queue_at self.new queue) (offer_of giver) }
+        ensures others { OnlyQueue queue self.old self.new }
+    {
+        lay_giver(&mut self.queues[queue as usize], giver)
+    }
+
+    /// A consumer is laid behind the others of a queue in which no item waits.
+    pub(crate) fn lay_taker(&mut self, queue: u64, duty: Duty)
+        requires fits { FitsQueue queue }
+        requires nobody { (queue_at self.old queue).givers ≡ [] }
+        requires room { 0 < (queue_at self.old queue).taker_room.spare }
+        requires above { IsAbove (queue_at self.old queue) duty.place }
+        ensures laid { ParksTaker (queue_at self.old queue) (queue_at self.new queue) duty }
+        ensures others { OnlyQueue queue self.old self.new }
+    {
+        lay_taker(&mut self.queues[queue as usize], duty)
     }
 
     /// A queue's oldest item, if there is one, leaves it: its duty, None for a put's, and its place come out.

@@ -1,21 +1,35 @@
 //! The queues and the exchangers, in which requests wait for each other, by the side of a call.
-ghost use Rattle.std.specs.Prelude.{◌≡◌, ◌↔◌, OnOk, OnErr, IfOk, IsTrue, length, slice_get};
+ghost use Rattle.std.specs.Prelude.{◌≡◌, ◌↔◌, ◌<◌, OnOk, OnErr, IfOk, IsTrue, length, slice_get};
 ghost use Rattle.rv_text.specs.Calls.{side_of, wait_of};
 ghost use Rattle.rv_text.specs.Limits.{FitsQueue, FitsSide};
 ghost use Rattle.rv_text.specs.declared.call.Side.TheVariants.{Gives, Takes};
 ghost use Rattle.rv_account.specs.Calls.{opposite};
-ghost use Rattle.rv_waiters.specs.Meeting.{ArrivedOn, HasRoomOn, LacksRoomOn, MakesRoomFor, TakenFor};
-ghost use Rattle.rv_waiters.specs.Meeting.{StaysAlone, Withdrew, opposed_by};
+ghost use Rattle.rv_dual.specs.Above.{first_above};
+ghost use Rattle.rv_dual.specs.Offers.{offer_of};
+ghost use Rattle.rv_waiters.specs.Laying.{LaidOn, MayWaitBy, offer_with};
+ghost use Rattle.rv_waiters.specs.Meeting.{ArrivedOn, FindsNobody, HasRoomOn, LacksRoomOn, MakesRoomFor};
+ghost use Rattle.rv_waiters.specs.Meeting.{MakesRoomOn, StaysAlone, TakenFor, Withdrew, opposed_by, room_on};
 ghost use Rattle.rv_waiters.specs.Views.{AreBelow, NobodyWaits, waiting_on};
 
 use crate::exchangers::Exchangers;
 use crate::outcome::Arrived;
 use crate::queues::Queues;
 use rv_account::lasts;
+use rv_dual::Giver;
 use rv_session::{Duty, Place};
 use rv_text::{Call, NoMemory, Side};
 use std::alloc::Global;
 use std::marker::Model;
+
+// Who lies in a queue at a place: a put's item, or a request's with its duty.
+fn giver_of(place: Place, duty: Option<Duty>) -> Giver
+    ensures { offer_of result ≡ offer_with place duty }
+{
+    match duty {
+        None => Giver::Put(place),
+        Some(duty) => Giver::Waits(duty),
+    }
+}
 
 /// All that wait, in 64 queues and at 64 exchangers, numbered from 0: in a queue items or consumers, the
 /// oldest first, and at an exchanger one request at most. Each waits by the place at which it arrived, a
@@ -53,6 +67,20 @@ impl Waiters {
         self.queues.front(queue)
     }
 
+    /// The place of the first who waits on a side above another place, or of the oldest there; nobody waits
+    /// on one that looks.
+    pub fn behind(&self, side: Side, after: Option<Place>) -> Option<Place>
+        requires { FitsSide side }
+        ensures { result ≡ first_above after (waiting_on self.now side) }
+    {
+        match side {
+            Side::Gives(queue) => self.queues.giver_behind(queue, after),
+            Side::Takes(queue) => self.queues.taker_behind(queue, after),
+            Side::Looks(_) => None,
+            Side::Exchanges(exchanger) => self.exchangers.behind(exchanger, after),
+        }
+    }
+
     /// How many items and how many consumers wait in a queue from 0 to 63.
     pub fn count(&self, queue: u64) -> (usize, usize)
         requires { FitsQueue queue }
@@ -83,6 +111,21 @@ impl Waiters {
         call.wait().is_none_or(|wait| lasts(wait)) && self.opposed(call.side()) == 0
     }
 
+    /// Makes room for one more on a side. Fails only if no room was left there and memory was refused. Either
+    /// way all that wait stay, and so does the room that was there. An exchanger has its own.
+    pub fn reserve_on(&mut self, side: Side) -> Result<(), NoMemory>
+        requires { FitsSide side }
+        ensures makes { MakesRoomOn self.old self.new side }
+        ensures room { OnOk result (0 < (room_on self.new side).spare) }
+        ensures full { OnErr result ((room_on self.old side).spare ≡ 0) }
+    {
+        match side {
+            Side::Gives(queue) => self.queues.reserve_giver(queue),
+            Side::Takes(queue) => self.queues.reserve_taker(queue),
+            Side::Looks(_) | Side::Exchanges(_) => Ok(()),
+        }
+    }
+
     /// Makes room for an arrival that parks in a queue, on its own side; for any other nothing changes. Fails
     /// only if it parks, no room was left there and memory was refused. Either way all that wait stay.
     pub fn reserve(&mut self, call: &Call) -> Result<(), NoMemory>
@@ -94,10 +137,25 @@ impl Waiters {
         if !self.parks(call) {
             return Ok(());
         }
-        match call.side() {
-            Side::Gives(queue) => self.queues.reserve_giver(queue),
-            Side::Takes(queue) => self.queues.reserve_taker(queue),
-            Side::Looks(_) | Side::Exchanges(_) => Ok(()),
+        self.reserve_on(call.side())
+    }
+
+    /// Lays one who waited before behind all others of its side: a request with its duty, the item of a put
+    /// with none. Nobody may face it, its place is to be above those of all that wait, and its side is to
+    /// have room. All others stay.
+    pub fn lay(&mut self, side: Side, place: Place, duty: Option<Duty>)
+        requires fits { FitsSide side }
+        requires owed { MayWaitBy side place duty }
+        requires nobody { FindsNobody self.old side }
+        requires room { 0 < (room_on self.old side).spare }
+        requires above { AreBelow self.old place }
+        ensures { LaidOn self.old self.new side place duty }
+    {
+        match side {
+            Side::Gives(queue) => self.queues.lay_giver(queue, giver_of(place, duty)),
+            Side::Takes(queue) => self.queues.lay_taker(queue, duty.unwrap()),
+            Side::Looks(_) => unreachable!(),
+            Side::Exchanges(exchanger) => self.exchangers.lay(exchanger, duty.unwrap()),
         }
     }
 

@@ -1,8 +1,8 @@
 -- Who was found is marked, and the others stay in their order.
-use Rattle.std.proofs.Common.{◌≡◌, ◌-◌, ℕ, List, length, sym, ap, ◌∙◌, subst, arith}
+use Rattle.std.proofs.Common.{List, length, sym, ap, ◌∙◌, subst, arith}
 use Rattle.std.proofs.lemmas.Option.{slice_get_within}
 use Rattle.rv_dual.specs.declared.slot.Slot.{Slot}
-use Rattle.rv_dual.specs.Slots.{IsSlotLine, Rises, waiting_in}
+use Rattle.rv_dual.specs.Slots.{Rises, waiting_in}
 use Rattle.rv_dual.proofs.Marking.{held_at, one_fewer, rises_marked, waiting_marked, waits_there}
 use Rattle.rv_dual.proofs.Removing.{without_none}
 use Rattle.rv_dual.proofs.Searching.{if_none}
@@ -32,8 +32,8 @@ overflow_sub-self g c =
           c.args.place c.unwrap-out.result both.0,
     )
 
-pub trim-requires : goal.trim-requires
-trim-requires g c =
+pub trim-requires-clause-rises : goal.trim-requires-clause-rises
+trim-requires-clause-rises g c =
     let both = held_at (g.T.StandsInLine.waits_at c.args.place) c.self.inside.slots.items c.in_ok-index.index
     c.unwrap-out.result c.in_ok-index.ensures.found (sym c.unwrap-out.ensures ∙ c.mark.ensures.out) in
     subst (λ (l : List (Slot _)). Rises g.T.StandsInLine.place_of l) (sym c.mark.ensures.rest)
@@ -41,21 +41,18 @@ trim-requires g c =
     c.unwrap-out.result both.0 (g.met.T.StandsInLine.at_its_place c.args.place c.unwrap-out.result both.1)
     c.self.invariant.rises)
 
-pub invariant_of-self : goal.invariant_of-self
-invariant_of-self g c =
+pub trim-requires-clause-counted : goal.trim-requires-clause-counted
+trim-requires-clause-counted g c =
     let both = held_at (g.T.StandsInLine.waits_at c.args.place) c.self.inside.slots.items c.in_ok-index.index
     c.unwrap-out.result c.in_ok-index.ensures.found (sym c.unwrap-out.ensures ∙ c.mark.ensures.out) in
     let is_marked = ap (λ (l : List (Slot _)). length (waiting_in l)) c.mark.ensures.rest in
-    let counted : length (waiting_in c.mark.new.slots.items) ≡ c.self.inside.count - 1 =
     omega (
       arith,
       is_marked,
       c.self.invariant.counted,
       one_fewer c.self.inside.slots.items c.in_ok-index.index
           c.args.place c.unwrap-out.result both.0,
-    ) in
-    subst (λ (n : ℕ). IsSlotLine g.T.StandsInLine.place_of c.trim.new.slots.items n) counted
-    c.trim.ensures.line
+    )
 
 pub returns-clause-some : goal.returns-clause-some
 returns-clause-some g c =

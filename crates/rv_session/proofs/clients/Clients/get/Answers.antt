@@ -2,10 +2,10 @@
 use Rattle.std.proofs.Common.{sym, ap, ◌∙◌}
 use Rattle.std.specs.FinMap.{get}
 use Rattle.rv_session.specs.Clients.{ClientStates}
-use Rattle.rv_session.proofs.Mapping.{get_kept}
+use Rattle.rv_session.proofs.OrderedMap.{get_tree}
 use Rattle.rv_session.proofs.clients.Clients.get.Goals as goal
 
 pub returns : goal.returns
 returns c =
-    c.get.ensures.value ∙ sym (get_kept c.self.inside.clients.entries c.args.client)
+    c.get.ensures.value ∙ sym (get_tree c.self.inside.clients.entries c.args.client)
     ∙ ap (λ (t : ClientStates). get t.clients c.args.client) c.self.view_is

@@ -1,8 +1,7 @@
 //! The limits under which a step is made.
 ghost use Rattle.std.specs.Prelude.{◌≡◌, ◌↔◌, ◌≤◌, IfSome, IsSome};
-ghost use Rattle.rv_open.specs.OpenMap.{most_counted};
 ghost use Rattle.rv_rules.specs.StepLimits.{AreStepLimits, book_limits};
-ghost use Rattle.rv_machine.specs.Limiting.{most_known, widest};
+ghost use Rattle.rv_rules.specs.Reach.{most_counted, most_known, widest};
 
 use std::marker::Model;
 
@@ -13,7 +12,7 @@ const MOST_ENTRIES: usize = 9_007_199_254_740_991;
 const MOST_COUNTED: usize = 18_014_398_509_481_984;
 
 /// The most clients that a machine knows, whatever the limits of its steps.
-pub(crate) const MOST_KNOWN: usize = 100_000;
+pub const MOST_KNOWN: usize = 100_000;
 
 // The most clients of a step's limits.
 const MOST_CLIENTS: usize = 65_536;
@@ -32,7 +31,7 @@ pub struct Limits {
 
 impl Model for Limits {
     ghost use Rattle.rv_rules.specs.StepLimits.{StepLimits};
-    ghost use Rattle.rv_machine.specs.Limiting.{AreWithin};
+    ghost use Rattle.rv_rules.specs.Reach.{AreWithin};
 
     ghost Value = { StepLimits };
 
@@ -46,7 +45,7 @@ impl Model for Limits {
 }
 
 impl Limits {
-    ghost use Rattle.rv_machine.specs.Limiting.{step_limits};
+    ghost use Rattle.rv_rules.specs.Reach.{step_limits};
 
     /// Those of a book: 100,000 entries, 1,024 clients, and no bound on what is open.
     pub fn book() -> Limits
@@ -76,8 +75,8 @@ impl Limits {
         })
     }
 
-    // Past all that a state to resume from has: by these no entry is refused that was written before.
-    pub(crate) fn widest() -> Limits
+    /// Past all that a state to resume from has: under these no entry is refused that was written before.
+    pub fn widest() -> Limits
         ensures { result ≡ widest }
     {
         Limits {

@@ -1,0 +1,74 @@
+//! The state of a machine as such: a copy of it, and a machine that goes on from one.
+ghost use Rattle.std.specs.Prelude.{◌≡◌, IfErr, IfOk};
+ghost use Rattle.rv_resume.specs.Resuming.{CanResume};
+ghost use Rattle.rv_machine.specs.Machines.{IsWhole, state_in};
+ghost use Rattle.rv_machine.specs.Numbering.{AreNumbered};
+ghost use Rattle.rv_machine.specs.Remaking.{IsWhyNot};
+
+use crate::machine::Machine;
+use rv_open::OpenTable;
+use rv_resume::Snapshot;
+use rv_rules::MOST_KNOWN;
+use rv_session::Clients;
+use rv_text::NoMemory;
+use std::alloc::Global;
+
+/// Why no machine was made of a state.
+#[derive(Clone, Copy, Debug, PartialEq, Eq)]
+pub enum NoMachine {
+    /// The state lacks something that a state to resume from has.
+    Unfit,
+    /// Memory was refused.
+    NoMemory,
+}
+
+impl Machine {
+    /// A copy of the state. Fails only if memory was refused.
+    pub fn state(&self) -> Result<Snapshot, NoMemory>
+        ensures { IfOk result (λ s. s ≡ state_in self.now) }
+    {
+        let alloc = self.allocator();
+        let places = self.table.places(alloc)?;
+        let clients = self.clients.states(alloc)?;
+        let (epoch, length) = (self.clients.epoch(), self.length as u64);
+        Ok(Snapshot::from_parts(epoch, self.moment, length, places, clients).unwrap())
+    }
+
+    /// The machine of a state to resume from, whatever account made that: it goes on as a machine does that
+    /// came to it, and has settled nothing yet. It takes time as [`Snapshot::can_resume`] does.
+    pub fn resume(alloc: Global, state: Snapshot) -> Result<Machine, NoMachine>
+        ensures state { IfOk result (λ m. state_in m ≡ state) }
+        ensures ready { IfOk result IsWhole }
+        ensures numbered { IfOk result (λ m. AreNumbered (state_in m)) }
+        ensures fits { IfOk result (λ _. CanResume state) }
+        ensures err { IfErr result (IsWhyNot state) }
+    {
+        if !state.can_resume() {
+            return Err(NoMachine::Unfit);
+        }
+        match Machine::holding(alloc, state) {
+            Ok(machine) => Ok(machine),
+            Err(_) => Err(NoMachine::NoMemory),
+        }
+    }
+
+    // The machine that holds a state to resume from. Fails only if memory was refused.
+    fn holding(alloc: Global, state: Snapshot) -> Result<Machine, NoMemory>
+        requires { CanResume state }
+        ensures state { IfOk result (λ m. state_in m ≡ state) }
+        ensures ready { IfOk result IsWhole }
+        ensures numbered { IfOk result (λ m. AreNumbered (state_in m)) }
+    {
+        let (epoch, moment, length, places, clients) = state.into_parts();
+        let clients = Clients::from_states(alloc, epoch, MOST_KNOWN, clients)?;
+        let table = OpenTable::resume(alloc, &clients, places)?;
+        let settled = Vec::with_capacity(alloc, table.waiting())?;
+        Ok(Machine {
+            moment,
+            length: length as usize,
+            table,
+            clients,
+            settled,
+        })
+    }
+}
