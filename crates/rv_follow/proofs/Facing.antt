@@ -20,7 +20,10 @@ use Rattle.rv_state.proofs.Filtered.{find_get, get_filter, get_find, map_get}
 use Rattle.rv_state.proofs.PlacesLeft.{among_place}
 use Rattle.rv_state.proofs.SideLines.{same_side_itself}
 use Rattle.rv_follow.specs.Ruling.{IfArrives}
-use Rattle.rv_follow.specs.Walking.{HoldsOfAll}
+use Rattle.std.proofs.Common.{[], ◌∷◌, cond}
+use Rattle.rv_open.specs.OpenMap.{first_behind}
+use Rattle.rv_state.specs.State.{line}
+use Rattle.rv_follow.specs.Walking.{HoldsOfAll, facing, first_above, is_above}
 use Rattle.rv_follow.proofs.DueNow.{Iff}
 use Rattle.rv_follow.proofs.Naming.{never}
 
@@ -115,3 +118,30 @@ named_told Is s e call partners b arrives are told = (
   λ named. told.1 (λ p at. named call arrives p call (subst (λ (ps : List ℕ). Among ps p) are at)
       arrives.arrives),
 )
+
+-- ---- the line
+
+-- the first place above another is that of the first that stands above it
+pub first_placed : (after : Option ℕ) (line : List OpenPlace)
+    → first_above after (place_list line) ≡ option_map (λ (o : OpenPlace). o.place) (first_behind after line)
+first_placed after [] = refl
+first_placed after (o ∷ line) = by_head (is_above after o.place) (first_placed after line)
+  where
+    by_head : (b : Bool)
+        → first_above after (place_list line)
+        ≡ option_map (λ (o : OpenPlace). o.place) (first_behind after line)
+        → cond b (Some o.place) (first_above after (place_list line))
+        ≡ option_map (λ (o : OpenPlace). o.place) (cond b (Some o) (first_behind after line))
+    by_head true rest = refl
+    by_head false rest = rest
+
+module _ (s : State) (call : Call) (after : Option ℕ) where
+  pub faces_none : None ≡ opposite (side_of call) → None ≡ first_above after (facing s call)
+  faces_none none = ap (λ (o : Option Side). first_above after (place_list (line_of s o))) none
+
+  pub faces_first : (side : Side) (found : Option OpenPlace) → Some side ≡ opposite (side_of call)
+      → found ≡ first_behind after (line s side)
+      → option_map (λ (o : OpenPlace). o.place) found ≡ first_above after (facing s call)
+  faces_first side found opposes is =
+      ap (option_map (λ (o : OpenPlace). o.place)) is ∙ sym (first_placed after (line s side))
+      ∙ ap (λ (o : Option Side). first_above after (place_list (line_of s o))) opposes

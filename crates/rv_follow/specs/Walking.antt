@@ -1,7 +1,7 @@
 -- What is asked of an entry's partners one by one, and of the line of those that its call might meet.
-use Rattle.std.specs.Prelude.{◌≡◌, ◌<◌, ℕ, Bool, true, List, length, Option, Some, None, nat_lt, slice_get}
-use Rattle.std.specs.List.{find}
+use Rattle.std.specs.Prelude.{◌≡◌, ◌<◌, ℕ, List, length, Some, slice_get}
 use Rattle.rv_text.specs.declared.call.Call.{Call}
+pub use Rattle.rv_dual.specs.Above.{first_above, is_above}
 use Rattle.rv_account.specs.Account.{Among}
 use Rattle.rv_account.specs.Calls.{may_name}
 use Rattle.rv_state.specs.Kept.{IsOpposite}
@@ -17,15 +17,6 @@ HoldsBefore Holds places n = (i p : ℕ) → i < n → slice_get places i ≡ So
 -- the places of those that a call might meet, the oldest first
 abbrev pub facing : State → Call → List ℕ
 facing s call = place_list (opposites s call)
-
--- whether a place is above another, or above none
-abbrev pub is_above : Option ℕ → ℕ → Bool
-is_above None place = true
-is_above (Some least) place = nat_lt least place
-
--- the first of a list of places that is
-abbrev pub first_above : Option ℕ → List ℕ → Option ℕ
-first_above after places = find (is_above after) places
 
 -- the first so many of these places are the first of the others
 abbrev pub AgreeBefore : List ℕ → List ℕ → ℕ → Type 0

@@ -6,6 +6,7 @@ ghost use Rattle.rv_machine.specs.Machines.{state_in};
 ghost use Rattle.rv_resume.specs.Resuming.{CanResume};
 ghost use Rattle.rv_follow.specs.Walking.{AgreeBefore, IsFront, TakesAll, facing, first_above};
 
+use crate::partners::opposite;
 use rv_account::{Place, may_name};
 use rv_machine::Machine;
 use rv_text::Call;
@@ -16,7 +17,8 @@ fn next_facing(machine: &Machine, call: &Call, after: Option<Place>) -> Option<P
     requires fits { FitsCall call.now }
     ensures { result ≡ first_above after (facing (state_in machine.now) call.now) }
 {
-    None
+    let side = opposite(call.side())?;
+    Some(machine.behind(side, after)?.place)
 }
 
 // The last of so many of the partners.
