@@ -223,7 +223,7 @@ pairs_where_possible es e pairs swaps r call arrives fewer there =
     ]
 
 -- who exchanges names one partner at most
-one_partner : (call : Call) → IsSwapped (side_of call) → may_name call ≡ 1
+pub one_partner : (call : Call) → IsSwapped (side_of call) → may_name call ≡ 1
 one_partner (Drain queue max) swapped = absurd swapped
 one_partner _ swapped = refl
 

@@ -2,6 +2,13 @@
 //! not, and the machine behind it.
 #![tactic(auto)]
 
+mod following;
 pub mod laws;
+mod line;
 mod moments;
 mod numbers;
+mod partners;
+mod room;
+mod ruling;
+
+pub use following::{Followed, follow};

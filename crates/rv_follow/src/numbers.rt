@@ -60,8 +60,8 @@ pub(crate) fn in_session(machine: &Machine, act: &Act) -> bool
     }
 }
 
-// Whether the request waits.
-fn is_waiting(request: &LastRequest) -> bool
+/// Whether the request waits.
+pub(crate) fn is_waiting(request: &LastRequest) -> bool
     ensures yes { IsTrue result ↔ IsSome (place_waiting request.now) }
     ensures no { IsTrue result ↔ place_waiting request.now ≢ None }
 {

@@ -1,0 +1,13 @@
+-- What a state tells of an entry, before anything is done.
+use Rattle.rv_account.specs.declared.entry.Entry.{Entry}
+use Rattle.rv_state.specs.Follows.{FollowsState}
+use Rattle.rv_state.specs.State.{State}
+use Rattle.rv_follow.specs.declared.ruling.Ruling.{Ruling}
+use Rattle.rv_follow.specs.declared.ruling.Ruling.TheVariants.{Breaks, Follows, NotOpen}
+use Rattle.rv_follow.specs.Ruling.{BreaksFirst, NamesClosed}
+
+-- what is told is so
+abbrev pub IsRulingOf : State → Entry → Ruling → Type 0
+IsRulingOf s e Follows = FollowsState s e
+IsRulingOf s e (Breaks rule) = BreaksFirst s e rule
+IsRulingOf s e NotOpen = NamesClosed s e

@@ -1,0 +1,65 @@
+//! An entry that was written before is followed by a machine, or it is told why not.
+ghost use Rattle.rv_account.specs.Limits.{FitsEntry};
+ghost use Rattle.rv_machine.specs.Machines.{IsWhole, state_in};
+ghost use Rattle.rv_resume.specs.Resuming.{CanResume};
+ghost use Rattle.rv_state.specs.Follows.{FollowsState};
+ghost use Rattle.rv_follow.specs.Outcomes.{IsFollowed};
+
+use crate::room::has_room;
+use crate::ruling::{Ruling, rule_on};
+use rv_account::Entry;
+use rv_audit::Rule;
+use rv_machine::Machine;
+
+/// What became of an entry that was written before.
+#[derive(Clone, Copy, Debug, PartialEq, Eq)]
+pub enum Followed {
+    /// It follows, and the machine holds the state after it.
+    Done,
+    /// It breaks this rule first, in the order of an audit.
+    Breaks(Rule),
+    /// It names a place that is open nowhere, and breaks no rule before: it breaks P1, or else P2 or S1.
+    NotOpen,
+    /// It follows, but the state after it would have no room.
+    BeyondLimits,
+    /// It follows, but memory was refused.
+    NoMemory,
+}
+
+/// Follows an entry that was written before, whatever limits its step had, and lists whom it settles. Unless
+/// it is done, the state stays; and all stays where memory wasn't wanting. A tick, and a cancel of what waits,
+/// take no memory.
+pub fn follow(machine: &mut Machine, entry: Entry) -> Followed
+    requires ready { IsWhole machine.old }
+    requires resumes { CanResume (state_in machine.old) }
+    requires fits { FitsEntry entry }
+    ensures ready { IsWhole machine.new }
+    ensures resumes { CanResume (state_in machine.new) }
+    ensures became { IsFollowed machine.old machine.new entry result }
+{
+    match rule_on(machine, &entry) {
+        Ruling::Follows => follow_on(machine, entry),
+        Ruling::Breaks(rule) => Followed::Breaks(rule),
+        Ruling::NotOpen => Followed::NotOpen,
+    }
+}
+
+// The same of one that follows.
+fn follow_on(machine: &mut Machine, entry: Entry) -> Followed
+    requires ready { IsWhole machine.old }
+    requires resumes { CanResume (state_in machine.old) }
+    requires fits { FitsEntry entry }
+    requires follows { FollowsState (state_in machine.old) entry }
+    ensures ready { IsWhole machine.new }
+    ensures resumes { CanResume (state_in machine.new) }
+    ensures became { IsFollowed machine.old machine.new entry result }
+{
+    if !has_room(machine, &entry) {
+        return Followed::BeyondLimits;
+    }
+    if machine.redo(entry.moment, entry.act) {
+        Followed::Done
+    } else {
+        Followed::NoMemory
+    }
+}
