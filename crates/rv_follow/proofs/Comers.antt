@@ -1,9 +1,9 @@
 -- The room after an arrival: one that meets nobody, and one that meets some.
-use Rattle.std.proofs.Common.{◌≡◌, ◌<◌, ◌≤◌, ◌+◌, ◌∷◌, ◌++◌, ◌∙◌, ◌&&◌, ℕ, zero, suc, List, [], Bool, true, false}
-use Rattle.std.proofs.Common.{cond, not, Option, Some, None, is_some, length, refl, sym, ap, subst, arith}
-use Rattle.std.proofs.Common.{slice_get, nat_eq, nat_lt, IsTrue}
+use Rattle.std.proofs.Common.{◌≡◌, ◌<◌, ◌≤◌, ◌+◌, ◌∷◌, ◌∙◌, ◌&&◌, ℕ, zero, suc, List, [], Bool, true, false}
+use Rattle.std.proofs.Common.{cond, Option, Some, is_some, length, refl, sym, ap, subst, arith}
+use Rattle.std.proofs.Common.{slice_get, nat_eq, nat_lt}
 use Rattle.std.specs.FinMap.{len}
-use Rattle.std.proofs.lemmas.Bool.{eq-eqb, eqb-true, false≢true, true≢false}
+use Rattle.std.proofs.lemmas.Bool.{eq-eqb, eqb-true}
 use Rattle.std.proofs.lemmas.Bool.Decides.{nat_tests}
 use Rattle.std.proofs.lemmas.List.{length-append}
 use Rattle.std.proofs.lemmas.Option.{none-some}
@@ -20,7 +20,7 @@ use Rattle.rv_open.proofs.Indexing.{same_place}
 use Rattle.rv_resume.specs.Resuming.{CanResume, StaysInRoom}
 use Rattle.rv_resume.proofs.Counts.{arrived_len, length_acted, places_within, waiters, waiting_acted}
 use Rattle.rv_state.specs.After.{acted, but, following, lasts_by, met_by, opened_by, parked, stays_open}
-use Rattle.rv_state.specs.State.{OpenPlace, State, Waiter, open_at, place_list, waiting_count}
+use Rattle.rv_state.specs.State.{OpenPlace, State, Waiter, place_list, waiting_count}
 use Rattle.rv_state.proofs.Filtered.{filter_all, find_get, get_find, get_map, map_get}
 use Rattle.rv_state.proofs.GoneBy.{gone_by}
 use Rattle.rv_state.proofs.OpensBy.{opens_by}
@@ -28,7 +28,6 @@ use Rattle.rv_state.proofs.PlacesAfter.{places_acted}
 use Rattle.rv_follow.specs.Rooming.{HasSpace, IsAwaited, IsUnawaited}
 use Rattle.rv_follow.specs.Walking.{HoldsOfAll}
 use Rattle.rv_follow.proofs.Calm.{Unawaited, freed, is_left, none_gone, spaced, unfreed}
-use Rattle.rv_follow.proofs.DueNow.{Iff}
 
 -- ---- what an arrival that meets nobody needs
 

@@ -1,13 +1,13 @@
 -- Whom a call might meet, told by what is open at a place.
 use Rattle.std.proofs.Common.{◌≡◌, ◌∙◌, ℕ, Bool, true, false, List, Option, Some, None, refl, sym, ap, subst}
-use Rattle.std.proofs.Common.{IsTrue, is_some, nat_eq, option_map, slice_get}
+use Rattle.std.proofs.Common.{IsTrue, is_some, nat_eq, option_map}
 use Rattle.std.proofs.lemmas.Bool.{eq-eqb, eqb-true, false≢true}
 use Rattle.std.proofs.lemmas.Option.{none-some, same_Some}
 use Rattle.rv_text.specs.declared.call.Call.{Call}
 use Rattle.rv_text.specs.declared.call.Side.{Side}
 use Rattle.rv_text.specs.Calls.{side_of}
 use Rattle.rv_account.specs.declared.entry.Entry.{Entry}
-use Rattle.rv_account.specs.Account.{Among, call_in}
+use Rattle.rv_account.specs.Account.{Among}
 use Rattle.rv_account.specs.Calls.{opposite}
 use Rattle.rv_rules.proofs.Naming.{among_none}
 use Rattle.rv_audit.specs.Breaking.{ArrivesAs}

@@ -1,7 +1,7 @@
 -- The line of those that a call might meet, beside the partners that an entry names.
-use Rattle.std.proofs.Common.{◌≡◌, ◌↔◌, ◌<◌, ◌≤◌, ◌∙◌, ℕ, Bool, true, false, List, length, get_or, Option, Some}
+use Rattle.std.proofs.Common.{◌≡◌, ◌<◌, ◌∙◌, ℕ, Bool, true, false, List, length, get_or, Option, Some}
 use Rattle.std.proofs.Common.{None, refl, sym, ap, subst, arith, slice_get, inl, inr, nat_eq, IsTrue}
-use Rattle.std.proofs.lemmas.Bool.{cases_lt, eq-eqb, eqb-true, false≢true}
+use Rattle.std.proofs.lemmas.Bool.{cases_lt, eq-eqb, eqb-true}
 use Rattle.std.proofs.lemmas.Option.{none-some, same_Some, slice_get-get_or}
 use Rattle.rv_text.specs.declared.call.Call.{Call}
 use Rattle.rv_text.specs.declared.call.Side.{Side}
@@ -87,11 +87,11 @@ module _ (s : State) (is : CanResume s) (call : Call) (partners : List ℕ)
   one_left next there fewer =
       never (TakesAll s call partners)
       (λ all.
-          let at = all next fewer (length partners, sym there) in
-          let inside : at.0 < length partners = within partners at.0 next at.1 in
-          let up = facing_rises s is call at.0 (length partners) next next inside (front at.0 inside ∙ at.1)
-          (sym there) in
-          omega (arith, up))
+      let at = all next fewer (length partners, sym there) in
+      let inside : at.0 < length partners = within partners at.0 next at.1 in
+      let up = facing_rises s is call at.0 (length partners) next next inside (front at.0 inside ∙ at.1)
+      (sym there) in
+      omega (arith, up))
 
 -- ---- of an entry
 

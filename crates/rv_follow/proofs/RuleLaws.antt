@@ -1,6 +1,6 @@
 -- The laws of entries that follow a state.
-use Rattle.std.proofs.Common.{◌≡◌, ◌<◌, ◌≤◌, ◌∷◌, ◌++◌, ◌∙◌, ℕ, suc, inl, inr, List, [], length, take, Option, Some}
-use Rattle.std.proofs.Common.{refl, sym, ap, subst, arith}
+use Rattle.std.proofs.Common.{◌≡◌, ◌<◌, ◌≤◌, ◌∷◌, ◌++◌, ◌∙◌, ℕ, suc, inl, inr, List, [], length, take, Option}
+use Rattle.std.proofs.Common.{sym, ap, subst, arith}
 use Rattle.std.specs.List.{slice_get}
 use Rattle.std.proofs.Math.Seq.{take-append_seam}
 use Rattle.std.proofs.lemmas.Bool.{cases_lt}
@@ -19,7 +19,7 @@ use Rattle.rv_state.specs.State.{place_list}
 use Rattle.rv_state.proofs.Agreed.{agreed}
 use Rattle.rv_state.proofs.FollowsBoth.{account_to_state, state_to_account}
 use Rattle.rv_state.proofs.RulesKept.{rules_agree}
-use Rattle.rv_audit.specs.Breaking.{BreaksBehind, FirstFault, IsPaired, IsSwapped, IsToldOf, rank_of}
+use Rattle.rv_audit.specs.Breaking.{BreaksBehind, FirstFault, IsToldOf, rank_of}
 use Rattle.rv_audit.specs.declared.rule.Audit.{Audit}
 use Rattle.rv_audit.specs.declared.rule.Audit.TheVariants as tells
 use Rattle.rv_audit.specs.declared.rule.Rule.{Rule}
@@ -75,14 +75,14 @@ module _ (a : Account) (e : Entry) (legal : Legal a) where
             (legal place broken.entry inside.1) rule
             (subst (λ es. BreaksBehind rule (of_entries es) broken.entry) front broken.breaks))
         | inr last ↦ record {
-            at_end = last.0;
-            breaks = at_last rule broken.entry place last.0 last.1 broken.breaks;
-            first = λ other less breaks. fault.first other less (record {
-              entry = e;
-              there = ap (λ n. slice_at n) last.0 ∙ get-append_end a.entries e;
-              breaks = from_last other place last.0 breaks;
-            });
-          }
+          at_end = last.0;
+          breaks = at_last rule broken.entry place last.0 last.1 broken.breaks;
+          first = λ other less breaks. fault.first other less (record {
+            entry = e;
+            there = ap (λ n. slice_at n) last.0 ∙ get-append_end a.entries e;
+            breaks = from_last other place last.0 breaks;
+          });
+        }
       ]
     where
       slice_at : ℕ → Option Entry

@@ -1,17 +1,17 @@
 -- Of each rule: where the state of a legal account keeps it the account does, and the other way round, as long
 -- as those before it are kept.
-use Rattle.std.proofs.Common.{◌≡◌, ◌<◌, ◌≤◌, ◌∙◌, ℕ, zero, suc, Option, Some, None, refl, sym, ap, subst, arith}
-use Rattle.std.proofs.lemmas.Option.{none-some, same_Some}
+use Rattle.std.proofs.Common.{◌≡◌, ◌<◌, ◌≤◌, ◌∙◌, ℕ, zero, suc, Option, Some, None, refl, sym, subst, arith}
+use Rattle.std.proofs.lemmas.Option.{same_Some}
 use Rattle.rv_text.specs.declared.call.Call.{Call}
 use Rattle.rv_text.specs.declared.call.Side.{Side}
 use Rattle.rv_text.specs.Calls.{side_of}
 use Rattle.rv_account.specs.declared.entry.Entry.{Entry}
-use Rattle.rv_account.specs.Account.{Account, Among, Names, call_in}
+use Rattle.rv_account.specs.Account.{Account, Among, call_in}
 use Rattle.rv_account.specs.Calls.{opposite}
-use Rattle.rv_rules.specs.Legal.{Legal, NamesFreePartners, PairsOpposites}
+use Rattle.rv_rules.specs.Legal.{Legal}
 use Rattle.rv_rules.proofs.Naming.{among_none}
 use Rattle.rv_state.specs.After.{state_of}
-use Rattle.rv_state.specs.Kept.{IsOpposite, NamesAll, NamesOldest, NamesOpen, NamesOpposites, NamesWell}
+use Rattle.rv_state.specs.Kept.{IsOpposite, NamesAll, NamesOpen, NamesOpposites, NamesWell}
 use Rattle.rv_state.specs.Kept.{RulesAgree}
 use Rattle.rv_state.specs.State.{OpenPlace, State, line_of, place_list, same_side}
 use Rattle.rv_state.proofs.Filtered.{filter_get, map_get}

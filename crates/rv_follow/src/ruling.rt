@@ -12,8 +12,9 @@ ghost use Rattle.rv_follow.specs.Told.{IsRulingOf};
 
 use crate::moments::{keeps_limits, keeps_time, ticks_rightly};
 use crate::numbers::{hello_rises, in_session, in_turn};
-use crate::partners::{names_open, names_well, pairs_all, pairs_oldest, pairs_opposites, swaps_all};
-use crate::partners::swaps_opposites;
+use crate::partners::{
+    names_open, names_well, pairs_all, pairs_oldest, pairs_opposites, swaps_all, swaps_opposites,
+};
 use rv_account::Entry;
 use rv_audit::Rule;
 use rv_machine::Machine;

@@ -1,4 +1,4 @@
-use Rattle.std.proofs.Common.{◌∙◌, sym, false, true}
+use Rattle.std.proofs.Common.{◌∙◌, sym}
 use Rattle.std.proofs.lemmas.Bool.{false≢true}
 use Rattle.rv_machine.specs.Machines.{state_in}
 use Rattle.rv_state.specs.Kept.{NamesWell}
