@@ -12,7 +12,8 @@ use Rattle.rv_account.specs.Limits.{max_moment}
 use Rattle.rv_account.specs.declared.entry.Act.{Act}
 use Rattle.rv_session.specs.Clients.{place_waiting}
 use Rattle.rv_resume.specs.Resuming.{CanResume, StaysInRoom}
-use Rattle.rv_resume.proofs.Counts.{length_acted, places_within, waiter_gone, waiters, waiting_acted, waiting_within}
+use Rattle.rv_resume.proofs.Counts.{length_acted, places_within, waiter_gone, waiters, waiting_acted}
+use Rattle.rv_resume.proofs.Counts.{waiting_within}
 use Rattle.rv_resume.proofs.Kept.{holds}
 use Rattle.rv_resume.proofs.Stopping.{waits_found}
 use Rattle.rv_state.specs.After.{acted, but, following, just_open}
@@ -44,7 +45,8 @@ not_true false is = absurd (true≢false is)
 
 module _ (o : OpenPlace) (all gone : List OpenPlace) where
   one_left : (b : Bool) → is_left gone o ≡ b → (is_left gone o ≡ false → is_some o.waiter ≡ false)
-      → waiters (but all gone) ≡ waiters all → waiters (cond b (o ∷ but all gone) (but all gone)) ≡ waiters (o ∷ all)
+      → waiters (but all gone) ≡ waiters all → waiters (cond b (o ∷ but all gone) (but all gone)) ≡ waiters
+      (o ∷ all)
   one_left true is none same =
       both_more (is_some o.waiter) o (filter (λ (x : OpenPlace). is_some x.waiter) (but all gone))
       (filter (λ (x : OpenPlace). is_some x.waiter) all) same

@@ -72,7 +72,8 @@ module _ (s : State) (is : CanResume s) (moment : ℕ) (time : moment ≤ max_mo
     waits_alone =
         let is_count = waiting_acted s moment (Arrive key c) in
         let same = none_gone s.open_places (gone_by s moment (Arrive key c))
-        (λ i j o x at stands equal. absurd (none-some x (ap (λ (l : List OpenPlace). slice_get l j) (sym alone)
+        (λ i j o x at stands equal. absurd (none-some x (ap (λ (l : List OpenPlace). slice_get l j)
+        (sym alone)
         ∙ stands))) in
         let more = ap waiters opens_alone in
         let need = alone_need s moment key c in
@@ -167,5 +168,6 @@ module _ (s : State) (is : CanResume s) (moment : ℕ) (time : moment ≤ max_mo
 
 -- an arrival that names nobody meets nobody
 pub none_met : (those : List OpenPlace) → place_list those ≡ [] → those ≡ []
-none_met [] none = refl
-none_met (first ∷ others) none = absurd (none-some first.place (ap (λ (ps : List ℕ). slice_get ps 0) (sym none)))
+none_met [] empty = refl
+none_met (first ∷ others) empty =
+    absurd (none-some first.place (ap (λ (ps : List ℕ). slice_get ps 0) (sym empty)))

@@ -88,7 +88,8 @@ module _ (s : State) (place : ℕ) where
     faces at = faces_by (opposite (side_of call)) at
 
     pub facing_told : (there : OpenPlace) (b : Bool) → Some there ≡ open_at s place
-        → Iff (IsTrue b) (opposite (side_of call) ≡ Some there.side) → Iff (IsTrue b) (IsOpposite s call place)
+        → Iff (IsTrue b) (opposite (side_of call) ≡ Some there.side)
+        → Iff (IsTrue b) (IsOpposite s call place)
     facing_told there b found same = (
       λ t. facing_by there (sym found) (same.0 t),
       λ at.

@@ -132,7 +132,8 @@ module _ (p x : ℕ) (places line : List ℕ) (up : Rise (p ∷ places)) (rise :
       let less = not_head apart (of p (0, refl)) in
       absurd (no_head less (closed p x (0, refl) (0, refl) less))
 
--- those that rise, are of the line, and among which is whatever stands there before one of them, are its first
+-- those that rise, are of the line, and among which is whatever stands there before one of them, are its
+-- first
 pub front_from : (places line : List ℕ) → Rise places → Rise line → ((p : ℕ) → Among places p → Among line p)
     → Closed places line → IsFront places line
 front_from [] line up rise of closed = λ i inside. absurd (omega arith)

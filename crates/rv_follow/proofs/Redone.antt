@@ -24,7 +24,8 @@ use Rattle.rv_follow.specs.Outcomes.{HasFollowed, TellsOwn}
 
 -- ---- the own reply
 
-told_after : (place : ℕ) (call : Call) (told : Option Reply) → told_again (request_after place call told) ≡ told
+told_after : (place : ℕ) (call : Call) (told : Option Reply)
+    → told_again (request_after place call told) ≡ told
 told_after place call None = refl
 told_after place call (Some reply) = refl
 

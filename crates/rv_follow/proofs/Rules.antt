@@ -1,4 +1,5 @@
--- Of each rule: where the state of a legal account keeps it the account does, and the other way round, as long
+-- Of each rule: where the state of a legal account keeps it the account does, and the other way round, as
+-- long
 -- as those before it are kept.
 use Rattle.std.proofs.Common.{◌≡◌, ◌<◌, ◌≤◌, ◌∙◌, ℕ, zero, suc, Option, Some, None, refl, sym, subst, arith}
 use Rattle.std.proofs.lemmas.Option.{same_Some}

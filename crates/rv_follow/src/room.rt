@@ -101,7 +101,8 @@ fn stays(call: &Call) -> bool
 // Whether there is space for one entry more, or one that waits of the client makes place for it.
 fn has_place(machine: &Machine, client: u64) -> bool
     requires { CanResume (state_in machine.now) }
-    ensures yes { result ≡ true → HasSpace (state_in machine.now) 1 ⊎ HasAwaiting (state_in machine.now) client }
+    ensures yes { result ≡ true
+        → HasSpace (state_in machine.now) 1 ⊎ HasAwaiting (state_in machine.now) client }
     ensures space { result ≡ false → ¬ HasSpace (state_in machine.now) 1 }
     ensures idle { result ≡ false → AwaitsNothing (state_in machine.now) client }
 {

@@ -16,7 +16,8 @@ returns-then-not-has_space c = λ moment time.
       λ t. absurd (false≢true t),
       λ room. absurd (false≢true (sym c.if-not-has_space.true ∙ c.has_space.ensures.1
           (subst (HasSpace s) (sym c.need_of.ensures.exact)
-          (alone_space s c.requires.resumes moment time c.args.key.now c.args.call.now c.requires.alone room)))),
+          (alone_space s c.requires.resumes moment time c.args.key.now c.args.call.now c.requires.alone
+          room)))),
     )
 
 pub returns-then-stays : goal.returns-then-stays
