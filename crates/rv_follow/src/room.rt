@@ -1,5 +1,6 @@
 //! Whether the state after an entry that follows has room, told before anything is done.
-ghost use Rattle.std.specs.Prelude.{◌≡◌, ◌↔◌, ◌⊎◌, ◌<◌, ◌≤◌, [], ℕ, IfNone, IfSome, IsTrue, None, Some, length};
+ghost use Rattle.std.specs.Prelude.{◌≡◌, ◌↔◌, ◌⊎◌, ◌<◌, ◌≤◌, [], ℕ, IfNone, IfSome};
+ghost use Rattle.std.specs.Prelude.{IsTrue, None, Some, length};
 ghost use Rattle.std.specs.Prelude.{true, false};
 ghost use Rattle.std.specs.FinMap.{len};
 ghost use Rattle.rv_text.specs.Limits.{FitsCall};

@@ -1,4 +1,4 @@
-//! What a machine tells of an entry before anything is done: whether it follows, or which rule it breaks first.
+//! What a machine tells of an entry before anything is done: that it follows, or which rule it breaks first.
 ghost use Rattle.std.specs.Prelude.{◌≡◌, ◌↔◌, IfNone, IfSome, IsTrue};
 ghost use Rattle.rv_account.specs.Limits.{FitsEntry};
 ghost use Rattle.rv_audit.specs.Breaking.{rank_of};
