@@ -1,23 +1,22 @@
 -- An entry that keeps all rules behind a state to resume from follows it.
-use Rattle.std.proofs.Common.{◌≡◌, ◌≢◌, ◌<◌, ◌≤◌, ◌∷◌, ◌∙◌, ◌⊎◌, ℕ, zero, suc, List, [], length, take, map}
-use Rattle.std.proofs.Common.{Option, Some, None, IsSome, refl, sym, ap, subst, arith, slice_get, inl, inr}
+use Rattle.std.proofs.Common.{◌≡◌, ◌≢◌, ◌<◌, ◌≤◌, ◌∷◌, ◌∙◌, ℕ, zero, suc, List, [], length, take}
+use Rattle.std.proofs.Common.{Option, Some, None, IsSome, refl, sym, ap, subst, arith, inl, inr}
 use Rattle.std.proofs.lemmas.List.{take-map}
 use Rattle.std.proofs.lemmas.Option.{none-some, same_Some}
 use Rattle.rv_text.specs.declared.call.Call.{Call}
 use Rattle.rv_text.specs.declared.call.Side.{Side}
-use Rattle.rv_text.specs.declared.message.Key.{Key}
 use Rattle.rv_text.specs.Calls.{side_of}
 use Rattle.rv_account.specs.declared.entry.Act.{Act}
 use Rattle.rv_account.specs.declared.entry.Act.TheVariants.{Arrive, Cancel, Hello, Tick}
 use Rattle.rv_account.specs.declared.entry.Entry.{Entry}
-use Rattle.rv_account.specs.Account.{Among, Names, call_in}
+use Rattle.rv_account.specs.Account.{Among, call_in}
 use Rattle.rv_account.specs.Calls.{MayMeet, may_name, opposite}
 use Rattle.std.proofs.Common.{is_some}
 use Rattle.std.proofs.lemmas.Bool.{false≢true}
 use Rattle.rv_state.specs.Kept.{HelloRises, NumberInTurn}
 use Rattle.rv_audit.specs.Breaking.{ArrivesAs, IsPaired, IsSwapped}
 use Rattle.rv_audit.specs.declared.rule.Rule.{Rule}
-use Rattle.rv_audit.specs.declared.rule.Rule.TheVariants.{M1, M2, M3, N1, N2, N3, P1, P2, P3, P4, S1, S2}
+use Rattle.rv_audit.specs.declared.rule.Rule.TheVariants.{M1, M2, M3, N1, N3, P1, P2, P3, P4, S1, S2}
 use Rattle.rv_audit.proofs.RulesSuffice.{paired_or_swapped, swapped_opposite}
 use Rattle.rv_resume.specs.Resuming.{CanResume}
 use Rattle.rv_resume.proofs.Alone.{in_line}
@@ -27,13 +26,13 @@ use Rattle.rv_state.specs.Kept.{IsOpposite, NamesAll, NamesOldest, NamesOpposite
 use Rattle.rv_state.specs.State.{OpenPlace, State, line_of, opposites, place_list}
 use Rattle.rv_state.proofs.Filtered.{map_get}
 use Rattle.rv_follow.specs.Ruling.{KeepsRule}
-use Rattle.rv_follow.specs.Walking.{IsFront, facing}
+use Rattle.rv_follow.specs.Walking.{LeadsLine, facing_places}
 use Rattle.rv_follow.proofs.Lines.{facing_rises, front_kept}
-use Rattle.rv_follow.proofs.Prefixes.{Rise, in_rest, rest_rises, rise_from}
+use Rattle.rv_follow.proofs.Prefixes.{Rise, in_rest, rest_rises}
 
 -- ---- the first of a line, as many as there may be
 
-pub taken_front : (places line : List ℕ) (n : ℕ) → Rise line → IsFront places line → length places ≤ n
+pub taken_front : (places line : List ℕ) (n : ℕ) → Rise line → LeadsLine places line → length places ≤ n
     → ((r : ℕ) → length places < n → Among line r → Among places r) → places ≡ take n line
 taken_front [] line zero rise front few all = refl
 taken_front [] [] (suc n) rise front few all = refl
@@ -46,8 +45,8 @@ taken_front (p ∷ places) (x ∷ line) (suc n) rise front few all =
     let rest : places ≡ take n line = taken_front places line n (rest_rises x line rise)
     (λ i inside. front (suc i) (omega arith)) (omega arith)
     (λ r fewer at.
-        let above : x < r = rise 0 (suc at.0) x r (omega arith) refl at.1 in
-        in_rest p places r (omega arith) (all r (omega arith) (suc at.0, at.1))) in
+    let above : x < r = rise 0 (suc at.0) x r (omega arith) refl at.1 in
+    in_rest p places r (omega arith) (all r (omega arith) (suc at.0, at.1))) in
     ap (λ q. q ∷ places) (sym same) ∙ ap (λ (ps : List ℕ). x ∷ ps) rest
 
 -- ---- moments and numbers
@@ -110,7 +109,7 @@ module _ (s : State) (e : Entry) (is : CanResume s) (keeps : (rule : Rule) → K
   taken : (Is : Side → Type 0) (call : Call) → ArrivesAs Is e call → NamesOpposites s e → NamesOldest s e
       → NamesAll s e → e.partners ≡ place_list (take (may_name call) (opposites s call))
   taken Is call arrives named oldest all =
-      taken_front e.partners (facing s call) (may_name call) (facing_rises s is call)
+      taken_front e.partners (facing_places s call) (may_name call) (facing_rises s is call)
       (front_kept Is s e is call arrives well named oldest) (well.few call arrives.arrives)
       (λ r fewer at. all r call arrives.arrives fewer at)
       ∙ take-map (λ (o : OpenPlace). o.place) (may_name call) (opposites s call)
@@ -138,10 +137,10 @@ module _ (s : State) (e : Entry) (is : CanResume s) (keeps : (rule : Rule) → K
   partners_by call calls None alone =
       none_named e.partners
       (λ p names.
-          let met = well.meets p names in
-          let same : met.0 ≡ call = same_Some _ _ (sym met.1 ∙ calls) in
-          let meets : MayMeet call = subst MayMeet same met.2 in
-          false≢true (sym (ap is_some alone) ∙ meets))
+      let met = well.meets p names in
+      let same : met.0 ≡ call = same_Some _ _ (sym met.1 ∙ calls) in
+      let meets : MayMeet call = subst MayMeet same met.2 in
+      false≢true (sym (ap is_some alone) ∙ meets))
       ∙ none_met (may_name call) (opposite (side_of call)) alone
 
   partners_are : (does : Act) → e.act ≡ does → e.partners ≡ partners_of s does

@@ -1,19 +1,19 @@
 -- The room after an act that opens nothing: who waited and is gone makes place for its entry.
-use Rattle.std.proofs.Common.{◌≡◌, ◌<◌, ◌≤◌, ◌+◌, ◌∷◌, ◌∙◌, ◌⊎◌, ℕ, zero, suc, List, [], Bool, true, false, cond}
-use Rattle.std.proofs.Common.{not, Option, Some, None, IsSome, is_some, inl, inr, length, refl, sym, ap, subst}
+use Rattle.std.proofs.Common.{◌≡◌, ◌≤◌, ◌+◌, ◌∷◌, ◌∙◌, ◌⊎◌, ℕ, suc, List, [], Bool, true, false, cond}
+use Rattle.std.proofs.Common.{not, Option, Some, None, IsSome, is_some, inl, inr, length, refl, sym, ap}
 use Rattle.std.proofs.Common.{arith, slice_get, nat_eq, IsTrue, option_and_then}
 use Rattle.std.specs.Prelude.{filter}
 use Rattle.std.specs.List.{list_any}
 use Rattle.std.specs.FinMap.{len}
-use Rattle.std.proofs.lemmas.Bool.{eq-eqb, eqb-true, false≢true, true≢false}
-use Rattle.std.proofs.lemmas.Option.{none-some, same_Some}
+use Rattle.std.proofs.lemmas.Bool.{eqb-true, false≢true, true≢false}
+use Rattle.std.proofs.lemmas.Option.{none-some}
 use Rattle.rv_text.specs.Members.{max_identifier}
 use Rattle.rv_account.specs.Limits.{max_moment}
 use Rattle.rv_account.specs.declared.entry.Act.{Act}
-use Rattle.rv_session.specs.declared.client.LastRequest.{LastRequest}
 use Rattle.rv_session.specs.Clients.{place_waiting}
 use Rattle.rv_resume.specs.Resuming.{CanResume, StaysInRoom}
-use Rattle.rv_resume.proofs.Counts.{length_acted, places_within, waiter_gone, waiters, waiting_acted, waiting_within}
+use Rattle.rv_resume.proofs.Counts.{length_acted, places_within, waiter_gone, waiters, waiting_acted}
+use Rattle.rv_resume.proofs.Counts.{waiting_within}
 use Rattle.rv_resume.proofs.Kept.{holds}
 use Rattle.rv_resume.proofs.Stopping.{waits_found}
 use Rattle.rv_state.specs.After.{acted, but, following, just_open}
@@ -45,7 +45,8 @@ not_true false is = absurd (true≢false is)
 
 module _ (o : OpenPlace) (all gone : List OpenPlace) where
   one_left : (b : Bool) → is_left gone o ≡ b → (is_left gone o ≡ false → is_some o.waiter ≡ false)
-      → waiters (but all gone) ≡ waiters all → waiters (cond b (o ∷ but all gone) (but all gone)) ≡ waiters (o ∷ all)
+      → waiters (but all gone) ≡ waiters all → waiters (cond b (o ∷ but all gone) (but all gone)) ≡ waiters
+      (o ∷ all)
   one_left true is none same =
       both_more (is_some o.waiter) o (filter (λ (x : OpenPlace). is_some x.waiter) (but all gone))
       (filter (λ (x : OpenPlace). is_some x.waiter) all) same
@@ -58,8 +59,8 @@ none_gone [] gone none = refl
 none_gone (o ∷ all) gone none =
     one_left o all gone (is_left gone o) refl
     (λ goes.
-        let found = any_get (λ (other : OpenPlace). nat_eq other.place o.place) gone (not_true _ goes) in
-        none 0 found.0 o found.1 refl found.2 (eqb-true found.1.place o.place found.3))
+    let found = any_get (λ (other : OpenPlace). nat_eq other.place o.place) gone (not_true _ goes) in
+    none 0 found.0 o found.1 refl found.2 (eqb-true found.1.place o.place found.3))
     (none_gone all gone (λ i j x y at. none (suc i) j x y at))
 
 -- ---- an act that opens nothing

@@ -1,5 +1,5 @@
 -- Among places that aren't all open one is closed.
-use Rattle.std.proofs.Common.{◌≡◌, ◌<◌, ◌∙◌, ◌∷◌, ℕ, zero, suc, List, [], Some, refl, sym, ap, subst, inl, inr}
+use Rattle.std.proofs.Common.{◌≡◌, ◌∷◌, ℕ, zero, suc, List, [], Some, refl, subst, inl, inr}
 use Rattle.std.proofs.Common.{slice_get}
 use Rattle.std.proofs.lemmas.Option.{none-some, same_Some}
 use Rattle.rv_account.specs.declared.entry.Entry.{Entry}
@@ -8,7 +8,7 @@ use Rattle.rv_audit.specs.Breaking.{rank_of}
 use Rattle.rv_audit.specs.declared.rule.Rule.TheVariants.{P2}
 use Rattle.rv_rules.proofs.Naming.{among_or_not}
 use Rattle.rv_state.specs.State.{State, place_list}
-use Rattle.rv_follow.specs.Ruling.{KeepsBefore, NamesClosed}
+use Rattle.rv_follow.specs.Ruling.{KeepsUpTo, NamesClosed}
 use Rattle.rv_follow.specs.Walking.{HoldsOfAll}
 
 one_closed : (opened places : List ℕ) → (HoldsOfAll (Among opened) places → ⊥)
@@ -27,7 +27,7 @@ one_closed opened (x ∷ places) some = elim (among_or_not opened x) [
     by_index there all p (suc i) at = all p (i, at)
 
 pub names_closed : (s : State) (e : Entry) (partners : List ℕ) → partners ≡ e.partners
-    → KeepsBefore (rank_of P2) s e → (HoldsOfAll (Among (place_list s.open_places)) partners → ⊥)
+    → KeepsUpTo (rank_of P2) s e → (HoldsOfAll (Among (place_list s.open_places)) partners → ⊥)
     → NamesClosed s e
 names_closed s e partners are kept some =
     let closed = one_closed (place_list s.open_places) partners some in record {

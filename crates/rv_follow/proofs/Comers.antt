@@ -1,9 +1,9 @@
 -- The room after an arrival: one that meets nobody, and one that meets some.
-use Rattle.std.proofs.Common.{◌≡◌, ◌<◌, ◌≤◌, ◌+◌, ◌∷◌, ◌++◌, ◌∙◌, ◌&&◌, ℕ, zero, suc, List, [], Bool, true, false}
-use Rattle.std.proofs.Common.{cond, not, Option, Some, None, is_some, length, refl, sym, ap, subst, arith}
-use Rattle.std.proofs.Common.{slice_get, nat_eq, nat_lt, IsTrue}
+use Rattle.std.proofs.Common.{◌≡◌, ◌<◌, ◌≤◌, ◌+◌, ◌∷◌, ◌∙◌, ◌&&◌, ℕ, zero, suc, List, [], Bool, true, false}
+use Rattle.std.proofs.Common.{cond, Option, Some, is_some, length, refl, sym, ap, subst, arith}
+use Rattle.std.proofs.Common.{slice_get, nat_eq, nat_lt}
 use Rattle.std.specs.FinMap.{len}
-use Rattle.std.proofs.lemmas.Bool.{eq-eqb, eqb-true, false≢true, true≢false}
+use Rattle.std.proofs.lemmas.Bool.{eq-eqb, eqb-true}
 use Rattle.std.proofs.lemmas.Bool.Decides.{nat_tests}
 use Rattle.std.proofs.lemmas.List.{length-append}
 use Rattle.std.proofs.lemmas.Option.{none-some}
@@ -20,15 +20,14 @@ use Rattle.rv_open.proofs.Indexing.{same_place}
 use Rattle.rv_resume.specs.Resuming.{CanResume, StaysInRoom}
 use Rattle.rv_resume.proofs.Counts.{arrived_len, length_acted, places_within, waiters, waiting_acted}
 use Rattle.rv_state.specs.After.{acted, but, following, lasts_by, met_by, opened_by, parked, stays_open}
-use Rattle.rv_state.specs.State.{OpenPlace, State, Waiter, open_at, place_list, waiting_count}
+use Rattle.rv_state.specs.State.{OpenPlace, State, Waiter, place_list, waiting_count}
 use Rattle.rv_state.proofs.Filtered.{filter_all, find_get, get_find, get_map, map_get}
 use Rattle.rv_state.proofs.GoneBy.{gone_by}
 use Rattle.rv_state.proofs.OpensBy.{opens_by}
 use Rattle.rv_state.proofs.PlacesAfter.{places_acted}
-use Rattle.rv_follow.specs.Rooming.{HasSpace, IsAwaited, IsUnawaited}
+use Rattle.rv_follow.specs.Rooming.{HasSpace, IsWaitedFor, IsUnawaited}
 use Rattle.rv_follow.specs.Walking.{HoldsOfAll}
 use Rattle.rv_follow.proofs.Calm.{Unawaited, freed, is_left, none_gone, spaced, unfreed}
-use Rattle.rv_follow.proofs.DueNow.{Iff}
 
 -- ---- what an arrival that meets nobody needs
 
@@ -73,7 +72,8 @@ module _ (s : State) (is : CanResume s) (moment : ℕ) (time : moment ≤ max_mo
     waits_alone =
         let is_count = waiting_acted s moment (Arrive key c) in
         let same = none_gone s.open_places (gone_by s moment (Arrive key c))
-        (λ i j o x at stands equal. absurd (none-some x (ap (λ (l : List OpenPlace). slice_get l j) (sym alone)
+        (λ i j o x at stands equal. absurd (none-some x (ap (λ (l : List OpenPlace). slice_get l j)
+        (sym alone)
         ∙ stands))) in
         let more = ap waiters opens_alone in
         let need = alone_need s moment key c in
@@ -141,7 +141,7 @@ module _ (s : State) (is : CanResume s) (moment : ℕ) (time : moment ≤ max_mo
     pub met_space : HasSpace s 1 → StaysInRoom after
     met_space space = spaced s is moment time (Arrive key c) none clients space
 
-    pub met_awaited : (p : ℕ) → Among partners p → IsAwaited s p → StaysInRoom after
+    pub met_awaited : (p : ℕ) → Among partners p → IsWaitedFor s p → StaysInRoom after
     met_awaited p among awaited =
         let at = subst (λ (ps : List ℕ). slice_get ps among.0 ≡ Some p) (sym met) among.1 in
         let x = map_get (λ (o : OpenPlace). o.place) (met_by s c) among.0 p at in
@@ -168,5 +168,6 @@ module _ (s : State) (is : CanResume s) (moment : ℕ) (time : moment ≤ max_mo
 
 -- an arrival that names nobody meets nobody
 pub none_met : (those : List OpenPlace) → place_list those ≡ [] → those ≡ []
-none_met [] none = refl
-none_met (first ∷ others) none = absurd (none-some first.place (ap (λ (ps : List ℕ). slice_get ps 0) (sym none)))
+none_met [] empty = refl
+none_met (first ∷ others) empty =
+    absurd (none-some first.place (ap (λ (ps : List ℕ). slice_get ps 0) (sym empty)))

@@ -1,6 +1,6 @@
 -- Whether something is due at a moment, told by the first moment at which something is.
-use Rattle.std.proofs.Common.{◌≡◌, ◌≢◌, ◌<◌, ◌≤◌, ◌∷◌, ◌∙◌, ℕ, Bool, true, false, not, List, [], refl, sym, ap}
-use Rattle.std.proofs.Common.{subst, arith, inl, inr, IsTrue}
+use Rattle.std.proofs.Common.{◌≡◌, ◌≢◌, ◌≤◌, ◌∷◌, ℕ, Bool, true, false, not, List, [], refl, sym, ap}
+use Rattle.std.proofs.Common.{subst, arith, IsTrue}
 use Rattle.std.proofs.Common.{nat_le}
 use Rattle.std.proofs.lemmas.Bool.{false≢true}
 use Rattle.std.proofs.lemmas.Bool.Decides.{nat_tests}

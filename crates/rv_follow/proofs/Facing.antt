@@ -1,13 +1,13 @@
 -- Whom a call might meet, told by what is open at a place.
 use Rattle.std.proofs.Common.{◌≡◌, ◌∙◌, ℕ, Bool, true, false, List, Option, Some, None, refl, sym, ap, subst}
-use Rattle.std.proofs.Common.{IsTrue, is_some, nat_eq, option_map, slice_get}
+use Rattle.std.proofs.Common.{IsTrue, is_some, nat_eq, option_map}
 use Rattle.std.proofs.lemmas.Bool.{eq-eqb, eqb-true, false≢true}
 use Rattle.std.proofs.lemmas.Option.{none-some, same_Some}
 use Rattle.rv_text.specs.declared.call.Call.{Call}
 use Rattle.rv_text.specs.declared.call.Side.{Side}
 use Rattle.rv_text.specs.Calls.{side_of}
 use Rattle.rv_account.specs.declared.entry.Entry.{Entry}
-use Rattle.rv_account.specs.Account.{Among, call_in}
+use Rattle.rv_account.specs.Account.{Among}
 use Rattle.rv_account.specs.Calls.{opposite}
 use Rattle.rv_rules.proofs.Naming.{among_none}
 use Rattle.rv_audit.specs.Breaking.{ArrivesAs}
@@ -23,7 +23,7 @@ use Rattle.rv_follow.specs.Ruling.{IfArrives}
 use Rattle.std.proofs.Common.{[], ◌∷◌, cond}
 use Rattle.rv_open.specs.OpenMap.{first_behind}
 use Rattle.rv_state.specs.State.{line}
-use Rattle.rv_follow.specs.Walking.{HoldsOfAll, facing, first_above, is_above}
+use Rattle.rv_follow.specs.Walking.{HoldsOfAll, facing_places, first_above, is_above}
 use Rattle.rv_follow.proofs.DueNow.{Iff}
 use Rattle.rv_follow.proofs.Naming.{never}
 
@@ -88,7 +88,8 @@ module _ (s : State) (place : ℕ) where
     faces at = faces_by (opposite (side_of call)) at
 
     pub facing_told : (there : OpenPlace) (b : Bool) → Some there ≡ open_at s place
-        → Iff (IsTrue b) (opposite (side_of call) ≡ Some there.side) → Iff (IsTrue b) (IsOpposite s call place)
+        → Iff (IsTrue b) (opposite (side_of call) ≡ Some there.side)
+        → Iff (IsTrue b) (IsOpposite s call place)
     facing_told there b found same = (
       λ t. facing_by there (sym found) (same.0 t),
       λ at.
@@ -136,12 +137,12 @@ first_placed after (o ∷ line) = by_head (is_above after o.place) (first_placed
     by_head false rest = rest
 
 module _ (s : State) (call : Call) (after : Option ℕ) where
-  pub faces_none : None ≡ opposite (side_of call) → None ≡ first_above after (facing s call)
+  pub faces_none : None ≡ opposite (side_of call) → None ≡ first_above after (facing_places s call)
   faces_none none = ap (λ (o : Option Side). first_above after (place_list (line_of s o))) none
 
   pub faces_first : (side : Side) (found : Option OpenPlace) → Some side ≡ opposite (side_of call)
       → found ≡ first_behind after (line s side)
-      → option_map (λ (o : OpenPlace). o.place) found ≡ first_above after (facing s call)
+      → option_map (λ (o : OpenPlace). o.place) found ≡ first_above after (facing_places s call)
   faces_first side found opposes is =
       ap (option_map (λ (o : OpenPlace). o.place)) is ∙ sym (first_placed after (line s side))
       ∙ ap (λ (o : Option Side). first_above after (place_list (line_of s o))) opposes

@@ -1,7 +1,7 @@
 -- The line of those that a call might meet, beside the partners that an entry names.
-use Rattle.std.proofs.Common.{◌≡◌, ◌↔◌, ◌<◌, ◌≤◌, ◌∙◌, ℕ, Bool, true, false, List, length, get_or, Option, Some}
+use Rattle.std.proofs.Common.{◌≡◌, ◌<◌, ◌∙◌, ℕ, Bool, true, false, List, length, get_or, Option, Some}
 use Rattle.std.proofs.Common.{None, refl, sym, ap, subst, arith, slice_get, inl, inr, nat_eq, IsTrue}
-use Rattle.std.proofs.lemmas.Bool.{cases_lt, eq-eqb, eqb-true, false≢true}
+use Rattle.std.proofs.lemmas.Bool.{cases_lt, eq-eqb, eqb-true}
 use Rattle.std.proofs.lemmas.Option.{none-some, same_Some, slice_get-get_or}
 use Rattle.rv_text.specs.declared.call.Call.{Call}
 use Rattle.rv_text.specs.declared.call.Side.{Side}
@@ -21,7 +21,7 @@ use Rattle.rv_state.specs.Kept.{IsOpposite, NamesAll, NamesOldest, NamesOpposite
 use Rattle.rv_state.specs.State.{OpenPlace, State, line_of, place_list, same_side}
 use Rattle.rv_state.proofs.Filtered.{filter_order, map_get}
 use Rattle.rv_follow.specs.Ruling.{IfArrives}
-use Rattle.rv_follow.specs.Walking.{IsFront, TakesAll, facing}
+use Rattle.rv_follow.specs.Walking.{LeadsLine, NamesEachFacing, facing_places}
 use Rattle.rv_follow.proofs.DueNow.{Iff}
 use Rattle.rv_follow.proofs.Naming.{never}
 use Rattle.rv_follow.proofs.Prefixes.{Rise, front_closed, front_from, rise_from}
@@ -40,7 +40,7 @@ line_rises s is (Some side) i j p q less first second =
     let other : two.0.place ≡ q = two.2 in
     omega (arith, up, own, other)
 
-pub facing_rises : (s : State) → CanResume s → (call : Call) → Rise (facing s call)
+pub facing_rises : (s : State) → CanResume s → (call : Call) → Rise (facing_places s call)
 facing_rises s is call = line_rises s is (opposite (side_of call))
 
 -- ---- the next partner
@@ -72,26 +72,26 @@ none_past line n i p none at = elim (cases_lt i n) [
 ]
 
 module _ (s : State) (is : CanResume s) (call : Call) (partners : List ℕ)
-    (front : IsFront partners (facing s call)) where
-  pub all_taken : None ≡ slice_get (facing s call) (length partners)
-      → Iff (IsTrue true) (TakesAll s call partners)
+    (front : LeadsLine partners (facing_places s call)) where
+  pub all_taken : None ≡ slice_get (facing_places s call) (length partners)
+      → Iff (IsTrue true) (NamesEachFacing s call partners)
   all_taken none = (
     λ t r fewer at.
-        let less = none_past (facing s call) (length partners) at.0 r (sym none) at.1 in
+        let less = none_past (facing_places s call) (length partners) at.0 r (sym none) at.1 in
         (at.0, sym (front at.0 less) ∙ at.1),
     λ all. refl,
   )
 
-  pub one_left : (next : ℕ) → Some next ≡ slice_get (facing s call) (length partners)
-      → length partners < may_name call → Iff (IsTrue false) (TakesAll s call partners)
+  pub one_left : (next : ℕ) → Some next ≡ slice_get (facing_places s call) (length partners)
+      → length partners < may_name call → Iff (IsTrue false) (NamesEachFacing s call partners)
   one_left next there fewer =
-      never (TakesAll s call partners)
+      never (NamesEachFacing s call partners)
       (λ all.
-          let at = all next fewer (length partners, sym there) in
-          let inside : at.0 < length partners = within partners at.0 next at.1 in
-          let up = facing_rises s is call at.0 (length partners) next next inside (front at.0 inside ∙ at.1)
-          (sym there) in
-          omega (arith, up))
+      let at = all next fewer (length partners, sym there) in
+      let inside : at.0 < length partners = within partners at.0 next at.1 in
+      let up = facing_rises s is call at.0 (length partners) next next inside (front at.0 inside ∙ at.1)
+      (sym there) in
+      omega (arith, up))
 
 -- ---- of an entry
 
@@ -106,32 +106,32 @@ module _ (Is : Side → Type 0) (s : State) (e : Entry) (is : CanResume s) (call
   its : (other : Call) → call_in e.act ≡ Some other → call ≡ other
   its other calls = same_Some _ _ (sym arrives.arrives ∙ calls)
 
-  pub front_kept : NamesWell s e → NamesOpposites s e → NamesOldest s e → IsFront e.partners (facing s call)
+  pub front_kept : NamesWell s e → NamesOpposites s e → NamesOldest s e → LeadsLine e.partners (facing_places s call)
   front_kept well named oldest =
-      front_from e.partners (facing s call) (rise_from e.partners well.rising) (facing_rises s is call)
+      front_from e.partners (facing_places s call) (rise_from e.partners well.rising) (facing_rises s is call)
       (λ p names. named p call names arrives.arrives)
       (λ p r names at less. oldest p r call arrives.arrives names at less)
 
   module _ (partners : List ℕ) (are : partners ≡ e.partners) (b : Bool) where
     pub oldest_told : NamesWell s e → IfArrives Is e (NamesOpposites s e)
-        → Iff (IsTrue b) (IsFront partners (facing s call))
+        → Iff (IsTrue b) (LeadsLine partners (facing_places s call))
         → Iff (IsTrue b) (IfArrives Is e (NamesOldest s e))
     oldest_told well named told = (
       λ t own also p r other calls names at less.
-          front_closed e.partners (facing s call) (facing_rises s is call)
-          (subst (λ (ps : List ℕ). IsFront ps (facing s call)) are (told.0 t)) p r names
+          front_closed e.partners (facing_places s call) (facing_rises s is call)
+          (subst (λ (ps : List ℕ). LeadsLine ps (facing_places s call)) are (told.0 t)) p r names
           (subst (λ (c : Call). IsOpposite s c r) (sym (its other calls)) at) less,
-      λ oldest. told.1 (subst (λ (ps : List ℕ). IsFront ps (facing s call)) (sym are)
+      λ oldest. told.1 (subst (λ (ps : List ℕ). LeadsLine ps (facing_places s call)) (sym are)
           (front_kept well (named call arrives) (oldest call arrives))),
     )
 
     pub front_named : NamesWell s e → IfArrives Is e (NamesOpposites s e) → IfArrives Is e (NamesOldest s e)
-        → IsFront partners (facing s call)
+        → LeadsLine partners (facing_places s call)
     front_named well named oldest =
-        subst (λ (ps : List ℕ). IsFront ps (facing s call)) (sym are)
+        subst (λ (ps : List ℕ). LeadsLine ps (facing_places s call)) (sym are)
         (front_kept well (named call arrives) (oldest call arrives))
 
-    pub all_told : Iff (IsTrue b) (TakesAll s call partners) → Iff (IsTrue b) (IfArrives Is e (NamesAll s e))
+    pub all_told : Iff (IsTrue b) (NamesEachFacing s call partners) → Iff (IsTrue b) (IfArrives Is e (NamesAll s e))
     all_told told = (
       λ t own also r other calls fewer at.
           subst (λ (ps : List ℕ). Among ps r) are
@@ -147,6 +147,6 @@ module _ (Is : Side → Type 0) (s : State) (e : Entry) (is : CanResume s) (call
 
 -- who exchanges and names fewer than it may names nobody
 pub nobody_front : (call : Call) (partners line : List ℕ) → IsSwapped (side_of call)
-    → length partners < may_name call → IsFront partners line
+    → length partners < may_name call → LeadsLine partners line
 nobody_front call partners line swaps fewer i inside =
     let one = one_partner call swaps in absurd (omega (arith, one, fewer, inside))

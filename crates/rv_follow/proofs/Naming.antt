@@ -1,5 +1,6 @@
 -- Whether an entry names well, told by its parts.
-use Rattle.std.proofs.Common.{◌≡◌, ◌<◌, ◌≤◌, ◌∙◌, ℕ, suc, Bool, true, false, List, [], ◌∷◌, length, Some, refl, sym}
+use Rattle.std.proofs.Common.{◌≡◌, ◌<◌, ◌≤◌, ◌∙◌, ℕ, suc, Bool, true, false, List, [], ◌∷◌, length, Some}
+use Rattle.std.proofs.Common.{refl, sym}
 use Rattle.std.proofs.Common.{ap, subst, arith, IsTrue, inl, inr, nat_eq}
 use Rattle.std.proofs.lemmas.Bool.{cases_lt, false≢true}
 use Rattle.std.proofs.lemmas.Bool.Decides.{nat_tests}
@@ -64,7 +65,8 @@ module _ (s : State) (e : Entry) where
         where
           empty_is : (ps : List ℕ) → nat_eq (length ps) 0 ≡ true → ps ≡ []
           empty_is [] t = refl
-          empty_is (p ∷ ps) t = absurd (let none : suc (length ps) ≡ 0 = grind (arith, nat_tests) in omega arith)
+          empty_is (p ∷ ps) t = absurd (let none : suc (length ps) ≡ 0 = grind (arith, nat_tests) in
+              omega arith)
 
       pub well_meeting : (b : Bool) → nat_eq (length partners) 0 ≡ false → Iff (IsTrue b) (ArrivesToMeet e)
           → Iff (IsTrue b) (NamesWell s e)
@@ -72,6 +74,7 @@ module _ (s : State) (e : Entry) where
         λ t. well_from length_is is many rising below (λ p names. meets.0 t),
         λ well. elim (first_among e.partners) [
           | inl first ↦ meets.1 (well.meets first.0 first.1)
-          | inr none ↦ absurd (false≢true (sym some ∙ ap (λ (ps : List ℕ). nat_eq (length ps) 0) (are ∙ none)))
+          | inr none ↦ absurd (false≢true (sym some ∙ ap (λ (ps : List ℕ). nat_eq (length ps) 0)
+              (are ∙ none)))
         ],
       )

@@ -1,8 +1,8 @@
 -- Places that rise, beside a line of others that rise: when they are its first, and what then is the next.
-use Rattle.std.proofs.Common.{◌≡◌, ◌+◌, ◌-◌, ◌<◌, ◌≤◌, ◌∷◌, ◌∙◌, ℕ, zero, suc, Bool, true, false, cond, List, []}
-use Rattle.std.proofs.Common.{length, take, get_or, Option, Some, None, refl, sym, ap, subst, arith, slice_get}
-use Rattle.std.proofs.Common.{◌≢◌, ◌⊎◌, inl, inr, nat_lt, is_some, IsTrue}
-use Rattle.std.proofs.lemmas.Bool.{cases_lt, cases_order, false≢true}
+use Rattle.std.proofs.Common.{◌≡◌, ◌<◌, ◌≤◌, ◌∷◌, ◌∙◌, ℕ, zero, suc, true, false, cond, List, []}
+use Rattle.std.proofs.Common.{length, get_or, Option, Some, None, refl, sym, ap, subst, arith, slice_get}
+use Rattle.std.proofs.Common.{◌⊎◌, inl, inr, nat_lt}
+use Rattle.std.proofs.lemmas.Bool.{cases_lt, cases_order}
 use Rattle.std.proofs.lemmas.Bool.Decides.{nat_tests}
 use Rattle.std.proofs.lemmas.Option.{get_or_from_slice_get, none-some, same_Some, slice_get-get_or}
 use Rattle.std.specs.List.{find}
@@ -10,7 +10,7 @@ use Rattle.std.specs.List.Sorted.{IsStrictlyIncreasing}
 use Rattle.rv_account.specs.Account.{Among}
 use Rattle.rv_rules.proofs.Counting.{later_is_greater}
 use Rattle.rv_rules.proofs.Places.{within}
-use Rattle.rv_follow.specs.Walking.{AgreeBefore, IsFront, first_above, is_above}
+use Rattle.rv_follow.specs.Walking.{AgreeBefore, LeadsLine, first_above, is_above}
 
 -- each of them is below those behind it
 abbrev pub Rise : List ℕ → Type 0
@@ -77,7 +77,7 @@ next_at places line (suc k) before rise agree inside first later =
 -- ---- the first of a line
 
 -- what stands before one of them, in a line whose first they are, is one of them
-pub front_closed : (places line : List ℕ) → Rise line → IsFront places line → (p r : ℕ) → Among places p
+pub front_closed : (places line : List ℕ) → Rise line → LeadsLine places line → (p r : ℕ) → Among places p
     → Among line r → r < p → Among places r
 front_closed places line rise front p r at of less =
     let inside : at.0 < length places = within places at.0 p at.1 in
@@ -112,7 +112,7 @@ module _ (p x : ℕ) (places line : List ℕ) (up : Rise (p ∷ places)) (rise :
       let above : x < r = head_below x line rise there.0 r there.1 in
       in_rest p places r (omega arith) (closed q r (suc at.0, at.1) (suc there.0, there.1) less)
 
-  at_head : x ≡ p → IsFront places line → IsFront (p ∷ places) (x ∷ line)
+  at_head : x ≡ p → LeadsLine places line → LeadsLine (p ∷ places) (x ∷ line)
   at_head same rest zero inside = ap Some same
   at_head same rest (suc i) inside = rest i (omega arith)
 
@@ -124,17 +124,18 @@ module _ (p x : ℕ) (places line : List ℕ) (up : Rise (p ∷ places)) (rise :
   no_head less (zero, at) = let same : p ≡ x = same_Some _ _ at in omega arith
   no_head less (suc i, at) = let above : p < x = head_below p places up i x at in omega arith
 
-  by_order : (x ≡ p → IsFront places line) → (x ≡ p) ⊎ ((x < p) ⊎ (p < x))
-      → IsFront (p ∷ places) (x ∷ line)
+  by_order : (x ≡ p → LeadsLine places line) → (x ≡ p) ⊎ ((x < p) ⊎ (p < x))
+      → LeadsLine (p ∷ places) (x ∷ line)
   by_order rest (inl same) = at_head same (rest same)
   by_order rest (inr differ) =
       let apart : x ≡ p → ⊥ = λ same. elim differ [ inl l ↦ omega arith | inr m ↦ omega arith ] in
       let less = not_head apart (of p (0, refl)) in
       absurd (no_head less (closed p x (0, refl) (0, refl) less))
 
--- those that rise, are of the line, and among which is whatever stands there before one of them, are its first
+-- those that rise, are of the line, and among which is whatever stands there before one of them, are its
+-- first
 pub front_from : (places line : List ℕ) → Rise places → Rise line → ((p : ℕ) → Among places p → Among line p)
-    → Closed places line → IsFront places line
+    → Closed places line → LeadsLine places line
 front_from [] line up rise of closed = λ i inside. absurd (omega arith)
 front_from (p ∷ places) [] up rise of closed = λ i inside. absurd (none-some p (of p (0, refl)).1)
 front_from (p ∷ places) (x ∷ line) up rise of closed =

@@ -14,17 +14,18 @@ use Rattle.rv_machine.specs.declared.machine.Machine.{Machine}
 use Rattle.rv_resume.specs.Resuming.{CanResume, StaysInRoom}
 use Rattle.rv_resume.proofs.ResumeLaws.{entries_resume}
 use Rattle.rv_session.specs.declared.client.LastRequest.{LastRequest}
-use Rattle.rv_state.specs.After.{Settled, asked, closed, following, met_by, parked, request_after, settled_all}
+use Rattle.rv_state.specs.After.{Settled, closed, following, met_by, parked, request_after, settled_all}
 use Rattle.rv_state.specs.After.{state_after, told_own, told_partner, with_last, with_open}
 use Rattle.rv_state.specs.Follows.{FollowsState, NumberFits, NumberIsNext}
 use Rattle.rv_state.specs.Moves.{told_again}
 use Rattle.rv_state.specs.State.{ClientState, OpenPlace, State, client_at}
 use Rattle.rv_state.proofs.ToldClients.{get_own, get_tell_all, told_client}
-use Rattle.rv_follow.specs.Outcomes.{FollowsInRoom, HasFollowed, TellsOwn}
+use Rattle.rv_follow.specs.Outcomes.{HasFollowed, TellsOwn}
 
 -- ---- the own reply
 
-told_after : (place : ℕ) (call : Call) (told : Option Reply) → told_again (request_after place call told) ≡ told
+told_after : (place : ℕ) (call : Call) (told : Option Reply)
+    → told_again (request_after place call told) ≡ told
 told_after place call None = refl
 told_after place call (Some reply) = refl
 

@@ -1,6 +1,6 @@
 -- The laws of entries that follow a state.
-use Rattle.std.proofs.Common.{◌≡◌, ◌<◌, ◌≤◌, ◌∷◌, ◌++◌, ◌∙◌, ℕ, suc, inl, inr, List, [], length, take, Option, Some}
-use Rattle.std.proofs.Common.{refl, sym, ap, subst, arith}
+use Rattle.std.proofs.Common.{◌≡◌, ◌<◌, ◌≤◌, ◌∷◌, ◌++◌, ◌∙◌, ℕ, suc, inl, inr, List, [], length, take, Option}
+use Rattle.std.proofs.Common.{sym, ap, subst, arith}
 use Rattle.std.specs.List.{slice_get}
 use Rattle.std.proofs.Math.Seq.{take-append_seam}
 use Rattle.std.proofs.lemmas.Bool.{cases_lt}
@@ -19,7 +19,7 @@ use Rattle.rv_state.specs.State.{place_list}
 use Rattle.rv_state.proofs.Agreed.{agreed}
 use Rattle.rv_state.proofs.FollowsBoth.{account_to_state, state_to_account}
 use Rattle.rv_state.proofs.RulesKept.{rules_agree}
-use Rattle.rv_audit.specs.Breaking.{BreaksBehind, FirstFault, IsPaired, IsSwapped, IsToldOf, rank_of}
+use Rattle.rv_audit.specs.Breaking.{BreaksBehind, FirstFault, IsToldOf, rank_of}
 use Rattle.rv_audit.specs.declared.rule.Audit.{Audit}
 use Rattle.rv_audit.specs.declared.rule.Audit.TheVariants as tells
 use Rattle.rv_audit.specs.declared.rule.Rule.{Rule}
@@ -27,7 +27,7 @@ use Rattle.rv_audit.specs.declared.rule.Rule.TheVariants.{M1, M2, M3, N1, N2, N3
 use Rattle.rv_audit.proofs.ByRules.{one_rank}
 use Rattle.rv_audit.proofs.RulesKept.{breaks_nothing}
 use Rattle.rv_follow.specs.Laws.{ClosedBreaks, FollowsLegally, RulesBreak, ToldOnNamed}
-use Rattle.rv_follow.specs.Ruling.{BreaksFirst, IsOnNamed, KeepsBefore, KeepsRule, NamesClosed}
+use Rattle.rv_follow.specs.Ruling.{IsFirstBroken, IsOnNamed, KeepsUpTo, KeepsRule, NamesClosed}
 use Rattle.rv_follow.proofs.Rules.{breaks_not, keeps_below, opposites_open}
 
 pub follows_legally : FollowsLegally
@@ -75,14 +75,14 @@ module _ (a : Account) (e : Entry) (legal : Legal a) where
             (legal place broken.entry inside.1) rule
             (subst (λ es. BreaksBehind rule (of_entries es) broken.entry) front broken.breaks))
         | inr last ↦ record {
-            at_end = last.0;
-            breaks = at_last rule broken.entry place last.0 last.1 broken.breaks;
-            first = λ other less breaks. fault.first other less (record {
-              entry = e;
-              there = ap (λ n. slice_at n) last.0 ∙ get-append_end a.entries e;
-              breaks = from_last other place last.0 breaks;
-            });
-          }
+          at_end = last.0;
+          breaks = at_last rule broken.entry place last.0 last.1 broken.breaks;
+          first = λ other less breaks. fault.first other less (record {
+            entry = e;
+            there = ap (λ n. slice_at n) last.0 ∙ get-append_end a.entries e;
+            breaks = from_last other place last.0 breaks;
+          });
+        }
       ]
     where
       slice_at : ℕ → Option Entry
@@ -90,7 +90,7 @@ module _ (a : Account) (e : Entry) (legal : Legal a) where
 
   -- ---- the rule that is broken first
 
-  same_rule : (rule other : Rule) (place : ℕ) → BreaksFirst (state_of a) e rule → IsOfLast a e place other
+  same_rule : (rule other : Rule) (place : ℕ) → IsFirstBroken (state_of a) e rule → IsOfLast a e place other
       → other ≡ rule
   same_rule rule other place breaks last = elim (cases_order (rank_of other) (rank_of rule)) [
     | inl same ↦ one_rank other rule same
@@ -103,7 +103,7 @@ module _ (a : Account) (e : Entry) (legal : Legal a) where
     ]
   ]
 
-  told_is : (rule : Rule) → BreaksFirst (state_of a) e rule → (told : Audit) → IsToldOf (with_entry a e) told
+  told_is : (rule : Rule) → IsFirstBroken (state_of a) e rule → (told : Audit) → IsToldOf (with_entry a e) told
       → told ≡ tells.Fault (length a.entries) rule
   told_is rule breaks tells.Legal whole =
       absurd (breaks.broken (keeps_below a e legal agree (suc (rank_of rule))
@@ -115,7 +115,7 @@ module _ (a : Account) (e : Entry) (legal : Legal a) where
 
   -- ---- closed places
 
-  opens_by : (n : ℕ) → 7 ≤ n → KeepsBefore n (state_of a) e → (NamesClosed (state_of a) e → ⊥)
+  opens_by : (n : ℕ) → 7 ≤ n → KeepsUpTo n (state_of a) e → (NamesClosed (state_of a) e → ⊥)
       → NamesOpen (state_of a) e
   opens_by n most kept none p names = elim (among_or_not (place_list (state_of a).open_places) p) [
     | inl there ↦ there
@@ -127,15 +127,15 @@ module _ (a : Account) (e : Entry) (legal : Legal a) where
     }))
   ]
 
-  kept_with : (rule : Rule) → KeepsBefore (rank_of rule) (state_of a) e → KeepsRule rule (state_of a) e
-      → KeepsBefore (suc (rank_of rule)) (state_of a) e
+  kept_with : (rule : Rule) → KeepsUpTo (rank_of rule) (state_of a) e → KeepsRule rule (state_of a) e
+      → KeepsUpTo (suc (rank_of rule)) (state_of a) e
   kept_with rule before keeps other less = elim (cases_lt (rank_of other) (rank_of rule)) [
     | inl below ↦ before other below
     | inr most ↦ subst (λ r. KeepsRule r (state_of a) e) (sym (one_rank other rule (omega arith))) keeps
   ]
 
   is_broken : (rule : Rule) → FirstFault (with_entry a e) (length a.entries) rule
-      → (NamesClosed (state_of a) e → ⊥) → BreaksFirst (state_of a) e rule
+      → (NamesClosed (state_of a) e → ⊥) → IsFirstBroken (state_of a) e rule
   is_broken rule fault none =
       let last = of_last (length a.entries) rule fault in
       let first = keeps_below a e legal agree (rank_of rule) last.first in

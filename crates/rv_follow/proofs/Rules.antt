@@ -1,17 +1,18 @@
--- Of each rule: where the state of a legal account keeps it the account does, and the other way round, as long
+-- Of each rule: where the state of a legal account keeps it the account does, and the other way round, as
+-- long
 -- as those before it are kept.
-use Rattle.std.proofs.Common.{◌≡◌, ◌<◌, ◌≤◌, ◌∙◌, ℕ, zero, suc, Option, Some, None, refl, sym, ap, subst, arith}
-use Rattle.std.proofs.lemmas.Option.{none-some, same_Some}
+use Rattle.std.proofs.Common.{◌≡◌, ◌<◌, ◌≤◌, ◌∙◌, ℕ, zero, suc, Option, Some, None, refl, sym, subst, arith}
+use Rattle.std.proofs.lemmas.Option.{same_Some}
 use Rattle.rv_text.specs.declared.call.Call.{Call}
 use Rattle.rv_text.specs.declared.call.Side.{Side}
 use Rattle.rv_text.specs.Calls.{side_of}
 use Rattle.rv_account.specs.declared.entry.Entry.{Entry}
-use Rattle.rv_account.specs.Account.{Account, Among, Names, call_in}
+use Rattle.rv_account.specs.Account.{Account, Among, call_in}
 use Rattle.rv_account.specs.Calls.{opposite}
-use Rattle.rv_rules.specs.Legal.{Legal, NamesFreePartners, PairsOpposites}
+use Rattle.rv_rules.specs.Legal.{Legal}
 use Rattle.rv_rules.proofs.Naming.{among_none}
 use Rattle.rv_state.specs.After.{state_of}
-use Rattle.rv_state.specs.Kept.{IsOpposite, NamesAll, NamesOldest, NamesOpen, NamesOpposites, NamesWell}
+use Rattle.rv_state.specs.Kept.{IsOpposite, NamesAll, NamesOpen, NamesOpposites, NamesWell}
 use Rattle.rv_state.specs.Kept.{RulesAgree}
 use Rattle.rv_state.specs.State.{OpenPlace, State, line_of, place_list, same_side}
 use Rattle.rv_state.proofs.Filtered.{filter_get, map_get}
@@ -26,7 +27,7 @@ use Rattle.rv_audit.proofs.RulesKept.{passes_nobody_over, starts_newer, swapped_
 use Rattle.rv_audit.proofs.RulesSuffice.{cancels_in_turn, counts_up, keeps_limits, keeps_time}
 use Rattle.rv_audit.proofs.RulesSuffice.{names_free_partners, of_session, pairs_oldest, pairs_opposites}
 use Rattle.rv_audit.proofs.RulesSuffice.{pairs_where_possible, raises_incarnation}
-use Rattle.rv_follow.specs.Ruling.{KeepsBefore, KeepsRule}
+use Rattle.rv_follow.specs.Ruling.{KeepsUpTo, KeepsRule}
 
 -- ---- whom it might meet
 
@@ -86,7 +87,7 @@ module _ (a : Account) (e : Entry) (legal : Legal a) (agree : RulesAgree a (stat
       (λ misses. one_way e misses.call call misses.arrives arrives) none)
 
   -- what breaks it not in the account keeps it in the state
-  pub keeps_from : (rule : Rule) → KeepsBefore (rank_of rule) (state_of a) e → (BreaksBehind rule a e → ⊥)
+  pub keeps_from : (rule : Rule) → KeepsUpTo (rank_of rule) (state_of a) e → (BreaksBehind rule a e → ⊥)
       → KeepsRule rule (state_of a) e
   keeps_from M1 before none = agree.time.0 (keeps_time a e legal none)
   keeps_from M2 before none = λ no_tick. agree.limits.0 (keeps_limits a e.moment e.act legal
@@ -111,7 +112,7 @@ module _ (a : Account) (e : Entry) (legal : Legal a) (agree : RulesAgree a (stat
   keeps_from S2 before none = λ call arrives. all_by_swaps call arrives none
 
   -- and what keeps it there doesn't break it in the account
-  pub breaks_not : (rule : Rule) → KeepsBefore (rank_of rule) (state_of a) e
+  pub breaks_not : (rule : Rule) → KeepsUpTo (rank_of rule) (state_of a) e
       → (6 ≤ rank_of rule → NamesOpen (state_of a) e) → KeepsRule rule (state_of a) e → BreaksBehind rule a e
       → ⊥
   breaks_not M1 before opened keeps breaks = falls_not_back a e (agree.time.1 keeps) breaks
@@ -143,7 +144,7 @@ module _ (a : Account) (e : Entry) (legal : Legal a) (agree : RulesAgree a (stat
 
   -- none of so many is broken in the account, so all of them are kept
   pub keeps_below : (n : ℕ) → ((other : Rule) → rank_of other < n → BreaksBehind other a e → ⊥)
-      → KeepsBefore n (state_of a) e
+      → KeepsUpTo n (state_of a) e
   keeps_below zero none other less = absurd (omega arith)
   keeps_below (suc n) none other less =
       keeps_from other

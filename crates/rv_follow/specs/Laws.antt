@@ -10,7 +10,7 @@ use Rattle.rv_audit.specs.Breaking.{FirstFault, IsToldOf}
 use Rattle.rv_audit.specs.declared.rule.Audit.{Audit}
 use Rattle.rv_audit.specs.declared.rule.Audit.TheVariants.{Fault}
 use Rattle.rv_audit.specs.declared.rule.Rule.{Rule}
-use Rattle.rv_follow.specs.Ruling.{BreaksFirst, IsOnNamed, NamesClosed}
+use Rattle.rv_follow.specs.Ruling.{IsFirstBroken, IsOnNamed, NamesClosed}
 
 -- an entry follows the state of a legal account exactly where the account with it is legal
 abbrev pub FollowsLegally : Type 0
@@ -19,10 +19,10 @@ FollowsLegally = (a : Account) (e : Entry) → Legal a → FollowsState (state_o
 -- the rule that it breaks first there is what an audit tells of the account with it, and the other way round,
 -- but for an entry that names a closed place
 pub record BreaksAlike (a : Account) (e : Entry) (rule : Rule) : Type 0 where
-  pub told : BreaksFirst (state_of a) e rule → (told : Audit) → IsToldOf (with_entry a e) told
+  pub told : IsFirstBroken (state_of a) e rule → (told : Audit) → IsToldOf (with_entry a e) told
       → told ≡ Fault (length a.entries) rule
   pub broken : FirstFault (with_entry a e) (length a.entries) rule → ¬ NamesClosed (state_of a) e
-      → BreaksFirst (state_of a) e rule
+      → IsFirstBroken (state_of a) e rule
 
 abbrev pub RulesBreak : Type 0
 RulesBreak = (a : Account) (e : Entry) (rule : Rule) → Legal a → BreaksAlike a e rule

@@ -1,5 +1,5 @@
 -- What becomes of an entry that was written before.
-use Rattle.std.specs.Prelude.{◌≡◌, ℕ, Option, Some}
+use Rattle.std.specs.Prelude.{◌≡◌, Option, Some}
 use Rattle.rv_text.specs.declared.answer.Reply.{Reply}
 use Rattle.rv_account.specs.declared.entry.Act.{Act}
 use Rattle.rv_account.specs.declared.entry.Act.TheVariants.{Arrive, Cancel, Hello, Tick}
@@ -14,7 +14,7 @@ use Rattle.rv_state.specs.Moves.{told_again}
 use Rattle.rv_state.specs.State.{ClientState, State, client_at}
 use Rattle.rv_follow.specs.declared.following.Followed.{Followed}
 use Rattle.rv_follow.specs.declared.following.Followed.TheVariants as followed
-use Rattle.rv_follow.specs.Ruling.{BreaksFirst, NamesClosed}
+use Rattle.rv_follow.specs.Ruling.{IsFirstBroken, NamesClosed}
 
 -- the entry follows the state, and the state after it has room
 pub record FollowsInRoom (s : State) (e : Entry) : Type 0 where
@@ -47,7 +47,7 @@ pub record PassesRoom (s : State) (e : Entry) : Type 0 where
   pub beyond : ¬ StaysInRoom (state_after s e)
 
 -- memory was refused, which the entry may want; the state stays
-pub record LackedMemory (old new : Machine) (e : Entry) : Type 0 where
+pub record WantedMemory (old new : Machine) (e : Entry) : Type 0 where
   pub follows : FollowsInRoom (state_in old) e
   pub wants : ¬ NeedsNoMemory (state_in old) e.act
   pub stays : state_in new ≡ state_in old
@@ -55,7 +55,7 @@ pub record LackedMemory (old new : Machine) (e : Entry) : Type 0 where
 -- what is told of the entry is so
 abbrev pub IsFollowed : Machine → Machine → Entry → Followed → Type 0
 IsFollowed old new e followed.Done = HasFollowed old new e
-IsFollowed old new e (followed.Breaks rule) = HasBroken old new e (λ s e. BreaksFirst s e rule)
+IsFollowed old new e (followed.Breaks rule) = HasBroken old new e (λ s e. IsFirstBroken s e rule)
 IsFollowed old new e followed.NotOpen = HasBroken old new e NamesClosed
 IsFollowed old new e followed.BeyondLimits = HasBroken old new e PassesRoom
-IsFollowed old new e followed.NoMemory = LackedMemory old new e
+IsFollowed old new e followed.NoMemory = WantedMemory old new e

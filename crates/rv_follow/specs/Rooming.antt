@@ -16,7 +16,7 @@ AwaitsNothing s client = (session : ClientState) → client_at s client ≡ Some
     → place_waiting session.request ≡ None
 
 -- a request waits at the open place with this number
-pub record IsAwaited (s : State) (place : ℕ) : Type 0 where
+pub record IsWaitedFor (s : State) (place : ℕ) : Type 0 where
   pub there : OpenPlace
   pub found : open_at s place ≡ Some there
   pub waits : IsSome there.waiter

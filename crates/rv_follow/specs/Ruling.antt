@@ -37,18 +37,18 @@ KeepsRule S1 s e = IfArrives IsSwapped e (NamesOpposites s e)
 KeepsRule S2 s e = IfArrives IsSwapped e (NamesAll s e)
 
 -- the entry keeps so many of the rules, in the order in which they are asked
-abbrev pub KeepsBefore : ℕ → State → Entry → Type 0
-KeepsBefore n s e = (other : Rule) → rank_of other < n → KeepsRule other s e
+abbrev pub KeepsUpTo : ℕ → State → Entry → Type 0
+KeepsUpTo n s e = (other : Rule) → rank_of other < n → KeepsRule other s e
 
 -- the entry breaks this rule and none before it; and behind P1 each place that it names is open
-pub record BreaksFirst (s : State) (e : Entry) (rule : Rule) : Type 0 where
+pub record IsFirstBroken (s : State) (e : Entry) (rule : Rule) : Type 0 where
   pub broken : ¬ KeepsRule rule s e
-  pub first : KeepsBefore (rank_of rule) s e
+  pub first : KeepsUpTo (rank_of rule) s e
   pub named_open : rank_of P1 < rank_of rule → NamesOpen s e
 
 -- the entry keeps all rules up to P1, but names a place that is open nowhere
 pub record NamesClosed (s : State) (e : Entry) : Type 0 where
-  pub kept : KeepsBefore (rank_of P2) s e
+  pub kept : KeepsUpTo (rank_of P2) s e
   pub place : ℕ
   pub names : Names e place
   pub closed : ¬ Among (place_list s.open_places) place

@@ -4,10 +4,10 @@ use Rattle.rv_state.specs.Follows.{FollowsState}
 use Rattle.rv_state.specs.State.{State}
 use Rattle.rv_follow.specs.declared.ruling.Ruling.{Ruling}
 use Rattle.rv_follow.specs.declared.ruling.Ruling.TheVariants.{Breaks, Follows, NotOpen}
-use Rattle.rv_follow.specs.Ruling.{BreaksFirst, NamesClosed}
+use Rattle.rv_follow.specs.Ruling.{IsFirstBroken, NamesClosed}
 
 -- what is told is so
 abbrev pub IsRulingOf : State → Entry → Ruling → Type 0
 IsRulingOf s e Follows = FollowsState s e
-IsRulingOf s e (Breaks rule) = BreaksFirst s e rule
+IsRulingOf s e (Breaks rule) = IsFirstBroken s e rule
 IsRulingOf s e NotOpen = NamesClosed s e

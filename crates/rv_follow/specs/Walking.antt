@@ -15,21 +15,21 @@ abbrev pub HoldsBefore : (ℕ → Type 0) → List ℕ → ℕ → Type 0
 HoldsBefore Holds places n = (i p : ℕ) → i < n → slice_get places i ≡ Some p → Holds p
 
 -- the places of those that a call might meet, the oldest first
-abbrev pub facing : State → Call → List ℕ
-facing s call = place_list (opposites s call)
+abbrev pub facing_places : State → Call → List ℕ
+facing_places s call = place_list (opposites s call)
 
 -- the first so many of these places are the first of the others
 abbrev pub AgreeBefore : List ℕ → List ℕ → ℕ → Type 0
 AgreeBefore places others n = (i : ℕ) → i < n → slice_get others i ≡ slice_get places i
 
 -- these places are the first of the others
-abbrev pub IsFront : List ℕ → List ℕ → Type 0
-IsFront places others = AgreeBefore places others (length places)
+abbrev pub LeadsLine : List ℕ → List ℕ → Type 0
+LeadsLine places others = AgreeBefore places others (length places)
 
 -- what a call might meet and stands before one of these places is one of them
 abbrev pub TakesOldest : State → Call → List ℕ → Type 0
 TakesOldest s call places = (p r : ℕ) → Among places p → IsOpposite s call r → r < p → Among places r
 
 -- these places are as many as the call may name, or all that it might meet
-abbrev pub TakesAll : State → Call → List ℕ → Type 0
-TakesAll s call places = (r : ℕ) → length places < may_name call → IsOpposite s call r → Among places r
+abbrev pub NamesEachFacing : State → Call → List ℕ → Type 0
+NamesEachFacing s call places = (r : ℕ) → length places < may_name call → IsOpposite s call r → Among places r

@@ -18,7 +18,7 @@ pub enum Followed {
     Done,
     /// It breaks this rule first, in the order of an audit.
     Breaks(Rule),
-    /// It names a place that is open nowhere, and breaks no rule before: it breaks P1, or else P2 or S1.
+    /// It names a place that is open nowhere, and breaks no rule before P1: it breaks P1, P2 or S1.
     NotOpen,
     /// It follows, but the state after it would have no room.
     BeyondLimits,
@@ -27,8 +27,8 @@ pub enum Followed {
 }
 
 /// Follows an entry that was written before, whatever limits its step had, and lists whom it settles. Unless
-/// it is done, the state stays; and all stays where memory wasn't wanting. A tick, and a cancel of what waits,
-/// take no memory.
+/// it is done, the state stays; and all stays where memory wasn't refused. A tick, and a cancel of what
+/// waits, take no memory.
 pub fn follow(machine: &mut Machine, entry: Entry) -> Followed
     requires ready { IsWhole machine.old }
     requires resumes { CanResume (state_in machine.old) }

@@ -4,7 +4,7 @@ ghost use Rattle.rv_text.specs.Limits.{FitsCall};
 ghost use Rattle.rv_account.specs.Calls.{may_name};
 ghost use Rattle.rv_machine.specs.Machines.{state_in};
 ghost use Rattle.rv_resume.specs.Resuming.{CanResume};
-ghost use Rattle.rv_follow.specs.Walking.{AgreeBefore, IsFront, TakesAll, facing, first_above};
+ghost use Rattle.rv_follow.specs.Walking.{AgreeBefore, LeadsLine, NamesEachFacing, facing_places, first_above};
 
 use crate::partners::opposite;
 use rv_account::{Place, may_name};
@@ -15,7 +15,7 @@ use rv_text::Call;
 fn next_facing(machine: &Machine, call: &Call, after: Option<Place>) -> Option<Place>
     requires resumes { CanResume (state_in machine.now) }
     requires fits { FitsCall call.now }
-    ensures { result ≡ first_above after (facing (state_in machine.now) call.now) }
+    ensures { result ≡ first_above after (facing_places (state_in machine.now) call.now) }
 {
     let side = opposite(call.side())?;
     Some(machine.behind(side, after)?.place)
@@ -39,9 +39,9 @@ fn stands_next(machine: &Machine, call: &Call, partners: &[Place], index: usize)
     requires resumes { CanResume (state_in machine.now) }
     requires fits { FitsCall call.now }
     requires inside { index < length partners.now }
-    requires front { AgreeBefore partners.now (facing (state_in machine.now) call.now) index }
+    requires front { AgreeBefore partners.now (facing_places (state_in machine.now) call.now) index }
     ensures { IsTrue result
-        ↔ slice_get (facing (state_in machine.now) call.now) index ≡ slice_get partners.now index }
+        ↔ slice_get (facing_places (state_in machine.now) call.now) index ≡ slice_get partners.now index }
 {
     match next_facing(machine, call, last_of(partners, index)) {
         Some(next) => next == partners[index],
@@ -53,7 +53,7 @@ fn stands_next(machine: &Machine, call: &Call, partners: &[Place], index: usize)
 pub(crate) fn are_oldest(machine: &Machine, call: &Call, partners: &[Place]) -> bool
     requires resumes { CanResume (state_in machine.now) }
     requires fits { FitsCall call.now }
-    ensures { IsTrue result ↔ IsFront partners.now (facing (state_in machine.now) call.now) }
+    ensures { IsTrue result ↔ LeadsLine partners.now (facing_places (state_in machine.now) call.now) }
 {
     for index in 0..partners.len() {
         if !stands_next(machine, call, partners, index) {
@@ -68,8 +68,8 @@ pub(crate) fn takes_all(machine: &Machine, call: &Call, partners: &[Place]) -> b
     requires resumes { CanResume (state_in machine.now) }
     requires fits { FitsCall call.now }
     requires front { length partners.now < may_name call.now
-        → IsFront partners.now (facing (state_in machine.now) call.now) }
-    ensures { IsTrue result ↔ TakesAll (state_in machine.now) call.now partners.now }
+        → LeadsLine partners.now (facing_places (state_in machine.now) call.now) }
+    ensures { IsTrue result ↔ NamesEachFacing (state_in machine.now) call.now partners.now }
 {
     if may_name(call) <= partners.len() {
         return true;

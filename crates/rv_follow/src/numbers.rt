@@ -79,7 +79,9 @@ fn is_next(machine: &Machine, key: &Key) -> bool
 {
     match session_of(machine, key) {
         Some(session) => {
-            key.number > session.last && key.number - session.last == 1 && !is_waiting(&session.request)
+            key.number > session.last
+                && key.number - session.last == 1
+                && !is_waiting(&session.request)
         }
         None => false,
     }

@@ -1,5 +1,6 @@
 //! Whether the state after an entry that follows has room, told before anything is done.
-ghost use Rattle.std.specs.Prelude.{◌≡◌, ◌↔◌, ◌⊎◌, ◌<◌, ◌≤◌, [], ℕ, IfNone, IfSome, IsTrue, None, Some, length};
+ghost use Rattle.std.specs.Prelude.{◌≡◌, ◌↔◌, ◌⊎◌, ◌<◌, ◌≤◌, [], ℕ, IfNone, IfSome};
+ghost use Rattle.std.specs.Prelude.{IsTrue, None, Some, length};
 ghost use Rattle.std.specs.Prelude.{true, false};
 ghost use Rattle.std.specs.FinMap.{len};
 ghost use Rattle.rv_text.specs.Limits.{FitsCall};
@@ -12,7 +13,7 @@ ghost use Rattle.rv_resume.specs.Resuming.{CanResume, StaysInRoom};
 ghost use Rattle.rv_state.specs.After.{following, met_by, state_after, stays_open};
 ghost use Rattle.rv_state.specs.Follows.{FollowsState};
 ghost use Rattle.rv_state.specs.State.{client_at, place_list};
-ghost use Rattle.rv_follow.specs.Rooming.{AwaitsNothing, HasAwaiting, HasSpace, IsAwaited, IsUnawaited};
+ghost use Rattle.rv_follow.specs.Rooming.{AwaitsNothing, HasAwaiting, HasSpace, IsWaitedFor, IsUnawaited};
 ghost use Rattle.rv_follow.specs.Walking.{HoldsOfAll};
 
 use crate::numbers::is_waiting;
@@ -63,7 +64,7 @@ fn has_client(machine: &Machine, client: u64) -> bool
 
 // The first of these places at which a request waits.
 fn first_awaited(machine: &Machine, places: &[Place]) -> Option<Place>
-    ensures some { IfSome result (λ p. Among places.now p × IsAwaited (state_in machine.now) p) }
+    ensures some { IfSome result (λ p. Among places.now p × IsWaitedFor (state_in machine.now) p) }
     ensures none { IfNone result (HoldsOfAll (IsUnawaited (state_in machine.now)) places.now) }
 {
     for place in places {
@@ -76,7 +77,7 @@ fn first_awaited(machine: &Machine, places: &[Place]) -> Option<Place>
 
 // Whether a request waits at a place.
 fn is_awaited(machine: &Machine, place: Place) -> bool
-    ensures yes { result ≡ true → IsAwaited (state_in machine.now) place }
+    ensures yes { result ≡ true → IsWaitedFor (state_in machine.now) place }
     ensures no { result ≡ false → IsUnawaited (state_in machine.now) place }
 {
     match machine.open_at(place) {
@@ -101,7 +102,8 @@ fn stays(call: &Call) -> bool
 // Whether there is space for one entry more, or one that waits of the client makes place for it.
 fn has_place(machine: &Machine, client: u64) -> bool
     requires { CanResume (state_in machine.now) }
-    ensures yes { result ≡ true → HasSpace (state_in machine.now) 1 ⊎ HasAwaiting (state_in machine.now) client }
+    ensures yes { result ≡ true
+        → HasSpace (state_in machine.now) 1 ⊎ HasAwaiting (state_in machine.now) client }
     ensures space { result ≡ false → ¬ HasSpace (state_in machine.now) 1 }
     ensures idle { result ≡ false → AwaitsNothing (state_in machine.now) client }
 {

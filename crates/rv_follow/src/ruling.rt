@@ -1,4 +1,4 @@
-//! What a machine tells of an entry before anything is done: whether it follows, or which rule it breaks first.
+//! What a machine tells of an entry before anything is done: that it follows, or which rule it breaks first.
 ghost use Rattle.std.specs.Prelude.{◌≡◌, ◌↔◌, IfNone, IfSome, IsTrue};
 ghost use Rattle.rv_account.specs.Limits.{FitsEntry};
 ghost use Rattle.rv_audit.specs.Breaking.{rank_of};
@@ -7,13 +7,14 @@ ghost use Rattle.rv_audit.specs.declared.rule.Rule.TheVariants.{P2};
 ghost use Rattle.rv_machine.specs.Machines.{state_in};
 ghost use Rattle.rv_resume.specs.Resuming.{CanResume};
 ghost use Rattle.rv_state.specs.Kept.{NamesOpen};
-ghost use Rattle.rv_follow.specs.Ruling.{BreaksFirst, KeepsBefore, KeepsRule};
+ghost use Rattle.rv_follow.specs.Ruling.{IsFirstBroken, KeepsUpTo, KeepsRule};
 ghost use Rattle.rv_follow.specs.Told.{IsRulingOf};
 
 use crate::moments::{keeps_limits, keeps_time, ticks_rightly};
 use crate::numbers::{hello_rises, in_session, in_turn};
-use crate::partners::{names_open, names_well, pairs_all, pairs_oldest, pairs_opposites, swaps_all};
-use crate::partners::swaps_opposites;
+use crate::partners::{
+    names_open, names_well, pairs_all, pairs_oldest, pairs_opposites, swaps_all, swaps_opposites,
+};
 use rv_account::Entry;
 use rv_audit::Rule;
 use rv_machine::Machine;
@@ -33,7 +34,7 @@ pub(crate) enum Ruling {
 fn keeps(machine: &Machine, rule: Rule, entry: &Entry) -> bool
     requires resumes { CanResume (state_in machine.now) }
     requires fits { FitsEntry entry.now }
-    requires before { KeepsBefore (rank_of rule) (state_in machine.now) entry.now }
+    requires before { KeepsUpTo (rank_of rule) (state_in machine.now) entry.now }
     ensures { IsTrue result ↔ KeepsRule rule (state_in machine.now) entry.now }
 {
     match rule {
@@ -56,8 +57,8 @@ fn keeps(machine: &Machine, rule: Rule, entry: &Entry) -> bool
 fn first_broken(machine: &Machine, entry: &Entry) -> Option<Rule>
     requires resumes { CanResume (state_in machine.now) }
     requires fits { FitsEntry entry.now }
-    ensures some { IfSome result (BreaksFirst (state_in machine.now) entry.now) }
-    ensures none { IfNone result (KeepsBefore (rank_of P2) (state_in machine.now) entry.now) }
+    ensures some { IfSome result (IsFirstBroken (state_in machine.now) entry.now) }
+    ensures none { IfNone result (KeepsUpTo (rank_of P2) (state_in machine.now) entry.now) }
 {
     let rules = [
         Rule::M1,
@@ -80,9 +81,9 @@ fn first_broken(machine: &Machine, entry: &Entry) -> Option<Rule>
 fn first_misnamed(machine: &Machine, entry: &Entry) -> Option<Rule>
     requires resumes { CanResume (state_in machine.now) }
     requires fits { FitsEntry entry.now }
-    requires kept { KeepsBefore (rank_of P2) (state_in machine.now) entry.now }
+    requires kept { KeepsUpTo (rank_of P2) (state_in machine.now) entry.now }
     requires named_open { NamesOpen (state_in machine.now) entry.now }
-    ensures some { IfSome result (BreaksFirst (state_in machine.now) entry.now) }
+    ensures some { IfSome result (IsFirstBroken (state_in machine.now) entry.now) }
     ensures none { IfNone result ((rule : Rule) → KeepsRule rule (state_in machine.now) entry.now) }
 {
     let rules = [Rule::P2, Rule::P3, Rule::P4, Rule::S1, Rule::S2];
@@ -116,7 +117,7 @@ pub(crate) fn rule_on(machine: &Machine, entry: &Entry) -> Ruling
 fn rule_on_named(machine: &Machine, entry: &Entry) -> Ruling
     requires resumes { CanResume (state_in machine.now) }
     requires fits { FitsEntry entry.now }
-    requires kept { KeepsBefore (rank_of P2) (state_in machine.now) entry.now }
+    requires kept { KeepsUpTo (rank_of P2) (state_in machine.now) entry.now }
     requires named_open { NamesOpen (state_in machine.now) entry.now }
     ensures { IsRulingOf (state_in machine.now) entry.now result }
 {

@@ -1,4 +1,4 @@
-use Rattle.std.proofs.Common.{◌≡◌, ◌∙◌, None, Option, Some, ap, option_map, sym}
+use Rattle.std.proofs.Common.{◌≡◌, ◌∙◌, None, Some, ap, option_map, sym}
 use Rattle.rv_account.specs.Calls.{opposite}
 use Rattle.rv_machine.specs.Machines.{state_in}
 use Rattle.rv_text.specs.Calls.{side_of}

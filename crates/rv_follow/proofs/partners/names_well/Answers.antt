@@ -1,10 +1,12 @@
-use Rattle.std.proofs.Common.{◌∙◌, sym, false, true}
+use Rattle.std.proofs.Common.{◌∙◌, sym}
 use Rattle.std.proofs.lemmas.Bool.{false≢true}
 use Rattle.rv_machine.specs.Machines.{state_in}
 use Rattle.rv_state.specs.Kept.{NamesWell}
 use Rattle.rv_follow.proofs.Naming.{fall_not, many_not, never, pass_not, well_meeting}
 use Rattle.rv_follow.proofs.partners.names_well.Goals as goal
-use Rattle.rv_follow.proofs.partners.names_well.Goals.{then-names_too_many-via-then-names_too_many, then-names_too_many-via-else-names_too_many+then-not-rise, then-names_too_many-via-else-names_too_many+else-not-rise+then-not-stand_below}
+use Rattle.rv_follow.proofs.partners.names_well.Goals.{then-names_too_many-via-then-names_too_many}
+use Rattle.rv_follow.proofs.partners.names_well.Goals.{then-names_too_many-via-else-names_too_many+then-not-rise}
+use Rattle.rv_follow.proofs.partners.names_well.Goals.{then-names_too_many-via-else-names_too_many+else-not-rise+then-not-stand_below}
 
 pub returns-then-names_too_many : goal.returns-then-names_too_many
 returns-then-names_too_many c =

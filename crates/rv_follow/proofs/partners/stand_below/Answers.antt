@@ -1,4 +1,4 @@
-use Rattle.std.proofs.Common.{◌<◌, arith, get_or}
+use Rattle.std.proofs.Common.{◌<◌, arith}
 use Rattle.rv_follow.proofs.Asked.{all_next, all_told, not_all}
 use Rattle.rv_follow.proofs.partners.stand_below.Goals as goal
 

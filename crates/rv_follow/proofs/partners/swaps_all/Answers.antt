@@ -1,6 +1,6 @@
 use Rattle.rv_audit.specs.Breaking.{IsSwapped}
 use Rattle.rv_machine.specs.Machines.{state_in}
-use Rattle.rv_follow.specs.Walking.{facing}
+use Rattle.rv_follow.specs.Walking.{facing_places}
 use Rattle.rv_follow.proofs.Lines.{all_told, call_fits, nobody_front}
 use Rattle.rv_follow.proofs.partners.swaps_all.Goals as goal
 
@@ -11,7 +11,7 @@ takes_all-requires-clause-fits c =
 pub takes_all-requires-clause-front : goal.takes_all-requires-clause-front
 takes_all-requires-clause-front c = λ fewer.
     nobody_front c.in-Some.call.now c.as_slice.result.now
-    (facing (state_in c.args.machine.now) c.in-Some.call.now) c.in-Some.ensures.some.is fewer
+    (facing_places (state_in c.args.machine.now) c.in-Some.call.now) c.in-Some.ensures.some.is fewer
 
 pub returns-in-Some : goal.returns-in-Some
 returns-in-Some c =

@@ -1,4 +1,4 @@
-use Rattle.std.proofs.Common.{◌≡◌, ◌∙◌, ◌<◌, ℕ, arith, false, length, nat_lt, refl, sym, subst, true, IsTrue}
+use Rattle.std.proofs.Common.{◌≡◌, ◌∙◌, ◌<◌, ℕ, arith, length, nat_lt, refl, sym, subst, IsTrue}
 use Rattle.std.proofs.lemmas.Bool.{false≢true}
 use Rattle.std.proofs.lemmas.Bool.Decides.{nat_tests}
 use Rattle.rv_machine.specs.Machines.{state_in}
@@ -16,7 +16,8 @@ returns-then-not-has_space c = λ moment time.
       λ t. absurd (false≢true t),
       λ room. absurd (false≢true (sym c.if-not-has_space.true ∙ c.has_space.ensures.1
           (subst (HasSpace s) (sym c.need_of.ensures.exact)
-          (alone_space s c.requires.resumes moment time c.args.key.now c.args.call.now c.requires.alone room)))),
+          (alone_space s c.requires.resumes moment time c.args.key.now c.args.call.now c.requires.alone
+          room)))),
     )
 
 pub returns-then-stays : goal.returns-then-stays

@@ -1,4 +1,4 @@
-use Rattle.std.proofs.Common.{◌≡◌, ◌∙◌, Bool, refl, sym, subst, IsTrue, true}
+use Rattle.std.proofs.Common.{refl, sym, subst, IsTrue, true}
 use Rattle.rv_account.specs.declared.entry.Act.{Act}
 use Rattle.rv_machine.specs.Machines.{state_in}
 use Rattle.rv_resume.specs.Resuming.{StaysInRoom}
@@ -12,9 +12,11 @@ pub returns-in-Tick : goal.returns-in-Tick
 returns-in-Tick c =
     let s = state_in c.args.machine.now in
     let moment = c.args.entry.now.moment in
-    subst (λ (act : Act). Iff (IsTrue true) (StaysInRoom (following s moment act).after)) (sym c.in-Tick.is)
-    (λ t. tick_stays s c.requires.resumes moment c.requires.fits.0
-    (subst (DueOnlyAtTick s moment) c.in-Tick.is c.requires.follows.moment.due), λ room. refl)
+    subst (λ (act : Act). Iff (IsTrue true) (StaysInRoom (following s moment act).after)) (sym c.in-Tick.is) (
+      λ t. tick_stays s c.requires.resumes moment c.requires.fits.0
+          (subst (DueOnlyAtTick s moment) c.in-Tick.is c.requires.follows.moment.due),
+      λ room. refl,
+    )
 
 pub returns-in-Hello : goal.returns-in-Hello
 returns-in-Hello c =

@@ -25,7 +25,8 @@ pairs_all-requires-clause-oldest c = let rank = ap rank_of c.in-P4.is in c.requi
 pub returns-in-P2 : goal.returns-in-P2
 returns-in-P2 c =
     subst (λ (rule : Rule). Iff (IsTrue c.pairs_opposites.result)
-    (KeepsRule rule (state_in c.args.machine.now) c.args.entry.now)) (sym c.in-P2.is) c.pairs_opposites.ensures
+    (KeepsRule rule (state_in c.args.machine.now) c.args.entry.now)) (sym c.in-P2.is)
+    c.pairs_opposites.ensures
 
 pub returns-in-P3 : goal.returns-in-P3
 returns-in-P3 c =
@@ -40,7 +41,8 @@ returns-in-P4 c =
 pub returns-in-S1 : goal.returns-in-S1
 returns-in-S1 c =
     subst (λ (rule : Rule). Iff (IsTrue c.swaps_opposites.result)
-    (KeepsRule rule (state_in c.args.machine.now) c.args.entry.now)) (sym c.in-S1.is) c.swaps_opposites.ensures
+    (KeepsRule rule (state_in c.args.machine.now) c.args.entry.now)) (sym c.in-S1.is)
+    c.swaps_opposites.ensures
 
 pub returns-in-S2 : goal.returns-in-S2
 returns-in-S2 c =
