@@ -106,7 +106,8 @@ module _ (Is : Side → Type 0) (s : State) (e : Entry) (is : CanResume s) (call
   its : (other : Call) → call_in e.act ≡ Some other → call ≡ other
   its other calls = same_Some _ _ (sym arrives.arrives ∙ calls)
 
-  pub front_kept : NamesWell s e → NamesOpposites s e → NamesOldest s e → LeadsLine e.partners (facing_places s call)
+  pub front_kept : NamesWell s e → NamesOpposites s e → NamesOldest s e
+      → LeadsLine e.partners (facing_places s call)
   front_kept well named oldest =
       front_from e.partners (facing_places s call) (rise_from e.partners well.rising) (facing_rises s is call)
       (λ p names. named p call names arrives.arrives)
@@ -131,7 +132,8 @@ module _ (Is : Side → Type 0) (s : State) (e : Entry) (is : CanResume s) (call
         subst (λ (ps : List ℕ). LeadsLine ps (facing_places s call)) (sym are)
         (front_kept well (named call arrives) (oldest call arrives))
 
-    pub all_told : Iff (IsTrue b) (NamesEachFacing s call partners) → Iff (IsTrue b) (IfArrives Is e (NamesAll s e))
+    pub all_told : Iff (IsTrue b) (NamesEachFacing s call partners)
+        → Iff (IsTrue b) (IfArrives Is e (NamesAll s e))
     all_told told = (
       λ t own also r other calls fewer at.
           subst (λ (ps : List ℕ). Among ps r) are

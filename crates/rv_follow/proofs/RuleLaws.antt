@@ -103,7 +103,8 @@ module _ (a : Account) (e : Entry) (legal : Legal a) where
     ]
   ]
 
-  told_is : (rule : Rule) → IsFirstBroken (state_of a) e rule → (told : Audit) → IsToldOf (with_entry a e) told
+  told_is : (rule : Rule) → IsFirstBroken (state_of a) e rule → (told : Audit)
+      → IsToldOf (with_entry a e) told
       → told ≡ tells.Fault (length a.entries) rule
   told_is rule breaks tells.Legal whole =
       absurd (breaks.broken (keeps_below a e legal agree (suc (rank_of rule))

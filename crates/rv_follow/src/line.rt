@@ -4,7 +4,8 @@ ghost use Rattle.rv_text.specs.Limits.{FitsCall};
 ghost use Rattle.rv_account.specs.Calls.{may_name};
 ghost use Rattle.rv_machine.specs.Machines.{state_in};
 ghost use Rattle.rv_resume.specs.Resuming.{CanResume};
-ghost use Rattle.rv_follow.specs.Walking.{AgreeBefore, LeadsLine, NamesEachFacing, facing_places, first_above};
+ghost use Rattle.rv_follow.specs.Walking.{AgreeBefore, LeadsLine, NamesEachFacing, facing_places};
+ghost use Rattle.rv_dual.specs.Above.{first_above};
 
 use crate::partners::opposite;
 use rv_account::{Place, may_name};

@@ -1,12 +1,10 @@
+-- Partners that name well, and what each test of them says.
 use Rattle.std.proofs.Common.{◌∙◌, sym}
 use Rattle.std.proofs.lemmas.Bool.{false≢true}
 use Rattle.rv_machine.specs.Machines.{state_in}
 use Rattle.rv_state.specs.Kept.{NamesWell}
 use Rattle.rv_follow.proofs.Naming.{fall_not, many_not, never, pass_not, well_meeting}
 use Rattle.rv_follow.proofs.partners.names_well.Goals as goal
-use Rattle.rv_follow.proofs.partners.names_well.Goals.{then-names_too_many-via-then-names_too_many}
-use Rattle.rv_follow.proofs.partners.names_well.Goals.{then-names_too_many-via-else-names_too_many+then-not-rise}
-use Rattle.rv_follow.proofs.partners.names_well.Goals.{then-names_too_many-via-else-names_too_many+else-not-rise+then-not-stand_below}
 
 pub returns-then-names_too_many : goal.returns-then-names_too_many
 returns-then-names_too_many c =
@@ -16,11 +14,11 @@ returns-then-names_too_many c =
     let are = c.as_slice-partners.ensures in
     never (NamesWell s e)
     (elim c.then-names_too_many.branch [
-      | then-names_too_many-via-then-names_too_many w ↦
+      | goal.then-names_too_many-via-then-names_too_many w ↦
           many_not s e (c.names_too_many.ensures.0 w.if-names_too_many.true)
-      | then-names_too_many-via-else-names_too_many+then-not-rise w ↦
+      | goal.then-names_too_many-via-else-names_too_many+then-not-rise w ↦
           fall_not s e ps are (λ rising. false≢true (sym w.if-not-rise.true ∙ w.rise.ensures.1 rising))
-      | then-names_too_many-via-else-names_too_many+else-not-rise+then-not-stand_below w ↦
+      | goal.then-names_too_many-via-else-names_too_many+else-not-rise+then-not-stand_below w ↦
           pass_not s e ps are w.length.result w.length.ensures
           (λ below. false≢true (sym w.if-not-stand_below.true ∙ w.stand_below.ensures.1 below))
     ])
