@@ -1,40 +1,78 @@
 //! Machines made anew behind a line: of the state before it, and by following the entries that it made.
-ghost use Rattle.std.specs.Prelude.{◌↔◌, true, IfSome, IsTrue};
+ghost use Rattle.std.specs.Prelude.{◌↔◌, IsTrue};
 ghost use Rattle.rv_account.specs.Limits.{FitsAct, FitsEntry};
 ghost use Rattle.rv_machine.specs.Machines.{IsWhole, state_in};
 ghost use Rattle.rv_machine.specs.Numbering.{AreNumbered};
 ghost use Rattle.rv_resume.specs.Resuming.{CanResume};
 
-use crate::steps::Made;
+use crate::steps::{Made, answer_line};
 use rv_account::{Act, Entry};
 use rv_follow::{Followed, follow};
 use rv_machine::Machine;
 use rv_resume::Snapshot;
-use rv_text::{Key, fits_identifier};
+use rv_rules::Limits;
+use rv_text::{Key, NoMemory, fits_identifier};
 use std::alloc::Global;
 
 // The greatest moment, 2^62.
 const MAX_MOMENT: u64 = 4_611_686_018_427_387_904;
 
-/// The machine of the state before a line, behind the entries that the line made. None if it can't be made,
-/// or if it settles others than these.
-pub(crate) fn made_anew(
+/// Answers a line, and puts a machine made anew in the place of the one that heard it, where that is wanted.
+/// None if no such machine can be made, or if it settles others.
+pub(crate) fn answer_by(
     alloc: Global,
-    before: Snapshot,
-    made: Made,
-    settled: &[Key],
-) -> Option<Machine>
-    ensures ready { IfSome result IsWhole }
-    ensures numbered { IfSome result (λ m. AreNumbered (state_in m)) }
+    limits: &Limits,
+    anew: bool,
+    machine: &mut Machine,
+    line: &[u8],
+) -> Result<Option<String>, NoMemory>
+    requires ready { IsWhole machine.old }
+    requires numbered { AreNumbered (state_in machine.old) }
+    ensures ready { IsWhole machine.new }
+    ensures numbered { AreNumbered (state_in machine.new) }
 {
-    let mut machine = Machine::resume(alloc, before).ok()?;
-    if !is_followed(&mut machine, made.tick, &made.ended) {
-        return None;
+    if anew {
+        return answer_anew(alloc, limits, machine, line);
     }
-    if !is_followed(&mut machine, made.entry, settled) {
-        return None;
+    let (body, _) = answer_line(alloc, limits, machine, line)?;
+    Ok(Some(body))
+}
+
+// The same where it is wanted.
+fn answer_anew(
+    alloc: Global,
+    limits: &Limits,
+    machine: &mut Machine,
+    line: &[u8],
+) -> Result<Option<String>, NoMemory>
+    requires ready { IsWhole machine.old }
+    requires numbered { AreNumbered (state_in machine.old) }
+    ensures ready { IsWhole machine.new }
+    ensures numbered { AreNumbered (state_in machine.new) }
+{
+    let before = machine.state()?;
+    let (body, made) = answer_line(alloc, limits, machine, line)?;
+    match made {
+        Some(made) => Ok(is_made_anew(alloc, machine, before, made).then_some(body)),
+        None => Ok(Some(body)),
     }
-    Some(machine)
+}
+
+// Puts the machine of the state before a line, behind the entries that the line made, in the place of the one
+// that heard it. Tells whether that can be made, and settles just the same.
+fn is_made_anew(alloc: Global, machine: &mut Machine, before: Snapshot, made: Made) -> bool
+    requires ready { IsWhole machine.old }
+    requires numbered { AreNumbered (state_in machine.old) }
+    ensures ready { IsWhole machine.new }
+    ensures numbered { AreNumbered (state_in machine.new) }
+{
+    let Ok(mut again) = Machine::resume(alloc, before) else {
+        return false;
+    };
+    let same = is_followed(&mut again, made.tick, &made.ended)
+        && is_followed(&mut again, made.entry, machine.settled());
+    *machine = again;
+    same
 }
 
 // Whether the entry, if there is one, is followed, and settles these; whom none settles, if there is none.

@@ -7,7 +7,7 @@ mod answers;
 mod steps;
 mod turns;
 
-use anew::made_anew;
+use anew::answer_by;
 use rv_frame::Source;
 use rv_lines::{first_line, read_number};
 use rv_machine::Machine;
@@ -16,7 +16,6 @@ use rv_run::read_input;
 use std::env;
 use std::io::{BufWriter, Write};
 use std::process::ExitCode;
-use steps::answer_line;
 use turns::take_turns;
 
 // The epoch of the machine.
@@ -91,16 +90,11 @@ fn run_steps(rt: &HostRuntime, limits: &Limits, anew: bool) -> anyhow::Result<Ex
     let mut output = BufWriter::new(alloc, rt.stdout())?;
     let mut rest = input.as_slice();
     while let Some((line, after)) = first_line(rest) {
-        let before = if anew { Some(machine.state()?) } else { None };
-        let (body, made) = answer_line(alloc, limits, &mut machine, line)?;
+        let Some(body) = answer_by(alloc, limits, anew, &mut machine, line)? else {
+            return told_otherwise(rt);
+        };
         output.write_all(body.as_bytes())?;
         output.write_all(b"\n")?;
-        if let (Some(before), Some(made)) = (before, made) {
-            machine = match made_anew(alloc, before, made, machine.settled()) {
-                Some(again) => again,
-                None => return told_otherwise(rt),
-            };
-        }
         rest = after;
     }
     output.flush()?;
