@@ -17,7 +17,7 @@ EXCEPTIONS = [
     rv.EpochEnded(key(5), 1), rv.EpochEnded(key(5), 7), rv.EpochEnded(None, 7), rv.Replaced(None, 2), rv.Replaced(key(1), 2),
     rv.Refused(key(6), 6, None, ": another process"), rv.Refused(None, 12, 1), rv.Misused("a call runs"),
     rv.AllLeased(None, 1, 1024, "/run/user/1000/rendezvous"),
-    rv.NotRecorded(rv.replies.Item(key(1), "a"), '{"asked":{},"told":{}}', OSError(28, "No space left on device", "/tmp/record")),
+    rv.NotRecorded(rv.replies.Item(key(1), "a"), '{"asked":{},"told":{}}', OSError(28, "No space left on device", "told.jsonl")),
 ]
 INTERRUPTS = [
     rv.Interrupted(key(1), rv.replies.Item(key(1), "a")), rv.Interrupted(key(1), None, rv.EpochEnded(key(1), 2)),
