@@ -25,19 +25,22 @@ from tools.bench import audit  # noqa: E402
 from tools.bench.lines import book_lines, in_turn  # noqa: E402
 
 SHORT, LONG = 2_000, 12_000
-# The parts of a line's work, and how the names of the functions begin that do it, where the program's own call
-# them. What is in none of them is the program's own, and memory that it gives back.
+# The parts of a line's work, and how the names of the functions begin that do it, as the program's own call them;
+# where the compiler merges one of them into its caller, those that it called. In none of them are the program's
+# own loop, which finds lines and their moments, and the memory that it gives back.
 PARSE = "parse: text to message"
 PARTS = {
     "read: input to lines": ("rv_run::input", "rv_lines", "rv_frame::source"),
-    PARSE: ("rv_text::decode", "rv_text::members", "rv_json::value", "rv_json::members"),
-    "step: the machine and the book": ("rv_book", "rv_machine", "rv_kept", "rv_open", "rv_session"),
+    PARSE: ("rv_text::decode", "rv_text::members", "rv_text::message", "rv_text::serde_json",
+            "rv_json::value", "rv_json::members", "rv_json::serde_json", "serde_json", "json::index"),
+    "step: the machine and the book": (
+        "rv_book", "rv_machine", "rv_kept", "rv_open", "rv_session", "rv_text::answer", "rv_text::call"),
     "write: answer to text": ("rv_text::encode", "rv_json::writer", "json::write"),
     "print: output": ("rv_run::output", "rv_frame::sink"),
 }
 # How the names of those begin that set memory to zero, and of those that do so to read JSON.
 ZEROING = ("memset", "__memset")
-READERS = (*PARTS[PARSE], "rv_bench::main")
+READERS = (*PARTS[PARSE], "rv_app", "rv_bench")
 # A row of the annotator: instructions and their share; "<" before a caller, and behind all callers "*" before
 # the function that they call; its file; its name; how often; its program.
 ROW = re.compile(r" *([\d,]+) \( *[\d.]+%\) +([<*]) +[^:]*:(.*?)(?: \([\d,]+x\))?(?: \[[^\]]*\])?")
@@ -62,7 +65,7 @@ class Profile:
     def parts(self, own: str) -> dict[str, float]:
         """Those of each part of a program, whose own functions' names begin so: all but the zeroing."""
         counts = {name: self.of_calls((own,), functions) for name, functions in PARTS.items()}
-        counts[PARSE] -= self.zeroing()
+        counts[PARSE] -= self.of_calls(PARTS[PARSE], ZEROING)
         return counts | {"else": self.total - self.zeroing() - sum(counts.values())}
 
 
