@@ -25,9 +25,9 @@ from tools.bench import audit  # noqa: E402
 from tools.bench.lines import book_lines, in_turn  # noqa: E402
 
 SHORT, LONG = 2_000, 12_000
-# The parts of a line's work, and how the names of the functions begin that do it, as the program's own call them;
-# where the compiler merges one of them into its caller, those that it called. In none of them are the program's
-# own loop, which finds lines and their moments, and the memory that it gives back.
+# The parts of a line's work, and how the names of the functions begin that do it, as the program's own call
+# them; where the compiler merges one of them into its caller, those that it called. In none of them are the
+# program's own loop, which finds lines and their moments, and the memory that it gives back.
 PARSE = "parse: text to message"
 PARTS = {
     "read: input to lines": ("rv_run::input", "rv_lines", "rv_frame::source"),
