@@ -19,6 +19,7 @@ import tempfile
 ROOT = pathlib.Path(__file__).resolve().parents[2]
 sys.dont_write_bytecode, sys.path[0] = True, str(ROOT)
 from tools.bench import audit  # noqa: E402
+from tools.bench.lines import Asks, book_lines, hello, in_turn  # noqa: E402
 from tools.bench.server import beside_redis  # noqa: E402
 from tools.bench.tables import tables_beside  # noqa: E402
 
@@ -27,46 +28,6 @@ MOST_RATIO = 2
 CONSUMERS = 500
 ITEMS = 50_000
 CROWD = 1_000
-
-
-def hello(client):
-    """A client's hello."""
-    return {"client": client, "incarnation": 1, "kind": "hello"}
-
-
-class Asks:
-    """Requests, each with its client's next number."""
-
-    def __init__(self):
-        self.numbers = {}
-
-    def __call__(self, client, call, queue=3, **members):
-        self.numbers[client] = number = self.numbers.get(client, 0) + 1
-        key = {"client": client, "epoch": 1, "incarnation": 1, "number": number}
-        return {"kind": "request", "call": call, "queue": queue, **key, **members}
-
-    def put(self, client, queue=3):
-        return self(client, "put", queue, item=f"item {self.numbers.get(client, 0)}")
-
-    def take(self, client, wait):
-        return self(client, "take", wait=wait)
-
-    def transfer(self, client):
-        return self(client, "transfer", item="an item", wait="now")
-
-    def swap(self, client):
-        asked = self(client, "swap", exchanger=5, item="an object", wait="forever")
-        del asked["queue"]
-        return asked
-
-
-def in_turn():
-    """A client puts an item and takes it, again and again."""
-    ask = Asks()
-    yield hello(1)
-    for _ in range(LINES // 2 - 1):
-        yield ask.put(1)
-        yield ask.take(1, "now")
 
 
 def all_at_once():
@@ -160,12 +121,6 @@ def calls_of_a_play():
         yield f"client {call}"
 
 
-def book_lines(messages):
-    """The lines of messages, each a moment after the one before."""
-    for moment, message in enumerate(messages):
-        yield f"{moment} {json.dumps(message, sort_keys=True, separators=(',', ':'))}"
-
-
 def refuse_none(words, path):
     """Ends where a line is refused: then the lines are not what is to be measured."""
     with open(path, "rb") as source:
@@ -200,7 +155,7 @@ def timed(words, messages):
 
 def beside_plain(book, plain):
     """What the book and the plain loop take for the same lines."""
-    with written(book, book_lines(in_turn())) as (path, lines, size):
+    with written(book, book_lines(in_turn(LINES))) as (path, lines, size):
         seconds, plain_seconds = audit.seconds_in_turn([book, [plain]], path)
         share, plain_share = (audit.peak(words, path) / lines for words in (book, [plain]))
     print(f"input            {lines} lines, {size} bytes")
@@ -212,7 +167,7 @@ def beside_plain(book, plain):
 def play_beside_book(program, book):
     """What events of a play take, and lines of the book that say and answer as much."""
     seconds, memory, events = timed_lines([program, "play"], calls_of_a_play())
-    book_seconds, _, lines = timed(book, in_turn())
+    book_seconds, _, lines = timed(book, in_turn(LINES))
     ratio = (seconds / events) / (book_seconds / lines)
     print(f"rv play          {events / seconds:.0f} events a second, peak memory {memory / events:.0f} bytes an event, "
           f"{ratio:.2f} times the time of rv book's lines")
@@ -240,7 +195,7 @@ def main():
     beside_plain(book, plain)
     play_beside_book(program, book)
     good = [
-        beside_empty(book, "50,000 puts and then 50,000 polls", in_turn(), all_at_once()),
+        beside_empty(book, "50,000 puts and then 50,000 polls", in_turn(LINES), all_at_once()),
         beside_empty(book, "500 clients that wait in take, met in turn", one_waits(), all_wait()),
         beside_empty(book, "a transfer met at once", met_at_once(0), met_at_once(ITEMS), items(ITEMS)),
         beside_empty(book, "a swap, and its repeats", swapped([]), swapped(list(crowd())), crowd()),
