@@ -50,7 +50,7 @@ IN_JAVA = [
         Edit(MACHINE, ' || code == 12 && current != version', '')]),
     WrongClient("asks on a connection that is out of step", "java, a closed connection is made anew", [
         Edit(SESSION, 'if (link != null && link.isOver()) {', 'if (link != null && closed) {')]),
-    WrongClient("forgets the interrupt of a call that gives its result", "java, whatever is let in", [
+    WrongClient("forgets the interrupt of a call that gives its result", "java, interrupts", [
         Edit(RUNNING, '        if (interrupted) {\n            Thread.c',
              '        if (interrupted && !interruptible) {\n            Thread.c')]),
     WrongClient("tells each cancel as a time that is over", "java_scenes, cancelled though nobody asked", [
