@@ -165,9 +165,3 @@ module _ (s : State) (is : CanResume s) (moment : ℕ) (time : moment ≤ max_mo
     pub met_full : HoldsOfAll (IsUnawaited s) partners → (HasSpace s 1 → ⊥) → StaysInRoom after → ⊥
     met_full all full room =
         full (unfreed s is moment time (Arrive key c) none clients (lies all) room)
-
--- an arrival that names nobody meets nobody
-pub none_met : (those : List OpenPlace) → place_list those ≡ [] → those ≡ []
-none_met [] empty = refl
-none_met (first ∷ others) empty =
-    absurd (none-some first.place (ap (λ (ps : List ℕ). slice_get ps 0) (sym empty)))

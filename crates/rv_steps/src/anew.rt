@@ -1,9 +1,7 @@
 //! Machines made anew behind a line: of the state before it, and by following the entries that it made.
 ghost use Rattle.std.specs.Prelude.{◌↔◌, IsTrue};
 ghost use Rattle.rv_account.specs.Limits.{FitsAct, FitsEntry};
-ghost use Rattle.rv_machine.specs.Machines.{IsWhole, state_in};
-ghost use Rattle.rv_machine.specs.Numbering.{AreNumbered};
-ghost use Rattle.rv_resume.specs.Resuming.{CanResume};
+ghost use Rattle.rv_steps.specs.Ready.{CanFollow, IsReady};
 
 use crate::steps::{Made, answer_line};
 use rv_account::{Act, Entry};
@@ -26,16 +24,13 @@ pub(crate) fn answer_by(
     machine: &mut Machine,
     line: &[u8],
 ) -> Result<Option<String>, NoMemory>
-    requires ready { IsWhole machine.old }
-    requires numbered { AreNumbered (state_in machine.old) }
-    ensures ready { IsWhole machine.new }
-    ensures numbered { AreNumbered (state_in machine.new) }
+    requires { IsReady machine.old }
+    ensures { IsReady machine.new }
 {
     if anew {
         return answer_anew(alloc, limits, machine, line);
     }
-    let (body, _) = answer_line(alloc, limits, machine, line)?;
-    Ok(Some(body))
+    Ok(Some(answer_line(alloc, limits, machine, line)?.0))
 }
 
 // The same where it is wanted.
@@ -45,10 +40,8 @@ fn answer_anew(
     machine: &mut Machine,
     line: &[u8],
 ) -> Result<Option<String>, NoMemory>
-    requires ready { IsWhole machine.old }
-    requires numbered { AreNumbered (state_in machine.old) }
-    ensures ready { IsWhole machine.new }
-    ensures numbered { AreNumbered (state_in machine.new) }
+    requires { IsReady machine.old }
+    ensures { IsReady machine.new }
 {
     let before = machine.state()?;
     let (body, made) = answer_line(alloc, limits, machine, line)?;
@@ -61,41 +54,49 @@ fn answer_anew(
 // Puts the machine of the state before a line, behind the entries that the line made, in the place of the one
 // that heard it. Tells whether that can be made, and settles just the same.
 fn is_made_anew(alloc: Global, machine: &mut Machine, before: Snapshot, made: Made) -> bool
-    requires ready { IsWhole machine.old }
-    requires numbered { AreNumbered (state_in machine.old) }
-    ensures ready { IsWhole machine.new }
-    ensures numbered { AreNumbered (state_in machine.new) }
+    requires { IsReady machine.old }
+    ensures { IsReady machine.new }
 {
     let Ok(mut again) = Machine::resume(alloc, before) else {
         return false;
     };
-    let same = is_followed(&mut again, made.tick, &made.ended)
-        && is_followed(&mut again, made.entry, machine.settled());
+    let same = are_followed(&mut again, made, machine.settled());
     *machine = again;
     same
 }
 
+// Whether the entries that a line made are followed, and settle whom it settled: its tick those that are
+// listed with it, and the entry of its message these.
+fn are_followed(machine: &mut Machine, made: Made, settled: &[Key]) -> bool
+    requires { CanFollow machine.old }
+    ensures { CanFollow machine.new }
+{
+    let Made { tick, ended, entry } = made;
+    let ticked = is_followed(machine, tick, &ended);
+    let heard = is_followed(machine, entry, settled);
+    ticked && heard
+}
+
 // Whether the entry, if there is one, is followed, and settles these; whom none settles, if there is none.
 fn is_followed(machine: &mut Machine, entry: Option<Entry>, settled: &[Key]) -> bool
-    requires ready { IsWhole machine.old }
-    requires numbered { AreNumbered (state_in machine.old) }
-    requires resumes { CanResume (state_in machine.old) }
-    ensures ready { IsWhole machine.new }
-    ensures numbered { AreNumbered (state_in machine.new) }
-    ensures resumes { CanResume (state_in machine.new) }
+    requires { CanFollow machine.old }
+    ensures { CanFollow machine.new }
 {
     match entry {
-        Some(entry) => {
-            if !entry_fits(&entry) {
-                return false;
-            }
-            match follow(machine, entry) {
-                Followed::Done => machine.settled() == settled,
-                _ => false,
-            }
-        }
+        Some(entry) => is_done(machine, entry) && machine.settled() == settled,
         None => settled.is_empty(),
     }
+}
+
+// Whether an entry is within its limits, and followed.
+fn is_done(machine: &mut Machine, entry: Entry) -> bool
+    requires { CanFollow machine.old }
+    ensures { CanFollow machine.new }
+{
+    if !entry_fits(&entry) {
+        return false;
+    }
+    matches!(follow(machine, entry), Followed::Done)
 }
 
 // Whether an entry is within its limits.

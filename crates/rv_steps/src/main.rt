@@ -2,6 +2,8 @@
 //! told.
 #![tactic(auto)]
 
+ghost use Rattle.rv_steps.specs.Ready.{IsReady};
+
 mod anew;
 mod answers;
 mod steps;
@@ -84,13 +86,25 @@ fn bound_of(word: &[u8]) -> Option<Option<usize>> {
 
 // Opens a machine at moment 0, and answers each line of standard input, if need be by one made anew.
 fn run_steps(rt: &HostRuntime, limits: &Limits, anew: bool) -> anyhow::Result<ExitCode> {
-    let alloc = rt.alloc();
-    let input = read_input(alloc, &mut Source::new(rt.stdin()))?;
-    let mut machine = Machine::open(alloc, EPOCH, 0)?;
-    let mut output = BufWriter::new(alloc, rt.stdout())?;
-    let mut rest = input.as_slice();
+    let input = read_input(rt.alloc(), &mut Source::new(rt.stdin()))?;
+    let mut machine = Machine::open(rt.alloc(), EPOCH, 0)?;
+    answer_all(rt, limits, anew, &mut machine, &input)
+}
+
+// Answers each line, and prints the bodies.
+fn answer_all(
+    rt: &HostRuntime,
+    limits: &Limits,
+    anew: bool,
+    machine: &mut Machine,
+    input: &[u8],
+) -> anyhow::Result<ExitCode>
+    requires { IsReady machine.old }
+{
+    let mut output = BufWriter::new(rt.alloc(), rt.stdout())?;
+    let mut rest = input;
     while let Some((line, after)) = first_line(rest) {
-        let Some(body) = answer_by(alloc, limits, anew, &mut machine, line)? else {
+        let Some(body) = answer_by(rt.alloc(), limits, anew, machine, line)? else {
             return told_otherwise(rt);
         };
         output.write_all(body.as_bytes())?;
@@ -110,7 +124,13 @@ fn told_otherwise(rt: &HostRuntime) -> anyhow::Result<ExitCode> {
 // Opens a machine at moment 0, and takes turns in it.
 fn run_turns(rt: &HostRuntime, limits: &Limits, turns: u64) -> anyhow::Result<ExitCode> {
     let mut machine = Machine::open(rt.alloc(), EPOCH, 0)?;
-    if take_turns(rt.alloc(), limits, &mut machine, turns)? {
+    let heard = take_turns(rt.alloc(), limits, &mut machine, turns)?;
+    told_turns(rt, turns, heard)
+}
+
+// Tells whether all turns were heard.
+fn told_turns(rt: &HostRuntime, turns: u64, heard: bool) -> anyhow::Result<ExitCode> {
+    if heard {
         println!(rt; "{turns} turns")?;
         return Ok(ExitCode::SUCCESS);
     }

@@ -2,8 +2,8 @@
 ghost use Rattle.std.specs.Prelude.{◌≡◌, IfOk};
 ghost use Rattle.rv_text.specs.Limits.{FitsMessage};
 ghost use Rattle.rv_state.specs.Moves.{Move, StateNextUnder};
-ghost use Rattle.rv_machine.specs.Machines.{IsWhole, state_in};
-ghost use Rattle.rv_machine.specs.Numbering.{AreNumbered};
+ghost use Rattle.rv_machine.specs.Machines.{state_in};
+ghost use Rattle.rv_steps.specs.Ready.{IsReady};
 
 use crate::answers::answer_of;
 use rv_account::Entry;
@@ -35,10 +35,8 @@ pub(crate) fn answer_line(
     machine: &mut Machine,
     line: &[u8],
 ) -> Result<(String, Option<Made>), NoMemory>
-    requires ready { IsWhole machine.old }
-    requires numbered { AreNumbered (state_in machine.old) }
-    ensures ready { IsWhole machine.new }
-    ensures numbered { AreNumbered (state_in machine.new) }
+    requires ready { IsReady machine.old }
+    ensures ready { IsReady machine.new }
 {
     match read_line(alloc, line) {
         Ok((moment, message)) => {
@@ -68,11 +66,9 @@ fn step(
     now: u64,
     message: Message,
 ) -> Result<(Answer, Made), NoMemory>
-    requires ready { IsWhole machine.old }
-    requires numbered { AreNumbered (state_in machine.old) }
+    requires ready { IsReady machine.old }
     requires fits { FitsMessage message }
-    ensures ready { IsWhole machine.new }
-    ensures numbered { AreNumbered (state_in machine.new) }
+    ensures ready { IsReady machine.new }
     ensures steps { IfOk result (λ out. (move : Move)
         × StateNextUnder limits.now (state_in machine.old) now message move
         × (out.0 ≡ move.answer) × (state_in machine.new ≡ move.after)) }

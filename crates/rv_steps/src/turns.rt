@@ -1,6 +1,5 @@
 //! Items put and taken in turn by the program itself: what a machine takes as its entries grow.
-ghost use Rattle.rv_machine.specs.Machines.{IsWhole, state_in};
-ghost use Rattle.rv_machine.specs.Numbering.{AreNumbered};
+ghost use Rattle.rv_steps.specs.Ready.{IsReady};
 
 use crate::EPOCH;
 use rv_machine::{Machine, Said};
@@ -32,10 +31,8 @@ fn number_of(turn: u64, requests: u64) -> u64 {
 
 // Whether the machine heard a message, and didn't refuse it.
 fn is_heard(limits: &Limits, machine: &mut Machine, message: Message) -> bool
-    requires ready { IsWhole machine.old }
-    requires numbered { AreNumbered (state_in machine.old) }
-    ensures ready { IsWhole machine.new }
-    ensures numbered { AreNumbered (state_in machine.new) }
+    requires { IsReady machine.old }
+    ensures { IsReady machine.new }
 {
     if !message.fits() {
         return false;
@@ -47,28 +44,36 @@ fn is_heard(limits: &Limits, machine: &mut Machine, message: Message) -> bool
     )
 }
 
-// Whether a client's request was heard, and not refused.
-fn is_asked(limits: &Limits, machine: &mut Machine, client: u64, number: u64, call: Call) -> bool
-    requires ready { IsWhole machine.old }
-    requires numbered { AreNumbered (state_in machine.old) }
-    ensures ready { IsWhole machine.new }
-    ensures numbered { AreNumbered (state_in machine.new) }
-{
+// A client's request.
+fn request(client: u64, number: u64, call: Call) -> Message {
     let key = Key {
         epoch: EPOCH,
         client,
         incarnation: 1,
         number,
     };
-    is_heard(limits, machine, Message::Request { key, call })
+    Message::Request { key, call }
+}
+
+// A client's put of an item.
+fn put(alloc: Global, client: u64, number: u64) -> Result<Message, NoMemory> {
+    let item = Item::from_text(String::from_str(alloc, TEXT)?);
+    Ok(request(client, number, Call::Put { queue: QUEUE, item }))
+}
+
+// A client's take of the oldest item.
+fn take(client: u64, number: u64) -> Message {
+    let take = Call::Take {
+        queue: QUEUE,
+        wait: Wait::Now,
+    };
+    request(client, number, take)
 }
 
 // Whether each client's hello was heard.
 fn all_greet(limits: &Limits, machine: &mut Machine) -> bool
-    requires ready { IsWhole machine.old }
-    requires numbered { AreNumbered (state_in machine.old) }
-    ensures ready { IsWhole machine.new }
-    ensures numbered { AreNumbered (state_in machine.new) }
+    requires { IsReady machine.old }
+    ensures { IsReady machine.new }
 {
     for client in 0..CLIENTS {
         let hello = Message::Hello {
@@ -83,60 +88,18 @@ fn all_greet(limits: &Limits, machine: &mut Machine) -> bool
     true
 }
 
-// Whether a client put an item.
-fn puts(
-    alloc: Global,
-    limits: &Limits,
-    machine: &mut Machine,
-    client: u64,
-    number: u64,
-) -> Result<bool, NoMemory>
-    requires ready { IsWhole machine.old }
-    requires numbered { AreNumbered (state_in machine.old) }
-    ensures ready { IsWhole machine.new }
-    ensures numbered { AreNumbered (state_in machine.new) }
-{
-    let item = Item::from_text(String::from_str(alloc, TEXT)?);
-    let put = Call::Put { queue: QUEUE, item };
-    Ok(is_asked(limits, machine, client, number, put))
-}
-
 // Whether all items that stay open were put, each client's in turn.
 fn all_put(alloc: Global, limits: &Limits, machine: &mut Machine) -> Result<bool, NoMemory>
-    requires ready { IsWhole machine.old }
-    requires numbered { AreNumbered (state_in machine.old) }
-    ensures ready { IsWhole machine.new }
-    ensures numbered { AreNumbered (state_in machine.new) }
+    requires { IsReady machine.old }
+    ensures { IsReady machine.new }
 {
     for turn in 0..OPEN {
-        if !puts(alloc, limits, machine, client_of(turn), number_of(turn, 1))? {
+        let put = put(alloc, client_of(turn), number_of(turn, 1))?;
+        if !is_heard(limits, machine, put) {
             return Ok(false);
         }
     }
     Ok(true)
-}
-
-// Whether a client put an item, with this number, and took the oldest with the next.
-fn puts_and_takes(
-    alloc: Global,
-    limits: &Limits,
-    machine: &mut Machine,
-    client: u64,
-    number: u64,
-) -> Result<bool, NoMemory>
-    requires ready { IsWhole machine.old }
-    requires numbered { AreNumbered (state_in machine.old) }
-    ensures ready { IsWhole machine.new }
-    ensures numbered { AreNumbered (state_in machine.new) }
-{
-    if !puts(alloc, limits, machine, client, number)? {
-        return Ok(false);
-    }
-    let take = Call::Take {
-        queue: QUEUE,
-        wait: Wait::Now,
-    };
-    Ok(is_asked(limits, machine, client, number.saturating_add(1), take))
 }
 
 // Whether in so many turns a client put an item and took the oldest.
@@ -146,16 +109,18 @@ fn all_turn(
     machine: &mut Machine,
     turns: u64,
 ) -> Result<bool, NoMemory>
-    requires ready { IsWhole machine.old }
-    requires numbered { AreNumbered (state_in machine.old) }
-    ensures ready { IsWhole machine.new }
-    ensures numbered { AreNumbered (state_in machine.new) }
+    requires { IsReady machine.old }
+    ensures { IsReady machine.new }
 {
     for turn in 0..turns {
         let client = client_of(turn);
         let before = number_of(OPEN.saturating_sub(client), 1);
         let number = number_of(turn, 2).saturating_add(before);
-        if !puts_and_takes(alloc, limits, machine, client, number)? {
+        let put = put(alloc, client, number)?;
+        if !is_heard(limits, machine, put) {
+            return Ok(false);
+        }
+        if !is_heard(limits, machine, take(client, number.saturating_add(1))) {
             return Ok(false);
         }
     }
@@ -170,10 +135,8 @@ pub(crate) fn take_turns(
     machine: &mut Machine,
     turns: u64,
 ) -> Result<bool, NoMemory>
-    requires ready { IsWhole machine.old }
-    requires numbered { AreNumbered (state_in machine.old) }
-    ensures ready { IsWhole machine.new }
-    ensures numbered { AreNumbered (state_in machine.new) }
+    requires { IsReady machine.old }
+    ensures { IsReady machine.new }
 {
     Ok(
         all_greet(limits, machine)

@@ -225,14 +225,6 @@ fn an_answer_is_read_to_its_last_byte_and_no_further(rt: HostRuntime) -> Result<
     Ok(())
 }
 
-// 512 letters between these bytes.
-fn with_letters(alloc: Global, before: &[u8], after: &[u8]) -> Result<Vec<u8>, AllocError> {
-    let mut bytes = before.to_vec(alloc)?;
-    bytes.extend_from_slice(&[b'x'; 512])?;
-    bytes.extend_from_slice(after)?;
-    Ok(bytes)
-}
-
 // An item of 512 letters.
 fn letters(alloc: Global) -> Result<Item, Fail> {
     let mut text = String::new(alloc);
@@ -240,6 +232,16 @@ fn letters(alloc: Global) -> Result<Item, Fail> {
         text.push('x')?;
     }
     Ok(Item::from_text(text))
+}
+
+// 512 letters between these bytes.
+fn with_letters(alloc: Global, before: &[u8], after: &[u8]) -> Result<Vec<u8>, Fail> {
+    let item = letters(alloc)?;
+    let mut bytes = Vec::new(alloc);
+    for part in [before, item.as_str().as_bytes(), after] {
+        bytes.extend_from_slice(part)?;
+    }
+    Ok(bytes)
 }
 
 #[test]
@@ -276,45 +278,60 @@ fn the_longest_items_are_sent_and_heard(rt: HostRuntime) -> Result<(), Fail> {
     Ok(())
 }
 
-#[test]
-fn a_read_that_fails(rt: HostRuntime) -> Result<(), Fail> {
-    let alloc = rt.alloc();
-    let bytes = frames(alloc, [REPLY].as_slice())?;
-    let hello = New::start(1, 1, Version::One).message();
-    for fault in 1..93 {
-        let mut reader = TestReader::new(&bytes, 1).failing_at(fault, ErrorKind::Interrupted);
-        let mut source = Source::new(&mut reader);
-        let mut device = TestWriter::new(alloc, 10_000);
-        let mut sink = Sink::new(&mut device);
-        let answer = ask(alloc, &mut source, &mut sink, &hello);
-        holds(&rt, answer == Err(LinkFault::ReadFault), fault);
-        holds(&rt, source.failed(), fault);
-        same(&rt, reader.reads(), fault);
-        same(&rt, device.taken().len(), 45);
-    }
-    Ok(())
+// A read of the reply fails: no further one is made.
+fn fails_at(rt: &impl Abort, alloc: Global, hello: &Message, fault: u64)
+    requires { FitsMessage hello.now }
+{
+    let mut reader = TestReader::new(REPLY_FRAME, 1).failing_at(fault, ErrorKind::Interrupted);
+    let mut source = Source::new(&mut reader);
+    let mut device = TestWriter::new(alloc, 10_000);
+    let mut sink = Sink::new(&mut device);
+    let answer = ask(alloc, &mut source, &mut sink, hello);
+    holds(rt, answer == Err(LinkFault::ReadFault), fault);
+    holds(rt, source.failed(), fault);
+    same(rt, reader.reads(), fault);
+    same(rt, device.taken().len(), 45);
 }
 
 #[test]
-fn a_write_that_fails(rt: HostRuntime) -> Result<(), Fail> {
-    let alloc = rt.alloc();
-    let bytes = frames(alloc, [REPLY].as_slice())?;
+fn a_read_that_fails(rt: HostRuntime) {
+    let hello = New::start(1, 1, Version::One).message();
+    for fault in 1..93 {
+        fails_at(&rt, rt.alloc(), &hello, fault);
+    }
+}
+
+// A writer stops behind so many bytes of a hello: the first time and again, and nothing is read.
+fn stops_behind(rt: &impl Abort, alloc: Global, hello: &Message, room: usize, stop: Stop)
+    requires { FitsMessage hello.now }
+{
+    let mut reader = TestReader::new(REPLY_FRAME, 1);
+    let mut source = Source::new(&mut reader);
+    let mut device = TestWriter::new(alloc, 7).stopping_after(room, stop);
+    let mut sink = Sink::new(&mut device);
+    let answer = ask(alloc, &mut source, &mut sink, hello);
+    holds(rt, answer == Err(LinkFault::WriteFault(room)), room);
+    holds(rt, sink.failed(), room);
+    let again = ask(alloc, &mut source, &mut sink, hello);
+    holds(rt, again == Err(LinkFault::WriteFault(0)), room);
+    same(rt, device.taken().len(), room);
+    same(rt, reader.reads(), 0);
+}
+
+#[test]
+fn a_write_that_fails(rt: HostRuntime) {
     let hello = New::start(1, 1, Version::One).message();
     for room in 0..45 {
         for stop in [Stop::TakesNothing, Stop::Error(ErrorKind::Other)] {
-            let mut reader = TestReader::new(&bytes, 1);
-            let mut source = Source::new(&mut reader);
-            let mut device = TestWriter::new(alloc, 7).stopping_after(room, stop);
-            let mut sink = Sink::new(&mut device);
-            let answer = ask(alloc, &mut source, &mut sink, &hello);
-            holds(&rt, answer == Err(LinkFault::WriteFault(room)), room);
-            holds(&rt, sink.failed(), room);
-            let again = ask(alloc, &mut source, &mut sink, &hello);
-            holds(&rt, again == Err(LinkFault::WriteFault(0)), room);
-            same(&rt, device.taken().len(), room);
-            same(&rt, reader.reads(), 0);
+            stops_behind(&rt, rt.alloc(), &hello, room, stop);
         }
     }
+}
+
+// An answer to client 2's first request comes to this.
+fn comes_to(rt: &impl Abort, answer: Answer, want: Came, case: &str) -> Result<(), Fail> {
+    let came = hears(answer)?;
+    holds(rt, came == want, case);
     Ok(())
 }
 
@@ -322,22 +339,17 @@ fn a_write_that_fails(rt: HostRuntime) -> Result<(), Fail> {
 #[test]
 fn what_answers_are_to_a_request(rt: HostRuntime) -> Result<(), Fail> {
     let first = key(2, 1, 1);
-    let ended = hears(Answer::Refused(Refusal::OtherEpoch(2)))?;
-    holds(&rt, ended == Came::EpochEnded(first, 2), "other epoch");
-    let replaced = hears(Answer::Refused(Refusal::OldIncarnation(3)))?;
-    holds(&rt, replaced == Came::Replaced(first, 3), "old incarnation");
-    let ignored = hears(Answer::Refused(Refusal::OtherEpoch(1)))?;
-    holds(
-        &rt,
-        ignored == Came::Unsettled(first, None),
-        "its own epoch",
-    );
-    let late = hears(Answer::Replied {
+    let refused = Answer::Refused(Refusal::OtherEpoch(2));
+    comes_to(&rt, refused, Came::EpochEnded(first, 2), "other epoch")?;
+    let refused = Answer::Refused(Refusal::OldIncarnation(3));
+    comes_to(&rt, refused, Came::Replaced(first, 3), "old incarnation")?;
+    let refused = Answer::Refused(Refusal::OtherEpoch(1));
+    comes_to(&rt, refused, Came::Unsettled(first, None), "its own epoch")?;
+    let late = Answer::Replied {
         key: key(2, 1, 2),
         reply: Reply::Empty,
-    })?;
-    holds(&rt, late == Came::Unsettled(first, None), "another number");
-    Ok(())
+    };
+    comes_to(&rt, late, Came::Unsettled(first, None), "another number")
 }
 
 // The client and the reply of a call that settled.
@@ -437,14 +449,18 @@ fn a_refused_growth_leaves_what_it_says(rt: HostRuntime) -> Result<(), Fail> {
     Ok(())
 }
 
-// The put of "a" into queue 3; once more, if memory is refused.
-fn put(alloc: Global) -> Result<Call, AllocError> {
-    let text = match String::from_str(alloc, "a") {
-        Ok(text) => text,
-        Err(_) => String::from_str(alloc, "a")?,
-    };
-    let item = Item::from_text(text);
+// The put of "a" into queue 3.
+fn put_of_a(alloc: Global) -> Result<Call, AllocError> {
+    let item = Item::from_text(String::from_str(alloc, "a")?);
     Ok(Call::Put { queue: 3, item })
+}
+
+// The same; once more, if memory is refused.
+fn put(alloc: Global) -> Result<Call, AllocError> {
+    match put_of_a(alloc) {
+        Ok(put) => Ok(put),
+        Err(_) => put_of_a(alloc),
+    }
 }
 
 // Passes too if any one growth is refused.

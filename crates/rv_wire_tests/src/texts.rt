@@ -48,7 +48,7 @@ fn messages_are_read_and_written(rt: HostRuntime) -> Result<(), Fail> {
             return Err(Fail::new("a row of other than two"));
         };
         let message = decode_message(alloc, text.as_bytes())?;
-        assert!(rt; message.fits(), "{text}");
+        holds(&rt, message.fits(), *text);
         same(&rt, encode_message(alloc, &message)?.as_str(), *text);
         let found = format!(in alloc; "{message:?}")?;
         holds(&rt, found.ends_with(want), found);
@@ -164,7 +164,7 @@ fn answers_are_read_and_written(rt: HostRuntime) -> Result<(), Fail> {
             return Err(Fail::new("a row of other than two"));
         };
         let answer = decode_answer(alloc, text.as_bytes())?;
-        assert!(rt; answer.fits(), "{text}");
+        holds(&rt, answer.fits(), *text);
         same(&rt, encode_answer(alloc, &answer)?.as_str(), *text);
         let found = format!(in alloc; "{answer:?}")?;
         holds(&rt, found.ends_with(want), found);
