@@ -1,6 +1,7 @@
 //! Laws of a connection's history: each contract is one, and no body does anything.
-ghost use Rattle.rv_connection.specs.History.{CutsBad, CutsOpen, CutsWhole, KeepsAnswer, KeepsEnd, OpensHistory};
+ghost use Rattle.rv_connection.specs.History.{CutsBad, CutsOpen, CutsWhole, KeepsAnswer, KeepsEnd};
 ghost use Rattle.rv_connection.specs.History.{KeepsFrame, KeepsLeaving, KeepsPiece, KeepsRelease};
+ghost use Rattle.rv_connection.specs.History.{OpensHistory};
 
 /// A new connection has the history of nothing, and each call keeps it: the answers are those to the frames
 /// of its input, one each, in order; and what left, and then what may leave, are of their frames exactly
