@@ -1,0 +1,73 @@
+//! The connections that wait to hear of a request.
+ghost use Rattle.rv_hearers.specs.Indexed.{IsIndexed};
+
+use crate::tables::{ConnectionNumber, Hearing, Tables};
+use rv_text::NoMemory;
+use std::alloc::Global;
+
+/// The connections that wait for the reply of a request, each up to a moment. Several may wait for one
+/// request.
+///
+/// Contracts see a function from the numbers of connections to what they wait for, if they wait. Each call
+/// takes time logarithmic in the number of those that wait.
+#[derive(Drop)]
+pub struct Hearers {
+    tables: Tables,
+    ghost indexed: { IsIndexed tables },
+}
+
+impl Hearers {
+    ghost use Rattle.std.specs.Prelude.{◌≡◌, ℕ, None, Some, IfNone, IfSome, OnErr, OnOk};
+    ghost use Rattle.rv_hearers.specs.Hearing.{HearsOf, IsFirstHearer, IsNextUntil, SetsHearing, nobody};
+    ghost use Rattle.rv_hearers.specs.Hearers.{hearers_of};
+
+    /// Nobody waits. It takes no memory yet.
+    pub fn new(alloc: Global) -> Hearers
+        ensures { hearers_of result ≡ nobody }
+    {
+        Hearers {
+            tables: Tables::empty(alloc),
+        }
+    }
+
+    /// A connection waits from now on. If memory is refused nothing changes.
+    pub fn add(&mut self, connection: ConnectionNumber, hearing: Hearing) -> Result<(), NoMemory>
+        requires { hearers_of self.old connection ≡ None }
+        ensures added { OnOk result (SetsHearing (hearers_of self.old) connection (Some hearing)
+            (hearers_of self.new)) }
+        ensures refused { OnErr result (hearers_of self.new ≡ hearers_of self.old) }
+    {
+        self.tables.add(connection, hearing)
+    }
+
+    /// A connection waits no longer. It gives what that waited for, if it waited.
+    pub fn remove(&mut self, connection: ConnectionNumber) -> Option<Hearing>
+        ensures was { result ≡ hearers_of self.old connection }
+        ensures removed { SetsHearing (hearers_of self.old) connection None (hearers_of self.new) }
+    {
+        self.tables.remove(connection)
+    }
+
+    /// What a connection waits for, if it waits.
+    pub fn get(&self, connection: ConnectionNumber) -> Option<Hearing>
+        ensures { result ≡ hearers_of self.now connection }
+    {
+        self.tables.get(connection)
+    }
+
+    /// The connection of the lowest number that waits for a request of this client.
+    pub fn first_of(&self, client: u64) -> Option<ConnectionNumber>
+        ensures first { IfSome result (IsFirstHearer (hearers_of self.now) client) }
+        ensures none { IfNone result ((connection : ℕ) → ¬ HearsOf (hearers_of self.now) client connection) }
+    {
+        self.tables.first_of(client)
+    }
+
+    /// The least moment up to which a connection waits, with the connection of the lowest number that does.
+    pub fn next_until(&self) -> Option<(u64, ConnectionNumber)>
+        ensures next { IfSome result (λ next. IsNextUntil (hearers_of self.now) next.0 next.1) }
+        ensures none { IfNone result ((connection : ℕ) → hearers_of self.now connection ≡ None) }
+    {
+        self.tables.next_until()
+    }
+}
