@@ -3,8 +3,6 @@ ghost use Rattle.std.specs.Prelude.{◌≡◌, ◌≢◌, ◌<◌, ◌∷◌, �
 ghost use Rattle.std.specs.List.{All};
 ghost use Rattle.rv_lines.specs.Lines.{BeginsWithLine, lines};
 
-use memchr::memchr;
-
 /// The first line and the bytes after it, or `None` if there are no bytes. A line ends before
 /// an LF, which is dropped, or with the bytes.
 pub fn first_line(bytes: &[u8]) -> Option<(&[u8], &[u8])>
@@ -28,6 +26,6 @@ pub fn cut_at(byte: u8, bytes: &[u8]) -> Option<(&[u8], &[u8])>
     ensures first { IfSome result (λ p. All (λ b. b ≢ byte) p.0.now) }
     ensures none { result ≡ None → All (λ b. b ≢ byte) bytes.now }
 {
-    let place = memchr(byte, bytes)?;
+    let place = bytes.iter().position(|b| *b == byte)?;
     Some((&bytes[..place], &bytes[place + 1..]))
 }
