@@ -2,10 +2,10 @@
 use Rattle.std.proofs.Common.{◌≡◌, ◌≤◌, ◌+◌, ◌*◌, Some, length}
 use Rattle.rv_text.specs.declared.message.Key.{Key}
 use Rattle.rv_client.specs.Link.{link}
-use Rattle.rv_app.specs.Calling.{HasNumbers}
-use Rattle.rv_app.specs.Lines.{lines}
-use Rattle.rv_app.proofs.CallsSoFar.{SoFar}
-use Rattle.rv_app.proofs.calls.call_lines.Given as goal
+use Rattle.rv_calls.specs.Calling.{HasNumbers}
+use Rattle.rv_lines.specs.Lines.{lines}
+use Rattle.rv_calls.proofs.CallsSoFar.{SoFar}
+use Rattle.rv_calls.proofs.calls.call_lines.Given as goal
 
 abbrev pub invariant-loop-line : goal.invariant-loop-line
 invariant-loop-line g l = record {

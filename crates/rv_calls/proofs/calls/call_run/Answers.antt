@@ -2,12 +2,12 @@
 use Rattle.std.proofs.Common.{Err, List, Ok, inr, subst, ℕ}
 use Rattle.rv_client.specs.Link.{link}
 use Rattle.rv_client.specs.Process.{Starting}
-use Rattle.rv_app.specs.CallRuns.{RunsCalls}
-use Rattle.rv_app.specs.Calling.{WelcomesOrNot}
-use Rattle.rv_app.specs.Lines.{lines}
+use Rattle.rv_calls.specs.CallRuns.{RunsCalls}
+use Rattle.rv_calls.specs.Calling.{WelcomesOrNot}
+use Rattle.rv_lines.specs.Lines.{lines}
 use Rattle.rv_run.specs.declared.fault.RunFault.TheVariants.{NoMemory, WriteFault}
-use Rattle.rv_app.proofs.CallsSoFar.{no_read_fault, not_too_long, ran_ok, ran_to, runs_at_once}
-use Rattle.rv_app.proofs.calls.call_run.Goals as goal
+use Rattle.rv_calls.proofs.CallsSoFar.{no_read_fault, not_too_long, ran_ok, ran_to, runs_at_once}
+use Rattle.rv_calls.proofs.calls.call_run.Goals as goal
 
 pub returns-in-Ok : goal.returns-in-Ok
 returns-in-Ok g c =

@@ -1,7 +1,7 @@
 -- A call that was settled, and whose reply's text found no memory.
 use Rattle.rv_client.specs.Link.{link}
-use Rattle.rv_app.proofs.Settling.{lacks_text}
-use Rattle.rv_app.proofs.client.Caller.call_line.Goals as goal
+use Rattle.rv_calls.proofs.Settling.{lacks_text}
+use Rattle.rv_calls.proofs.client.Caller.call_line.Goals as goal
 
 pub returns-in_err-encode_answer-in-Settled-clause-halted :
     goal.returns-in_err-encode_answer-in-Settled-clause-halted

@@ -5,12 +5,12 @@ ghost use Rattle.rv_text.specs.Limits.{FitsIdentifier};
 ghost use Rattle.rv_frame.specs.Source.{source_failed};
 ghost use Rattle.rv_client.specs.Link.{Link, link};
 ghost use Rattle.rv_client.specs.Process.{Starting, first_key};
-ghost use Rattle.rv_app.specs.Calling.{HasNumbers, IsWelcomed};
-ghost use Rattle.rv_app.specs.CallRuns.{DidNothing, RanCalls, RunsCalls, StopsText, TakesText};
-ghost use Rattle.rv_app.specs.Lines.{lines};
-ghost use Rattle.rv_app.specs.Outcomes.{FoundTooLong, max_input};
+ghost use Rattle.rv_calls.specs.Calling.{HasNumbers, IsWelcomed};
+ghost use Rattle.rv_calls.specs.CallRuns.{DidNothing, RanCalls, RunsCalls, StopsText, TakesText};
+ghost use Rattle.rv_lines.specs.Lines.{lines};
+ghost use Rattle.rv_run.specs.Input.{FoundTooLong, max_input};
 ghost use Rattle.rv_run.specs.Output.{IsShortText};
-ghost use Rattle.rv_app.specs.EndWord.{word_text};
+ghost use Rattle.rv_calls.specs.EndWord.{word_text};
 
 use crate::client::{Caller, Halt};
 use crate::end_word::EndWord;

@@ -3,9 +3,9 @@ use Rattle.std.proofs.Common.{◌∙◌, refl, subst, sym}
 use Rattle.rv_text.specs.Limits.{FitsIdentifier}
 use Rattle.rv_client.specs.Link.{link}
 use Rattle.rv_client.specs.Process.{Starting}
-use Rattle.rv_app.specs.Calling.{HelloEnds, IsHelloInVain}
-use Rattle.rv_app.proofs.Settling.{hello_ended, none_in_vain, one_more_in_vain}
-use Rattle.rv_app.proofs.client.Caller.say_hello.Goals as goal
+use Rattle.rv_calls.specs.Calling.{HelloEnds, IsHelloInVain}
+use Rattle.rv_calls.proofs.Settling.{hello_ended, none_in_vain, one_more_in_vain}
+use Rattle.rv_calls.proofs.client.Caller.say_hello.Goals as goal
 
 pub loop-tried-init : goal.loop-tried-init
 loop-tried-init g c = record {

@@ -1,7 +1,7 @@
 //! The words that end a run of calls.
 ghost use Rattle.std.specs.Prelude.{◌≡◌, IfOk, string_bytes};
 ghost use Rattle.rv_run.specs.Output.{IsShortText};
-ghost use Rattle.rv_app.specs.EndWord.{word_text};
+ghost use Rattle.rv_calls.specs.EndWord.{word_text};
 
 use rv_text::{NoMemory, Refusal};
 use std::alloc::Global;

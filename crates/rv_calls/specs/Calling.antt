@@ -15,10 +15,10 @@ use Rattle.rv_client.specs.Calls.{Calls}
 use Rattle.rv_client.specs.Link.{Asks, Link, message_frame}
 use Rattle.rv_text.specs.Members.{max_identifier}
 use Rattle.rv_client.specs.Process.{Asking, PassesBy, Starting, first_key, hello_of}
-use Rattle.rv_app.specs.declared.client.Halt.{Halt}
-use Rattle.rv_app.specs.declared.client.Halt.TheVariants as halt
-use Rattle.rv_app.specs.declared.end_word.EndWord.{EndWord}
-use Rattle.rv_app.specs.declared.end_word.EndWord.TheVariants as word
+use Rattle.rv_calls.specs.declared.client.Halt.{Halt}
+use Rattle.rv_calls.specs.declared.client.Halt.TheVariants as halt
+use Rattle.rv_calls.specs.declared.end_word.EndWord.{EndWord}
+use Rattle.rv_calls.specs.declared.end_word.EndWord.TheVariants as word
 
 -- the key behind so many requests
 abbrev pub key_behind : Key → ℕ → Key

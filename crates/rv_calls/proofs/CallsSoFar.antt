@@ -13,22 +13,22 @@ use Rattle.rv_frame.specs.Source.{source_remaining}
 use Rattle.rv_client.specs.Link.{Link}
 use Rattle.rv_text.specs.Members.{max_identifier}
 use Rattle.rv_client.specs.Process.{Starting, first_key, key_after}
-use Rattle.rv_app.specs.declared.calls.CallSaid.{CallSaid}
-use Rattle.rv_app.specs.declared.calls.CallSaid.TheVariants.{Stopped, Whole}
+use Rattle.rv_calls.specs.declared.calls.CallSaid.{CallSaid}
+use Rattle.rv_calls.specs.declared.calls.CallSaid.TheVariants.{Stopped, Whole}
 use Rattle.rv_run.specs.declared.fault.RunFault.{RunFault}
 use Rattle.rv_run.specs.declared.fault.RunFault.TheVariants.{NoMemory, ReadFault, TooLong, WriteFault}
-use Rattle.rv_app.specs.declared.end_word.EndWord.{EndWord}
-use Rattle.rv_app.specs.CallRuns.{CutsLine, CutsText, RanCalls, RunsCalls, TextComesNext, SettlesFirst, Stops}
-use Rattle.rv_app.specs.CallRuns.{StopsText, TakesLines, TakesText}
-use Rattle.rv_app.specs.declared.client.Halt.TheVariants as halt
-use Rattle.rv_app.specs.Calling.{HaltsAt, HasNumbers, IsTurnedAway, IsWelcomed, SettlesLine, SettlesLines}
-use Rattle.rv_app.specs.Calling.{StopsWithWord, key_behind}
-use Rattle.rv_app.specs.Lines.{lines}
-use Rattle.rv_app.specs.Outcomes.{ReadsAll}
-use Rattle.rv_app.specs.Run.{printed_lines}
-use Rattle.rv_app.specs.EndWord.{word_text}
+use Rattle.rv_calls.specs.declared.end_word.EndWord.{EndWord}
+use Rattle.rv_calls.specs.CallRuns.{CutsLine, CutsText, RanCalls, RunsCalls, TextComesNext, SettlesFirst, Stops}
+use Rattle.rv_calls.specs.CallRuns.{StopsText, TakesLines, TakesText}
+use Rattle.rv_calls.specs.declared.client.Halt.TheVariants as halt
+use Rattle.rv_calls.specs.Calling.{HaltsAt, HasNumbers, IsTurnedAway, IsWelcomed, SettlesLine, SettlesLines}
+use Rattle.rv_calls.specs.Calling.{StopsWithWord, key_behind}
+use Rattle.rv_lines.specs.Lines.{lines}
+use Rattle.rv_run.specs.Input.{ReadsAll}
+use Rattle.rv_lines.specs.Lines.{printed_lines}
+use Rattle.rv_calls.specs.EndWord.{word_text}
 use Rattle.rv_run.proofs.Printing.{printed_append}
-use Rattle.rv_app.proofs.Settling.{key_behind_none, key_behind_on, key_next, settles_more}
+use Rattle.rv_calls.proofs.Settling.{key_behind_none, key_behind_on, key_next, settles_more}
 
 at_ok : (result : Result CallSaid RunFault) (P : Result CallSaid RunFault → Type 0) → P result
     → IfOk result (λ said. P (Ok said))

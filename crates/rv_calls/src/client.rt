@@ -4,8 +4,8 @@ ghost use Rattle.rv_text.specs.Bodies.{HasBodyLength, IsCallBody};
 ghost use Rattle.rv_text.specs.Limits.{FitsIdentifier, FitsKey};
 ghost use Rattle.rv_client.specs.Link.{link};
 ghost use Rattle.rv_client.specs.Process.{key_after};
-ghost use Rattle.rv_app.specs.Calling.{HaltsAt, HaltsReading, HelloEnds, IsHelloInVain, SettlesLine};
-ghost use Rattle.rv_app.specs.Calling.{WelcomesOrNot};
+ghost use Rattle.rv_calls.specs.Calling.{HaltsAt, HaltsReading, HelloEnds, IsHelloInVain, SettlesLine};
+ghost use Rattle.rv_calls.specs.Calling.{WelcomesOrNot};
 
 use crate::end_word::EndWord;
 use rv_client::{CallOutcome, Idle, New, WelcomeOutcome, ask, call};
@@ -24,7 +24,7 @@ pub(crate) enum Halt {
 }
 
 impl From<AllocError> for Halt {
-    ghost use Rattle.rv_app.specs.declared.client.Halt.TheVariants.{NoMemory};
+    ghost use Rattle.rv_calls.specs.declared.client.Halt.TheVariants.{NoMemory};
 
     ghost from_gives = { λ _ halt. halt ≡ NoMemory };
 

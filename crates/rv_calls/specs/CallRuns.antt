@@ -7,16 +7,16 @@ use Rattle.rv_frame.specs.Sink.{SinkTakes, sink_failed}
 use Rattle.rv_frame.specs.Source.{source_remaining}
 use Rattle.rv_client.specs.Link.{Link}
 use Rattle.rv_client.specs.Process.{Starting, first_key}
-use Rattle.rv_app.specs.declared.calls.CallSaid.{CallSaid}
-use Rattle.rv_app.specs.declared.calls.CallSaid.TheVariants.{Stopped, Whole}
+use Rattle.rv_calls.specs.declared.calls.CallSaid.{CallSaid}
+use Rattle.rv_calls.specs.declared.calls.CallSaid.TheVariants.{Stopped, Whole}
 use Rattle.rv_run.specs.declared.fault.RunFault.{RunFault}
 use Rattle.rv_run.specs.declared.fault.RunFault.TheVariants.{NoMemory, ReadFault, TooLong, WriteFault}
-use Rattle.rv_app.specs.declared.end_word.EndWord.{EndWord}
-use Rattle.rv_app.specs.Calling.{IsTurnedAway, IsWelcomed, SettlesLines, StopsWithWord, key_behind}
-use Rattle.rv_app.specs.Lines.{lines}
-use Rattle.rv_app.specs.Outcomes.{ReadsAll}
-use Rattle.rv_app.specs.Run.{printed_lines}
-use Rattle.rv_app.specs.EndWord.{word_text}
+use Rattle.rv_calls.specs.declared.end_word.EndWord.{EndWord}
+use Rattle.rv_calls.specs.Calling.{IsTurnedAway, IsWelcomed, SettlesLines, StopsWithWord, key_behind}
+use Rattle.rv_lines.specs.Lines.{lines}
+use Rattle.rv_run.specs.Input.{ReadsAll}
+use Rattle.rv_lines.specs.Lines.{printed_lines}
+use Rattle.rv_calls.specs.EndWord.{word_text}
 
 -- ---- what came of the lines
 

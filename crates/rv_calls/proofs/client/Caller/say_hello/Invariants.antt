@@ -2,8 +2,8 @@
 use Rattle.std.proofs.Common.{◌≡◌}
 use Rattle.rv_text.specs.Limits.{FitsIdentifier}
 use Rattle.rv_client.specs.Link.{link}
-use Rattle.rv_app.specs.Calling.{AllInVain}
-use Rattle.rv_app.proofs.client.Caller.say_hello.Given as goal
+use Rattle.rv_calls.specs.Calling.{AllInVain}
+use Rattle.rv_calls.proofs.client.Caller.say_hello.Given as goal
 
 abbrev pub invariant-loop-tried : goal.invariant-loop-tried
 invariant-loop-tried g l = record {

@@ -2,9 +2,9 @@
 use Rattle.std.specs.Prelude.{ℕ, List, codes, ◌++◌}
 use Rattle.std.specs.Fmt.{decimal}
 use Rattle.rv_text.specs.Rows.{code_of}
-use Rattle.rv_app.specs.declared.end_word.EndWord.{EndWord}
-use Rattle.rv_app.specs.declared.end_word.EndWord.TheVariants.{BadLine, EpochEnded, NotWelcome, Refused}
-use Rattle.rv_app.specs.declared.end_word.EndWord.TheVariants.{Replaced, Unsettled}
+use Rattle.rv_calls.specs.declared.end_word.EndWord.{EndWord}
+use Rattle.rv_calls.specs.declared.end_word.EndWord.TheVariants.{BadLine, EpochEnded, NotWelcome, Refused}
+use Rattle.rv_calls.specs.declared.end_word.EndWord.TheVariants.{Replaced, Unsettled}
 
 abbrev pub word_text : EndWord → List ℕ
 word_text NotWelcome = codes "not welcome"

@@ -15,13 +15,13 @@ use Rattle.rv_client.specs.Calls.{Calls}
 use Rattle.rv_client.specs.Link.{Link}
 use Rattle.rv_text.specs.Members.{max_identifier}
 use Rattle.rv_client.specs.Process.{PassesBy, Starting, first_key, key_after}
-use Rattle.rv_app.specs.declared.client.Halt.{Halt}
-use Rattle.rv_app.specs.declared.client.Halt.TheVariants as halt
-use Rattle.rv_app.specs.Calling.{AllInVain, HaltsAt, HasNumbers, HelloEnds, HellosInVain, IsHelloInVain}
-use Rattle.rv_app.specs.Calling.{SaysHello, SettlesLine, SettlesLines, WelcomesOrNot, key_behind}
-use Rattle.rv_app.specs.declared.end_word.EndWord.{EndWord}
-use Rattle.rv_app.specs.declared.end_word.EndWord.TheVariants.{BadLine, EpochEnded, NotWelcome, Refused}
-use Rattle.rv_app.specs.declared.end_word.EndWord.TheVariants.{Replaced, Unsettled}
+use Rattle.rv_calls.specs.declared.client.Halt.{Halt}
+use Rattle.rv_calls.specs.declared.client.Halt.TheVariants as halt
+use Rattle.rv_calls.specs.Calling.{AllInVain, HaltsAt, HasNumbers, HelloEnds, HellosInVain, IsHelloInVain}
+use Rattle.rv_calls.specs.Calling.{SaysHello, SettlesLine, SettlesLines, WelcomesOrNot, key_behind}
+use Rattle.rv_calls.specs.declared.end_word.EndWord.{EndWord}
+use Rattle.rv_calls.specs.declared.end_word.EndWord.TheVariants.{BadLine, EpochEnded, NotWelcome, Refused}
+use Rattle.rv_calls.specs.declared.end_word.EndWord.TheVariants.{Replaced, Unsettled}
 
 -- ---- keys
 

@@ -3,9 +3,9 @@ use Rattle.std.proofs.Common.{arith, string_bytes}
 use Rattle.std.proofs.lemmas.Result.{err_from_is_err_and}
 use Rattle.rv_client.specs.Link.{link}
 use Rattle.rv_client.specs.Process.{first_key}
-use Rattle.rv_app.proofs.CallsSoFar.{none_so_far, one_more, runs_short, runs_to_cut, runs_to_word, runs_whole}
-use Rattle.rv_app.proofs.Settling.{numbers_more}
-use Rattle.rv_app.proofs.calls.call_lines.Goals as goal
+use Rattle.rv_calls.proofs.CallsSoFar.{none_so_far, one_more, runs_short, runs_to_cut, runs_to_word, runs_whole}
+use Rattle.rv_calls.proofs.Settling.{numbers_more}
+use Rattle.rv_calls.proofs.calls.call_lines.Goals as goal
 
 pub loop-line-init : goal.loop-line-init
 loop-line-init g c = record {

@@ -2,7 +2,7 @@
 use Rattle.std.proofs.Common.{codes, lit≤, rules, string_bytes}
 use Rattle.std.proofs.lemmas.Result.{IfOk-weaker}
 use Rattle.rv_run.proofs.ShortTexts.{number_is_short}
-use Rattle.rv_app.proofs.end_word.EndWord.text.Goals as goal
+use Rattle.rv_calls.proofs.end_word.EndWord.text.Goals as goal
 
 pub returns-in-Refused-clause-short : goal.returns-in-Refused-clause-short
 returns-in-Refused-clause-short c = IfOk-weaker c.format.result _ _ (λ s same.
