@@ -1,5 +1,5 @@
 -- How far a run of calls over an input has come, and what it leaves where it ends.
-use Rattle.std.proofs.Common.{◌≡◌, ◌∙◌, ◌<◌, ◌≤◌, ◌+◌, ◌-◌, ◌++◌, ◌∷◌, [], ℕ, List, Option, Some, None}
+use Rattle.std.proofs.Common.{◌≡◌, ◌∙◌, ◌<◌, ◌≤◌, ◌+◌, ◌-◌, ◌++◌, ◌∷◌, ◌⊎◌, [], ℕ, List, Option, Some, None}
 use Rattle.std.proofs.Common.{Result, Ok, Err, IfErr, IfOk, IfSome, OnOk, append-nil, append_assoc, ap, arith}
 use Rattle.std.proofs.Common.{inl, inr, length, length-append, refl, subst, sym, take}
 use Rattle.std.proofs.Math.Seq.{take-append-add}
@@ -18,8 +18,8 @@ use Rattle.rv_calls.specs.declared.calls.CallSaid.TheVariants.{Stopped, Whole}
 use Rattle.rv_run.specs.declared.fault.RunFault.{RunFault}
 use Rattle.rv_run.specs.declared.fault.RunFault.TheVariants.{NoMemory, ReadFault, TooLong, WriteFault}
 use Rattle.rv_calls.specs.declared.end_word.EndWord.{EndWord}
-use Rattle.rv_calls.specs.CallRuns.{CutsLine, CutsText, RanCalls, RunsCalls, TextComesNext, SettlesFirst, Stops}
-use Rattle.rv_calls.specs.CallRuns.{StopsText, TakesLines, TakesText}
+use Rattle.rv_calls.specs.CallRuns.{CutsLine, CutsText, RanCalls, RunsCalls, SettlesAll, SettlesFirst, Stops}
+use Rattle.rv_calls.specs.CallRuns.{StopsText, TakesLines, TakesText, TextComesNext}
 use Rattle.rv_calls.specs.declared.client.Halt.TheVariants as halt
 use Rattle.rv_calls.specs.Calling.{HaltsAt, HasNumbers, IsTurnedAway, IsWelcomed, SettlesLine, SettlesLines}
 use Rattle.rv_calls.specs.Calling.{StopsWithWord, key_behind}
@@ -35,7 +35,7 @@ at_ok : (result : Result CallSaid RunFault) (P : Result CallSaid RunFault → Ty
 at_ok (Ok said) P has = has
 at_ok (Err fault) P has = tt
 
-same_Some : {a b : Key} → Some a ≡ Some b → a ≡ b
+pub same_Some : {a b : Key} → Some a ≡ Some b → a ≡ b
 same_Some same = cc
 
 -- ---- what was printed
@@ -99,7 +99,7 @@ module _ {O R W : Type 0} (taken : O → Option (List ℕ)) (remaining : R → O
     pub counted : count ≡ length (printed_lines texts)
     pub next : idle ≡ Some (key_behind key (length texts))
 
-  pub none_so_far : (key : Key) (at : Link R W) (out : Sink O) (idle : Option Key) (input : List ℕ)
+  unfoldable pub none_so_far : (key : Key) (at : Link R W) (out : Sink O) (idle : Option Key) (input : List ℕ)
       → idle ≡ Some key → SoFar (lines input) key at at out out idle input 0
   none_so_far key at out idle input is = record {
     first = [];
@@ -111,7 +111,8 @@ module _ {O R W : Type 0} (taken : O → Option (List ℕ)) (remaining : R → O
     next = is ∙ ap Some (sym (key_behind_none key));
   }
 
-  pub one_more : (all : List (List ℕ)) (key : Key) (greeted at at' : Link R W) (a b c : Sink O) (idle next :
+  unfoldable pub one_more : (all : List (List ℕ)) (key : Key) (greeted at at' : Link R W) (a b c : Sink O)
+      (idle next :
       Option Key) (rest line after text : List ℕ) (count count' : ℕ)
       → SoFar all key greeted at a b idle rest count → HasNumbers idle (length rest)
       → length after < length rest → lines rest ≡ line ∷ lines after
@@ -218,35 +219,30 @@ module _ {O R W : Type 0} (taken : O → Option (List ℕ)) (remaining : R → O
       settles = record { epoch = epoch; greeted = greeted; welcomed = welcomed; settled = so_far.settled };
     }
 
-    pub runs_whole : rest ≡ [] → RunsCalls taken remaining contents starting tries all before at a b
-        (Ok Whole)
-    runs_whole none =
+    pub settles_all : rest ≡ [] → SettlesAll remaining contents starting tries all so_far.texts before at
+    settles_all none =
         let whole : all ≡ so_far.first = so_far.cut ∙ ap (λ bytes. so_far.first ++ lines bytes) none
         ∙ append-nil so_far.first in
         record {
-          texts = so_far.texts;
-          settles = record {
-            epoch = epoch;
-            greeted = greeted;
-            welcomed = welcomed;
-            settled = subst (λ (l : List (List ℕ)). SettlesLines remaining contents tries
-                (first_key starting epoch) l so_far.texts greeted at) (sym whole) so_far.settled;
-          };
-          took = so_far.took;
+          epoch = epoch;
+          greeted = greeted;
+          welcomed = welcomed;
+          settled = subst (λ (l : List (List ℕ)). SettlesLines remaining contents tries
+              (first_key starting epoch) l so_far.texts greeted at) (sym whole) so_far.settled;
         }
 
+    pub runs_whole : rest ≡ [] → RunsCalls taken remaining contents starting tries all before at a b
+        (Ok Whole)
+    runs_whole none = record { texts = so_far.texts; settles = settles_all none; took = so_far.took }
+
     -- a word ends it at the next line
-    pub runs_to_word : (line later : List ℕ) (word : EndWord) (after : Link R W) (c : Sink O) (result :
-        Result CallSaid RunFault) → lines rest ≡ line ∷ lines later
+    pub stops_at : (line later : List ℕ) (word : EndWord) (after : Link R W) → lines rest ≡ line ∷ lines later
         → IfSome idle (λ key. StopsWithWord remaining contents tries key line word at after)
-        → IfOk result (λ said. said ≡ Stopped) → OnOk result (TakesText taken (word_text word) b c)
-        → IfErr result (StopsText taken (word_text word) count b c)
-        → RunsCalls taken remaining contents starting tries all before after a c result
-    runs_to_word line later word after c result cut stops said out short =
+        → Stops remaining contents starting tries all so_far.texts word before after
+    stops_at line later word after cut stops =
         let here = subst (λ (i : Option Key). IfSome i (λ key. StopsWithWord remaining contents tries key line
         word at after)) so_far.next stops in
-        runs_by_word all so_far.texts word before after count a b c result
-        (inr (record {
+        inr (record {
           first = so_far.first;
           line = line;
           later = lines later;
@@ -257,15 +253,24 @@ module _ {O R W : Type 0} (taken : O → Option (List ℕ)) (remaining : R → O
           between = at;
           settled = so_far.settled;
           stops = here;
-        }))
-        so_far.took so_far.counted said out short
+        })
+
+    pub runs_to_word : (line later : List ℕ) (word : EndWord) (after : Link R W) (c : Sink O) (result :
+        Result CallSaid RunFault) → lines rest ≡ line ∷ lines later
+        → IfSome idle (λ key. StopsWithWord remaining contents tries key line word at after)
+        → IfOk result (λ said. said ≡ Stopped) → OnOk result (TakesText taken (word_text word) b c)
+        → IfErr result (StopsText taken (word_text word) count b c)
+        → RunsCalls taken remaining contents starting tries all before after a c result
+    runs_to_word line later word after c result cut stops said out short =
+        runs_by_word all so_far.texts word before after count a b c result
+        (stops_at line later word after cut stops) so_far.took so_far.counted said out short
 
     -- the next line is settled
-    says_next : (line later text : List ℕ) (after : Link R W) → lines rest ≡ line ∷ lines later
+    settles_at : (line later text : List ℕ) (after : Link R W) → lines rest ≡ line ∷ lines later
         → SettlesLine remaining contents tries (key_behind (first_key starting epoch) (length so_far.texts))
-        line text at after → TextComesNext remaining contents starting tries all so_far.texts text before
-        after
-    says_next line later text after cut here = inl (record {
+        line text at after
+        → SettlesFirst remaining contents starting tries all (so_far.texts ++ text ∷ []) before after
+    settles_at line later text after cut here = record {
       first = so_far.first ++ line ∷ [];
       later = lines later;
       cut = so_far.cut ∙ ap (λ l. so_far.first ++ l) cut ∙ sym (append_assoc so_far.first (line ∷ [])
@@ -277,7 +282,14 @@ module _ {O R W : Type 0} (taken : O → Option (List ℕ)) (remaining : R → O
         settled = settles_more remaining contents tries (first_key starting epoch) so_far.first so_far.texts
             line text greeted at after so_far.settled here;
       };
-    })
+    }
+
+    pub settles_next : (line later text : List ℕ) (after : Link R W) → lines rest ≡ line ∷ lines later
+        → IfSome idle (λ key. SettlesLine remaining contents tries key line text at after)
+        → SettlesFirst remaining contents starting tries all (so_far.texts ++ text ∷ []) before after
+    settles_next line later text after cut one =
+        settles_at line later text after cut (subst (λ (i : Option Key). IfSome i (λ key. SettlesLine
+        remaining contents tries key line text at after)) so_far.next one)
 
     -- and its text does not go out
     pub runs_to_cut : (line later text : List ℕ) (after : Link R W) (c : Sink O) (fault : RunFault)
@@ -286,20 +298,16 @@ module _ {O R W : Type 0} (taken : O → Option (List ℕ)) (remaining : R → O
         → StopsText taken text count b c fault
         → RunsCalls taken remaining contents starting tries all before after a c (Err fault)
     runs_to_cut line later text after c (WriteFault fault) cut one stops =
-        let here = subst (λ (i : Option Key). IfSome i (λ key. SettlesLine remaining contents tries key line
-        text at after)) so_far.next one in
         record {
           texts = so_far.texts;
           text = text;
-          says = says_next line later text after cut here;
+          says = inl (settles_next line later text after cut one);
           cut = cuts_more taken so_far.texts text count fault.sent a b c so_far.took so_far.counted stops;
         }
     runs_to_cut line later text after c NoMemory cut one stops =
-        let here = subst (λ (i : Option Key). IfSome i (λ key. SettlesLine remaining contents tries key line
-        text at after)) so_far.next one in
         record {
           texts = so_far.texts;
-          leaves = inr (text, says_next line later text after cut here);
+          leaves = inr (text, inl (settles_next line later text after cut one));
           took =
               subst (TakesLines taken so_far.texts a) (sym stops) so_far.took;
         }
@@ -310,31 +318,31 @@ module _ {O R W : Type 0} (taken : O → Option (List ℕ)) (remaining : R → O
     short_at : (line later : List ℕ) (after : Link R W) → lines rest ≡ line ∷ lines later
         → HaltsAt remaining contents tries (key_behind (first_key starting epoch) (length so_far.texts)) line
         halt.NoMemory at after
-        → RunsCalls taken remaining contents starting tries all before after a b (Err NoMemory)
-    short_at line later after cut (inl same) =
-        record {
-          texts = so_far.texts;
-          leaves = inl (subst (SettlesFirst remaining contents starting tries all
-              so_far.texts before) (sym same) settles_first);
-          took = so_far.took;
-        }
+        → SettlesFirst remaining contents starting tries all so_far.texts before after
+        ⊎ ((text : List ℕ) × TextComesNext remaining contents starting tries all so_far.texts text before
+        after)
+    short_at line later after cut (inl same) = inl (subst (SettlesFirst remaining contents starting tries all
+        so_far.texts before) (sym same) settles_first)
     short_at line later after cut (inr settled) =
-        record {
-          texts = so_far.texts;
-          leaves = inr (
-            settled.0,
-            says_next line later settled.0 after cut
-                settled.1,
-          );
-          took = so_far.took;
-        }
+        inr (settled.0, inl (settles_at line later settled.0 after cut settled.1))
+
+    pub leaves_short : (line later : List ℕ) (after : Link R W) → lines rest ≡ line ∷ lines later
+        → IfSome idle (λ key. HaltsAt remaining contents tries key line halt.NoMemory at after)
+        → SettlesFirst remaining contents starting tries all so_far.texts before after
+        ⊎ ((text : List ℕ) × TextComesNext remaining contents starting tries all so_far.texts text before
+        after)
+    leaves_short line later after cut halts =
+        short_at line later after cut (subst (λ (i : Option Key). IfSome i (λ key. HaltsAt remaining contents
+        tries key line halt.NoMemory at after)) so_far.next halts)
 
     pub runs_short : (line later : List ℕ) (after : Link R W) → lines rest ≡ line ∷ lines later
         → IfSome idle (λ key. HaltsAt remaining contents tries key line halt.NoMemory at after)
         → RunsCalls taken remaining contents starting tries all before after a b (Err NoMemory)
-    runs_short line later after cut halts =
-        short_at line later after cut (subst (λ (i : Option Key). IfSome i (λ key. HaltsAt remaining contents
-        tries key line halt.NoMemory at after)) so_far.next halts)
+    runs_short line later after cut halts = record {
+      texts = so_far.texts;
+      leaves = leaves_short line later after cut halts;
+      took = so_far.took;
+    }
 
 -- ---- the input that was read
 

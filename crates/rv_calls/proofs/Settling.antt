@@ -1,9 +1,8 @@
 -- How far hellos have come, and the calls of lines.
-use Rattle.std.proofs.Common.{◌≡◌, ◌∙◌, ◌<◌, ◌≤◌, ◌+◌, ◌++◌, ◌∷◌, if◌then◌else◌, [], ℕ, List, Option, Some}
+use Rattle.std.proofs.Common.{◌≡◌, ◌∙◌, ◌<◌, ◌+◌, ◌++◌, ◌∷◌, if◌then◌else◌, [], ℕ, List, Option, Some}
 use Rattle.std.proofs.Common.{None, Result, Ok, Err, IfErr, IfSome, IsErrAnd, add-zero, ap, arith, inl, inr}
 use Rattle.std.proofs.Common.{length, length-append, refl, subst, sym}
 use Rattle.std.proofs.lemmas.Bool.{lt-ltb}
-use Rattle.rv_text.specs.Limits.{FitsIdentifier}
 use Rattle.rv_text.specs.Bodies.{IsCallBody, answer_text}
 use Rattle.rv_text.specs.declared.answer.Answer.{Answer}
 use Rattle.rv_text.specs.declared.answer.Answer.TheVariants as answers
@@ -14,7 +13,7 @@ use Rattle.rv_client.specs.declared.calling.CallOutcome.TheVariants as called
 use Rattle.rv_client.specs.Calls.{Calls}
 use Rattle.rv_client.specs.Link.{Link}
 use Rattle.rv_text.specs.Members.{max_identifier}
-use Rattle.rv_client.specs.Process.{PassesBy, Starting, first_key, key_after}
+use Rattle.rv_client.specs.Process.{PassesBy, Starting, key_after}
 use Rattle.rv_calls.specs.declared.client.Halt.{Halt}
 use Rattle.rv_calls.specs.declared.client.Halt.TheVariants as halt
 use Rattle.rv_calls.specs.Calling.{AllInVain, HaltsAt, HasNumbers, HelloEnds, HellosInVain, IsHelloInVain}

@@ -2,3 +2,4 @@
 pub mod EndWord
 pub mod Calling
 pub mod CallRuns
+pub mod Records

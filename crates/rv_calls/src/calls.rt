@@ -1,12 +1,12 @@
 //! Makes the calls of a whole input, and prints one line for each as soon as it is settled.
-ghost use Rattle.std.specs.Prelude.{◌≡◌, ◌≤◌, ◌<◌, ◌+◌, ◌^◌, ◌⊎◌, ℕ, length, string_bytes, true, false};
-ghost use Rattle.std.specs.Prelude.{Err, IfErr, IfOk, Ok, OnOk, Some};
+ghost use Rattle.std.specs.Prelude.{◌≡◌, ◌≤◌, ◌<◌, ◌+◌, ◌++◌, ◌∷◌, ◌^◌, ◌⊎◌, ℕ, List, [], length, false};
+ghost use Rattle.std.specs.Prelude.{Err, IfErr, IfOk, Ok, OnOk, Some, string_bytes, true};
 ghost use Rattle.rv_text.specs.Limits.{FitsIdentifier};
 ghost use Rattle.rv_frame.specs.Source.{source_failed};
 ghost use Rattle.rv_client.specs.Link.{Link, link};
 ghost use Rattle.rv_client.specs.Process.{Starting, first_key};
 ghost use Rattle.rv_calls.specs.Calling.{HasNumbers, IsWelcomed};
-ghost use Rattle.rv_calls.specs.CallRuns.{DidNothing, RanCalls, RunsCalls, StopsText, TakesText};
+ghost use Rattle.rv_calls.specs.CallRuns.{CutsText, DidNothing, RanCalls, RunsCalls, StopsText, TakesText};
 ghost use Rattle.rv_lines.specs.Lines.{lines};
 ghost use Rattle.rv_run.specs.Input.{FoundTooLong, max_input};
 ghost use Rattle.rv_run.specs.Output.{IsShortText};
@@ -18,7 +18,7 @@ use rv_client::{Idle, New};
 use rv_frame::{Sink, Source};
 use rv_lines::first_line;
 use rv_run::{OutputFault, RunFault, read_input};
-use rv_text::Version;
+use rv_text::{NoMemory, Version};
 use std::alloc::Global;
 use std::io::{Read, Write};
 
@@ -129,7 +129,7 @@ fn call_lines<O: Write, R: Read, W: Write>(
 }
 
 // Prints the word that ends the run, behind so many bytes.
-fn print_word<O: Write>(
+pub(crate) fn print_word<O: Write>(
     alloc: Global,
     word: EndWord,
     out: &mut Sink<O>,
@@ -153,12 +153,40 @@ fn print_line<O: Write>(out: &mut Sink<O>, text: String, printed: u64) -> Result
     ensures took { OnOk result (TakesText O.contents (string_bytes text) out.old out.new) }
     ensures cut { IfErr result (StopsText O.contents (string_bytes text) printed out.old out.new) }
 {
+    let line = with_lf(text)?;
+    match write_line(out, line.as_str(), printed) {
+        Ok(count) => Ok(count),
+        Err(fault) => Err(RunFault::WriteFault(fault)),
+    }
+}
+
+// A text with LF.
+pub(crate) fn with_lf(text: String) -> Result<String, NoMemory>
+    ensures { IfOk result (λ line. string_bytes line ≡ string_bytes text ++ 10 ∷ []) }
+{
     let mut line = text;
     line.push('\n')?;
+    Ok(line)
+}
+
+// Writes a line with its LF behind so many bytes, in one piece, and gives how many there are then.
+pub(crate) fn write_line<O: Write>(
+    out: &mut Sink<O>,
+    line: &str,
+    printed: u64,
+) -> Result<u64, OutputFault>
+    requires short { length line.now ≤ 65727 }
+    requires countable { printed < 2 ^ 63 }
+    ensures count { IfOk result (λ count. count ≡ printed + length line.now) }
+    ensures took { (text : List ℕ) → line.now ≡ text ++ 10 ∷ []
+        → OnOk result (TakesText O.contents text out.old out.new) }
+    ensures cut { (text : List ℕ) → line.now ≡ text ++ 10 ∷ []
+        → IfErr result (λ fault. CutsText O.contents text printed fault.sent out.old out.new) }
+{
     match out.write_all(line.as_bytes()) {
         Ok(()) => Ok(printed + line.len() as u64),
-        Err(fault) => Err(RunFault::WriteFault(OutputFault {
+        Err(fault) => Err(OutputFault {
             sent: printed as u128 + fault.sent as u128,
-        })),
+        }),
     }
 }

@@ -6,11 +6,14 @@ ghost use Rattle.rv_client.specs.Link.{link};
 ghost use Rattle.rv_client.specs.Process.{key_after};
 ghost use Rattle.rv_calls.specs.Calling.{HaltsAt, HaltsReading, HelloEnds, IsHelloInVain, SettlesLine};
 ghost use Rattle.rv_calls.specs.Calling.{WelcomesOrNot};
+ghost use Rattle.rv_calls.specs.Records.{IsAskedFor};
 
 use crate::end_word::EndWord;
 use rv_client::{CallOutcome, Idle, New, WelcomeOutcome, ask, call};
 use rv_frame::{Sink, Source};
-use rv_text::{Answer, Call, NoMemory, TextFault, decode_call, encode_answer};
+use rv_text::{
+    Answer, Call, Key, Message, NoMemory, TextFault, decode_call, encode_answer, encode_message,
+};
 use std::alloc::{AllocError, Global};
 use std::io::{Read, Write};
 
@@ -97,6 +100,31 @@ impl Caller {
             CallOutcome::Replaced(_, current) => Err(Halt::Word(EndWord::Replaced(current))),
         }
     }
+
+    /// Makes the call that a line says, as `call_line` does, and gives the body of its request too, before
+    /// the text of the reply's answer.
+    pub(crate) fn ask_line<R: Read, W: Write>(
+        self,
+        idle: Idle,
+        line: &[u8],
+        from: &mut Source<R>,
+        to: &mut Sink<W>,
+    ) -> Result<(Idle, String, String), Halt>
+        requires next { IsSome idle }
+        requires key { IfSome idle FitsKey }
+        ensures next { IfOk result (λ p. IfSome idle (λ key. p.0 ≡ key_after key)) }
+        ensures asked { IfOk result (λ p. IfSome idle (λ key. IsAskedFor key line.now (string_bytes p.1))) }
+        ensures settled { IfOk result (λ p. IfSome idle (λ key. SettlesLine R.remaining W.contents self.tries
+            key line.now (string_bytes p.2) (link from.old to.old) (link from.new to.new))) }
+        ensures short { IfOk result (λ p. HasBodyLength (string_bytes p.2)) }
+        ensures halted { IfErr result (λ halt. IfSome idle (λ key. HaltsAt R.remaining W.contents self.tries
+            key line.now halt (link from.old to.old) (link from.new to.new))) }
+    {
+        let key = idle.next_key().unwrap();
+        let asked = request_text(self.alloc, key, line)?;
+        let (next, told) = self.call_line(idle, line, from, to)?;
+        Ok((next, asked, told))
+    }
 }
 
 // Says hello once. The client comes back if the answer says nothing to it.
@@ -121,6 +149,15 @@ fn try_hello<R: Read, W: Write>(
         },
         Err(_) => Err(Err(EndWord::NotWelcome)),
     }
+}
+
+// The body of the request of this key with the call that a line says.
+fn request_text(alloc: Global, key: Key, line: &[u8]) -> Result<String, Halt>
+    ensures asked { IfOk result (λ body. IsAskedFor key line.now (string_bytes body)) }
+    ensures halted { IfErr result (HaltsReading line.now) }
+{
+    let call = read_call(alloc, line)?;
+    Ok(encode_message(alloc, &Message::Request { key, call })?)
 }
 
 // The call that a line says.

@@ -3,7 +3,8 @@ use Rattle.std.proofs.Common.{arith, string_bytes}
 use Rattle.std.proofs.lemmas.Result.{err_from_is_err_and}
 use Rattle.rv_client.specs.Link.{link}
 use Rattle.rv_client.specs.Process.{first_key}
-use Rattle.rv_calls.proofs.CallsSoFar.{none_so_far, one_more, runs_short, runs_to_cut, runs_to_word, runs_whole}
+use Rattle.rv_calls.proofs.CallsSoFar.{none_so_far, one_more, runs_short, runs_to_cut, runs_to_word}
+use Rattle.rv_calls.proofs.CallsSoFar.{runs_whole}
 use Rattle.rv_calls.proofs.Settling.{numbers_more}
 use Rattle.rv_calls.proofs.calls.call_lines.Goals as goal
 
