@@ -4,6 +4,4 @@ pub mod Forms
 pub mod Progress
 pub mod Writing
 pub mod Telling
-pub mod Settling
-pub mod CallsSoFar
 pub mod Answering

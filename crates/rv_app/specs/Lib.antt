@@ -1,12 +1,9 @@
 -- What a reader must agree with: all that the public contracts and the laws cite.
 pub mod Accounts
 pub mod Audits
-pub mod CallRuns
-pub mod Calling
 pub mod Laws
 pub mod Lines
 pub mod Outcomes
 pub mod Run
-pub mod EndWord
 -- What only private clauses and proofs cite.
 pub mod Body

@@ -6,9 +6,6 @@ ghost use Rattle.rv_text.specs.Limits.{FitsIdentifier};
 
 mod account;
 mod audit;
-mod calls;
-mod client;
-mod end_word;
 mod fault;
 pub mod laws;
 mod line;
@@ -19,9 +16,9 @@ mod turn;
 
 pub use account::write_account;
 pub use audit::{AuditSaid, audit_run};
-pub use calls::{CallSaid, call_run};
 use fault::ProgramFault;
 pub use run::book_run;
+pub use rv_calls::{CallSaid, call_run};
 pub use rv_command::{Command, CommandFault, read_command};
 use rv_frame::{Sink, Source};
 pub use rv_play::play_run;
