@@ -127,14 +127,23 @@ fn records(
     Ok(())
 }
 
+// Plays the script on a book, and asserts that the account has its entries then.
+fn follows(
+    rt: &(impl Abort + AllocGlobal),
+    book: &mut Book,
+    script: &Script,
+) -> Result<(), NoMemory> {
+    let hellos = HELLOS.get(..script.hellos).unwrap_or(&[]);
+    give_all(rt, book, script.name, hellos)?;
+    give_all(rt, book, script.name, script.given)?;
+    records(rt, book.account(), script.hellos, script.entries)
+}
+
 // The book, opened at this moment, once the script was played.
 fn played(rt: &(impl Abort + AllocGlobal), opened: u64, script: &Script) -> Result<Book, NoMemory> {
     let alloc = rt.alloc();
     let mut book = Book::open(alloc, 1, opened).or_else(|_| Book::open(alloc, 1, opened))?;
-    let hellos = HELLOS.get(..script.hellos).unwrap_or(&[]);
-    give_all(rt, &mut book, script.name, hellos)?;
-    give_all(rt, &mut book, script.name, script.given)?;
-    records(rt, book.account(), script.hellos, script.entries)?;
+    follows(rt, &mut book, script)?;
     Ok(book)
 }
 
@@ -190,14 +199,18 @@ fn is_free(
     is_told(alloc, &answer, given)
 }
 
-// Each is given once: no step meets want of memory, whichever growth is refused. The text of an answer may.
+// Gives each once, and asserts what it is told.
+fn all_free(rt: &(impl Abort + AllocGlobal), book: &mut Book) -> Result<(), NoMemory> {
+    for (place, given) in FREE.iter().enumerate() {
+        let told = is_free(rt, book, given)?;
+        holds(rt, told, place);
+    }
+    records(rt, book.account(), BEFORE_FREE.hellos, FREE_ENTRIES)
+}
+
+// No step meets want of memory, whichever growth is refused. The text of an answer may.
 #[test]
 fn ticks_cancels_and_repeats_take_no_memory(rt: HostRuntime) -> Result<(), Fail> {
     let mut book = played(&rt, 0, &BEFORE_FREE)?;
-    for (place, given) in FREE.iter().enumerate() {
-        let told = is_free(&rt, &mut book, given)?;
-        holds(&rt, told, place);
-    }
-    records(&rt, book.account(), BEFORE_FREE.hellos, FREE_ENTRIES)?;
-    Ok(())
+    Ok(all_free(&rt, &mut book)?)
 }

@@ -1,13 +1,24 @@
 //! A list of events, which no program runs as a whole, and the world that it leads to.
 use crate::expect::{holds, same};
+use crate::line::{item, key};
 use rv_book::Account;
-use rv_text::{Answer, Call, Item, Key, NoMemory, Refusal, Reply, Version, Wait};
+use rv_text::{Answer, Call, NoMemory, Refusal, Reply, Version, Wait};
 use rv_world::{Audit, Event, World, WorldRefusal, audit, run};
 use std::alloc::Global;
+use std::process::Abort;
 use std::test::Fail;
 
-fn item(alloc: Global, text: &str) -> Result<Item, NoMemory> {
-    Ok(Item::from_text(String::from_str(alloc, text)?))
+// Behind a hello and a put of client 1 there is one reply, and two entries.
+fn holds_a_put(rt: &impl Abort, world: &World) {
+    same(rt, (world.held().len(), world.asked().len()), (1, 1));
+    let entries = world.account(1).map(|account| account.len());
+    same(rt, entries, Some(2));
+    let answer = Answer::Replied {
+        key: key(1, 1, 1),
+        reply: Reply::Done,
+    };
+    holds(rt, world.answer_packet(1) == Some(&answer), "the reply");
+    same(rt, world.answer_packet(2).is_none(), true);
 }
 
 // A hello and a put, each of which gets to the server and back.
@@ -25,22 +36,10 @@ fn a_list_of_events(rt: HostRuntime) -> Result<(), Fail> {
         Event::ToClient(1),
     ];
     assert!(rt; events.iter().all(Event::fits));
-    let Ok(world) = run(alloc, &events) else {
-        return Err(Fail::new("an event was refused"));
-    };
-    same(&rt, (world.held().len(), world.asked().len()), (1, 1));
-    let entries = world.account(1).map(|account| account.len());
-    same(&rt, entries, Some(2));
-    let key = Key {
-        epoch: 1,
-        client: 1,
-        incarnation: 1,
-        number: 1,
-    };
-    let reply = Reply::Done;
-    let answer = Answer::Replied { key, reply };
-    holds(&rt, world.answer_packet(1) == Some(&answer), "the reply");
-    same(&rt, world.answer_packet(2).is_none(), true);
+    match run(alloc, &events) {
+        Ok(world) => holds_a_put(&rt, &world),
+        Err(_) => return Err(Fail::new("an event was refused")),
+    }
     Ok(())
 }
 
@@ -105,16 +104,6 @@ fn played(alloc: Global) -> Result<[Event; 23], NoMemory> {
     }
 }
 
-// The key of a client's request of this number, in epoch 1 and incarnation 1.
-fn key(client: u64, number: u64) -> Key {
-    Key {
-        epoch: 1,
-        client,
-        incarnation: 1,
-        number,
-    }
-}
-
 // Whether its clients hold the replies of the play, in the order in which these were settled.
 fn holds_its_replies(world: &World) -> bool {
     let [transfer, take, put] = world.held() else {
@@ -124,11 +113,11 @@ fn holds_its_replies(world: &World) -> bool {
         Reply::Item(item) => item.as_str() == "a",
         _ => false,
     };
-    transfer.0 == key(1, 1)
+    transfer.0 == key(1, 1, 1)
         && transfer.1 == Reply::Received
-        && take.0 == key(2, 1)
+        && take.0 == key(2, 1, 1)
         && taken
-        && put.0 == key(1, 2)
+        && put.0 == key(1, 1, 2)
         && put.1 == Reply::Done
 }
 
@@ -146,23 +135,27 @@ fn is_met_once(account: &Account) -> bool {
     account.len() == 5
 }
 
-// With ample memory the whole play is run as one list.
-#[test]
-fn a_worked_play_is_run(rt: HostRuntime) -> Result<(), Fail> {
-    let alloc = rt.alloc();
-    let events = worked_play(alloc)?;
-    assert!(rt; events.iter().all(Event::fits));
-    let Ok(world) = run(alloc, &events) else {
-        return Err(Fail::new("an event was refused"));
-    };
-    same(&rt, world.asked().len(), 3);
-    holds(&rt, holds_its_replies(&world), "the replies");
+// The world's clients hold the replies of the play, and its account has the entries and is legal.
+fn is_played(rt: &impl Abort, alloc: Global, world: &World) -> Result<(), Fail> {
+    same(rt, world.asked().len(), 3);
+    holds(rt, holds_its_replies(world), "the replies");
     let Some(account) = world.account(1) else {
         return Err(Fail::new("there is no account"));
     };
-    holds(&rt, is_met_once(account), "the entries");
-    same(&rt, audit(alloc, account)?, Audit::Legal);
+    holds(rt, is_met_once(account), "the entries");
+    same(rt, audit(alloc, account)?, Audit::Legal);
     Ok(())
+}
+
+// With ample memory the whole play is run as one list.
+#[test]
+fn a_worked_play_is_run(rt: HostRuntime) -> Result<(), Fail> {
+    let events = worked_play(rt.alloc())?;
+    assert!(rt; events.iter().all(Event::fits));
+    match run(rt.alloc(), &events) {
+        Ok(world) => is_played(&rt, rt.alloc(), &world),
+        Err(_) => Err(Fail::new("an event was refused")),
+    }
 }
 
 // Whether an answer of the play says that the server found no memory.
@@ -200,8 +193,30 @@ fn a_worked_play(rt: HostRuntime) -> Result<(), Fail> {
     Ok(())
 }
 
-// The same play event by event. One that finds no memory changes nothing, and is taken when it comes again;
-// what is not idle in the end was told that the server found none.
+// Makes the step of an event, and once more where it finds no memory, which changes nothing. Tells whether it
+// was taken; else a client isn't idle, which was told that the server found no memory.
+fn is_taken(rt: &impl Abort, world: &mut World, event: &Event) -> bool {
+    assert!(rt; event.fits());
+    let seen = match world.step(event) {
+        Err(WorldRefusal::NoMemory) => world.step(event),
+        seen => seen,
+    };
+    let lacked = seen == Err(WorldRefusal::NotIdle) && lacks(world);
+    holds(rt, seen.is_ok() || lacked, "a refusal");
+    seen.is_ok()
+}
+
+// Makes the steps of the events, up to one that isn't taken.
+fn takes_all(rt: &impl Abort, world: &mut World, events: &[Event]) {
+    for event in events {
+        if !is_taken(rt, world, event) {
+            return;
+        }
+    }
+    holds(rt, is_whole(world) || lacks(world), "the end");
+}
+
+// The same play event by event.
 #[test]
 fn a_worked_play_by_steps(rt: HostRuntime) -> Result<(), Fail> {
     let alloc = rt.alloc();
@@ -210,21 +225,6 @@ fn a_worked_play_by_steps(rt: HostRuntime) -> Result<(), Fail> {
         Ok(world) => world,
         Err(_) => World::open(alloc, 1)?,
     };
-    for event in &events {
-        assert!(rt; event.fits());
-        let mut seen = world.step(event);
-        if seen == Err(WorldRefusal::NoMemory) {
-            seen = world.step(event);
-        }
-        if seen.is_err() {
-            holds(
-                &rt,
-                seen == Err(WorldRefusal::NotIdle) && lacks(&world),
-                "a refusal",
-            );
-            return Ok(());
-        }
-    }
-    holds(&rt, is_whole(&world) || lacks(&world), "the end");
+    takes_all(&rt, &mut world, &events);
     Ok(())
 }

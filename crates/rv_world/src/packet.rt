@@ -2,7 +2,7 @@
 ghost use Rattle.std.specs.Prelude.{◌≡◌, IfOk};
 ghost use Rattle.rv_world.specs.Events.{sender};
 
-use rv_text::{Answer, Message, NoMemory, Reply};
+use rv_text::{Answer, Message, NoMemory};
 use std::alloc::Global;
 
 /// An answer that was sent, and the client to which it goes.
@@ -47,29 +47,6 @@ pub(crate) fn copy_message(alloc: Global, message: &Message) -> Result<Message, 
     }
 }
 
-// A copy of a reply. Fails only if memory for its items was refused.
-fn copy_reply(alloc: Global, reply: &Reply) -> Result<Reply, NoMemory>
-    ensures { IfOk result (λ copy. copy ≡ reply.now) }
-{
-    match reply {
-        Reply::Done => Ok(Reply::Done),
-        Reply::Received => Ok(Reply::Received),
-        Reply::ReceivedBy(taker) => Ok(Reply::ReceivedBy(*taker)),
-        Reply::Nobody => Ok(Reply::Nobody),
-        Reply::Item(item) => Ok(Reply::Item(item.copy(alloc)?)),
-        Reply::Empty => Ok(Reply::Empty),
-        Reply::Swapped(item) => Ok(Reply::Swapped(item.copy(alloc)?)),
-        Reply::Cancelled => Ok(Reply::Cancelled),
-        Reply::TimedOut => Ok(Reply::TimedOut),
-        Reply::Counted { items, consumers } => Ok(Reply::Counted {
-            items: *items,
-            consumers: *consumers,
-        }),
-        Reply::Peeked(item) => Ok(Reply::Peeked(item.copy(alloc)?)),
-        Reply::Drained(items) => Ok(Reply::Drained(items.copy(alloc)?)),
-    }
-}
-
 // A copy of an answer. Fails only if memory for its items was refused.
 pub(crate) fn copy_answer(alloc: Global, answer: &Answer) -> Result<Answer, NoMemory>
     ensures { IfOk result (λ copy. copy ≡ answer.now) }
@@ -88,7 +65,7 @@ pub(crate) fn copy_answer(alloc: Global, answer: &Answer) -> Result<Answer, NoMe
         }),
         Answer::Replied { key, reply } => Ok(Answer::Replied {
             key: *key,
-            reply: copy_reply(alloc, reply)?,
+            reply: reply.copy(alloc)?,
         }),
         Answer::Waiting { key } => Ok(Answer::Waiting { key: *key }),
         Answer::Refused(refusal) => Ok(Answer::Refused(*refusal)),
