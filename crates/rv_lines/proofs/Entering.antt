@@ -16,7 +16,7 @@ use Rattle.rv_account.specs.declared.entry.Act.TheVariants as act
 use Rattle.rv_account.specs.declared.entry.Entry.{Entry}
 use Rattle.rv_lines.specs.Faults.{line_fault}
 use Rattle.rv_lines.specs.declared.fault.LineFault.TheVariants as line
-use Rattle.rv_lines.specs.Reading.{ReadsEntry, SaysAct, SaysMessage}
+use Rattle.rv_lines.specs.Reading.{ReadsEntryUpTo, SaysAct, SaysMessage}
 use Rattle.rv_lines.specs.Written.{message_in}
 use Rattle.rv_lines.proofs.Fields.{fields_one}
 
@@ -54,8 +54,9 @@ act_one : (field : List ℕ) (a b : Act) → SaysAct field a → SaysAct field b
 act_one field a b says says' = sym (act_again a) ∙ ap act_of (message_one field (message_in a) (message_in b)
     says says') ∙ act_again b
 
-pub entry_one : (line : List ℕ) (a b : Entry) → ReadsEntry line a → ReadsEntry line b → a ≡ b
-entry_one line a b reads reads' =
+pub entry_one : (most : ℕ) (line : List ℕ) (a b : Entry) → ReadsEntryUpTo most line a
+    → ReadsEntryUpTo most line b → a ≡ b
+entry_one most line a b reads reads' =
     let same = fields_one reads.fields reads'.fields in
     let act = act_one reads'.act_field a.act b.act (subst (λ f. SaysAct f a.act) same.2 reads.says_act)
     reads'.says_act in

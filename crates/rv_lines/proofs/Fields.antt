@@ -2,7 +2,7 @@
 use Rattle.std.proofs.Common.{◌≡◌, ℕ, List, ◌∷◌, ◌++◌, sym, ap, subst, ◌∙◌, append_assoc, arith}
 use Rattle.rv_book.specs.Steps.{max_moment}
 use Rattle.rv_lines.specs.Number.{WritesUpTo}
-use Rattle.rv_lines.specs.Reading.{CutsFields, HasFields, SaysPartners}
+use Rattle.rv_lines.specs.Reading.{CutsFields, HasFieldsUpTo, SaysPartnersUpTo}
 use Rattle.rv_lines.proofs.Commas.{partners_one}
 use Rattle.rv_lines.proofs.Cutting.{Lacks, cut_once, not_lacking}
 use Rattle.rv_lines.proofs.Plain.{plain_lacks, plainly_one}
@@ -59,12 +59,12 @@ cuts_one {m = m} {m' = m'} {p = p} {p' = p'} {f = f} {f' = f'} a b =
     )
 
 -- and so one list of partners
-pub fields_one : {line : List ℕ} {m m' : ℕ} {p p' f f' : List ℕ} → HasFields line m p f
-    → HasFields line m' p' f' → (m ≡ m') × (p ≡ p') × (f ≡ f')
-fields_one {p = p} {p' = p'} a b =
+pub fields_one : {most : ℕ} {line : List ℕ} {m m' : ℕ} {p p' f f' : List ℕ} → HasFieldsUpTo most line m p f
+    → HasFieldsUpTo most line m' p' f' → (m ≡ m') × (p ≡ p') × (f ≡ f')
+fields_one {most = most} {p = p} {p' = p'} a b =
     let same = cuts_one a.cut b.cut in (
       same.0,
-      partners_one b.partners_field p p' (subst (λ g. SaysPartners g p) same.1 a.says_partners)
+      partners_one most b.partners_field p p' (subst (λ g. SaysPartnersUpTo most g p) same.1 a.says_partners)
           b.says_partners,
       same.2,
     )

@@ -14,7 +14,7 @@ use Rattle.rv_book.specs.Steps.{max_moment}
 use Rattle.rv_lines.specs.Laws.{WrittenLines}
 use Rattle.rv_lines.specs.Lines.{lines, printed_lines}
 use Rattle.rv_lines.specs.Number.{WritesUpTo}
-use Rattle.rv_lines.specs.Reading.{ReadsEntry, SaysMessage, SaysPartners, SaysPlaces}
+use Rattle.rv_lines.specs.Reading.{ReadsEntryUpTo, SaysMessage, SaysPartnersUpTo, SaysPlacesUpTo}
 use Rattle.rv_lines.specs.Written.{FitPlaces, account_lines, entry_text, head_text, max_partner, message_in}
 use Rattle.rv_lines.specs.Written.{partners_text, places_text, said_text}
 use Rattle.rv_lines.proofs.Cutting.{Lacks, lines_cut}
@@ -28,7 +28,7 @@ written_up_to : (most n : ℕ) → n ≤ most → most < 10 ^ 19 → WritesUpTo 
 written_up_to most n within small = (decimal_is_plain n (omega arith), within)
 
 written_places : (place : ℕ) (more : List ℕ) → AllUpTo max_partner (place ∷ more)
-    → SaysPlaces (places_text place more) place more
+    → SaysPlacesUpTo max_partner (places_text place more) place more
 written_places place [] small = written_up_to max_partner place (small place (0, refl)) (omega arith)
 written_places place (next ∷ more) small = (
   decimal place,
@@ -40,7 +40,7 @@ written_places place (next ∷ more) small = (
 )
 
 written_partners : (partners : List ℕ) → AllUpTo max_partner partners
-    → SaysPartners (partners_text partners) partners
+    → SaysPartnersUpTo max_partner (partners_text partners) partners
 written_partners [] small = refl
 written_partners (place ∷ more) small = written_places place more small
 
@@ -48,7 +48,7 @@ written_message : (said : Option Message) → IfSome said FitsMessage → SaysMe
 written_message None fits = refl
 written_message (Some m) fits = written_body m fits
 
-pub written_entry : (e : Entry) → FitsEntry e → FitPlaces e → ReadsEntry (entry_text e) e
+pub written_entry : (e : Entry) → FitsEntry e → FitPlaces e → ReadsEntryUpTo max_partner (entry_text e) e
 written_entry e fits small = record {
   act_field = said_text (message_in e.act);
   fields = record {
@@ -74,7 +74,8 @@ record CanBeRead (e : Entry) : Type 0 where
 abbrev Each : List Entry → Type 0
 Each entries = (r : ℕ) (e : Entry) → slice_get entries r ≡ Some e → CanBeRead e
 
-written_entries : (entries : List Entry) → Each entries → AllZip ReadsEntry (map entry_text entries) entries
+written_entries : (entries : List Entry) → Each entries
+    → AllZip (ReadsEntryUpTo max_partner) (map entry_text entries) entries
 written_entries [] each = tt
 written_entries (e ∷ entries) each =
     let here = each 0 e refl in

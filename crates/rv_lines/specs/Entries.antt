@@ -1,21 +1,21 @@
 -- How far the lines behind the first are read: for private clauses and proofs.
 use Rattle.std.specs.Prelude.{◌≤◌, ◌+◌, ◌∷◌, ◌++◌, ◌≡◌, ◌⊎◌, ℕ, List, length}
 use Rattle.rv_account.specs.declared.entry.Entry.{Entry}
-use Rattle.rv_book.specs.Steps.{max_entries}
-use Rattle.rv_lines.specs.Reading.{ReadsEntries, ReadsEntry}
+use Rattle.rv_lines.specs.Reading.{LineLimits, ReadsEntriesUnder, ReadsEntryUpTo}
 
 -- behind so many entries the line is read as none more
-abbrev pub IsNoNext : ℕ → List ℕ → Type 0
-IsNoNext before line = (max_entries ≤ before) ⊎ ((e : Entry) → ¬ ReadsEntry line e)
+abbrev pub IsNoNext : LineLimits → ℕ → List ℕ → Type 0
+IsNoNext limits before line =
+    (limits.most_entries ≤ before) ⊎ ((e : Entry) → ¬ ReadsEntryUpTo limits.greatest_place line e)
 
 -- the lines before this one are read as entries, and this one as none more; it is the line of this number
 -- where one line stands before all of them
-pub record StopsAtLine (lines : List (List ℕ)) (n : ℕ) : Type 0 where
+pub record StopsAtLine (limits : LineLimits) (lines : List (List ℕ)) (n : ℕ) : Type 0 where
   pub front : List (List ℕ)
   pub line : List ℕ
   pub rest : List (List ℕ)
   pub entries : List Entry
   pub parts : lines ≡ front ++ line ∷ rest
-  pub read : ReadsEntries front entries
-  pub stops : IsNoNext (length front) line
+  pub read : ReadsEntriesUnder limits front entries
+  pub stops : IsNoNext limits (length front) line
   pub counted : n ≡ length front + 2

@@ -3,6 +3,7 @@ ghost use Rattle.std.specs.Prelude.{◌≡◌, ◌≤◌, ◌+◌, ◌++◌, ◌
 ghost use Rattle.rv_lines.specs.Lines.{lines};
 ghost use Rattle.rv_lines.specs.Number.{WritesPlainly};
 ghost use Rattle.rv_lines.specs.Reading.{FirstBadLine, ReadsAccount, ReadsEntries, ReadsEntry, ReadsHead};
+ghost use Rattle.rv_lines.specs.Reading.{account_limits};
 ghost use Rattle.rv_lines.specs.Entries.{IsNoNext, StopsAtLine};
 ghost use Rattle.rv_text.specs.Limits.{FitsIdentifier};
 
@@ -13,6 +14,9 @@ use crate::number::read_plain;
 use rv_book::{Account, Entry, MAX_ENTRIES, MAX_MOMENT};
 use rv_text::{MAX_IDENTIFIER, NoMemory};
 use std::alloc::Global;
+
+// The greatest place of a partner.
+const MAX_PARTNER: u64 = 99_999;
 
 /// The account that the lines of an input say, legal or not. Lines end by LF, which the last one may lack.
 ///
@@ -33,8 +37,8 @@ pub fn read_account(alloc: Global, input: &[u8]) -> Result<Account, AccountFault
     Ok(Account::from_entries(epoch, opened, entries))
 }
 
-// The epoch and the opening moment that a first line says: `epoch E opened T`.
-fn read_head(line: &[u8]) -> Option<(u64, u64)>
+/// The epoch and the opening moment that a first line says: `epoch E opened T`.
+pub fn read_head(line: &[u8]) -> Option<(u64, u64)>
     ensures some { IfSome result (λ p. ReadsHead line.now p.0 p.1) }
     ensures none { result ≡ None → (epoch opened : ℕ) → ¬ ReadsHead line.now epoch opened }
 {
@@ -66,7 +70,8 @@ fn behind<'a>(text: &[u8], bytes: &'a [u8]) -> Option<&'a [u8]>
 // The entries that the lines behind the first say.
 fn read_entries(alloc: Global, input: &[u8]) -> Result<Vec<Entry>, AccountFault>
     ensures entries { IfOk result (λ entries. ReadsEntries (lines input.now) entries.items) }
-    ensures bad { (n : ℕ) → result ≡ Err (AccountFault.BadLine n) → StopsAtLine (lines input.now) n }
+    ensures bad { (n : ℕ) → result ≡ Err (AccountFault.BadLine n)
+        → StopsAtLine account_limits (lines input.now) n }
 {
     let mut entries = Vec::new(alloc);
     let mut rest = input;
@@ -83,13 +88,13 @@ fn next_entry(alloc: Global, line: &[u8], before: usize) -> Result<Entry, Accoun
     requires { before ≤ 100000 }
     ensures entry { IfOk result (ReadsEntry line.now) }
     ensures room { IfOk result (λ _. before + 1 ≤ 100000) }
-    ensures bad { (n : ℕ) → result ≡ Err (AccountFault.BadLine n) → IsNoNext before line.now }
+    ensures bad { (n : ℕ) → result ≡ Err (AccountFault.BadLine n) → IsNoNext account_limits before line.now }
     ensures counted { (n : ℕ) → result ≡ Err (AccountFault.BadLine n) → n ≡ before + 2 }
 {
     if before == MAX_ENTRIES {
         return Err(AccountFault::BadLine(before + 2));
     }
-    match read_entry(alloc, line) {
+    match read_entry(alloc, line, MAX_PARTNER) {
         Ok(entry) => Ok(entry),
         Err(LineFault::Bad) => Err(AccountFault::BadLine(before + 2)),
         Err(LineFault::NoMemory) => Err(AccountFault::NoMemory),

@@ -4,8 +4,9 @@ ghost use Rattle.std.specs.Prelude.{IfOk, IfSome, IsTrue, OnOk};
 ghost use Rattle.rv_account.specs.declared.entry.Act as account;
 ghost use Rattle.rv_account.specs.declared.entry.Entry as entries;
 ghost use Rattle.rv_lines.specs.Number.{WritesUpTo};
-ghost use Rattle.rv_lines.specs.Reading.{CutsFields, ReadsEntry, SaysAct, SaysPartners, SaysSomePlaces};
-ghost use Rattle.rv_lines.specs.Written.{max_partner, message_in};
+ghost use Rattle.rv_lines.specs.Reading.{CutsFields, ReadsEntryUpTo, SaysAct, SaysPartnersUpTo};
+ghost use Rattle.rv_lines.specs.Reading.{SaysSomePlacesUpTo};
+ghost use Rattle.rv_lines.specs.Written.{message_in};
 
 use crate::fault::LineFault;
 use crate::line::cut_at;
@@ -14,17 +15,16 @@ use rv_book::{Act, Entry, MAX_MOMENT, Partners, Place};
 use rv_text::{Message, NoMemory, decode_message};
 use std::alloc::Global;
 
-// The greatest place of a partner.
-const MAX_PARTNER: u64 = 99_999;
-
 /// The entry that a line says by its three fields, which one space parts: the moment, the places of the
-/// partners with commas between, or `-`, and a body of the message or the word `tick`.
-pub(crate) fn read_entry(alloc: Global, line: &[u8]) -> Result<Entry, LineFault>
-    ensures reads { IfOk result (ReadsEntry line.now) }
-    ensures bad { result ≡ Err LineFault.Bad → (e : entries.Entry) → ¬ ReadsEntry line.now e }
+/// partners with commas between, each at most the greatest, or `-`, and a body of the message or the word
+/// `tick`.
+pub fn read_entry(alloc: Global, line: &[u8], greatest_place: u64) -> Result<Entry, LineFault>
+    ensures reads { IfOk result (ReadsEntryUpTo greatest_place line.now) }
+    ensures bad { result ≡ Err LineFault.Bad
+        → (e : entries.Entry) → ¬ ReadsEntryUpTo greatest_place line.now e }
 {
     let (moment, places, field) = cut_fields(line).ok_or(LineFault::Bad)?;
-    let partners = read_partners(alloc, places)?;
+    let partners = read_partners(alloc, places, greatest_place)?;
     let act = read_act(alloc, field)?;
     Ok(Entry {
         moment,
@@ -46,40 +46,42 @@ fn cut_fields(line: &[u8]) -> Option<(u64, &[u8], &[u8])>
 }
 
 // The partners that a field says: places with commas between, or `-` for none.
-fn read_partners(alloc: Global, field: &[u8]) -> Result<Partners, LineFault>
-    ensures reads { IfOk result (SaysPartners field.now) }
-    ensures bad { result ≡ Err LineFault.Bad → (partners : List ℕ) → ¬ SaysPartners field.now partners }
+fn read_partners(alloc: Global, field: &[u8], greatest_place: u64) -> Result<Partners, LineFault>
+    ensures reads { IfOk result (SaysPartnersUpTo greatest_place field.now) }
+    ensures bad { result ≡ Err LineFault.Bad
+        → (partners : List ℕ) → ¬ SaysPartnersUpTo greatest_place field.now partners }
 {
     if is_text(field, b"-") {
         return Ok(Partners::none(alloc));
     }
-    let places = read_places(alloc, field)?;
+    let places = read_places(alloc, field, greatest_place)?;
     Ok(Partners::from_vec(places))
 }
 
 // The places that a field says: one at least, with commas between.
-fn read_places(alloc: Global, field: &[u8]) -> Result<Vec<Place>, LineFault>
-    ensures reads { IfOk result (λ places. SaysSomePlaces field.now places.items) }
-    ensures bad { result ≡ Err LineFault.Bad → (places : List ℕ) → ¬ SaysSomePlaces field.now places }
+fn read_places(alloc: Global, field: &[u8], greatest_place: u64) -> Result<Vec<Place>, LineFault>
+    ensures reads { IfOk result (λ places. SaysSomePlacesUpTo greatest_place field.now places.items) }
+    ensures bad { result ≡ Err LineFault.Bad
+        → (places : List ℕ) → ¬ SaysSomePlacesUpTo greatest_place field.now places }
 {
     let mut places = Vec::new(alloc);
     let mut rest = field;
     while let Some((piece, after)) = cut_at(b',', rest) {
-        let place = read_place(piece).ok_or(LineFault::Bad)?;
+        let place = read_place(piece, greatest_place).ok_or(LineFault::Bad)?;
         keep(&mut places, place)?;
         rest = after;
     }
-    let place = read_place(rest).ok_or(LineFault::Bad)?;
+    let place = read_place(rest, greatest_place).ok_or(LineFault::Bad)?;
     keep(&mut places, place)?;
     Ok(places)
 }
 
 // The place that a piece of a field says.
-fn read_place(piece: &[u8]) -> Option<Place>
-    ensures some { IfSome result (WritesUpTo max_partner piece.now) }
-    ensures none { result ≡ None → (place : ℕ) → ¬ WritesUpTo max_partner piece.now place }
+fn read_place(piece: &[u8], greatest_place: u64) -> Option<Place>
+    ensures some { IfSome result (WritesUpTo greatest_place piece.now) }
+    ensures none { result ≡ None → (place : ℕ) → ¬ WritesUpTo greatest_place piece.now place }
 {
-    let place = read_plain(piece, MAX_PARTNER)?;
+    let place = read_plain(piece, greatest_place)?;
     Some(place as usize)
 }
 

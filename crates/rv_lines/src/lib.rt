@@ -9,7 +9,8 @@ mod line;
 mod number;
 mod written;
 
-pub use account::read_account;
+pub use account::{read_account, read_head};
+pub use entry::read_entry;
 pub use fault::{AccountFault, LineFault};
 pub use line::{cut_at, first_line};
 pub use number::{read_between, read_identifier, read_number};

@@ -3,13 +3,15 @@ use Rattle.std.proofs.Common.{◌≡◌, Err, ap, refl, sym, ◌∙◌}
 use Rattle.std.proofs.lemmas.Result.{err_from_is_err_and}
 use Rattle.rv_lines.specs.declared.fault.AccountFault.TheVariants.{BadLine}
 use Rattle.rv_lines.specs.Lines.{lines}
+use Rattle.rv_lines.specs.Reading.{account_limits}
 use Rattle.rv_lines.proofs.Turns.{bad_head, bad_line}
 use Rattle.rv_lines.proofs.account.read_account.Goals as goal
 
 pub returns-in_default-read_head-clause-bad : goal.returns-in_default-read_head-clause-bad
 returns-in_default-read_head-clause-bad c n told =
     let h = c.in-Some in
-    bad_head (lines c.args.input.now) (lines c.in-Some.rest.now) c.in-Some.head.now n c.in-Some.ensures.some
+    bad_head account_limits (lines c.args.input.now) (lines c.in-Some.rest.now) c.in-Some.head.now n
+    c.in-Some.ensures.some
     (c.in_default-read_head.ensures.none refl) (cc)
 
 pub returns-in_err-entries-clause-bad : goal.returns-in_err-entries-clause-bad

@@ -4,6 +4,7 @@ use Rattle.std.proofs.lemmas.Result.{err_from_is_err_and}
 use Rattle.rv_account.specs.declared.entry.Entry.{Entry}
 use Rattle.rv_lines.specs.declared.fault.AccountFault.TheVariants.{BadLine}
 use Rattle.rv_lines.specs.Entries.{IsNoNext}
+use Rattle.rv_lines.specs.Reading.{account_limits}
 use Rattle.rv_lines.proofs.Turns.{Read, read_more, so_many, stops_at}
 use Rattle.rv_lines.proofs.account.read_entries.Goals as goal
 
@@ -17,12 +18,13 @@ returns-in_err-entry-clause-bad c n told =
     let many : c.len.result ≡ length c.loop-line.entries.items = omega arith in
     let line = c.in-Some.line.now in
     stops_at c.loop-line.invariant line c.in-Some.after.now n c.in-Some.ensures.some
-    (subst (λ (k : ℕ). IsNoNext k line) many (c.in_err-entry.ensures.bad n (ap Err is)))
+    (subst (λ (k : ℕ). IsNoNext account_limits k line) many (c.in_err-entry.ensures.bad n (ap Err is)))
     (omega (arith, many, c.in_err-entry.ensures.counted n (ap Err is)))
 
 pub loop-line-preserved : goal.loop-line-preserved
 loop-line-preserved c =
     let room = c.in_ok-entry.ensures.room in
-    subst (λ (es : List Entry). Read c.args.input.now c.in-Some.after.now es) (sym c.in_ok-keep.ensures)
+    subst (λ (es : List Entry). Read account_limits c.args.input.now c.in-Some.after.now es)
+    (sym c.in_ok-keep.ensures)
     (read_more c.loop-line.invariant c.in-Some.line.now c.in-Some.after.now c.in_ok-entry.entry
     c.in-Some.ensures.some c.in_ok-entry.ensures.entry (omega (arith, room)))

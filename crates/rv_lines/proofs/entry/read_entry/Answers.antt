@@ -2,7 +2,7 @@
 use Rattle.std.proofs.Common.{◌≡◌, List, ℕ, None, Err, ap, arith, sym, subst, ◌∙◌}
 use Rattle.std.proofs.lemmas.Result.{err_from_is_err_and}
 use Rattle.rv_lines.specs.declared.fault.LineFault.TheVariants as line
-use Rattle.rv_lines.specs.Reading.{SaysAct, SaysPartners}
+use Rattle.rv_lines.specs.Reading.{SaysAct, SaysPartnersUpTo}
 use Rattle.rv_lines.proofs.Fields.{cuts_one}
 use Rattle.rv_lines.proofs.entry.read_entry.Goals as goal
 
@@ -19,7 +19,8 @@ returns-in_err-partners-clause-bad c told e reads =
     let found = rw c.in_ok-moment.ensures.ok_part at c.cut_fields.ensures.some in
     let same : reads.fields.partners_field ≡ c.in_ok-moment.places.now = (cuts_one reads.fields.cut found).1
     in
-    c.in_err-partners.ensures.bad (ap Err bad) e.partners (subst (λ (f : List ℕ). SaysPartners f e.partners)
+    c.in_err-partners.ensures.bad (ap Err bad) e.partners
+    (subst (λ (f : List ℕ). SaysPartnersUpTo c.args.greatest_place f e.partners)
     same reads.fields.says_partners)
 
 pub returns-in_err-act-clause-bad : goal.returns-in_err-act-clause-bad

@@ -12,7 +12,7 @@ returns-in_err-place-clause-bad c told =
 pub loop-piece-preserved : goal.loop-piece-preserved
 loop-piece-preserved c =
     let says = rw c.in_ok-place.ensures.ok_part at c.read_place.ensures.some in
-    subst (λ (places : List ℕ). ListsPlaces c.args.field.now c.in-Some.after.now places)
+    subst (λ (places : List ℕ). ListsPlaces c.args.greatest_place c.args.field.now c.in-Some.after.now places)
     (sym c.in_ok-keep.ensures)
     (listed_more c.loop-piece.invariant c.in-Some.piece.now c.in-Some.after.now c.in_ok-place.place
     c.in-Some.ensures.parts c.in-Some.ensures.first says)

@@ -4,7 +4,7 @@ use Rattle.rv_lines.proofs.Commas.{ListsPlaces}
 use Rattle.rv_lines.proofs.entry.read_places.Given as goal
 
 abbrev pub invariant-loop-piece : goal.invariant-loop-piece
-invariant-loop-piece l = ListsPlaces l.field l.rest l.places.items
+invariant-loop-piece l = ListsPlaces l.greatest_place l.field l.rest l.places.items
 
 abbrev pub decreases-loop-piece : goal.decreases-loop-piece
 decreases-loop-piece l = length l.rest

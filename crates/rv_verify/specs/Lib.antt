@@ -1,0 +1,6 @@
+-- What a reader must agree with: all that the public contracts and the laws cite.
+pub mod Verdicts
+pub mod Ends
+pub mod Standing
+-- What only private clauses and proofs cite.
+pub mod Reading

@@ -1,0 +1,29 @@
+//! Why an account is not read to its end.
+use rv_lines::LineFault;
+use rv_text::NoMemory;
+use std::io;
+use std::io::ErrorKind;
+
+/// Why an account is not read to its end.
+#[derive(Clone, Copy, Debug, PartialEq, Eq)]
+pub enum VerifyFault {
+    /// A read failed.
+    ReadFault,
+    /// Memory was refused.
+    NoMemory,
+}
+
+impl From<io::Error> for VerifyFault {
+    fn from(error: io::Error) -> VerifyFault {
+        match error.kind() {
+            ErrorKind::OutOfMemory => VerifyFault::NoMemory,
+            _ => VerifyFault::ReadFault,
+        }
+    }
+}
+
+impl From<NoMemory> for VerifyFault {
+    fn from(_fault: NoMemory) -> VerifyFault {
+        VerifyFault::NoMemory
+    }
+}

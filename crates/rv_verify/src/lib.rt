@@ -1,0 +1,13 @@
+//! Audits an account of any length as it is read, line by line, in memory of what is open and of clients.
+#![tactic(auto)]
+
+mod fault;
+mod looks;
+mod reading;
+mod verdict;
+mod verifier;
+
+pub use fault::VerifyFault;
+pub use reading::verify;
+pub use verdict::{AccountVerdict, Told};
+pub use verifier::{StopReason, Verifier};

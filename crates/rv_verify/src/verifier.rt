@@ -1,0 +1,164 @@
+//! An account that is followed line by line, as far as it is legal and has room.
+ghost use Rattle.std.specs.Prelude.{◌≡◌, ◌<◌, ◌≤◌, ◌∷◌, ◌++◌, [], ℕ, List, None, Err};
+ghost use Rattle.std.specs.Prelude.{IfOk, IsSome, OnOk};
+ghost use Rattle.rv_text.specs.Limits.{FitsIdentifier};
+ghost use Rattle.rv_text.specs.Members.{max_identifier};
+ghost use Rattle.rv_account.specs.Limits.{max_moment};
+ghost use Rattle.rv_account.specs.declared.entry.Entry as entries;
+ghost use Rattle.rv_machine.specs.Machines.{IsWhole, state_in};
+ghost use Rattle.rv_resume.specs.Resuming.{CanResume};
+ghost use Rattle.rv_lines.specs.Entries.{IsNoNext};
+ghost use Rattle.rv_lines.specs.Reading.{ReadsHead};
+ghost use Rattle.rv_verify.specs.Verdicts.{IsVerdictOn, ReadsLongEntry, long_limits};
+ghost use Rattle.rv_verify.specs.Standing.{HasRead, CanReadOn, entries_read};
+ghost use Rattle.rv_verify.specs.Reading.{IsStopped, ReadsOneMore};
+
+use crate::fault::VerifyFault;
+use crate::verdict::AccountVerdict;
+use rv_account::Entry;
+use rv_audit::Rule;
+use rv_follow::{Followed, follow};
+use rv_lines::{LineFault, read_entry};
+use rv_machine::Machine;
+use rv_text::{MAX_IDENTIFIER, NoMemory};
+use std::alloc::Global;
+
+/// Why a verifier follows an account no further.
+#[derive(Debug, Drop)]
+pub enum StopReason {
+    /// An entry breaks this rule first, in the order of an audit.
+    Breaks(Rule),
+    /// This entry names a place that is open nowhere, and breaks no rule before P1.
+    NotOpen(Entry),
+    /// The state behind an entry has no room.
+    BeyondLimits,
+}
+
+/// An account that was read so far. It keeps what is open and the clients; of entries that passed it keeps
+/// nothing.
+#[derive(Drop)]
+pub struct Verifier {
+    pub(crate) machine: Machine,
+    // How many entries were read.
+    pub(crate) entries: u64,
+    // Why the last ones were only read, and not followed.
+    pub(crate) stop: Option<StopReason>,
+}
+
+impl Verifier {
+    /// Behind the first line of an account, which says its epoch and its opening moment.
+    pub fn open(alloc: Global, epoch: u64, opened: u64) -> Result<Verifier, NoMemory>
+        requires epoch { FitsIdentifier epoch }
+        requires opened { opened ≤ max_moment }
+        ensures ready { IfOk result CanReadOn }
+        ensures read { IfOk result (λ v. (head : List ℕ) → ReadsHead head epoch opened
+            → HasRead (head ∷ []) v) }
+    {
+        Ok(Verifier {
+            machine: Machine::open(alloc, epoch, opened)?,
+            entries: 0,
+            stop: None,
+        })
+    }
+
+    /// Reads the next line, and follows its entry, if all before it passed. It fails if the line is read as
+    /// no entry more, or memory was refused.
+    pub fn line(&mut self, alloc: Global, line: &[u8]) -> Result<(), LineFault>
+        requires ready { CanReadOn self.old }
+        ensures ready { OnOk result (CanReadOn self.new) }
+        ensures read { OnOk result ((before : List (List ℕ)) → HasRead before self.old
+            → HasRead (before ++ line.now ∷ []) self.new) }
+        ensures bad { result ≡ Err LineFault.Bad
+            → IsNoNext long_limits (entries_read self.old) line.now × (self.new ≡ self.old) }
+    {
+        if self.entries == MAX_IDENTIFIER {
+            return Err(LineFault::Bad);
+        }
+        if self.stop.is_some() {
+            self.pass_over(alloc, line)
+        } else {
+            self.follow_line(alloc, line)
+        }
+    }
+
+    // Reads a line, and counts its entry alone.
+    fn pass_over(&mut self, alloc: Global, line: &[u8]) -> Result<(), LineFault>
+        requires ready { CanReadOn self.old }
+        requires few { self.old.entries < max_identifier }
+        requires stopped { IsSome self.old.stop }
+        ensures ready { OnOk result (CanReadOn self.new) }
+        ensures read { OnOk result (ReadsOneMore self.old self.new line.now) }
+        ensures bad { result ≡ Err LineFault.Bad
+            → ((e : entries.Entry) → ¬ ReadsLongEntry line.now e) × (self.new ≡ self.old) }
+    {
+        let _entry = read_entry(alloc, line, MAX_IDENTIFIER)?;
+        self.entries += 1;
+        Ok(())
+    }
+
+    // Reads a line, and follows its entry.
+    fn follow_line(&mut self, alloc: Global, line: &[u8]) -> Result<(), LineFault>
+        requires ready { CanReadOn self.old }
+        requires few { self.old.entries < max_identifier }
+        requires goes { self.old.stop ≡ None }
+        ensures ready { OnOk result (CanReadOn self.new) }
+        ensures read { OnOk result (ReadsOneMore self.old self.new line.now) }
+        ensures bad { result ≡ Err LineFault.Bad
+            → ((e : entries.Entry) → ¬ ReadsLongEntry line.now e) × (self.new ≡ self.old) }
+    {
+        let entry = read_entry(alloc, line, MAX_IDENTIFIER)?;
+        let Ok(stop) = stop_at(alloc, &mut self.machine, line, entry) else {
+            return Err(LineFault::NoMemory);
+        };
+        self.stop = stop;
+        self.entries += 1;
+        Ok(())
+    }
+
+    /// The verdict on the lines that were read. Of a verifier that stopped it is told once.
+    pub fn verdict(&mut self) -> AccountVerdict
+        ensures told { (lines : List (List ℕ)) → HasRead lines self.old → IsVerdictOn lines result }
+    {
+        let place = self.machine.length();
+        match self.stop.take() {
+            None => AccountVerdict::Legal,
+            Some(StopReason::Breaks(rule)) => AccountVerdict::Fault { place, rule },
+            Some(StopReason::NotOpen(entry)) => AccountVerdict::NotOpen { place, entry },
+            Some(StopReason::BeyondLimits) => AccountVerdict::BeyondLimits(place),
+        }
+    }
+}
+
+// Follows the entry that a line says, or tells why it doesn't go on.
+fn stop_at(
+    alloc: Global,
+    machine: &mut Machine,
+    line: &[u8],
+    entry: Entry,
+) -> Result<Option<StopReason>, VerifyFault>
+    requires ready { IsWhole machine.old }
+    requires resumes { CanResume (state_in machine.old) }
+    requires says { ReadsLongEntry line.now entry }
+    ensures ready { IsWhole machine.new }
+    ensures resumes { CanResume (state_in machine.new) }
+    ensures stopped { IfOk result (IsStopped machine.old machine.new entry) }
+{
+    match follow(machine, entry) {
+        Followed::Done => Ok(None),
+        Followed::Breaks(rule) => Ok(Some(StopReason::Breaks(rule))),
+        Followed::NotOpen => Ok(Some(StopReason::NotOpen(entry_again(alloc, line)?))),
+        Followed::BeyondLimits => Ok(Some(StopReason::BeyondLimits)),
+        Followed::NoMemory => Err(VerifyFault::NoMemory),
+    }
+}
+
+// The entry that a line says, once more.
+fn entry_again(alloc: Global, line: &[u8]) -> Result<Entry, VerifyFault>
+    requires says { (e : entries.Entry) × ReadsLongEntry line.now e }
+    ensures same { IfOk result (λ again. (e : entries.Entry) → ReadsLongEntry line.now e → again ≡ e) }
+{
+    match read_entry(alloc, line, MAX_IDENTIFIER) {
+        Ok(entry) => Ok(entry),
+        Err(_) => Err(VerifyFault::NoMemory),
+    }
+}
