@@ -1,0 +1,14 @@
+pub mod Words
+pub mod Names
+pub mod Arriving
+pub mod Settled
+pub mod Passing
+pub mod KeptTold
+pub mod Judged
+pub mod Texts
+pub mod Counts
+pub mod AskedTold
+pub mod OneRecord
+pub mod Taking
+pub mod Writing
+pub mod Ending

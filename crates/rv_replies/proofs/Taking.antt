@@ -1,0 +1,88 @@
+-- A record with one line more, before any entry.
+use Rattle.rv_replies.proofs.Words.{◌++◌, ◌≡◌, ◌∙◌, ◌∷◌, [], List, None, Option, Some, ap, inl, inr, refl}
+use Rattle.rv_replies.proofs.Words.{subst, sym, same_Some, none-some, slice_get, Account}
+use Rattle.rv_replies.proofs.Words.{Key, IsFateOf, NamesNowhere, IsAbout, fate_in, Entry, Fate, Fates}
+use Rattle.std.proofs.Common.{IsSome, Ok, Err, OnOk, Result, is_some, unwrap_or}
+use Rattle.rv_account.specs.Account.{key_at}
+use Rattle.rv_rules.proofs.Deciding.{key_or_other}
+use Rattle.rv_rules.proofs.Places.{get-append_cases}
+use Rattle.rv_replies.specs.Known.{AsksAbout}
+use Rattle.rv_replies.specs.Standing.{HasNoted}
+use Rattle.rv_replies.specs.declared.fate.Fate.TheVariants.{Unnamed}
+use Rattle.rv_replies.specs.declared.reading.Flaw.{Flaw}
+use Rattle.rv_replies.specs.declared.records.Line.TheVariants as line
+use Rattle.rv_replies.specs.declared.records.Records.{Records}
+use Rattle.rv_replies.specs.declared.findings.Told.{Told}
+
+-- two facts of what came out well give a third
+pub on_ok_two : {A E : Type 0} {P Q S : Type 0} (r : Result A E) → (P → Q → S) → OnOk r P → OnOk r Q
+    → OnOk r S
+on_ok_two (Ok x) gives p q = gives p q
+on_ok_two (Err e) gives p q = tt
+
+nowhere : (es : List Entry) (key : Key) → es ≡ [] → NamesNowhere es key
+nowhere es key is place named =
+    let none : key_at [] place ≡ Some key = subst (λ l. key_at l place ≡ Some key) is named in
+    none-some key none
+
+module _ (a : Account) (empty : a.entries ≡ []) where
+  or_unnamed : (o : Option Fate) (key : Key) → ((fate : Fate) → o ≡ Some fate → IsFateOf a.entries key fate)
+      → IsFateOf a.entries key (unwrap_or o Unnamed)
+  or_unnamed None key is = nowhere a.entries key empty
+  or_unnamed (Some fate) key is = is fate refl
+
+  asks_about : (old new : Fates) (own : Key) → AsksAbout old new own → IsAbout old a → IsAbout new a
+  asks_about old new own asks about key fate there = elim (key_or_other key own) [
+    | inl same ↦
+        let at : fate_in new own ≡ Some fate = subst (λ (k : Key). fate_in new k ≡ Some fate) same there in
+        let is : IsFateOf a.entries own (unwrap_or (fate_in old own) Unnamed) =
+        or_unnamed (fate_in old own) own (about own) in
+        subst (λ (k : Key). IsFateOf a.entries k fate) (sym same)
+        (subst (IsFateOf a.entries own) (same_Some _ _ (sym asks.own ∙ at)) is)
+    | inr apart ↦ about key fate (sym (asks.others key apart) ∙ there)
+  ]
+
+  asks_known : (old new : Fates) (own key : Key) → AsksAbout old new own → IsSome (fate_in old key)
+      → IsSome (fate_in new key)
+  asks_known old new own key asks known = elim (key_or_other key own) [
+    | inl same ↦ subst (λ (k : Key). IsSome (fate_in new k)) (sym same) (ap is_some asks.own)
+    | inr apart ↦ ap is_some (asks.others key apart) ∙ known
+  ]
+
+  same_told : (told other : Told) → line.Told told ≡ line.Told other → told ≡ other
+  same_told told other is = cc
+
+  no_told : (flaw : Flaw) (told : Told) → line.Flawed flaw ≡ line.Told told → ⊥
+  no_told flaw told is = absurd (let no : ⊥ = cc in no)
+
+  pub takes_told : (old new : Records) (told : Told) → HasNoted old a
+      → new.lines.items ≡ old.lines.items ++ line.Told told ∷ [] → AsksAbout old.fates new.fates told.key
+      → HasNoted new a
+  takes_told old new told stands lines asks = record {
+    about = asks_about old.fates new.fates told.key asks stands.about;
+    known = λ i other at.
+        let there : slice_get (old.lines.items ++ line.Told told ∷ []) i ≡ Some (line.Told other) =
+        subst (λ l. slice_get l i ≡ Some (line.Told other)) lines at in
+        elim (get-append_cases old.lines.items (line.Told told) (line.Told other) i there) [
+          | inl inside ↦
+              asks_known old.fates new.fates told.key other.key asks (stands.known i other inside.1)
+          | inr last ↦
+              subst (λ (t : Told). IsSome (fate_in new.fates t.key)) (same_told told other last.1)
+              (ap is_some asks.own)
+        ];
+  }
+
+  pub takes_flawed : (old new : Records) (flaw : Flaw) → HasNoted old a
+      → new.lines.items ≡ old.lines.items ++ line.Flawed flaw ∷ [] → new.fates ≡ old.fates
+      → HasNoted new a
+  takes_flawed old new flaw stands lines fates = record {
+    about = subst (λ f. IsAbout f a) (sym fates) stands.about;
+    known = λ i other at.
+        let there : slice_get (old.lines.items ++ line.Flawed flaw ∷ []) i ≡ Some (line.Told other) =
+        subst (λ l. slice_get l i ≡ Some (line.Told other)) lines at in
+        subst (λ (f : Fates). IsSome (fate_in f other.key)) (sym fates)
+        (elim (get-append_cases old.lines.items (line.Flawed flaw) (line.Told other) i there) [
+          | inl inside ↦ stands.known i other inside.1
+          | inr last ↦ absurd (no_told flaw other last.1)
+        ]);
+  }

@@ -1,0 +1,55 @@
+-- Which keys are known, and when what is known of each is what an account tells.
+use Rattle.std.specs.Prelude.{◌≡◌, ◌&&◌, Bool, Option, Some, is_some, nat_eq, unwrap_or}
+use Rattle.std.specs.Map.{lookup}
+use Rattle.rv_text.specs.declared.message.Key.{Key}
+use Rattle.rv_account.specs.Account.{Account, with_entry}
+use Rattle.rv_account.specs.declared.entry.Entry.{Entry}
+use Rattle.rv_rules.specs.Legal.{Legal}
+use Rattle.rv_state.specs.After.{following, state_of}
+use Rattle.rv_machine.specs.Machines.{keys_settled, state_in}
+use Rattle.rv_machine.specs.declared.machine.Machine.{Machine}
+use Rattle.rv_replies.specs.declared.fate.Fate.{Fate}
+use Rattle.rv_replies.specs.declared.fate.Fate.TheVariants.{Unnamed}
+use Rattle.rv_replies.specs.declared.fates.Fates.{Fates}
+use Rattle.rv_replies.specs.declared.fates.Name.{Name}
+use Rattle.rv_replies.specs.Fates.{IsFateOf}
+
+abbrev pub key_name : Key → Name
+key_name key =
+    record {
+      epoch = key.epoch;
+      client = key.client;
+      incarnation = key.incarnation;
+      number = key.number;
+    }
+
+abbrev pub is_named : Key → Name → Bool
+is_named key name =
+    nat_eq key.epoch name.epoch
+    && (nat_eq key.client name.client
+    && (nat_eq key.incarnation name.incarnation && nat_eq key.number name.number))
+
+-- what is known of the key's request
+abbrev pub fate_in : Fates → Key → Option Fate
+fate_in f key = lookup (is_named key) f.fates.entries
+
+-- of each key that is known, this became of its request in the account
+abbrev pub IsAbout : Fates → Account → Type 0
+IsAbout f a = (key : Key) (fate : Fate) → fate_in f key ≡ Some fate → IsFateOf a.entries key fate
+
+-- the same keys are known
+abbrev pub KnowsSame : Fates → Fates → Type 0
+KnowsSame old new = (key : Key) → is_some (fate_in new key) ≡ is_some (fate_in old key)
+
+-- of the key nothing is known but that it is asked about, if it wasn't known; of others the same as before
+pub record AsksAbout (old new : Fates) (key : Key) : Type 0 where
+  pub own : fate_in new key ≡ Some (unwrap_or (fate_in old key) Unnamed)
+  pub others : (other : Key) → (other ≡ key → ⊥) → fate_in new other ≡ fate_in old other
+
+-- the entry stands behind a legal account, which is legal with it; the machine holds the state of that, and
+-- lists whom the entry settled
+pub record HasPassedBy (machine : Machine) (a : Account) (e : Entry) : Type 0 where
+  pub before : Legal a
+  pub legal : Legal (with_entry a e)
+  pub state : state_in machine ≡ state_of (with_entry a e)
+  pub settles : machine.settled.items ≡ keys_settled (following (state_of a) e.moment e.act).settles

@@ -1,0 +1,158 @@
+//! Reads the line of a record.
+ghost use Rattle.std.specs.Prelude.{◌≡◌, ◌≤◌, ℕ, Err, IfOk, IfSome, None, codes, option_and_then, option_map};
+ghost use Rattle.serde_json.specs.Data.{depth};
+ghost use Rattle.serde_json.specs.Data as json;
+ghost use Rattle.serde_json.specs.Find.{as_object, get_member};
+ghost use Rattle.serde_json.specs.Read.{max_depth};
+ghost use Rattle.serde_json.specs.View.{members_view, view};
+ghost use Rattle.rv_json.specs.Bodies.{IsNotJson, Reads};
+ghost use Rattle.rv_replies.specs.Lines.{AsksMember, HasTwo, ReadsTold, TellsMember};
+ghost use Rattle.rv_replies.specs.Reading.{HasMemberText, IsShallow};
+ghost use Rattle.rv_replies.specs.declared.findings.Told as told;
+ghost use Rattle.rv_text.specs.declared.call.Call as calls;
+ghost use Rattle.rv_text.specs.declared.message.Key as keys;
+ghost use Rattle.rv_text.specs.declared.answer.Reply as replies;
+
+use crate::findings::Told;
+use rv_json::Members;
+use rv_text::{
+    Answer, Call, Key, Message, NoMemory, Reply, TextFault, decode_answer, decode_message,
+};
+use serde_json::Value;
+use std::alloc::{AllocError, Global};
+
+/// Why a line is no record of a reply.
+#[derive(Clone, Copy, Debug, PartialEq, Eq)]
+pub enum Flaw {
+    /// It is no JSON.
+    NotJson,
+    /// It is no object of two members.
+    NotTwo,
+    /// Its member `asked` is no request.
+    NotAsked,
+    /// Its member `told` is no reply to that request.
+    NotTold,
+}
+
+/// Why a line wasn't read.
+#[derive(Clone, Copy, Debug, PartialEq, Eq)]
+pub(crate) enum NotRead {
+    /// It is no record.
+    Flawed(Flaw),
+    /// Memory was refused, for a line that may be one.
+    NoMemory,
+}
+
+impl From<AllocError> for NotRead {
+    ghost use Rattle.rv_replies.specs.declared.reading.NotRead.TheVariants as unread;
+
+    ghost from_gives = { λ _ why. why ≡ unread.NoMemory };
+
+    fn from(_refused: AllocError) -> NotRead {
+        NotRead::NoMemory
+    }
+}
+
+// The JSON value of a line.
+fn value_of(alloc: Global, line: &[u8]) -> Result<Value, NotRead>
+    ensures value { IfOk result (λ value. Reads line.now (view value)) }
+    ensures shallow { IfOk result (λ value. IsShallow (view value)) }
+    ensures flaw { (flaw : Flaw) → result ≡ Err (NotRead.Flawed flaw) → IsNotJson line.now }
+{
+    match Value::from_slice(alloc, line) {
+        Ok(value) => Ok(value),
+        Err(error) if error.is_memory() => Err(NotRead::NoMemory),
+        Err(_) => Err(NotRead::Flawed(Flaw::NotJson)),
+    }
+}
+
+// The members of an object that has two.
+#[tactic(auto, using(crate::proofs::Counts::members_counted))]
+fn two_members(value: &Value) -> Option<&Members>
+    ensures some { IfSome result (λ members. HasTwo (view value.now) (members_view members.now.entries)) }
+    ensures none { result ≡ None → (members : json.Members) → ¬ HasTwo (view value.now) members }
+{
+    let members = value.as_object()?;
+    if members.len() == 2 {
+        Some(members)
+    } else {
+        None
+    }
+}
+
+fn member<'v>(members: &'v Members, name: &str) -> Option<&'v Value>
+    ensures { option_map (λ v. view v.now) result
+        ≡ get_member name.now (members_view members.now.entries) }
+{
+    members.get(name)
+}
+
+// The text that is written of the member with a name.
+fn text_at(alloc: Global, members: &Members, name: &str) -> Result<Option<String>, NoMemory>
+    ensures { IfOk result (HasMemberText (get_member name.now (members_view members.now.entries))) }
+{
+    match member(members, name) {
+        Some(value) => Ok(Some(value.to_string(alloc)?)),
+        None => Ok(None),
+    }
+}
+
+// The request that is the member `asked`.
+fn read_asked(alloc: Global, members: &Members) -> Result<(Key, Call), NotRead>
+    requires { IsShallow (json.object (members_view members.now.entries)) }
+    ensures asks { IfOk result (λ p. AsksMember (members_view members.now.entries) p.0 p.1) }
+    ensures flaw { (flaw : Flaw) → result ≡ Err (NotRead.Flawed flaw) → (key : keys.Key) (call : calls.Call)
+        → ¬ AsksMember (members_view members.now.entries) key call }
+{
+    let Some(text) = text_at(alloc, members, "asked")? else {
+        return Err(NotRead::Flawed(Flaw::NotAsked));
+    };
+    match decode_message(alloc, text.as_bytes()) {
+        Ok(Message::Request { key, call }) => Ok((key, call)),
+        Ok(Message::Hello { .. }) => Err(NotRead::Flawed(Flaw::NotAsked)),
+        Ok(Message::Cancel { .. }) => Err(NotRead::Flawed(Flaw::NotAsked)),
+        Err(TextFault::NotJson) => Err(NotRead::Flawed(Flaw::NotAsked)),
+        Err(TextFault::NotMessage) => Err(NotRead::Flawed(Flaw::NotAsked)),
+        Err(TextFault::NoMemory) => Err(NotRead::NoMemory),
+    }
+}
+
+// The reply and its key that are the member `told`.
+fn read_reply(alloc: Global, members: &Members) -> Result<(Key, Reply), NotRead>
+    requires { IsShallow (json.object (members_view members.now.entries)) }
+    ensures tells { IfOk result (λ p. TellsMember (members_view members.now.entries) p.0 p.1) }
+    ensures flaw { (flaw : Flaw) → result ≡ Err (NotRead.Flawed flaw) → (key : keys.Key)
+        (reply : replies.Reply) → ¬ TellsMember (members_view members.now.entries) key reply }
+{
+    let Some(text) = text_at(alloc, members, "told")? else {
+        return Err(NotRead::Flawed(Flaw::NotTold));
+    };
+    match decode_answer(alloc, text.as_bytes()) {
+        Ok(Answer::Replied { key, reply }) => Ok((key, reply)),
+        Ok(Answer::Welcome { .. }) => Err(NotRead::Flawed(Flaw::NotTold)),
+        Ok(Answer::Waiting { .. }) => Err(NotRead::Flawed(Flaw::NotTold)),
+        Ok(Answer::Refused(_)) => Err(NotRead::Flawed(Flaw::NotTold)),
+        Err(TextFault::NotJson) => Err(NotRead::Flawed(Flaw::NotTold)),
+        Err(TextFault::NotMessage) => Err(NotRead::Flawed(Flaw::NotTold)),
+        Err(TextFault::NoMemory) => Err(NotRead::NoMemory),
+    }
+}
+
+/// The reply of which a line is the record.
+pub(crate) fn read_told(alloc: Global, line: &[u8]) -> Result<Told, NotRead>
+    ensures told { IfOk result (ReadsTold line.now) }
+    ensures flaw { (flaw : Flaw) → result ≡ Err (NotRead.Flawed flaw) → (told : told.Told)
+        → ¬ ReadsTold line.now told }
+{
+    let value = value_of(alloc, line)?;
+    let Some(members) = two_members(&value) else {
+        return Err(NotRead::Flawed(Flaw::NotTwo));
+    };
+    let (key, call) = read_asked(alloc, members)?;
+    let (own, reply) = read_reply(alloc, members)?;
+    if own == key {
+        Ok(Told { key, call, reply })
+    } else {
+        Err(NotRead::Flawed(Flaw::NotTold))
+    }
+}

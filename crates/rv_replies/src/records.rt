@@ -1,0 +1,141 @@
+//! A record of replies, line by line, beside what became of their requests.
+ghost use Rattle.std.specs.Prelude.{◌≡◌, ◌<◌, ◌++◌, ◌==◌, ◌∷◌, [], IsSome, OnOk, length};
+ghost use Rattle.std.specs.Prelude.{slice_get};
+ghost use Rattle.rv_account.specs.Account.{Account, with_entry};
+ghost use Rattle.rv_rules.specs.Legal.{Legal};
+ghost use Rattle.rv_replies.specs.declared.findings.Told as told;
+
+use crate::fates::Fates;
+use crate::findings::{Finding, Told, judge};
+use crate::reading::{Flaw, NotRead, read_told};
+use rv_account::Entry;
+use rv_machine::Machine;
+use rv_text::NoMemory;
+use std::alloc::{AllocError, Global};
+
+/// A growth of memory was refused.
+#[derive(Clone, Copy, Debug, PartialEq, Eq)]
+pub struct OutOfMemory;
+
+impl From<AllocError> for OutOfMemory {
+    fn from(_refused: AllocError) -> OutOfMemory {
+        OutOfMemory
+    }
+}
+
+/// A line of a record.
+#[derive(Debug, Drop)]
+pub enum Line {
+    /// A reply that a client was told.
+    Told(Told),
+    /// It is no record of a reply.
+    Flawed(Flaw),
+}
+
+/// A record of replies, and what became of their requests in an account that passes by. First it takes its
+/// lines, and then each entry. Memory grows with the record alone.
+#[derive(Drop)]
+pub struct Records {
+    lines: Vec<Line>,
+    fates: Fates,
+}
+
+impl Records {
+    ghost use Rattle.rv_replies.specs.Known.{AsksAbout, HasPassedBy, IsAbout, fate_in};
+    ghost use Rattle.rv_replies.specs.Standing.{AddsLine, IsLineFinding, HasNoted};
+    ghost use Rattle.rv_replies.specs.declared.records.Line.TheVariants as kinds;
+
+    /// The record of no line. It takes no memory yet.
+    pub fn new(alloc: Global) -> Records
+        ensures lines { result.lines.items ≡ [] }
+        ensures stands { (a : Account) → HasNoted result a }
+    {
+        Records {
+            lines: Vec::new(alloc),
+            fates: Fates::new(alloc),
+        }
+    }
+
+    /// How many lines it has.
+    pub fn len(&self) -> usize
+        ensures { result ≡ length self.now.lines.items }
+    {
+        self.lines.len()
+    }
+
+    /// Whether it has no line.
+    pub fn is_empty(&self) -> bool
+        ensures { result ≡ (length self.now.lines.items == 0) }
+    {
+        self.lines.is_empty()
+    }
+
+    // Adds a line.
+    fn push(&mut self, line: Line) -> Result<(), OutOfMemory>
+        ensures lines { OnOk result (self.new.lines.items ≡ self.old.lines.items ++ line ∷ []) }
+        ensures fates { self.new.fates ≡ self.old.fates }
+    {
+        match self.lines.push(line) {
+            Ok(()) => Ok(()),
+            Err(refused) => Err(AllocError::from(refused).into()),
+        }
+    }
+
+    // Adds a reply.
+    fn add(&mut self, told: Told) -> Result<(), OutOfMemory>
+        ensures lines { OnOk result
+            (self.new.lines.items ≡ self.old.lines.items ++ kinds.Told told ∷ []) }
+        ensures asks { OnOk result (AsksAbout self.old.fates self.new.fates told.key) }
+    {
+        self.fates.ask(&told.key)?;
+        self.push(Line::Told(told))
+    }
+
+    /// Takes one line more. All must be taken before the first entry passes. Fails only if memory was
+    /// refused; then it is of no further use.
+    pub fn take(&mut self, alloc: Global, line: &[u8]) -> Result<(), OutOfMemory>
+        ensures adds { OnOk result (AddsLine self.old self.new line.now) }
+        ensures stands { OnOk result ((a : Account) → a.entries ≡ [] → HasNoted self.old a
+            → HasNoted self.new a) }
+    {
+        match read_told(alloc, line) {
+            Ok(told) => self.add(told),
+            Err(NotRead::Flawed(flaw)) => self.push(Line::Flawed(flaw)),
+            Err(NotRead::NoMemory) => Err(OutOfMemory),
+        }
+    }
+
+    /// Notes what an entry tells of its replies, by the machine that has followed it. Fails only if memory
+    /// was refused; then it is of no further use.
+    pub fn pass(&mut self, alloc: Global, machine: &Machine, entry: &Entry) -> Result<(), NoMemory>
+        ensures lines { self.new.lines ≡ self.old.lines }
+        ensures stands { OnOk result ((a : Account) → HasPassedBy machine.now a entry.now
+            → HasNoted self.old a → HasNoted self.new (with_entry a entry.now)) }
+    {
+        self.fates.pass(alloc, machine, entry)
+    }
+
+    // The finding on a line.
+    fn on_line(&self, line: &Line, epoch: u64) -> Finding
+        ensures { (a : Account) → Legal a → a.epoch ≡ epoch → IsAbout self.now.fates a
+            → ((told : told.Told) → line.now ≡ kinds.Told told → IsSome (fate_in self.now.fates told.key))
+            → IsLineFinding a line.now result }
+    {
+        match line {
+            Line::Told(told) => match self.fates.get(&told.key) {
+                Some(fate) => judge(told, epoch, fate),
+                None => Finding::NoRequest,
+            },
+            Line::Flawed(_) => Finding::NoRecord,
+        }
+    }
+
+    /// The finding on the line with an index, of the account that has passed, which must be of this epoch.
+    pub fn finding(&self, index: usize, epoch: u64) -> Finding
+        requires inside { index < length self.now.lines.items }
+        ensures { (a : Account) (line : kinds.the_data) → slice_get self.now.lines.items index ≡ Some line
+            → Legal a → a.epoch ≡ epoch → HasNoted self.now a → IsLineFinding a line result }
+    {
+        self.on_line(&self.lines[index], epoch)
+    }
+}

@@ -1,0 +1,55 @@
+//! What a request was told, by the machine that passed its entry.
+ghost use Rattle.std.specs.Prelude.{◌≡◌, IfOk};
+ghost use Rattle.rv_machine.specs.Machines.{state_in};
+ghost use Rattle.rv_state.specs.Moves.{told_again};
+ghost use Rattle.rv_replies.specs.Ending.{told_last_by, told_now};
+
+use rv_account::Act;
+use rv_machine::Machine;
+use rv_session::LastRequest;
+use rv_text::{Key, NoMemory, Reply};
+use std::alloc::Global;
+
+// What a last request is told again.
+fn told_again(alloc: Global, request: &LastRequest) -> Result<Option<Reply>, NoMemory>
+    ensures { IfOk result (λ told. told ≡ told_again request.now) }
+{
+    match request {
+        LastRequest::Fresh => Ok(None),
+        LastRequest::Waits { .. } => Ok(None),
+        LastRequest::RepliedTo { reply, .. } => Ok(Some(reply.copy(alloc)?)),
+        LastRequest::CancelledUnseen => Ok(Some(Reply::Cancelled)),
+    }
+}
+
+/// What the last request of a key's client is told again. Fails only if memory for a text was refused.
+pub(crate) fn told_last_by(
+    alloc: Global,
+    machine: &Machine,
+    key: &Key,
+) -> Result<Option<Reply>, NoMemory>
+    ensures { IfOk result (λ told. told ≡ told_last_by (state_in machine.now) key.now) }
+{
+    match machine.client(key.client) {
+        Some(session) => told_again(alloc, &session.request),
+        None => Ok(None),
+    }
+}
+
+/// What is told who waited until an act, by the machine behind it. A hello may have taken the session of the
+/// one that waited.
+pub(crate) fn told_now(
+    alloc: Global,
+    machine: &Machine,
+    act: &Act,
+    key: &Key,
+) -> Result<Option<Reply>, NoMemory>
+    ensures { IfOk result (λ told. told ≡ told_now (state_in machine.now) act.now key.now) }
+{
+    match act {
+        Act::Hello { .. } => Ok(Some(Reply::Cancelled)),
+        Act::Arrive { .. } => told_last_by(alloc, machine, key),
+        Act::Cancel { .. } => Ok(Some(Reply::Cancelled)),
+        Act::Tick => Ok(Some(Reply::TimedOut)),
+    }
+}
