@@ -318,8 +318,8 @@ def limits():
 def standing():
     """No page says what is to come, and each command that a page names is there."""
     targets = set(re.findall(r"^(\w+):", (ROOT / "Makefile").read_text(), re.M))
-    source = (ROOT / "crates/rv_command/src/command.rt").read_text()
-    runs = set(re.findall(r"^ +/// `rv (\w+)", source, re.M))
+    sources = [path.read_text() for path in ROOT.glob("crates/*/src/*.rt")]
+    runs = {word for source in sources for word in re.findall(r"^ */// `rv (\w+)", source, re.M)}
     for path in documents():
         text = path.read_text()
         check("to come" not in text.lower(), f"{path.name} says what is to come")

@@ -25,7 +25,7 @@ use Rattle.rv_calls.specs.Calling.{HaltsAt, HasNumbers, IsTurnedAway, IsWelcomed
 use Rattle.rv_calls.specs.Calling.{StopsWithWord, key_behind}
 use Rattle.rv_calls.specs.CallRuns.{CutsLine, CutsText, Stops, TakesLines, TakesText}
 use Rattle.rv_calls.specs.EndWord.{word_text}
-use Rattle.rv_calls.specs.Records.{AreRecorded, IsAskedFor, IsRecorded, LacksEntry, Outlets, RanRecording}
+use Rattle.rv_calls.specs.Records.{AreRecorded, IsRequestBody, IsRecorded, LacksEntry, Outlets, RanRecording}
 use Rattle.rv_calls.specs.Records.{Records, RecordsCalls, RecordsRun, SaysWord, StopsEntry}
 use Rattle.rv_calls.specs.Records.{TellsCall, outlets, record_text}
 use Rattle.rv_calls.proofs.CallsSoFar.{SoFar, cuts_more, leaves_short, none_so_far, one_more, settles_all}
@@ -148,7 +148,7 @@ module _ {O R W F : Type 0} (taken : O → Option (List ℕ)) (remaining : R →
   -- the next line is settled: the entry of its request and its text
   next_recorded : (key : Key) (texts : List (List ℕ)) (at at' : Link R W) (idle : Option Key) (line body text
       : List ℕ) → idle ≡ Some (key_behind key (length texts))
-      → IfSome idle (λ k. IsAskedFor k line body)
+      → IfSome idle (λ k. IsRequestBody k line body)
       → IfSome idle (λ k. SettlesLine remaining contents tries k line text at at')
       → IsRecorded line text (record_text body text)
   next_recorded key texts at at' idle line body text next asks one =
@@ -160,7 +160,7 @@ module _ {O R W F : Type 0} (taken : O → Option (List ℕ)) (remaining : R →
         reply = here.reply;
         told = here.text_is;
         body = body;
-        asked = subst (λ (i : Option Key). IfSome i (λ k. IsAskedFor k line body)) next asks;
+        asked = subst (λ (i : Option Key). IfSome i (λ k. IsRequestBody k line body)) next asks;
         entry_is = refl;
       }
 
@@ -168,7 +168,7 @@ module _ {O R W F : Type 0} (taken : O → Option (List ℕ)) (remaining : R →
       (f g h : Sink F) (idle next : Option Key) (rest line after body text : List ℕ) (count count' : ℕ)
       → RecordedSoFar all key greeted at a b f g idle rest count → HasNumbers idle (length rest)
       → length after < length rest → lines rest ≡ line ∷ lines after
-      → IfSome idle (λ k. next ≡ key_after k) → IfSome idle (λ k. IsAskedFor k line body)
+      → IfSome idle (λ k. next ≡ key_after k) → IfSome idle (λ k. IsRequestBody k line body)
       → IfSome idle (λ k. SettlesLine remaining contents tries k line text at at')
       → TellsCall taken kept (record_text body text) text count (outlets b g) (outlets c h) (Ok count')
       → RecordedSoFar all key greeted at' a c f h next after count'
@@ -285,7 +285,7 @@ module _ {O R W F : Type 0} (taken : O → Option (List ℕ)) (remaining : R →
       }
 
       -- the next line is settled, and lacks its entry or its text
-      module _ (body text : List ℕ) (asks : IfSome idle (λ k. IsAskedFor k line body))
+      module _ (body text : List ℕ) (asks : IfSome idle (λ k. IsRequestBody k line body))
           (one : IfSome idle (λ k. SettlesLine remaining contents tries k line text at after)) where
         whole : all ≡ (now.so_far.first ++ line ∷ []) ++ lines later
         whole = now.so_far.cut ∙ ap (λ l. now.so_far.first ++ l) cut

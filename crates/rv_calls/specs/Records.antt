@@ -33,7 +33,7 @@ abbrev pub record_text : List ℕ → List ℕ → List ℕ
 record_text asked told = codes "{\"asked\":" ++ (asked ++ (codes ",\"told\":" ++ (told ++ codes "}")))
 
 -- the body is that of the request of this key with the call that the line says
-pub record IsAskedFor (key : Key) (line body : List ℕ) : Type 0 where
+pub record IsRequestBody (key : Key) (line body : List ℕ) : Type 0 where
   pub call : Call
   pub said : IsCallBody line call
   pub body_is : body ≡ message_text (messages.Request key call)
@@ -44,7 +44,7 @@ pub record IsRecorded (line text entry : List ℕ) : Type 0 where
   pub reply : Reply
   pub told : text ≡ answer_text (answers.Replied key reply)
   pub body : List ℕ
-  pub asked : IsAskedFor key line body
+  pub asked : IsRequestBody key line body
   pub entry_is : entry ≡ record_text body text
 
 -- the entries are those of the first lines, which have these texts, in order

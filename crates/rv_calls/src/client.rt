@@ -6,7 +6,7 @@ ghost use Rattle.rv_client.specs.Link.{link};
 ghost use Rattle.rv_client.specs.Process.{key_after};
 ghost use Rattle.rv_calls.specs.Calling.{HaltsAt, HaltsReading, HelloEnds, IsHelloInVain, SettlesLine};
 ghost use Rattle.rv_calls.specs.Calling.{WelcomesOrNot};
-ghost use Rattle.rv_calls.specs.Records.{IsAskedFor};
+ghost use Rattle.rv_calls.specs.Records.{IsRequestBody};
 
 use crate::end_word::EndWord;
 use rv_client::{CallOutcome, Idle, New, WelcomeOutcome, ask, call};
@@ -113,7 +113,8 @@ impl Caller {
         requires next { IsSome idle }
         requires key { IfSome idle FitsKey }
         ensures next { IfOk result (λ p. IfSome idle (λ key. p.0 ≡ key_after key)) }
-        ensures asked { IfOk result (λ p. IfSome idle (λ key. IsAskedFor key line.now (string_bytes p.1))) }
+        ensures asked { IfOk result (λ p.
+            IfSome idle (λ key. IsRequestBody key line.now (string_bytes p.1))) }
         ensures settled { IfOk result (λ p. IfSome idle (λ key. SettlesLine R.remaining W.contents self.tries
             key line.now (string_bytes p.2) (link from.old to.old) (link from.new to.new))) }
         ensures short { IfOk result (λ p. HasBodyLength (string_bytes p.2)) }
@@ -153,7 +154,7 @@ fn try_hello<R: Read, W: Write>(
 
 // The body of the request of this key with the call that a line says.
 fn request_text(alloc: Global, key: Key, line: &[u8]) -> Result<String, Halt>
-    ensures asked { IfOk result (λ body. IsAskedFor key line.now (string_bytes body)) }
+    ensures asked { IfOk result (λ body. IsRequestBody key line.now (string_bytes body)) }
     ensures halted { IfErr result (HaltsReading line.now) }
 {
     let call = read_call(alloc, line)?;

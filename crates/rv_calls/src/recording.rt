@@ -30,10 +30,10 @@ use thiserror::Error;
 #[derive(Clone, Copy, Debug, PartialEq, Eq, Error)]
 pub enum RecordFault {
     /// A write of the entry failed, after so many of its bytes.
-    #[error("a write failed after {0} bytes of an entry")]
+    #[error("a write failed after {0} bytes of a line")]
     WriteFault(usize),
     /// Memory for the entry was refused.
-    #[error("no memory for an entry")]
+    #[error("no memory for a line")]
     NoMemory,
 }
 

@@ -1,3 +1,4 @@
 -- The definitions that the contracts and the laws cite.
 pub mod Command
 pub mod Laws
+pub mod Recorded

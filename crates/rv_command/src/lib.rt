@@ -3,5 +3,7 @@
 
 mod command;
 pub mod laws;
+mod recorded;
 
 pub use command::{Command, CommandFault, read_command};
+pub use recorded::read_record;
