@@ -6,3 +6,4 @@ pub mod Telling
 pub mod Turning
 pub mod Through
 pub mod Going
+pub mod Agreeing

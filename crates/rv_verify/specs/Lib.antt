@@ -2,5 +2,6 @@
 pub mod Verdicts
 pub mod Ends
 pub mod Standing
+pub mod Laws
 -- What only private clauses and proofs cite.
 pub mod Reading

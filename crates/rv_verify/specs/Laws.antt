@@ -1,0 +1,33 @@
+-- What is told of lines that an audit reads too.
+use Rattle.std.specs.Prelude.{◌≡◌, ℕ, List}
+use Rattle.rv_account.specs.Account.{Account}
+use Rattle.rv_audit.specs.Breaking.{IsToldOf}
+use Rattle.rv_audit.specs.declared.rule.Audit.{Audit}
+use Rattle.rv_audit.specs.declared.rule.Audit.TheVariants as tells
+use Rattle.rv_follow.specs.Ruling.{IsOnNamed}
+use Rattle.rv_lines.specs.Reading.{ReadsAccount}
+use Rattle.rv_resume.specs.Laws.{HadRoom}
+use Rattle.rv_verify.specs.Verdicts.{IsVerdictOn}
+use Rattle.rv_verify.specs.declared.verdict.AccountVerdict.{AccountVerdict}
+use Rattle.rv_verify.specs.declared.verdict.AccountVerdict.TheVariants as verdict
+
+-- both say that the account is legal, or tell the same fault; of an entry that names a closed place the rule
+-- is
+-- P1, P2 or S1
+abbrev pub SayTheSame : Audit → AccountVerdict → Type 0
+SayTheSame tells.Legal verdict.Legal = Unit {0}
+SayTheSame tells.Legal (verdict.Fault place rule) = ⊥
+SayTheSame tells.Legal (verdict.NotOpen place e) = ⊥
+SayTheSame tells.Legal (verdict.BadLine n) = ⊥
+SayTheSame tells.Legal (verdict.BeyondLimits place) = ⊥
+SayTheSame (tells.Fault place rule) verdict.Legal = ⊥
+SayTheSame (tells.Fault place rule) (verdict.Fault other broken) = (place ≡ other) × (rule ≡ broken)
+SayTheSame (tells.Fault place rule) (verdict.NotOpen other e) = (place ≡ other) × IsOnNamed rule
+SayTheSame (tells.Fault place rule) (verdict.BadLine n) = ⊥
+SayTheSame (tells.Fault place rule) (verdict.BeyondLimits other) = ⊥
+
+-- of lines that an audit reads as an account, whose state has had room after each of its entries, the verdict
+-- says what the audit tells
+abbrev pub VerdictsAgree : Type 0
+VerdictsAgree = (lines : List (List ℕ)) (a : Account) (told : Audit) (said : AccountVerdict)
+    → ReadsAccount lines a → HadRoom a → IsToldOf a told → IsVerdictOn lines said → SayTheSame told said

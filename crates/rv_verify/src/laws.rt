@@ -1,0 +1,8 @@
+//! Laws of what is told of an account: each function is its contract, over the definitions alone.
+ghost use Rattle.rv_verify.specs.Laws.{VerdictsAgree};
+
+/// Of lines that an audit reads as an account, whose state has had room after each of its entries, the
+/// verdict says what the audit tells.
+pub fn verdicts_agree()
+    ensures { VerdictsAgree }
+{}
