@@ -10,6 +10,9 @@ use Rattle.rv_replies.specs.Known.{AsksAbout}
 use Rattle.rv_replies.specs.Standing.{HasNoted}
 use Rattle.rv_replies.specs.declared.fate.Fate.TheVariants.{Unnamed}
 use Rattle.rv_replies.specs.declared.reading.Flaw.{Flaw}
+use Rattle.std.proofs.lemmas.Bool.{false≢true}
+use Rattle.rv_replies.proofs.Words.{ℕ}
+use Rattle.rv_replies.specs.declared.records.Line.{Line}
 use Rattle.rv_replies.specs.declared.records.Line.TheVariants as line
 use Rattle.rv_replies.specs.declared.records.Records.{Records}
 use Rattle.rv_replies.specs.declared.findings.Told.{Told}
@@ -86,3 +89,25 @@ module _ (a : Account) (empty : a.entries ≡ []) where
           | inr last ↦ absurd (no_told flaw other last.1)
         ]);
   }
+
+-- ---- what is known of a line
+
+noted_fate : (r : Records) (a : Account) (i : ℕ) (told : Told) → HasNoted r a
+    → slice_get r.lines.items i ≡ Some (line.Told told) → (o : Option Fate) → o ≡ fate_in r.fates told.key
+    → (fate : Fate) × (o ≡ Some fate) × IsFateOf a.entries told.key fate
+noted_fate r a i told noted at None is = absurd (false≢true (ap is_some is ∙ noted.known i told at))
+noted_fate r a i told noted at (Some fate) is = (fate, refl, noted.about told.key fate (sym is))
+
+one_line : (it : Line) (own told : Told) → it ≡ line.Told own → it ≡ line.Told told → own ≡ told
+one_line it own told first second = same_lines own told (sym first ∙ second)
+  where
+    same_lines : (x y : Told) → line.Told x ≡ line.Told y → x ≡ y
+    same_lines x y is = cc
+
+pub noted_line : (r : Records) (a : Account) (i : ℕ) (it : Line) (own told : Told)
+    → slice_get r.lines.items i ≡ Some it → it ≡ line.Told own
+    → slice_get r.lines.items i ≡ Some (line.Told told) → HasNoted r a → (o : Option Fate)
+    → o ≡ fate_in r.fates own.key → (fate : Fate) × (o ≡ Some fate) × IsFateOf a.entries told.key fate
+noted_line r a i it own told there is at noted o found =
+    let same : own ≡ told = one_line it own told is (same_Some _ _ (sym there ∙ at)) in
+    noted_fate r a i told noted at o (found ∙ ap (λ (t : Told). fate_in r.fates t.key) same)

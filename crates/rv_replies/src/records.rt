@@ -1,10 +1,11 @@
 //! A record of replies, line by line, beside what became of their requests.
 ghost use Rattle.std.specs.Prelude.{◌≡◌, ◌<◌, ◌++◌, ◌==◌, ◌∷◌, [], IsSome, OnOk, length};
-ghost use Rattle.std.specs.Prelude.{slice_get};
+ghost use Rattle.std.specs.Prelude.{Some, option_map, slice_get};
 ghost use Rattle.rv_account.specs.Account.{Account, with_entry};
 ghost use Rattle.rv_rules.specs.Legal.{Legal};
 ghost use Rattle.rv_replies.specs.declared.findings.Told as told;
 
+use crate::fate::Fate;
 use crate::fates::Fates;
 use crate::findings::{Finding, Told, judge};
 use crate::reading::{Flaw, NotRead, read_told};
@@ -43,7 +44,9 @@ pub struct Records {
 impl Records {
     ghost use Rattle.rv_replies.specs.Known.{AsksAbout, HasPassedBy, IsAbout, fate_in};
     ghost use Rattle.rv_replies.specs.Standing.{AddsLine, IsLineFinding, HasNoted};
+    ghost use Rattle.rv_replies.specs.declared.fate.Fate as fates;
     ghost use Rattle.rv_replies.specs.declared.records.Line.TheVariants as kinds;
+    ghost use Rattle.rv_replies.specs.Fates.{IsFateOf};
 
     /// The record of no line. It takes no memory yet.
     pub fn new(alloc: Global) -> Records
@@ -115,6 +118,28 @@ impl Records {
         self.fates.pass(alloc, machine, entry)
     }
 
+    /// The line with an index.
+    pub fn line(&self, index: usize) -> &Line
+        requires { index < length self.now.lines.items }
+        ensures { slice_get self.now.lines.items index ≡ Some result.now }
+    {
+        &self.lines[index]
+    }
+
+    /// What became of the request that the line with an index tells of, if it tells of one.
+    pub fn fate(&self, index: usize) -> Option<&Fate>
+        requires { index < length self.now.lines.items }
+        ensures { (a : Account) (told : told.Told)
+            → slice_get self.now.lines.items index ≡ Some (kinds.Told told) → HasNoted self.now a
+            → (fate : fates.Fate) × (option_map (λ f. f.now) result ≡ Some fate)
+            × IsFateOf a.entries told.key fate }
+    {
+        match self.line(index) {
+            Line::Told(told) => self.fates.get(&told.key),
+            Line::Flawed(_) => None,
+        }
+    }
+
     // The finding on a line.
     fn on_line(&self, line: &Line, epoch: u64) -> Finding
         ensures { (a : Account) → Legal a → a.epoch ≡ epoch → IsAbout self.now.fates a
@@ -136,6 +161,6 @@ impl Records {
         ensures { (a : Account) (line : kinds.the_data) → slice_get self.now.lines.items index ≡ Some line
             → Legal a → a.epoch ≡ epoch → HasNoted self.now a → IsLineFinding a line result }
     {
-        self.on_line(&self.lines[index], epoch)
+        self.on_line(self.line(index), epoch)
     }
 }
