@@ -1,6 +1,6 @@
 #!/usr/bin/env python3
-"""Runs the built program's `serve` and `call` from outside: their words, and a client against a server that is
-scripted here, on 127.0.0.1.
+"""Runs the built program's `serve`, `call` and `record` from outside: their words, and a client against a server that
+is scripted here, on 127.0.0.1.
 
 Each case has a name; what it expects is set beforehand. No wait lasts longer than `PATIENCE` seconds.
 
@@ -8,9 +8,11 @@ usage: tests/commands/calls.py PROGRAM
 """
 import contextlib
 import os
+import pathlib
 import socket
 import subprocess
 import sys
+import tempfile
 import threading
 
 PROGRAM = os.path.abspath(sys.argv[1])
@@ -293,6 +295,102 @@ def devices():
     judge("an input that fails", (ran, server.ended()), ((b"", b"run fault 1\n", 1), []))
 
 
+def record_words(path, address, **more):
+    """The words of a client that keeps a record."""
+    return ["record", "--to", str(path), *call_words(address, **more)[1:]]
+
+
+def entry(asked, told):
+    """The line of a record."""
+    return b'{"asked":%s,"told":%s}\n' % (asked, told)
+
+
+def recorded(name, path, answers, lines, ended, heard, **streams):
+    """A client that keeps a record here, with these lines, against a server with these answers, must end and say this."""
+    server = Server([frame(WELCOME), *map(frame, answers)])
+    ran = run(record_words(path, server.address), input=b"".join(line + b"\n" for line in lines), **streams)
+    judge(name, (ran, server.ended()), (ended, heard))
+
+
+def shown_lines():
+    """The lines of the hand-over, as the page of the formats shows them."""
+    page = (pathlib.Path(__file__).parents[2] / "docs/FORMATS.md").read_bytes().split(b"\n## 9. ")[1]
+    return page.split(b"\n```\n")[3] + b"\n"
+
+
+def records():
+    """A record has a line for each reply and no other, whoever else appends to it."""
+    with tempfile.TemporaryDirectory() as folder:
+        path = pathlib.Path(folder) / "told"
+        recorded("a take that is recorded", path, [waiting(), item(b"a")], [TAKE_LINE], (item(b"a") + b"\n", b"", 0),
+                 [HELLO, take(), take()])
+        transfer = b'{"call":"transfer","item":"a","queue":3,"wait":"forever"}'
+        received = b'{"client":1,"epoch":1,"incarnation":1,"kind":"reply","number":1,"reply":"received"}'
+        server = Server([frame(WELCOME.replace(b"2", b"1")), frame(received)])
+        ran = run(record_words(path, server.address, client=1), input=transfer)
+        server.ended()
+        judge("a transfer that is recorded", ran, (received + b"\n", b"", 0))
+        judge("the record of a hand-over", path.read_bytes(), shown_lines())
+        path.unlink()
+        recorded("a record that ends with a word", path, [item(b"a"), item(b'\\"\\u0001', 2)], 2 * [TAKE_LINE] + [b"x"],
+                 (item(b"a") + b"\n" + item(b'\\"\\u0001', 2) + b"\nbad line\n", b"", 1), [HELLO, take(), take(2)])
+        judge("its lines", path.read_bytes(), entry(take(), item(b"a")) + entry(take(2), item(b'\\"\\u0001', 2)))
+        path.unlink()
+        recorded("a reply in another form", path, [b" " + item(b"\\u0061")], [TAKE_LINE], (item(b"a") + b"\n", b"", 0),
+                 [HELLO, take()])
+        judge("its line", path.read_bytes(), entry(take(), item(b"a")))
+        path.unlink()
+        recorded("no reply", path, [waiting()] * 3, [TAKE_LINE], (b"unsettled 1\n", b"", 1), [HELLO, take(), take(), take()])
+        judge("its empty record", path.read_bytes(), b"")
+
+
+def records_that_fail():
+    """A record that can't be opened is told before anything is asked; one that can't be written, behind the reply."""
+    with socket.create_server(("127.0.0.1", 0)) as listener:
+        listener.settimeout(0)
+        address = "127.0.0.1:%d" % listener.getsockname()[1]
+        for path, why in [("/dev/null/told", b"Not a directory (os error 20)"), ("/", b"Is a directory (os error 21)"),
+                          ("", b"No such file or directory (os error 2)")]:
+            judge(f"no record at {path!r}", run(record_words(path, address), input=TAKE_LINE),
+                  (b"", b"record %s: %s\n" % (path.encode(), why), 1))
+        try:
+            listener.accept()
+            judge("nobody was asked", "somebody", "nobody")
+        except BlockingIOError:
+            judge("nobody was asked", "nobody", "nobody")
+    recorded("a record that is full", "/dev/full", [item(b"a"), item(b"b", 2)], 2 * [TAKE_LINE],
+             (item(b"a") + b"\n", b"record /dev/full: a write failed after 0 bytes of a line\n", 1), [HELLO, take()])
+    with tempfile.TemporaryDirectory() as folder, open("/dev/full", "wb", buffering=0) as full:
+        path = pathlib.Path(folder) / "told"
+        server = Server([frame(WELCOME), frame(item(b"a"))])
+        ran = subprocess.run([PROGRAM, *record_words(path, server.address)], input=TAKE_LINE, stdout=full,
+                             stderr=subprocess.PIPE, timeout=PATIENCE)
+        judge("an output that is full", (ran.stderr, ran.returncode, server.ended()), (b"run fault 2\n", 1, [HELLO, take()]))
+        judge("and a record that is not", path.read_bytes(), entry(take(), item(b"a")))
+        server = Server([frame(WELCOME), frame(item(b"a"))])
+        ran = subprocess.run([PROGRAM, *record_words("/dev/full", server.address)], input=TAKE_LINE, stdout=full,
+                             stderr=subprocess.PIPE, timeout=PATIENCE)
+        wanted = b"record /dev/full: a write failed after 0 bytes of a line\n", 1, [HELLO, take()]
+        judge("both full", (ran.stderr, ran.returncode, server.ended()), wanted)
+
+
+def words_of_records():
+    """Words that name no record."""
+    options = spelled("call", CALL)[1:]
+    with tempfile.TemporaryDirectory() as folder:
+        path = pathlib.Path(folder) / "told"
+        to = ["--to", str(path)]
+        for given in [["record"], ["record", "--to"], ["record", *to], ["record", *options], ["record", *options, *to],
+                      ["record", f"--to={path}", *options], ["record", *to, *to, *options], ["records", *to, *options],
+                      ["call", *to, *options], ["record", *to, *options[2:]], ["record", *to, "--help"],
+                      ["record", *to, *options, "x"], ["record", *to, "call", *options],
+                      ["record", *to, *spelled("serve", SERVE)[1:]]]:
+            bad(given)
+        judge("no record was made", path.exists(), False)
+        at_no_address("a record", ["record", *to, *options])
+        judge("a record was made", path.read_bytes(), b"")
+
+
 def addresses():
     """Addresses where nobody listens, that are none, or that are taken."""
     with socket.create_server(("127.0.0.1", 0)) as taken:
@@ -369,7 +467,8 @@ def at_no_address(name, given):
     judge(name, run(given, input=b""), (b"", b"address fault\n", 1))
 
 
-for part in [hand_over, hellos, versions, receipts, calls, drains, printed_at_once, devices, addresses, words]:
+for part in [hand_over, hellos, versions, receipts, calls, drains, printed_at_once, devices, records, records_that_fail,
+             words_of_records, addresses, words]:
     part()
 print(f"{counts[True]} passed, {counts[False]} failed")
 sys.exit(counts[False] > 0)

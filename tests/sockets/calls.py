@@ -1,5 +1,7 @@
 """`rv call` at a server, and at a listener that answers by a script."""
+import pathlib
 import socket
+import tempfile
 import threading
 import time
 
@@ -51,6 +53,22 @@ def hand_over(program, gives, takes, receipt):
         asked = {given: gift, got: WISH, after[0]: first, after[1]: second}
         account = server.judged(asked, [(given, receipt), (got, {"reply": "item", "item": "a"})])
         demand(len(account.entries) == 6, "the account has other than six entries")
+
+
+def two_recorders(program):
+    """Two callers hand an item over, and append to one record: it has each one's line, in whichever order."""
+    gift, given, got = give("transfer", "a", "forever"), Key(1, 1, 1, 1), Key(1, 2, 1, 1)
+    received, taken = replied(given, reply="received"), replied(got, reply="item", item="a")
+    with tempfile.TemporaryDirectory() as folder, Server(program, workers=2, connections=2) as server:
+        record = pathlib.Path(folder) / "told"
+        with Caller(program, server.port, 1, lines(gift), record=record) as giver:
+            with Caller(program, server.port, 2, lines(WISH), record=record) as taker:
+                taker.judge(taken + b"\n")
+                giver.judge(received + b"\n")
+        wanted = [b'{"asked":%s,"told":%s}' % pair for pair in [(request(got, WISH), taken), (request(given, gift), received)]]
+        found = record.read_bytes().split(b"\n")
+        demand(sorted(found) == sorted([*wanted, b""]), f"the record has {found}, not {wanted}")
+        server.judged({given: gift, got: WISH}, [(given, {"reply": "received"}), (got, {"reply": "item", "item": "a"})])
 
 
 def swapped(item):
@@ -312,6 +330,6 @@ def no_packet_waits(program):
     none_waits(pairs)
 
 
-CASES = [two_callers, a_line_as_soon_as_it_is_settled, settled_in_turn, started_again, started_in_another_version,
+CASES = [two_callers, two_recorders, a_line_as_soon_as_it_is_settled, settled_in_turn, started_again, started_in_another_version,
          started_while_it_waits,
          strange_servers, lines_of_calls, no_packet_waits]

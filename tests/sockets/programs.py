@@ -220,10 +220,10 @@ class Server(Process):
 
 
 class Caller(Process):
-    """A caller, with these lines for its input."""
+    """A caller, with these lines for its input. It may keep a record."""
 
-    def __init__(self, program, port, client, lines, incarnation=1, tries=2 * PATIENCE, speak=1, **more):
-        super().__init__([program, "call", "--connect", f"127.0.0.1:{port}", "--client", str(client),
+    def __init__(self, program, port, client, lines, incarnation=1, tries=2 * PATIENCE, speak=1, record=None, **more):
+        super().__init__([program, *(["record", "--to", record] if record else ["call"]), "--connect", f"127.0.0.1:{port}", "--client", str(client),
                           "--incarnation", str(incarnation), "--tries", str(tries), "--speak", str(speak)], **more)
         try:
             self.process.stdin.write(lines)

@@ -18,8 +18,8 @@ pub use account::write_account;
 pub use audit::{AuditSaid, audit_run};
 use fault::ProgramFault;
 pub use run::book_run;
-pub use rv_calls::{CallSaid, call_run};
-pub use rv_command::{Command, CommandFault, read_command};
+pub use rv_calls::{CallSaid, RecordFault, RecordingFault, call_run, record_run};
+pub use rv_command::{Command, CommandFault, read_command, read_record};
 use rv_frame::{Sink, Source};
 pub use rv_play::play_run;
 pub use rv_run::{OutputFault, RunFault};
@@ -27,6 +27,8 @@ use rv_server::ServeFault;
 use rv_text::Version;
 use server::{ServerPlan, serve_epoch};
 use std::alloc::Global;
+use std::fmt::Display;
+use std::fs::OpenOptions;
 use std::io::ErrorKind;
 use std::net::{TcpListener, TcpStream};
 use std::process::ExitCode;
@@ -54,6 +56,9 @@ fn run_program<T: Threads + Wait + AllocGlobal + time::Clock + Sync>(
 ) -> Result<ExitCode, ProgramFault> {
     let words = words_of(rt)?;
     let words = borrowed(rt.alloc(), &words)?;
+    if let Some((file, call)) = read_record(rt.alloc(), &words)? {
+        return run_recorded(rt, file, &call);
+    }
     match read_command(rt.alloc(), &words)? {
         Command::Book(epoch) => run_book(rt, epoch)?,
         Command::Play => run_play(rt)?,
@@ -150,8 +155,19 @@ fn limit(stream: &TcpStream) -> io::Result<()> {
     stream.set_write_timeout(Some(Duration::from_secs(LINK_SECONDS)))
 }
 
-// Connects first, and then reads the lines. If the delay of small packets cannot be switched off, the run
-// goes on, slower.
+// A link to a server. If the delay of small packets cannot be switched off, the run goes on, slower.
+fn connected(rt: &HostRuntime, address: &str) -> Result<TcpStream, ProgramFault> {
+    let Ok(stream) = TcpStream::connect(rt, address) else {
+        return Err(ProgramFault::Address);
+    };
+    if limit(&stream).is_err() {
+        return Err(ProgramFault::Address);
+    }
+    let _ = stream.set_nodelay(true);
+    Ok(stream)
+}
+
+// Connects first, and then reads the lines.
 fn run_call(
     rt: &HostRuntime,
     connect: &str,
@@ -163,19 +179,13 @@ fn run_call(
     requires client { FitsIdentifier client }
     requires incarnation { FitsIdentifier incarnation }
 {
-    let Ok(stream) = TcpStream::connect(rt, connect) else {
-        return Err(ProgramFault::Address);
-    };
-    if limit(&stream).is_err() {
-        return Err(ProgramFault::Address);
-    }
-    let _ = stream.set_nodelay(true);
+    let stream = connected(rt, connect)?;
     let mut lines = Source::new(rt.stdin());
     let mut out = Sink::new(rt.stdout());
     let mut from = Source::new(&stream);
     let mut to = Sink::new(&stream);
     let alloc = rt.alloc();
-    match call_run(
+    let said = call_run(
         alloc,
         &mut lines,
         &mut out,
@@ -185,8 +195,76 @@ fn run_call(
         incarnation,
         version,
         tries,
-    )? {
-        CallSaid::Whole => Ok(ExitCode::SUCCESS),
-        CallSaid::Stopped => Ok(ExitCode::from(1)),
+    )?;
+    Ok(status_of(said))
+}
+
+// Runs the call that these words name, and keeps its record in a file.
+fn run_recorded(rt: &HostRuntime, file: &str, call: &[&str]) -> Result<ExitCode, ProgramFault> {
+    match read_command(rt.alloc(), call)? {
+        Command::Call {
+            connect,
+            client,
+            incarnation,
+            tries,
+            speak,
+        } => run_record(rt, file, connect, client, incarnation, speak, tries),
+        _ => Err(ProgramFault::Command(CommandFault::Bad)),
     }
+}
+
+// Opens the record, connects, and then reads the lines.
+fn run_record(
+    rt: &HostRuntime,
+    path: &str,
+    connect: &str,
+    client: u64,
+    incarnation: u64,
+    version: Version,
+    tries: u32,
+) -> Result<ExitCode, ProgramFault>
+    requires client { FitsIdentifier client }
+    requires incarnation { FitsIdentifier incarnation }
+{
+    let file = match OpenOptions::new().append(true).create(true).open(rt, path) {
+        Ok(file) => file,
+        Err(error) => return Ok(unrecorded(rt, path, &error)),
+    };
+    let stream = connected(rt, connect)?;
+    let mut lines = Source::new(rt.stdin());
+    let mut out = Sink::new(rt.stdout());
+    let mut from = Source::new(&stream);
+    let mut to = Sink::new(&stream);
+    let mut file = Sink::new(file);
+    let alloc = rt.alloc();
+    match record_run(
+        alloc,
+        &mut lines,
+        &mut out,
+        &mut from,
+        &mut to,
+        &mut file,
+        client,
+        incarnation,
+        version,
+        tries,
+    ) {
+        Ok(said) => Ok(status_of(said)),
+        Err(RecordingFault::Run(fault)) => Err(ProgramFault::Run(fault)),
+        Err(RecordingFault::Record(fault)) => Ok(unrecorded(rt, path, &fault)),
+    }
+}
+
+// The status of a run of calls.
+fn status_of(said: CallSaid) -> ExitCode {
+    match said {
+        CallSaid::Whole => ExitCode::SUCCESS,
+        CallSaid::Stopped => ExitCode::from(1),
+    }
+}
+
+// Says which record lacks what it was to get, and why.
+fn unrecorded<E: Display>(rt: &HostRuntime, path: &str, why: &E) -> ExitCode {
+    let _ = eprintln!(rt; "record {path}: {why}");
+    ExitCode::from(1)
 }
