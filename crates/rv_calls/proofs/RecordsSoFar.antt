@@ -26,7 +26,7 @@ use Rattle.rv_calls.specs.Calling.{StopsWithWord, key_behind}
 use Rattle.rv_calls.specs.CallRuns.{CutsLine, CutsText, Stops, TakesLines, TakesText}
 use Rattle.rv_calls.specs.EndWord.{word_text}
 use Rattle.rv_calls.specs.Records.{AreRecorded, IsRequestBody, IsRecorded, LacksEntry, Outlets, RanRecording}
-use Rattle.rv_calls.specs.Records.{Records, RecordsCalls, RecordsRun, SaysWord, StopsEntry}
+use Rattle.rv_calls.specs.Records.{Entered, RecordsCalls, RecordsRun, SaysWord, StopsEntry}
 use Rattle.rv_calls.specs.Records.{TellsCall, outlets, record_text}
 use Rattle.rv_calls.proofs.CallsSoFar.{SoFar, cuts_more, leaves_short, none_so_far, one_more, settles_all}
 use Rattle.rv_calls.proofs.CallsSoFar.{settles_next, stops_at, takes_more, takes_none}
@@ -74,8 +74,8 @@ module _ {R W : Type 0} (remaining : R → Option (List ℕ)) (contents : W → 
       (is.0, recorded_more (key_behind key 1) ls ts es settled.0 b settled.2 is.1)
 
 module _ {F : Type 0} (kept : F → Option (List ℕ)) where
-  records_on : (first later texts : List (List ℕ)) (f g : Sink F) → Records kept first texts f g
-      → Records kept (first ++ later) texts f g
+  records_on : (first later texts : List (List ℕ)) (f g : Sink F) → Entered kept first texts f g
+      → Entered kept (first ++ later) texts f g
   records_on first later texts f g records = record {
     entries = records.entries;
     recorded = recorded_on first later texts records.entries records.recorded;
@@ -97,9 +97,9 @@ module _ {F : Type 0} (kept : F → Option (List ℕ)) where
   module _ {R W : Type 0} (remaining : R → Option (List ℕ)) (contents : W → Option (List ℕ)) (tries : ℕ)
       (key : Key) (first texts : List (List ℕ)) (line text entry : List ℕ) (a b : Link R W) (f g h : Sink F)
       (settled : SettlesLines remaining contents tries key first texts a b)
-      (records : Records kept first texts f g) (one : IsRecorded line text entry) where
+      (records : Entered kept first texts f g) (one : IsRecorded line text entry) where
     -- the entry of one more line
-    records_more : TakesText kept entry g h → Records kept (first ++ line ∷ []) (texts ++ text ∷ []) f h
+    records_more : TakesText kept entry g h → Entered kept (first ++ line ∷ []) (texts ++ text ∷ []) f h
     records_more took = record {
       entries = records.entries ++ entry ∷ [];
       recorded = recorded_more remaining contents tries line text entry one key first texts records.entries a
@@ -122,8 +122,8 @@ module _ {F : Type 0} (kept : F → Option (List ℕ)) where
               (cut_behind entry count sent g h cut);
         }
     lacks_entry later fails.NoMemory same =
-        subst (λ (l : List (List ℕ)). Records kept l texts f h) (sym (append_assoc first (line ∷ []) later))
-        (subst (Records kept (first ++ line ∷ later) texts f) (sym same)
+        subst (λ (l : List (List ℕ)). Entered kept l texts f h) (sym (append_assoc first (line ∷ []) later))
+        (subst (Entered kept (first ++ line ∷ later) texts f) (sym same)
         (records_on first (line ∷ later) texts f g records))
 
 -- ---- what came of the lines
@@ -134,7 +134,7 @@ module _ {O R W F : Type 0} (taken : O → Option (List ℕ)) (remaining : R →
   pub record RecordedSoFar (all : List (List ℕ)) (key : Key) (greeted at : Link R W) (out out' : Sink O)
       (file file' : Sink F) (idle : Option Key) (rest : List ℕ) (count : ℕ) : Type 0 where
     pub so_far : SoFar taken remaining contents tries all key greeted at out out' idle rest count
-    pub recorded : Records kept so_far.first so_far.texts file file'
+    pub recorded : Entered kept so_far.first so_far.texts file file'
 
   pub none_recorded : (key : Key) (at : Link R W) (out : Sink O) (file : Sink F) (idle : Option Key) (input :
       List ℕ) → idle ≡ Some key
@@ -190,7 +190,7 @@ module _ {O R W F : Type 0} (taken : O → Option (List ℕ)) (remaining : R →
   records_by_word : (all texts : List (List ℕ)) (word : EndWord) (before after : Link R W) (count : ℕ)
       (a b c : Sink O) (f g : Sink F) (result : Result CallSaid RecordingFault)
       → Stops remaining contents starting tries all texts word before after → TakesLines taken texts a b
-      → Records kept all texts f g → count ≡ length (printed_lines texts)
+      → Entered kept all texts f g → count ≡ length (printed_lines texts)
       → SaysWord taken (word_text word) count b c result
       → RecordsCalls taken remaining contents kept starting tries all before after (outlets a f) (outlets c g)
       result
@@ -245,8 +245,8 @@ module _ {O R W F : Type 0} (taken : O → Option (List ℕ)) (remaining : R →
       (welcomed : IsWelcomed remaining contents starting tries epoch before greeted)
       (now : RecordedSoFar taken remaining contents kept tries all (first_key starting epoch) greeted at a b f
       g idle rest count) where
-    records_now : Records kept all now.so_far.texts f g
-    records_now = subst (λ (l : List (List ℕ)). Records kept l now.so_far.texts f g) (sym now.so_far.cut)
+    records_now : Entered kept all now.so_far.texts f g
+    records_now = subst (λ (l : List (List ℕ)). Entered kept l now.so_far.texts f g) (sym now.so_far.cut)
         (records_on kept now.so_far.first (lines rest) now.so_far.texts f g now.recorded)
 
     pub records_whole : rest ≡ []
@@ -296,9 +296,9 @@ module _ {O R W F : Type 0} (taken : O → Option (List ℕ)) (remaining : R →
             at after idle line body text now.so_far.next asks one
 
         with_entry : (h : Sink F) → TakesText kept (record_text body text) g h
-            → Records kept all (now.so_far.texts ++ text ∷ []) f h
+            → Entered kept all (now.so_far.texts ++ text ∷ []) f h
         with_entry h took =
-            subst (λ (l : List (List ℕ)). Records kept l (now.so_far.texts ++ text ∷ []) f h) (sym whole)
+            subst (λ (l : List (List ℕ)). Entered kept l (now.so_far.texts ++ text ∷ []) f h) (sym whole)
             (records_on kept (now.so_far.first ++ line ∷ []) (lines later) (now.so_far.texts ++ text ∷ []) f h
             (records_more kept remaining contents tries (first_key starting epoch) now.so_far.first
             now.so_far.texts line text (record_text body text) greeted at f g h now.so_far.settled
@@ -345,7 +345,7 @@ module _ {O R W F : Type 0} (taken : O → Option (List ℕ)) (remaining : R →
             inl (settles_next taken remaining contents starting tries welcomed now.so_far line
                 later text after cut one),
           );
-          recorded = subst (λ (s : Sink F). Records kept all now.so_far.texts f s) (sym tells.0) records_now;
+          recorded = subst (λ (s : Sink F). Entered kept all now.so_far.texts f s) (sym tells.0) records_now;
           printed = subst (TakesLines taken now.so_far.texts a) (sym tells.1) now.so_far.took;
         }
         records_to_fault c h (Run run.ReadFault) tells = absurd tells

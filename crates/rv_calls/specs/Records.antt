@@ -58,7 +58,7 @@ AreRecorded all _ _ = ⊥
 
 module _ {F : Type 0} (contents : F → Option (List ℕ)) where
   -- the entries of the first lines, which have these texts
-  pub record Records (all texts : List (List ℕ)) (old new : Sink F) : Type 0 where
+  pub record Entered (all texts : List (List ℕ)) (old new : Sink F) : Type 0 where
     pub entries : List (List ℕ)
     pub recorded : AreRecorded all texts entries
     pub took : TakesLines contents entries old new
@@ -74,7 +74,7 @@ module _ {F : Type 0} (contents : F → Option (List ℕ)) where
   -- the entry of one more line isn't there, for this fault
   abbrev pub LacksEntry : List (List ℕ) → List (List ℕ) → List ℕ → RecordFault → Sink F → Sink F → Type 0
   LacksEntry all texts text (fails.WriteFault sent) old new = RecordsPart all texts text sent old new
-  LacksEntry all texts text fails.NoMemory old new = Records all texts old new
+  LacksEntry all texts text fails.NoMemory old new = Entered all texts old new
 
   -- for private clauses: an entry was not taken, for this fault
   abbrev pub StopsEntry : List ℕ → RecordFault → Sink F → Sink F → Type 0
@@ -98,7 +98,7 @@ module _ {O R W F : Type 0} (taken : O → Option (List ℕ)) (remaining : R →
       : Type 0 where
     pub texts : List (List ℕ)
     pub settles : SettlesAll remaining contents starting tries all texts before after
-    pub recorded : Records kept all texts old.file new.file
+    pub recorded : Entered kept all texts old.file new.file
     pub printed : TakesLines taken texts old.out new.out
 
   -- the lines before the last have the entries and the texts of settled ones, and the last is a word
@@ -107,7 +107,7 @@ module _ {O R W F : Type 0} (taken : O → Option (List ℕ)) (remaining : R →
     pub texts : List (List ℕ)
     pub word : EndWord
     pub stops : Stops remaining contents starting tries all texts word before after
-    pub recorded : Records kept all texts old.file new.file
+    pub recorded : Entered kept all texts old.file new.file
     pub printed : TakesLines taken (texts ++ word_text word ∷ []) old.out new.out
 
   -- this text comes next: that of one more settled line, which has its entry, or a word
@@ -115,9 +115,9 @@ module _ {O R W F : Type 0} (taken : O → Option (List ℕ)) (remaining : R →
       → Type 0
   ComesRecorded all texts text before after old new =
       (SettlesFirst remaining contents starting tries all (texts ++ text ∷ []) before after
-      × Records kept all (texts ++ text ∷ []) old new)
+      × Entered kept all (texts ++ text ∷ []) old new)
       ⊎ ((word : EndWord) × Stops remaining contents starting tries all texts word before after
-      × (text ≡ word_text word) × Records kept all texts old new)
+      × (text ≡ word_text word) × Entered kept all texts old new)
 
   -- a text was cut after so many bytes of the output, and nothing was asked after that
   pub record RecordsToCut (all : List (List ℕ)) (before after : Link R W) (old new : Outlets O F) (sent : ℕ)
@@ -134,7 +134,7 @@ module _ {O R W F : Type 0} (taken : O → Option (List ℕ)) (remaining : R →
     pub texts : List (List ℕ)
     pub leaves : SettlesFirst remaining contents starting tries all texts before after
         ⊎ ((text : List ℕ) × TextComesNext remaining contents starting tries all texts text before after)
-    pub recorded : Records kept all texts old.file new.file
+    pub recorded : Entered kept all texts old.file new.file
     pub printed : TakesLines taken texts old.out new.out
 
   -- the last line that was settled lacks its entry; its text went out, unless the output failed too

@@ -10,7 +10,7 @@ use Rattle.rv_verify.specs.Reading.{HasNextPart, IsBadAt, IsPiece}
 use Rattle.rv_verify.specs.Standing.{HasRead}
 use Rattle.rv_verify.specs.Verdicts.{FirstBadLong, IsVerdictOn, ReadsLongEntry, long_limits}
 use Rattle.rv_verify.specs.declared.reading.NextPart.TheVariants as next
-use Rattle.rv_verify.specs.declared.verdict.Told.{Told}
+use Rattle.rv_verify.specs.declared.verdict.AccountFinding.{AccountFinding}
 use Rattle.rv_verify.specs.declared.verdict.AccountVerdict.TheVariants as verdict
 use Rattle.rv_verify.specs.declared.verifier.Verifier.{Verifier}
 use Rattle.rv_verify.proofs.Turning.{told_behind, told_end, told_last, told_torn}
@@ -22,7 +22,7 @@ pub record Went (Holds : List (List ℕ) → Type 0) (before : List (List ℕ)) 
   pub rest : List ℕ
   pub is_left : left ≡ Some rest
   pub holds : Holds all
-  pub back : (told : Told) → IsToldBehind all rest told → IsToldBehind before bytes told
+  pub back : (told : AccountFinding) → IsToldBehind all rest told → IsToldBehind before bytes told
 
 pub went_nowhere : (Holds : List (List ℕ) → Type 0) (before : List (List ℕ)) (bytes : List ℕ)
     (left : Option (List ℕ)) → left ≡ Some bytes → Holds before → Went Holds before bytes left
@@ -47,13 +47,13 @@ module _ {Holds : List (List ℕ) → Type 0} {before : List (List ℕ)} {bytes 
         (told_behind went.all line has.is_next.1 has.rest told is));
   }
 
-  pub went_end : HasNextPart went.rest left' line next.End → (told : Told) → told.torn ≡ false
+  pub went_end : HasNextPart went.rest left' line next.End → (told : AccountFinding) → told.torn ≡ false
       → ((lines : List (List ℕ)) → Holds lines → IsVerdictOn lines told.verdict)
       → IsToldBehind before bytes told
   went_end has told whole is = went.back told (subst (λ r. IsToldBehind went.all r told) (sym has.is_next)
       (told_end went.all told whole (is went.all went.holds)))
 
-  pub went_piece : HasNextPart went.rest left' line next.Piece → (told : Told)
+  pub went_piece : HasNextPart went.rest left' line next.Piece → (told : AccountFinding)
       → IsToldBehind went.all line told
       → IsToldBehind before bytes told
   went_piece has told is = went.back told (subst (λ r. IsToldBehind went.all r told) (sym has.is_next.0) is)
@@ -94,7 +94,7 @@ some_read lines v has none =
 some_bad : (lines : List (List ℕ)) (n : ℕ) → IsBadAt lines n → lines ≢ []
 some_bad lines n bad none = omega (arith, ap length none, bad.among, bad.bad.from_one)
 
-module _ (lines : List (List ℕ)) (piece : List ℕ) (is_piece : IsPiece piece) (told : Told) where
+module _ (lines : List (List ℕ)) (piece : List ℕ) (is_piece : IsPiece piece) (told : AccountFinding) where
   -- behind what a verifier read
   pub torn_read : (v : Verifier) → HasRead lines v → ((e : Entry) → ¬ ReadsLongEntry piece e)
       → told.torn ≡ true → IsVerdictOn lines told.verdict → IsToldBehind lines piece told

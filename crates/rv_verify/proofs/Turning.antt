@@ -11,7 +11,7 @@ use Rattle.rv_verify.specs.Ends.{IsTornWith}
 use Rattle.rv_verify.specs.Ends.{IsWholeWith}
 use Rattle.rv_verify.specs.Reading.{IsPiece}
 use Rattle.rv_verify.specs.Verdicts.{IsVerdictOn, ReadsLongEntry}
-use Rattle.rv_verify.specs.declared.verdict.Told.{Told}
+use Rattle.rv_verify.specs.declared.verdict.AccountFinding.{AccountFinding}
 use Rattle.rv_verify.specs.declared.verdict.AccountVerdict.{AccountVerdict}
 
 -- ---- one line more
@@ -54,7 +54,7 @@ module _ (before : List (List ℕ)) (line : List ℕ) (lacks : All (λ byte. byt
     told = subst (λ ls. IsVerdictOn ls verdict) (joined rest) told.told;
   }
 
-  pub told_behind : (rest : List ℕ) (told : Told) → IsToldBehind (before ++ line ∷ []) rest told
+  pub told_behind : (rest : List ℕ) (told : AccountFinding) → IsToldBehind (before ++ line ∷ []) rest told
       → IsToldBehind before (line ++ 10 ∷ rest) told
   told_behind rest told is = told_more told.torn rest told.verdict is
 
@@ -64,7 +64,8 @@ ends_nowhere : EndsWithPiece [] [] []
 ends_nowhere = record { parts = refl; are_whole = inl refl; no_lf = All-nil (λ byte. byte ≢ 10) }
 
 -- of no bytes the verdict is that on the lines before
-pub told_end : (before : List (List ℕ)) (told : Told) → told.torn ≡ false → IsVerdictOn before told.verdict
+pub told_end : (before : List (List ℕ)) (told : AccountFinding) → told.torn ≡ false
+    → IsVerdictOn before told.verdict
     → IsToldBehind before [] told
 told_end before told whole is =
     let at_end : IsWholeWith before [] told.verdict = record {
@@ -85,7 +86,7 @@ module _ (before : List (List ℕ)) (piece : List ℕ) (is_piece : IsPiece piece
   last_line (x ∷ xs) some lacks = lines_last x xs lacks
 
   -- of a torn piece it is that on the lines before; no entry is read of it, or no line stands before
-  pub told_torn : (told : Told) → told.torn ≡ true → IsTornBehind before piece
+  pub told_torn : (told : AccountFinding) → told.torn ≡ true → IsTornBehind before piece
       → IsVerdictOn before told.verdict → IsToldBehind before piece told
   told_torn told torn is_torn is =
       let same : before ≡ before ++ [] = sym (append-nil before) in
@@ -99,7 +100,8 @@ module _ (before : List (List ℕ)) (piece : List ℕ) (is_piece : IsPiece piece
       subst (λ t. IsToldIf t before piece told.verdict) (sym torn) at_end
 
   -- of one that is read as an entry it is that on the lines with it
-  pub told_last : (told : Told) → told.torn ≡ false → before ≢ [] → (e : Entry) → ReadsLongEntry piece e
+  pub told_last : (told : AccountFinding) → told.torn ≡ false → before ≢ [] → (e : Entry)
+      → ReadsLongEntry piece e
       → IsVerdictOn (before ++ piece ∷ []) told.verdict → IsToldBehind before piece told
   told_last told whole some e reads is =
       let same : before ++ [] ≡ before = append-nil before in

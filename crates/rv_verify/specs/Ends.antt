@@ -4,7 +4,7 @@ use Rattle.std.specs.List.{All}
 use Rattle.rv_account.specs.declared.entry.Entry.{Entry}
 use Rattle.rv_lines.specs.Lines.{lines}
 use Rattle.rv_verify.specs.Verdicts.{IsVerdictOn, ReadsLongEntry}
-use Rattle.rv_verify.specs.declared.verdict.Told.{Told}
+use Rattle.rv_verify.specs.declared.verdict.AccountFinding.{AccountFinding}
 use Rattle.rv_verify.specs.declared.verdict.AccountVerdict.{AccountVerdict}
 
 -- bytes that are none, or end by LF (10)
@@ -44,9 +44,9 @@ IsToldIf true front bytes verdict = IsTornWith front bytes verdict
 IsToldIf false front bytes verdict = IsWholeWith front bytes verdict
 
 -- what is told of the bytes behind these lines is so
-abbrev pub IsToldBehind : List (List ℕ) → List ℕ → Told → Type 0
+abbrev pub IsToldBehind : List (List ℕ) → List ℕ → AccountFinding → Type 0
 IsToldBehind front bytes told = IsToldIf told.torn front bytes told.verdict
 
 -- what is told of the bytes of an account is so
-abbrev pub IsToldOfBytes : List ℕ → Told → Type 0
+abbrev pub IsToldOfBytes : List ℕ → AccountFinding → Type 0
 IsToldOfBytes bytes told = IsToldBehind [] bytes told

@@ -10,5 +10,5 @@ mod verifier;
 
 pub use fault::VerifyFault;
 pub use reading::verify;
-pub use verdict::{AccountVerdict, Told};
+pub use verdict::{AccountFinding, AccountVerdict};
 pub use verifier::{StopReason, Verifier};

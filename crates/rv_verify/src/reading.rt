@@ -8,7 +8,7 @@ ghost use Rattle.rv_verify.specs.Standing.{HasRead, CanReadOn};
 ghost use Rattle.rv_verify.specs.Verdicts.{ReadsLongEntry};
 
 use crate::fault::VerifyFault;
-use crate::verdict::{AccountVerdict, Told};
+use crate::verdict::{AccountFinding, AccountVerdict};
 use crate::verifier::Verifier;
 use rv_account::Entry;
 use rv_lines::{LineFault, read_entry, read_head};
@@ -31,7 +31,7 @@ pub(crate) enum NextPart {
 /// fault of the account, if its state has room up to there.
 ///
 /// It keeps what is open, the clients, and one line at a time.
-pub fn verify<B: BufRead>(alloc: Global, reader: &mut B) -> Result<Told, VerifyFault>
+pub fn verify<B: BufRead>(alloc: Global, reader: &mut B) -> Result<AccountFinding, VerifyFault>
     ensures told { IfSome (B.remaining reader.old) (λ bytes. IfOk result (IsToldOfBytes bytes)) }
 {
     let mut line = Vec::new(alloc);
@@ -43,7 +43,7 @@ fn verify_bytes<B: BufRead>(
     alloc: Global,
     reader: &mut B,
     line: &mut Vec<u8>,
-) -> Result<Told, VerifyFault>
+) -> Result<AccountFinding, VerifyFault>
     ensures told { (bytes : List ℕ) → B.remaining reader.old ≡ Some bytes
         → IfOk result (IsToldBehind [] bytes) }
 {
@@ -55,11 +55,11 @@ fn verify_bytes<B: BufRead>(
 }
 
 // A bad line is told, and whether the end is torn.
-fn bad_line(number: u64, torn: bool) -> Told
+fn bad_line(number: u64, torn: bool) -> AccountFinding
     ensures verdict { result.verdict ≡ AccountVerdict.BadLine number }
     ensures torn { result.torn ≡ torn }
 {
-    Told {
+    AccountFinding {
         verdict: AccountVerdict::BadLine(number),
         torn,
     }
@@ -70,7 +70,7 @@ fn verify_behind_head<B: BufRead>(
     alloc: Global,
     reader: &mut B,
     line: &mut Vec<u8>,
-) -> Result<Told, VerifyFault>
+) -> Result<AccountFinding, VerifyFault>
     ensures told { (bytes : List ℕ) → B.remaining reader.old ≡ Some bytes
         → IfOk result (IsToldBehind (line.old.items ∷ []) bytes) }
 {
@@ -87,7 +87,7 @@ fn verify_entries<B: BufRead>(
     reader: &mut B,
     verifier: &mut Verifier,
     line: &mut Vec<u8>,
-) -> Result<Told, VerifyFault>
+) -> Result<AccountFinding, VerifyFault>
     requires ready { CanReadOn verifier.old }
     ensures told { (before : List (List ℕ)) (bytes : List ℕ) → HasRead before verifier.old
         → B.remaining reader.old ≡ Some bytes → IfOk result (IsToldBehind before bytes) }
@@ -95,7 +95,7 @@ fn verify_entries<B: BufRead>(
     for _turn in 0..u64::MAX {
         match next_line(reader, line)? {
             NextPart::End => {
-                return Ok(Told {
+                return Ok(AccountFinding {
                     verdict: verifier.verdict(),
                     torn: false,
                 });
@@ -114,13 +114,17 @@ fn verify_entries<B: BufRead>(
 }
 
 // The same of a last piece, which is no first line.
-fn verify_piece(alloc: Global, verifier: &mut Verifier, piece: &[u8]) -> Result<Told, VerifyFault>
+fn verify_piece(
+    alloc: Global,
+    verifier: &mut Verifier,
+    piece: &[u8],
+) -> Result<AccountFinding, VerifyFault>
     requires ready { CanReadOn verifier.old }
     ensures told { (before : List (List ℕ)) → HasRead before verifier.old → IsPiece piece.now
         → IfOk result (IsToldBehind before piece.now) }
 {
     if is_torn(alloc, piece)? {
-        return Ok(Told {
+        return Ok(AccountFinding {
             verdict: verifier.verdict(),
             torn: true,
         });
@@ -129,14 +133,18 @@ fn verify_piece(alloc: Global, verifier: &mut Verifier, piece: &[u8]) -> Result<
 }
 
 // The same of one that is read as an entry.
-fn verify_last(alloc: Global, verifier: &mut Verifier, piece: &[u8]) -> Result<Told, VerifyFault>
+fn verify_last(
+    alloc: Global,
+    verifier: &mut Verifier,
+    piece: &[u8],
+) -> Result<AccountFinding, VerifyFault>
     requires ready { CanReadOn verifier.old }
     requires says { (e : entries.Entry) × ReadsLongEntry piece.now e }
     ensures told { (before : List (List ℕ)) → HasRead before verifier.old → IsPiece piece.now
         → IfOk result (IsToldBehind before piece.now) }
 {
     match verifier.line(alloc, piece) {
-        Ok(()) => Ok(Told {
+        Ok(()) => Ok(AccountFinding {
             verdict: verifier.verdict(),
             torn: false,
         }),
@@ -151,7 +159,7 @@ fn read_behind_bad<B: BufRead>(
     reader: &mut B,
     line: &mut Vec<u8>,
     number: u64,
-) -> Result<Told, VerifyFault>
+) -> Result<AccountFinding, VerifyFault>
     ensures told { (before : List (List ℕ)) (bytes : List ℕ) → IsBadAt before number
         → B.remaining reader.old ≡ Some bytes → IfOk result (IsToldBehind before bytes) }
 {

@@ -30,7 +30,7 @@ pub enum AccountVerdict {
 
 /// What is told of the bytes of an account.
 #[derive(Debug, Drop)]
-pub struct Told {
+pub struct AccountFinding {
     /// The verdict on the lines; if the end is torn, on those before it.
     pub verdict: AccountVerdict,
     /// Whether the bytes end by a piece that lacks its LF, and would be the first line or is no entry's.
