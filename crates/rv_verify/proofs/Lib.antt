@@ -7,3 +7,5 @@ pub mod Turning
 pub mod Through
 pub mod Going
 pub mod Agreeing
+pub mod Meeting
+pub mod Again

@@ -3,5 +3,6 @@ pub mod Verdicts
 pub mod Ends
 pub mod Standing
 pub mod Laws
+pub mod Naming
 -- What only private clauses and proofs cite.
 pub mod Reading

@@ -4,11 +4,13 @@
 mod fault;
 pub mod laws;
 mod looks;
+mod naming;
 mod reading;
 mod verdict;
 mod verifier;
 
 pub use fault::VerifyFault;
+pub use naming::rule_at;
 pub use reading::verify;
 pub use verdict::{AccountFinding, AccountVerdict};
 pub use verifier::{StopReason, Verifier};
