@@ -18,6 +18,7 @@ OUTSIDE = [
     ["tests/commands/bodies.py", PROGRAM],
     ["tests/commands/rows.py", PROGRAM],
     ["tests/commands/audits.py", PROGRAM],
+    ["tests/commands/verify.py", PROGRAM],
     ["tests/commands/fill.py", PROGRAM],
     ["tests/commands/waits.py", PROGRAM],
     ["tests/model/compare.py", "--selftest"],

@@ -13,6 +13,7 @@ mod opened;
 mod run;
 mod server;
 mod turn;
+mod verify;
 
 pub use account::write_account;
 pub use audit::{AuditSaid, audit_run};
@@ -37,6 +38,7 @@ use std::thread::Threads;
 use std::time::Duration;
 use std::{env, io, time};
 use thiserror::Error;
+use verify::{account_to_verify, run_verify};
 
 // If standard error takes nothing, the status alone tells the fault.
 fn main(rt: HostRuntime) -> ExitCode {
@@ -58,6 +60,9 @@ fn run_program<T: Threads + Wait + AllocGlobal + time::Clock + Sync>(
     let words = borrowed(rt.alloc(), &words)?;
     if let Some((file, call)) = read_record(rt.alloc(), &words)? {
         return run_recorded(rt, file, &call);
+    }
+    if let Some(path) = account_to_verify(&words) {
+        return run_verify(rt, path);
     }
     match read_command(rt.alloc(), &words)? {
         Command::Book(epoch) => run_book(rt, epoch)?,
