@@ -42,15 +42,21 @@ def torn(said):
     return said + "\ntorn end\n", TORN
 
 
+def model_of(text):
+    """The model's verdict."""
+    return verdict(text.encode(errors="surrogateescape"))
+
+
 def as_audited():
-    """The accounts of `rv audit`, each with what is told of it: the same, but past its limits, and where the last piece is no line."""
+    """The accounts of `rv audit`, each with what is told of it: the same, but past its limits, and where the last piece is torn: it
+    is the first line, or no entry's."""
     for name, text, expected in audits.cases():
-        said = PAST.get(name.removesuffix(", without the last LF"), expected)
+        past = PAST.get(name.removesuffix(", without the last LF"))
         before, lf, piece = text.rpartition("\n")
-        if piece and (not lf or said == f"bad line {text.count(chr(10)) + 1}"):
-            yield name, text, torn(verdict((before + lf).encode(errors="surrogateescape")))
+        if piece and not past and (not lf or model_of(joined([HEAD, piece])) == "bad line 2"):
+            yield name, text, torn(model_of(before + lf))
         else:
-            yield name, text, told(said)
+            yield name, text, told(past or expected)
 
 
 def puts(count):
