@@ -33,7 +33,8 @@ impl Hearers {
     /// A connection waits from now on. If memory is refused nothing changes.
     pub fn add(&mut self, connection: ConnectionNumber, hearing: Hearing) -> Result<(), NoMemory>
         requires { hearers_of self.old connection ≡ None }
-        ensures added { OnOk result (SetsHearing (hearers_of self.old) connection (Some hearing) (hearers_of self.new)) }
+        ensures added { OnOk result (SetsHearing (hearers_of self.old) connection (Some hearing)
+            (hearers_of self.new)) }
         ensures refused { OnErr result (hearers_of self.new ≡ hearers_of self.old) }
     {
         self.tables.add(connection, hearing)

@@ -1,6 +1,7 @@
 //! Connections, each under a number: a client's, or a moment.
 ghost use Rattle.std.specs.Prelude.{◌≡◌, false, true, IfNone, IfSome, OnErr, OnOk};
-ghost use Rattle.rv_hearers.specs.Indexed.{ChangesPairs, IsLeastPair, IsLowestUnder, NoPairs, NoneUnder, SamePairs};
+ghost use Rattle.rv_hearers.specs.Indexed.{ChangesPairs, IsLeastPair, IsLowestUnder, NoPairs, NoneUnder};
+ghost use Rattle.rv_hearers.specs.Indexed.{SamePairs};
 
 use rv_text::NoMemory;
 use std::alloc::{AllocError, Global};
