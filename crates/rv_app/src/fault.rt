@@ -1,5 +1,6 @@
 //! The faults that end the program with a line on standard error.
 use rv_command::CommandFault;
+use rv_inspect::InspectFault;
 use rv_run::RunFault;
 use rv_server::ServeFault;
 use thiserror::Error;
@@ -16,6 +17,9 @@ pub(crate) enum ProgramFault {
     /// The server ended early.
     #[error("{0}")]
     Serve(ServeFault),
+    /// `rv verify` ended before it told what an account is.
+    #[error("{0}")]
+    Inspect(InspectFault),
     /// No socket listens at the address, or none connects to it.
     #[error("address fault")]
     Address,
@@ -26,7 +30,10 @@ impl ProgramFault {
     pub(crate) fn status(&self) -> u8 {
         match self {
             ProgramFault::Command(_) => 2,
-            ProgramFault::Run(_) | ProgramFault::Serve(_) | ProgramFault::Address => 1,
+            ProgramFault::Run(_)
+            | ProgramFault::Serve(_)
+            | ProgramFault::Inspect(_)
+            | ProgramFault::Address => 1,
         }
     }
 }
@@ -40,5 +47,11 @@ impl From<CommandFault> for ProgramFault {
 impl From<RunFault> for ProgramFault {
     fn from(fault: RunFault) -> ProgramFault {
         ProgramFault::Run(fault)
+    }
+}
+
+impl From<InspectFault> for ProgramFault {
+    fn from(fault: InspectFault) -> ProgramFault {
+        ProgramFault::Inspect(fault)
     }
 }

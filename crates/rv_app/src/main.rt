@@ -24,6 +24,7 @@ use fault::ProgramFault;
 pub use run::book_run;
 pub use rv_command::{Command, CommandFault, read_command};
 use rv_frame::{Sink, Source};
+use rv_inspect::{inspect, read_verify};
 pub use rv_play::play_run;
 pub use rv_run::{OutputFault, RunFault};
 use rv_server::ServeFault;
@@ -57,6 +58,9 @@ fn run_program<T: Threads + Wait + AllocGlobal + time::Clock + Sync>(
 ) -> Result<ExitCode, ProgramFault> {
     let words = words_of(rt)?;
     let words = borrowed(rt.alloc(), &words)?;
+    if let Some(asked) = read_verify(rt.alloc(), &words)? {
+        return Ok(ExitCode::from(inspect(rt, &asked)?));
+    }
     match read_command(rt.alloc(), &words)? {
         Command::Book(epoch) => run_book(rt, epoch)?,
         Command::Play => run_play(rt)?,

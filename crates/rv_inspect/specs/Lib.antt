@@ -1,0 +1,1 @@
+-- What a reader must agree with: nothing, since no contract cites more than its own words.
