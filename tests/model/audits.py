@@ -1,8 +1,9 @@
-"""Compares what `rv audit` says of accounts with their verdicts: of those made by hand, and of random ones, most of
-them spoilt, whose verdict the model gives."""
+"""Compares what `rv audit` and `rv verify` say of accounts with their verdicts: of those made by hand, and of random ones, most
+of them spoilt, whose verdict the model gives."""
 import os
 import random
 import subprocess
+import tempfile
 from collections import Counter
 from concurrent.futures import ThreadPoolExecutor
 from itertools import islice
@@ -18,6 +19,8 @@ TEXTS = 8
 AT_HAND = 400
 # A run of so many accounts has to meet each verdict.
 FULL_RUN = 2_000
+# The most entries of an account that `rv audit` reads.
+MAX_ENTRIES = 100_000
 # The most seconds that one account may take, on a slow machine too.
 MOST_SECONDS = 600
 
@@ -52,9 +55,31 @@ def what_it_said(program, text):
     return ran.stdout, ran.returncode, ran.stderr
 
 
+def what_it_verified(program, text):
+    """The same of `rv verify` on a file with this text."""
+    with tempfile.NamedTemporaryFile() as file:
+        file.write(text)
+        file.flush()
+        ran = subprocess.run([program, "verify", file.name], capture_output=True, timeout=MOST_SECONDS)
+    return ran.stdout, ran.returncode, ran.stderr
+
+
 def is_said(ran, expected):
     """Whether this is what the program has to print, and its status."""
     return ran == (f"{expected}\n".encode(), int(expected != "legal"), b"")
+
+
+def is_past(text):
+    """Whether `rv verify` may say another thing: where the end may be torn, or a place or the entries are past `rv audit`'s limits."""
+    rows = [line.split(b" ") for line in text.split(b"\n")[1:]]
+    places = [place for row in rows if len(row) > 1 for place in row[1].split(b",") if place.isdigit()]
+    return not text.endswith(b"\n") or len(rows) > MAX_ENTRIES + 1 or any(int(place) >= MAX_ENTRIES for place in places)
+
+
+def told_of(program, text, expected):
+    """What the program says of an account: `rv audit`, and where that is right, `rv verify`, if it has to say the same."""
+    ran = what_it_said(program, text)
+    return what_it_verified(program, text) if is_said(ran, expected) and not is_past(text) else ran
 
 
 def first_difference(program, accounts):
@@ -62,7 +87,7 @@ def first_difference(program, accounts):
     met, accounts = Counter(), iter(accounts)
     with ThreadPoolExecutor(os.cpu_count()) as several:
         while part := list(islice(accounts, AT_HAND)):
-            runs = several.map(lambda account: what_it_said(program, account[1]), part)
+            runs = several.map(lambda account: told_of(program, *account[1:]), part)
             for account, ran in zip(part, runs):
                 met[kind_of(account[2])] += 1
                 if not is_said(ran, account[2]):
