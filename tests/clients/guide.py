@@ -226,13 +226,13 @@ def a_demo_with_no_proof(_):
 def the_progress_of_an_installation(_):
     """While crates are proved, each that ends is told, with how many there are; what went wrong is told behind them."""
     said = ("case $1 in version) echo stand-in;; run) echo it broke; exit 1;;\n"
-            "all) for crate in rv_item rv_text rv_book rv_tests; do echo == $crate; done;; esac\n")
+            "all) for crate in rv_item rv_text rv_machine rv_tests; do echo == $crate; done;; esac\n")
     with tempfile.TemporaryDirectory(prefix="rv-build-") as name:
         ran = subprocess.run([ROOT / "tools/build.py", "rv_app"], env=stand_in(name, said), capture_output=True, text=True, timeout=300)
     first, *ended, last = ran.stderr.splitlines()
-    demand(first.startswith("proving 26 crates, ") and last == "it broke" and ran.returncode == 1, ran.stderr)
-    for number, crate in enumerate(["rv_item", "rv_text", "rv_book"], 1):
-        demand(any(line.startswith(f"{crate} ended; {number} of 26 crates proved in ") for line in ended), ran.stderr)
+    demand(first.startswith("proving 29 crates, ") and last == "it broke" and ran.returncode == 1, ran.stderr)
+    for number, crate in enumerate(["rv_item", "rv_text", "rv_machine"], 1):
+        demand(any(line.startswith(f"{crate} ended; {number} of 29 crates proved in ") for line in ended), ran.stderr)
     demand("min still" in ended[2] and "rv_tests ended" not in ran.stderr and "building rv_app" in ended, ran.stderr)
 
 
