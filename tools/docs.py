@@ -216,11 +216,24 @@ def promises():
 
 
 def edits():
-    """Each edit says in its first line what it does, and stands once."""
+    """Each edit that MODEL names is there; each that is there says in its first line what it does."""
     found = [path for kind in KINDS for path in ROOT.glob(f"crates/*/{kind}/*.edit")]
-    for path in sorted(found):
+    paths = {path: (path.parts[-3], path.stem) for path in found}
+    there = set(paths.values())
+    for header, rows in tables(MODEL):
+        for row in rows if header[-1] == "Edit" else []:
+            crates = re.findall(r"\brv_\w+", f"{row[-1]} {row[0]}")
+            for word in quoted(row[-1]):
+                check((crates[0], word) in there, f"MODEL: there is no edit {word} of {crates[0]}")
+    for path in sorted(paths):
         check(path.read_text().startswith("# "), f"{path.relative_to(ROOT)} does not begin by a line '# ..' that says what it does")
-    check(len({(path.parts[-3], path.stem) for path in found}) == len(found), f"an edit stands in two of {KINDS}")
+    check(len(there) == len(paths), f"an edit stands in two of {KINDS}")
+    gate = {paths[path] for path in paths if path.parts[-2] in ("must-fail", "test-edits")}
+    for header, rows in tables(MODEL):
+        for row in rows if header == ["Wrong body", "Edit"] else []:
+            crates, words = re.findall(r"\brv_\w+", row[-1]), quoted(row[-1])
+            stands = any((crate, word) in gate for crate in crates for word in words)
+            check(stands or not words, f"MODEL: {row[0]}: no edit of the gate, nor one that a test must see")
 
 
 def made():
