@@ -7,6 +7,6 @@ mod value;
 mod writer;
 
 pub use fault::{NoMemory, TextFault};
-pub use members::{Members, find_whole, read_text, read_whole, take_item, take_texts};
+pub use members::{Members, find_whole, member, read_text, read_whole, take_item, take_texts};
 pub use value::{MAX_BODY_BYTES, read_value};
 pub use writer::ObjectText;

@@ -14,7 +14,8 @@ use std::alloc::Global;
 /// The members of a JSON object, by name. Of a name that stood twice it has the last value.
 pub type Members = Map<String, Value>;
 
-fn member<'v>(members: &'v Members, name: &str) -> Option<&'v Value>
+/// The value at the name, if one stands there.
+pub fn member<'v>(members: &'v Members, name: &str) -> Option<&'v Value>
     ensures { option_map (λ v. view v.now) result
         ≡ get_member name.now (members_view members.now.entries) }
 {

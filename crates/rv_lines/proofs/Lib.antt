@@ -1,6 +1,7 @@
 -- The lemmas that the proofs of this crate share.
 pub mod Numbers
 pub mod Cutting
+pub mod Behind
 pub mod Plain
 pub mod Commas
 pub mod Fields

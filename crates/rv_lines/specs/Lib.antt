@@ -7,3 +7,4 @@ pub mod Written
 -- What only private clauses and proofs cite.
 pub mod Entries
 pub mod Faults
+pub mod Pieces

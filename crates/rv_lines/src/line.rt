@@ -2,6 +2,10 @@
 ghost use Rattle.std.specs.Prelude.{◌≡◌, ◌≢◌, ◌<◌, ◌∷◌, ◌++◌, [], length, None, IfSome};
 ghost use Rattle.std.specs.List.{All};
 ghost use Rattle.rv_lines.specs.Lines.{BeginsWithLine, lines};
+ghost use Rattle.rv_lines.specs.Pieces.{BehindLacking};
+
+// How many bytes are looked at in one step.
+const PIECE: usize = 16;
 
 /// The first line and the bytes after it, or `None` if there are no bytes. A line ends before
 /// an LF, which is dropped, or with the bytes.
@@ -22,6 +26,31 @@ pub fn first_line(bytes: &[u8]) -> Option<(&[u8], &[u8])>
 
 /// The bytes before the first one that is `byte`, and those after it; `None` if no byte is.
 pub fn cut_at(byte: u8, bytes: &[u8]) -> Option<(&[u8], &[u8])>
+    ensures parts { IfSome result (λ p. bytes.now ≡ p.0.now ++ byte ∷ p.1.now) }
+    ensures first { IfSome result (λ p. All (λ b. b ≢ byte) p.0.now) }
+    ensures none { result ≡ None → All (λ b. b ≢ byte) bytes.now }
+{
+    let rest = behind_pieces(byte, bytes);
+    let (_, after) = cut_near(byte, rest)?;
+    Some((&bytes[..bytes.len() - after.len() - 1], after))
+}
+
+// The bytes behind whole pieces in which no byte is `byte`. If a whole piece is left, it has such a byte.
+fn behind_pieces(byte: u8, bytes: &[u8]) -> &[u8]
+    ensures { BehindLacking byte bytes.now result.now }
+{
+    let mut rest = bytes;
+    while let Some((piece, after)) = rest.split_first_chunk::<PIECE>() {
+        if piece.contains(&byte) {
+            return rest;
+        }
+        rest = after;
+    }
+    rest
+}
+
+// Cuts as `cut_at`, and looks at the bytes one by one.
+fn cut_near(byte: u8, bytes: &[u8]) -> Option<(&[u8], &[u8])>
     ensures parts { IfSome result (λ p. bytes.now ≡ p.0.now ++ byte ∷ p.1.now) }
     ensures first { IfSome result (λ p. All (λ b. b ≢ byte) p.0.now) }
     ensures none { result ≡ None → All (λ b. b ≢ byte) bytes.now }

@@ -9,8 +9,9 @@ ghost use Rattle.rv_text.specs.declared.call.Call.{Call};
 use crate::answer::Answer;
 use crate::body::{Body, decode};
 use crate::call::Call;
-use crate::members::{read_call, read_key, read_refusal, read_reply, read_version};
+use crate::members::{read_call, read_refusal, read_reply, read_version};
 use crate::message::Message;
+use crate::passing::read_key;
 use rv_json::{Members, TextFault, read_text, read_whole};
 use std::alloc::Global;
 

@@ -1,38 +1,30 @@
-//! Reads keys, calls, replies and refusals among the members of a JSON object. Limits are not looked at yet.
+//! Reads calls, replies and refusals among the members of a JSON object. Limits are not looked at yet.
 ghost use Rattle.std.specs.Prelude.{◌≡◌};
 ghost use Rattle.serde_json.specs.View.{members_view};
-ghost use Rattle.rv_text.specs.Reading.{FindsAmong, wait_among, key_among, call_among, version_among};
+ghost use Rattle.rv_text.specs.Reading.{FindsAmong, wait_among, call_among, version_among};
 ghost use Rattle.rv_text.specs.Reading.{received_among, reply_among, refusal_among, current_version_among};
 
 use crate::answer::{Refusal, Reply};
 use crate::call::{Call, Wait};
 use crate::message::Key;
 use crate::version::Version;
-use rv_json::{Members, TextFault, find_whole, read_text, read_whole, take_item, take_texts};
+use rv_json::{
+    Members, TextFault, find_whole, member, read_text, read_whole, take_item, take_texts,
+};
 use std::alloc::Global;
 
 fn read_wait(members: &Members) -> Result<Wait, TextFault>
     ensures { FindsAmong members.now result wait_among }
 {
-    if let Some(millis) = find_whole(members, "wait") {
+    let value = member(members, "wait").ok_or(TextFault::NotMessage)?;
+    if let Some(millis) = value.as_u64() {
         return Ok(Wait::Millis(millis));
     }
-    match read_text(members, "wait")? {
+    match value.as_str().ok_or(TextFault::NotMessage)? {
         "now" => Ok(Wait::Now),
         "forever" => Ok(Wait::Forever),
         _ => Err(TextFault::NotMessage),
     }
-}
-
-pub(crate) fn read_key(members: &Members) -> Result<Key, TextFault>
-    ensures { FindsAmong members.now result key_among }
-{
-    Ok(Key {
-        epoch: read_whole(members, "epoch")?,
-        client: read_whole(members, "client")?,
-        incarnation: read_whole(members, "incarnation")?,
-        number: read_whole(members, "number")?,
-    })
 }
 
 pub(crate) fn read_call(members: &mut Members) -> Result<Call, TextFault>
