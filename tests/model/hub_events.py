@@ -73,3 +73,5 @@ class Refusal(Enum):
     NOT_OFFERED = "not_offered"
     FALLS = "written_falls"
     NOT_MADE = "not_made"
+    # Never by the model's own hub.
+    NO_MEMORY = "no_memory"

@@ -43,7 +43,7 @@ class Tally:
 
     def lacking(self) -> list[str]:
         """What was never met."""
-        wanted = [*KINDS, *(why.value for why in Refusal), CLOSED, FULL, TICK, *MARKS.values()]
+        wanted = [*KINDS, *(why.value for why in Refusal if why != Refusal.NO_MEMORY), CLOSED, FULL, TICK, *MARKS.values()]
         return [name for name in wanted if not self.met[name]]
 
     def told(self) -> str:
