@@ -4,6 +4,7 @@ from enum import Enum
 
 from tests.model.hub import Hub, Outcome
 from tests.model.hub_events import Event, Opened, Refusal, Terms
+from tests.model.hub_laws import rest_fault
 from tests.model.hub_lines import Told, told
 from tests.model.steps import refused
 from tests.model.texts import NoReading, read_message, written
@@ -94,6 +95,23 @@ def told_by(hub: Hub, events: Iterable[tuple[int, Event]]) -> list[Told]:
     """What a hub tells of events."""
     outcomes: Iterator[Outcome | Refusal] = (hub.handle(moment, event) for moment, event in events)
     return [told(hub, outcome) for outcome in outcomes]
+
+
+def lacking_fault(terms: Terms, events: list[tuple[int, Event]]) -> str | None:
+    """What isn't as it has to be behind an event of a hub for which one growth is refused, if something isn't."""
+    for lack in Lack:
+        growth, hub = 1, LackingHub(terms, 1, lack)
+        while fault_behind(hub, events) is None and hub.left <= 0:
+            growth += 1
+            hub = LackingHub(terms, growth, lack)
+        if fault := rest_fault(hub):
+            return f"{lack.value}, growth {growth}: {fault}"
+    return None
+
+
+def fault_behind(hub: Hub, events: list[tuple[int, Event]]) -> str | None:
+    """What isn't as it has to be behind the first event of a hub where something isn't."""
+    return next((fault for event in events if hub.handle(*event) and (fault := rest_fault(hub))), None)
 
 
 def lacking_tellings(terms: Terms, events: list[tuple[int, Event]]) -> Iterator[list[Told]]:

@@ -24,6 +24,22 @@ PEEKS = "; ".join(f"1#{number} peek 3" for number in range(2, 132))
 # Of those that are answered at once, their frames have 605 bytes, or 606 or 607 where the number has more digits.
 ANSWERS = ", ".join(f"1#{number} peeked {LONG}" for number in range(2, 110))
 
+# A transfer with all that stands beside it, and the same requests again; what is told of it isn't set here.
+GROWTHS_ROW = TWO + f"""
+    0 says hello 1/1; 1#1 transfer 3 {LONG} forever; 1#2 count 3 =>
+    1 says hello 2/1 =>
+    1 says 2#1 take 3 forever; 2#2 take 4 20 =>
+    written 4 =>
+    @20 passed =>
+    written 6 =>
+    0 takes =>
+    1 takes =>
+    opened =>
+    @20 2 says 1#2 count 3; 2#2 take 4 20 =>
+    @20 0 ended =>
+    @20 1 gone =>
+    """
+
 # Name, terms, lines.
 ROWS = [
     ("whoever waits is told at once", TEN_SECONDS, TWO + """
@@ -127,6 +143,8 @@ ROWS = [
         0 takes 1 => 0: 1#110 peeked {LONG}
         """),
 ]
+# Those of few messages, and the transfer.
+SHORT_ROWS = [*ROWS[:-1], ("a transfer and all beside it", JOURNAL, GROWTHS_ROW)]
 
 
 @dataclass(frozen=True)
@@ -168,6 +186,15 @@ def event_of(text: str, hub: Hub) -> Event:
         case [number, "ended"]:
             return Ended(int(number))
     return Gone(int(text.split(" ")[0]))
+
+
+def events_of(terms: Terms, lines: str) -> list[tuple[int, Event]]:
+    """The events of a row, each at its moment."""
+    hub, events = Hub(terms), []
+    for step in steps_of(lines):
+        events.append((step.moment, event_of(step.event, hub)))
+        hub.handle(*events[-1])
+    return events
 
 
 def frame_of(what: str) -> bytes:

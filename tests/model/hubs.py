@@ -15,9 +15,10 @@ from collections.abc import Iterator
 
 ROOT = pathlib.Path(__file__).resolve().parents[2]
 sys.dont_write_bytecode, sys.path[0] = True, str(ROOT)
+from tests.model.hub_lacking import lacking_fault  # noqa: E402
 from tests.model.hub_laws import hub_fault  # noqa: E402
 from tests.model.hub_lines import blocks_of  # noqa: E402
-from tests.model.hub_rows import hub_row_faults  # noqa: E402
+from tests.model.hub_rows import SHORT_ROWS, events_of, hub_row_faults  # noqa: E402
 from tests.model.hub_scripts import Line, make_hub_script  # noqa: E402
 from tests.model.hub_tally import Tally  # noqa: E402
 from tests.model.wrong_hubs import wrong_hub_faults  # noqa: E402
@@ -33,7 +34,8 @@ def selftest() -> bool:
     """Looks at the model's hub in worked rows and in random events, and at wrong ones, each of which random events find."""
     passed = failed = 0
     laws = ((f"random hub {seed}", hub_fault(random.Random(f"laws {seed}"), 60)) for seed in range(60))
-    for name, fault in [*hub_row_faults(), *laws, *wrong_hub_faults()]:
+    lacking = ((f"{name}, a growth refused", lacking_fault(terms, events_of(terms, lines))) for name, terms, lines in SHORT_ROWS)
+    for name, fault in [*hub_row_faults(), *laws, *lacking, *wrong_hub_faults()]:
         passed, failed = passed + (not fault), failed + bool(fault)
         if fault:
             print(f"FAILED: {name}: {fault}")
