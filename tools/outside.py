@@ -33,6 +33,7 @@ OUTSIDE = [
      "--program", STEPS],
     ["tests/model/states.py", "--selftest"],
     ["tests/model/states.py", "--seed", SEED, "--steps", "10000", "--entries", "2000"],
+    ["tests/model/hubs.py", "--selftest"],
     ["tests/sockets/serve.py", "--seed", SEED, PROGRAM],
     ["tests/sockets/serve.py", "--selftest"],
     ["tests/faults/devices.py", PROGRAM],
