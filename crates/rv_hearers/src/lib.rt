@@ -2,9 +2,11 @@
 //! moment up to which they wait.
 #![tactic(auto)]
 
+mod counted;
 mod hearers;
 mod pairs;
 mod tables;
 
 pub use hearers::Hearers;
+pub use pairs::Pairs;
 pub use tables::{ConnectionNumber, Hearing};
