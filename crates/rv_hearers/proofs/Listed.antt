@@ -58,6 +58,17 @@ room_left p most listed rest more k was next =
       length-values_of was.front,
     )
 
+pub few_read : (p : Pairs) (most : ℕ) (listed : List ℕ) (rest : List Pair) → HasRead p most listed rest
+    → length listed ≤ pair_count p
+few_read p most listed rest was =
+    omega (
+      arith,
+      ap length was.split,
+      length-append was.front rest,
+      ap length was.listed_is,
+      length-values_of was.front,
+    )
+
 -- ---- what is left stands above what ends the reading
 
 sorted_rest : (front rest : List Pair) → IsStrictlySortedBy pair_cmp (front ++ rest)

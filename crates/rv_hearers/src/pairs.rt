@@ -1,6 +1,6 @@
 //! Connections, each under a number: a client's, a moment, or how many entries are written.
 ghost use Rattle.std.specs.Prelude.{◌≡◌, ◌+◌, ◌^◌, ◌<◌, ◌≤◌, false, true, IfNone, IfSome, OnErr, OnOk};
-ghost use Rattle.std.specs.Prelude.{vec_capacity};
+ghost use Rattle.std.specs.Prelude.{length, vec_capacity};
 ghost use Rattle.rv_hearers.specs.Pairs.{ChangesPairs, IsLeastPair, IsLowestUnder, ListsUpTo, NoPairs};
 ghost use Rattle.rv_hearers.specs.Pairs.{NoneUnder, SamePairs, pair_count, stands_under};
 
@@ -83,6 +83,7 @@ impl Pairs {
     pub fn list_up_to(&self, most: u64, list: &mut Vec<usize>)
         requires { pair_count self.now ≤ vec_capacity list.old }
         ensures listed { ListsUpTo self.now most list.new.items }
+        ensures few { length list.new.items ≤ pair_count self.now }
         ensures capacity { vec_capacity list.new ≡ vec_capacity list.old }
     {
         list.clear();

@@ -1,6 +1,6 @@
 -- What stands up to the number is a front of the set's order.
 use Rattle.std.proofs.Common.{◌∙◌, arith}
-use Rattle.rv_hearers.proofs.Listed.{all_above, lists, none_left, none_read, one_read, room_left}
+use Rattle.rv_hearers.proofs.Listed.{all_above, few_read, lists, none_left, none_read, one_read, room_left}
 use Rattle.rv_hearers.proofs.pairs.Pairs.list_up_to.Goals as goal
 
 pub loop-number-init : goal.loop-number-init
@@ -38,3 +38,13 @@ returns-then-most-number-clause-listed c =
     (all_above c.args.self.now c.args.most c.loop-number.list.items c.loop-number.number-iterator
     c.next.new.self c.in-Some.field-0.now c.loop-number.invariant.0 c.iter-number-items.ensures.ordered
     c.in-Some.ensures.steps c.if-most-number.true)
+
+pub returns-in-None-clause-few : goal.returns-in-None-clause-few
+returns-in-None-clause-few c =
+    few_read c.args.self.now c.args.most c.loop-number.list.items c.loop-number.number-iterator
+    c.loop-number.invariant.0
+
+pub returns-then-most-number-clause-few : goal.returns-then-most-number-clause-few
+returns-then-most-number-clause-few c =
+    few_read c.args.self.now c.args.most c.loop-number.list.items c.loop-number.number-iterator
+    c.loop-number.invariant.0
