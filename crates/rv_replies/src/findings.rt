@@ -44,8 +44,8 @@ pub enum Finding {
     NoRecord,
 }
 
-// Whether the reply is this one.
-fn is_same_reply(reply: &Reply, other: &Reply) -> bool
+/// Whether the reply is this one.
+pub(crate) fn is_same_reply(reply: &Reply, other: &Reply) -> bool
     ensures { IsTrue result ↔ (reply.now ≡ other.now) }
 {
     match reply {

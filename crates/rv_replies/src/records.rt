@@ -1,13 +1,14 @@
 //! A record of replies, line by line, beside what became of their requests.
 ghost use Rattle.std.specs.Prelude.{◌≡◌, ◌<◌, ◌++◌, ◌==◌, ◌∷◌, [], IsSome, OnOk, length};
-ghost use Rattle.std.specs.Prelude.{Some, option_map, slice_get};
+ghost use Rattle.std.specs.Prelude.{◌↔◌, IsTrue, None, Some, option_map, slice_get};
 ghost use Rattle.rv_account.specs.Account.{Account, with_entry};
 ghost use Rattle.rv_rules.specs.Legal.{Legal};
 ghost use Rattle.rv_replies.specs.declared.findings.Told as told;
 
 use crate::fate::Fate;
 use crate::fates::Fates;
-use crate::findings::{Finding, Told, judge};
+use crate::findings::{Finding, Told, is_same_reply, judge};
+use crate::firsts::Firsts;
 use crate::reading::{Flaw, NotRead, read_told};
 use rv_account::Entry;
 use rv_machine::Machine;
@@ -39,11 +40,13 @@ pub enum Line {
 pub struct Records {
     lines: Vec<Line>,
     fates: Fates,
+    firsts: Firsts,
 }
 
 impl Records {
     ghost use Rattle.rv_replies.specs.Known.{AsksAbout, HasPassedBy, IsAbout, fate_in};
-    ghost use Rattle.rv_replies.specs.Standing.{AddsLine, IsLineFinding, HasNoted};
+    ghost use Rattle.rv_replies.specs.Firsts.{DiffersFrom, NotesFirst};
+    ghost use Rattle.rv_replies.specs.Standing.{AddsLine, AsksNothing, IsLineFinding, HasNoted};
     ghost use Rattle.rv_replies.specs.declared.fate.Fate as fates;
     ghost use Rattle.rv_replies.specs.declared.records.Line.TheVariants as kinds;
     ghost use Rattle.rv_replies.specs.Fates.{IsFateOf};
@@ -56,6 +59,7 @@ impl Records {
         Records {
             lines: Vec::new(alloc),
             fates: Fates::new(alloc),
+            firsts: Firsts::new(alloc),
         }
     }
 
@@ -73,10 +77,18 @@ impl Records {
         self.lines.is_empty()
     }
 
+    /// Whether no line asks about a request: then nothing is noted.
+    pub fn asks_nothing(&self) -> bool
+        ensures { IsTrue result ↔ AsksNothing self.now }
+    {
+        self.fates.is_empty()
+    }
+
     // Adds a line.
     fn push(&mut self, line: Line) -> Result<(), OutOfMemory>
         ensures lines { OnOk result (self.new.lines.items ≡ self.old.lines.items ++ line ∷ []) }
         ensures fates { self.new.fates ≡ self.old.fates }
+        ensures firsts { self.new.firsts ≡ self.old.firsts }
     {
         match self.lines.push(line) {
             Ok(()) => Ok(()),
@@ -89,8 +101,11 @@ impl Records {
         ensures lines { OnOk result
             (self.new.lines.items ≡ self.old.lines.items ++ kinds.Told told ∷ []) }
         ensures asks { OnOk result (AsksAbout self.old.fates self.new.fates told.key) }
+        ensures first { OnOk result
+            (NotesFirst self.old.firsts self.new.firsts told.key (length self.old.lines.items)) }
     {
         self.fates.ask(&told.key)?;
+        self.firsts.note(&told.key, self.lines.len())?;
         self.push(Line::Told(told))
     }
 
@@ -137,6 +152,30 @@ impl Records {
         match self.line(index) {
             Line::Told(told) => self.fates.get(&told.key),
             Line::Flawed(_) => None,
+        }
+    }
+
+    /// The first line that tells of the same request as the line with an index, if it tells another reply.
+    pub fn differs_from(&self, index: usize) -> Option<usize>
+        requires { index < length self.now.lines.items }
+        ensures told { (a : Account) (told : told.Told)
+            → slice_get self.now.lines.items index ≡ Some (kinds.Told told) → HasNoted self.now a
+            → DiffersFrom self.now.lines.items told result }
+        ensures flawed { (flaw : Flaw) → slice_get self.now.lines.items index ≡ Some (kinds.Flawed flaw)
+            → result ≡ None }
+    {
+        match self.line(index) {
+            Line::Told(told) => self.other_reply(told),
+            Line::Flawed(_) => None,
+        }
+    }
+
+    // The same of a reply that a line tells.
+    fn other_reply(&self, told: &Told) -> Option<usize> {
+        let first = self.firsts.get(&told.key)?;
+        match self.lines.get(first) {
+            Some(Line::Told(own)) if !is_same_reply(&own.reply, &told.reply) => Some(first),
+            _ => None,
         }
     }
 
