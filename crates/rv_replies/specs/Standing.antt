@@ -1,7 +1,6 @@
 -- A record of replies: what its lines are, and when what is known of them is what an account tells.
-use Rattle.std.specs.Prelude.{◌≡◌, ◌∷◌, ◌++◌, [], ℕ, List, IsSome, None, Some, slice_get}
+use Rattle.std.specs.Prelude.{◌≡◌, ◌∷◌, ◌++◌, [], ℕ, List, IsSome, Some, slice_get}
 use Rattle.rv_account.specs.Account.{Account}
-use Rattle.rv_text.specs.declared.message.Key.{Key}
 use Rattle.rv_replies.specs.declared.fates.Fates.{Fates}
 use Rattle.rv_replies.specs.declared.records.Line.{Line}
 use Rattle.rv_replies.specs.declared.records.Line.TheVariants as line
@@ -43,4 +42,4 @@ pub record HasNoted (r : Records) (a : Account) : Type 0 where
 
 -- no key is known
 abbrev pub AsksNothing : Records → Type 0
-AsksNothing r = (key : Key) → fate_in r.fates key ≡ None
+AsksNothing r = r.fates.fates.entries ≡ []

@@ -1,5 +1,5 @@
 //! What became of the requests that were asked about, noted as an account passes.
-ghost use Rattle.std.specs.Prelude.{◌≡◌, ◌↔◌, IsTrue, None, OnOk, is_some, option_map};
+ghost use Rattle.std.specs.Prelude.{◌≡◌, ◌↔◌, [], IsTrue, None, OnOk, is_some, option_map};
 ghost use Rattle.rv_account.specs.Account.{Account, with_entry};
 ghost use Rattle.rv_machine.specs.Machines.{state_in};
 ghost use Rattle.rv_text.specs.declared.message.Key as message;
@@ -60,7 +60,7 @@ impl Fates {
 
     /// Whether no key is known.
     pub(crate) fn is_empty(&self) -> bool
-        ensures { IsTrue result ↔ ((key : message.Key) → fate_in self.now key ≡ None) }
+        ensures { IsTrue result ↔ (self.now.fates.entries ≡ []) }
     {
         self.fates.is_empty()
     }

@@ -1,5 +1,5 @@
 //! A record of replies, line by line, beside what became of their requests.
-ghost use Rattle.std.specs.Prelude.{◌≡◌, ◌<◌, ◌++◌, ◌==◌, ◌∷◌, [], IsSome, OnOk, length};
+ghost use Rattle.std.specs.Prelude.{◌≡◌, ◌<◌, ◌++◌, ◌==◌, ◌∷◌, [], ℕ, IfSome, IsSome, OnOk, length};
 ghost use Rattle.std.specs.Prelude.{◌↔◌, IsTrue, None, Some, option_map, slice_get};
 ghost use Rattle.rv_account.specs.Account.{Account, with_entry};
 ghost use Rattle.rv_rules.specs.Legal.{Legal};
@@ -171,11 +171,29 @@ impl Records {
     }
 
     // The same of a reply that a line tells.
-    fn other_reply(&self, told: &Told) -> Option<usize> {
+    fn other_reply(&self, told: &Told) -> Option<usize>
+        ensures { (a : Account) (i : ℕ) → slice_get self.now.lines.items i ≡ Some (kinds.Told told.now)
+            → HasNoted self.now a → DiffersFrom self.now.lines.items told.now result }
+    {
         let first = self.firsts.get(&told.key)?;
-        match self.lines.get(first) {
-            Some(Line::Told(own)) if !is_same_reply(&own.reply, &told.reply) => Some(first),
-            _ => None,
+        let own = self.told_at(first)?;
+        if is_same_reply(&own.reply, &told.reply) {
+            None
+        } else {
+            Some(first)
+        }
+    }
+
+    // The reply that the line with an index tells, if it tells one.
+    fn told_at(&self, index: usize) -> Option<&Told>
+        ensures some { IfSome result
+            (λ told. slice_get self.now.lines.items index ≡ Some (kinds.Told told.now)) }
+        ensures none { result ≡ None → (told : told.Told)
+            → ¬ (slice_get self.now.lines.items index ≡ Some (kinds.Told told)) }
+    {
+        match self.lines.get(index)? {
+            Line::Told(told) => Some(told),
+            Line::Flawed(_) => None,
         }
     }
 

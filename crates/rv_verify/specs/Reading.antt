@@ -11,8 +11,8 @@ use Rattle.rv_machine.specs.declared.machine.Machine.{Machine}
 use Rattle.rv_follow.specs.Outcomes.{HasBroken, HasFollowed, PassesRoom}
 use Rattle.rv_follow.specs.Ruling.{IsFirstBroken, NamesClosed}
 use Rattle.rv_verify.specs.Verdicts.{FirstBadLong, ReadsLongEntry}
-use Rattle.rv_verify.specs.declared.reading.NextPart.{NextPart}
-use Rattle.rv_verify.specs.declared.reading.NextPart.TheVariants as next
+use Rattle.rv_verify.specs.declared.parts.NextPart.{NextPart}
+use Rattle.rv_verify.specs.declared.parts.NextPart.TheVariants as next
 use Rattle.rv_verify.specs.declared.verifier.StopReason.{StopReason}
 use Rattle.rv_verify.specs.declared.verifier.StopReason.TheVariants as stop
 use Rattle.rv_verify.specs.declared.verifier.Verifier.{Verifier}

@@ -1,6 +1,7 @@
 -- What the audit of an account is to the lines that were read so far.
 use Rattle.std.specs.Prelude.{◌≡◌, ◌⊎◌, ◌-◌, [], ℕ, List, Option, None, Some, IfSome, IsSome, take}
 use Rattle.rv_account.specs.Account.{Account}
+use Rattle.rv_machine.specs.Machines.{state_in}
 use Rattle.rv_replies.specs.Standing.{HasNoted}
 use Rattle.rv_replies.specs.declared.records.Records.{Records}
 use Rattle.rv_verify.specs.Reading.{IsBadAt}
@@ -40,6 +41,15 @@ HasStopped (Some v) = IsSome v.stop
 -- a line is bad, or the verifier stopped
 abbrev pub HasFault : Stage → Type 0
 HasFault s = IsSome s.bad ⊎ HasStopped s.verifier
+
+-- no line was read
+abbrev pub IsAtHead : Stage → Type 0
+IsAtHead s = (s.verifier ≡ None) × (s.bad ≡ None)
+
+-- the epoch that a verifier's machine holds
+abbrev pub epoch_of : Option Verifier → Option ℕ
+epoch_of None = None
+epoch_of (Some v) = Some (state_in v.machine).epoch
 
 -- how many entries were read by a verifier
 abbrev pub entries_of : Option Verifier → ℕ

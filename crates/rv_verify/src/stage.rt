@@ -1,9 +1,11 @@
 //! How far the lines of an account were read, from the first one on.
-ghost use Rattle.std.specs.Prelude.{◌≡◌, ◌∷◌, ◌++◌, [], ℕ, List, IsTrue, OnOk, option_map};
-ghost use Rattle.rv_verify.specs.Noting.{HasNotedOf};
-ghost use Rattle.rv_verify.specs.Stages.{CanTakeLine, HasFault, HasReadLines, IsAtHead, AreNew, epoch_of};
-ghost use Rattle.rv_verify.specs.Verdicts.{IsVerdictOn};
+ghost use Rattle.std.specs.Prelude.{◌≡◌, ◌↔◌, ◌∷◌, ◌++◌, [], ℕ, List, None, Some, IfOk, IsTrue, OnOk};
 ghost use Rattle.rv_replies.specs.declared.records.Records as records;
+ghost use Rattle.rv_verify.specs.Noting.{HasNotedOf};
+ghost use Rattle.rv_verify.specs.Stages.{AreNew, CanTakeLine, HasFault, HasReadLines, HasReadNoting, IsAtHead};
+ghost use Rattle.rv_verify.specs.Stages.{StandsBehind, entries_of, epoch_of};
+ghost use Rattle.rv_verify.specs.Standing.{CanReadOn};
+ghost use Rattle.rv_verify.specs.Verdicts.{IsVerdictOn};
 
 use crate::verdict::AccountVerdict;
 use crate::verifier::Verifier;
@@ -15,9 +17,9 @@ use std::alloc::Global;
 /// The lines of an account that were read so far.
 #[derive(Drop)]
 pub(crate) struct Stage {
-    // Behind the first line, if that says an epoch.
+    // What read the lines before the first bad one.
     pub(crate) verifier: Option<Verifier>,
-    // The number of the first bad line, behind which lines are only counted.
+    // The number of the first bad line.
     pub(crate) bad: Option<u64>,
 }
 
@@ -33,12 +35,27 @@ impl Stage {
         }
     }
 
+    // Behind the first line.
+    fn begun(alloc: Global, line: &[u8]) -> Result<Stage, NoMemory>
+        ensures ready { IfOk result CanTakeLine }
+        ensures read { IfOk result (λ stage. (r : records.Records) → AreNew r
+            → HasReadLines (line.now ∷ []) stage r) }
+    {
+        match read_head(line) {
+            Some((epoch, opened)) => Ok(Stage {
+                verifier: Some(Verifier::open(alloc, epoch, opened)?),
+                bad: None,
+            }),
+            None => Ok(Stage {
+                verifier: None,
+                bad: Some(1),
+            }),
+        }
+    }
+
     /// Whether no line was read.
     pub(crate) fn is_at_head(&self) -> bool
-        ensures yes { IsTrue result → (lines : List (List ℕ)) (r : records.Records)
-            → HasReadLines lines self.now r → lines ≡ [] }
-        ensures no { result ≡ false → (lines : List (List ℕ)) (r : records.Records)
-            → HasReadLines lines self.now r → lines ≢ [] }
+        ensures { IsTrue result ↔ IsAtHead self.now }
     {
         self.verifier.is_none() && self.bad.is_none()
     }
@@ -53,7 +70,7 @@ impl Stage {
         }
     }
 
-    /// Reads one line more, and hands its entry to the records, if it passed.
+    /// Reads one line more, and hands its entry to the records, if that passed.
     pub(crate) fn line(
         &mut self,
         alloc: Global,
@@ -71,16 +88,7 @@ impl Stage {
         }
         match &mut self.verifier {
             Some(verifier) => self.bad = bad_behind(alloc, verifier, records, line)?,
-            None => self.head(alloc, line)?,
-        }
-        Ok(())
-    }
-
-    // Reads the first line.
-    fn head(&mut self, alloc: Global, line: &[u8]) -> Result<(), NoMemory> {
-        match read_head(line) {
-            Some((epoch, opened)) => self.verifier = Some(Verifier::open(alloc, epoch, opened)?),
-            None => self.bad = Some(1),
+            None => *self = Stage::begun(alloc, line)?,
         }
         Ok(())
     }
@@ -101,6 +109,7 @@ impl Stage {
 
     /// The epoch that the first line says.
     pub(crate) fn epoch(&self) -> Option<u64>
+        ensures is { result ≡ epoch_of self.now.verifier }
         ensures noted { (lines : List (List ℕ)) (r : records.Records) → HasReadLines lines self.now r
             → HasNotedOf lines result r }
     {
@@ -111,7 +120,9 @@ impl Stage {
     }
 
     /// How many entries were read.
-    pub(crate) fn entries(&self) -> u64 {
+    pub(crate) fn entries(&self) -> u64
+        ensures { result ≡ entries_of self.now.verifier }
+    {
         match &self.verifier {
             Some(verifier) => verifier.entries(),
             None => 0,
@@ -125,7 +136,13 @@ fn bad_behind(
     verifier: &mut Verifier,
     records: &mut Records,
     line: &[u8],
-) -> Result<Option<u64>, NoMemory> {
+) -> Result<Option<u64>, NoMemory>
+    requires ready { CanReadOn verifier.old }
+    ensures ready { OnOk result (CanReadOn verifier.new) }
+    ensures lines { records.new.lines ≡ records.old.lines }
+    ensures read { IfOk result (λ bad. (before : List (List ℕ)) → HasReadNoting before verifier.old records.old
+        → StandsBehind (before ++ line.now ∷ []) (Some verifier.new) bad records.new) }
+{
     match verifier.line(alloc, records, line) {
         Ok(()) => Ok(None),
         Err(LineFault::Bad) => Ok(Some(verifier.entries() + 2)),

@@ -13,6 +13,7 @@ ghost use Rattle.rv_verify.specs.Verdicts.{IsVerdictOn, ReadsLongEntry, long_lim
 ghost use Rattle.rv_account.specs.Account.{Account, with_entry};
 ghost use Rattle.rv_replies.specs.Known.{HasPassedBy};
 ghost use Rattle.rv_replies.specs.Standing.{HasNoted};
+ghost use Rattle.rv_replies.specs.declared.records.Records as records;
 ghost use Rattle.rv_verify.specs.Standing.{HasRead, CanReadOn, entries_read};
 ghost use Rattle.rv_verify.specs.Reading.{IsStopped, NotesOneMore, NotesUnlessStopped, ReadsOneMore};
 ghost use Rattle.rv_verify.specs.Stages.{AreNew, HasReadNoting};
@@ -56,8 +57,8 @@ impl Verifier {
         requires epoch { FitsIdentifier epoch }
         requires opened { opened ≤ max_moment }
         ensures ready { IfOk result CanReadOn }
-        ensures read { IfOk result (λ v. (head : List ℕ) → ReadsHead head epoch opened
-            → HasRead (head ∷ []) v) }
+        ensures read { IfOk result (λ v. (head : List ℕ) (r : records.Records) → ReadsHead head epoch opened
+            → AreNew r → HasReadNoting (head ∷ []) v r) }
     {
         Ok(Verifier {
             machine: Machine::open(alloc, epoch, opened)?,
@@ -99,6 +100,7 @@ impl Verifier {
         requires few { self.old.entries < max_identifier }
         requires stopped { IsSome self.old.stop }
         ensures ready { OnOk result (CanReadOn self.new) }
+        ensures stopped { OnOk result (IsSome self.new.stop) }
         ensures read { OnOk result (ReadsOneMore self.old self.new line.now) }
         ensures bad { result ≡ Err LineFault.Bad
             → ((e : entries.Entry) → ¬ ReadsLongEntry line.now e) × (self.new ≡ self.old) }
