@@ -54,7 +54,7 @@ module _ (whole : List ℕ) (are : AreWholeLines whole) (line : List ℕ) (lacks
   pub line_more : lines (whole ++ (line ++ 10 ∷ [])) ≡ lines whole ++ line ∷ []
   line_more = lines_more whole (line ++ 10 ∷ []) are ∙ ap (λ l. lines whole ++ l) (lines_cut line [] lacks)
 
-last_line : (piece : List ℕ) → piece ≢ [] → Lacks 10 piece → lines piece ≡ piece ∷ []
+pub last_line : (piece : List ℕ) → piece ≢ [] → Lacks 10 piece → lines piece ≡ piece ∷ []
 last_line [] some lacks = absurd (some refl)
 last_line (x ∷ xs) some lacks = lines_last x xs lacks
 

@@ -5,7 +5,8 @@ ghost use Rattle.rv_lines.specs.Lines.{lines};
 ghost use Rattle.rv_verify.specs.Ends.{AreWholeLines};
 ghost use Rattle.rv_verify.specs.Noting.{HasNotedOf};
 ghost use Rattle.rv_verify.specs.Verdicts.{IsVerdictOn};
-ghost use Rattle.rv_verify.specs.Ongoing.{CanGoOn, HasGoneOn, IsFoundOfBytes, IsFoundOfLines};
+ghost use Rattle.rv_verify.specs.Ongoing.{CanGoOn, HasGoneOn, HasReadPart, IsFoundOfBytes};
+ghost use Rattle.rv_verify.specs.Ongoing.{IsFoundOfLines};
 ghost use Rattle.rv_verify.specs.Stages.{AreNew, HasReadLines, entries_of};
 
 use crate::fault::VerifyFault;
@@ -47,7 +48,7 @@ impl OngoingAudit {
     /// Before the first byte. It takes no memory yet.
     pub fn new(alloc: Global) -> OngoingAudit
         ensures ready { CanGoOn result }
-        ensures read { (r : records.Records) → AreNew r → HasReadLines [] result.stage r }
+        ensures read { (r : records.Records) → AreNew r → HasReadPart [] result r }
         ensures piece { result.piece.items ≡ [] }
     {
         OngoingAudit {
@@ -67,9 +68,9 @@ impl OngoingAudit {
         requires ready { CanGoOn self.old }
         ensures ready { OnOk result (CanGoOn self.new) }
         ensures lines { records.new.lines ≡ records.old.lines }
-        ensures read { (before : List (List ℕ)) (bytes : List ℕ) → HasReadLines before self.old.stage records.old
+        ensures read { (before : List (List ℕ)) (bytes : List ℕ) → HasReadPart before self.old records.old
             → B.remaining reader.old ≡ Some bytes
-            → IfOk result (HasGoneOn before (self.old.piece.items ++ bytes) self.new records.new
+            → IfOk result (HasGoneOn Until.Fault before (self.old.piece.items ++ bytes) self.new records.new
             (B.remaining reader.new)) }
     {
         self.read_until(alloc, reader, records, Until::Fault)
@@ -86,6 +87,11 @@ impl OngoingAudit {
         requires ready { CanGoOn self.old }
         ensures ready { OnOk result (CanGoOn self.new) }
         ensures lines { records.new.lines ≡ records.old.lines }
+        ensures ends { until ≡ Until.End → IfOk result (λ why. why ≡ Pause.End) }
+        ensures read { (before : List (List ℕ)) (bytes : List ℕ) → HasReadPart before self.old records.old
+            → B.remaining reader.old ≡ Some bytes
+            → IfOk result (HasGoneOn until before (self.old.piece.items ++ bytes) self.new records.new
+            (B.remaining reader.new)) }
     {
         for _turn in 0..u64::MAX {
             match more_of_line(reader, &mut self.piece)? {
@@ -121,21 +127,42 @@ impl OngoingAudit {
         self.stage.entries()
     }
 
-    /// What is told of an account that ends here: of its last bytes too, unless they are torn.
-    pub fn close(
-        mut self,
+    /// Reads the rest of an account, and tells what it is.
+    pub(crate) fn read_to_end<B: BufRead>(
+        &mut self,
+        alloc: Global,
+        reader: &mut B,
+        records: &mut Records,
+    ) -> Result<AccountFinding, VerifyFault>
+        requires ready { CanGoOn self.old }
+        ensures lines { records.new.lines ≡ records.old.lines }
+        ensures found { (bytes : List ℕ) → HasReadPart [] self.old records.old
+            → self.old.piece.items ≡ [] → B.remaining reader.old ≡ Some bytes
+            → IfOk result (IsFoundOfBytes bytes records.new) }
+    {
+        self.read_until(alloc, reader, records, Until::End)?;
+        self.finish(alloc, records)
+    }
+
+    // What is told of an account that ends here: of its last bytes too, unless they are torn.
+    fn finish(
+        &mut self,
         alloc: Global,
         records: &mut Records,
     ) -> Result<AccountFinding, VerifyFault>
-        requires ready { CanGoOn self }
+        requires ready { CanGoOn self.old }
         ensures lines { records.new.lines ≡ records.old.lines }
-        ensures found { (whole : List ℕ) → AreWholeLines whole → HasReadLines (lines whole) self.stage records.old
-            → IfOk result (IsFoundOfBytes (whole ++ self.piece.items) records.new) }
+        ensures found { (whole : List ℕ) → AreWholeLines whole
+            → HasReadPart (lines whole) self.old records.old
+            → IfOk result (IsFoundOfBytes (whole ++ self.old.piece.items) records.new) }
     {
         if self.piece.is_empty() {
             return Ok(self.told(false));
         }
-        if self.stage.is_at_head() || is_torn(alloc, &self.piece)? {
+        if self.stage.is_at_head() {
+            return Ok(self.told(true));
+        }
+        if is_torn(alloc, &self.piece)? {
             return Ok(self.told(true));
         }
         self.take_line(alloc, records)?;

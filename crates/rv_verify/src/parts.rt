@@ -34,9 +34,9 @@ pub(crate) fn more_of_line<B: BufRead>(
     reader: &mut B,
     line: &mut Vec<u8>,
 ) -> Result<NextPart, VerifyFault>
-    requires begun { All (λ byte. byte ≢ 10) line.old.items }
     ensures next { (bytes : List ℕ) → B.remaining reader.old ≡ Some bytes
-        → IfOk result (HasNextPart (line.old.items ++ bytes) (B.remaining reader.new) line.new.items) }
+        → All (λ byte. byte ≢ 10) line.old.items → IfOk result
+        (HasNextPart (line.old.items ++ bytes) (B.remaining reader.new) line.new.items) }
 {
     reader.read_until(b'\n', line)?;
     if line.is_empty() {

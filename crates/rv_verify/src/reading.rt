@@ -7,7 +7,7 @@ ghost use Rattle.rv_verify.specs.Stages.{AreNew};
 ghost use Rattle.rv_verify.specs.Verdicts.{ReadsLongEntry};
 
 use crate::fault::VerifyFault;
-use crate::ongoing::{OngoingAudit, Until};
+use crate::ongoing::OngoingAudit;
 use crate::verdict::AccountFinding;
 use rv_account::Entry;
 use rv_lines::{LineFault, read_entry};
@@ -33,8 +33,7 @@ pub fn verify<B: BufRead>(
     ensures lines { records.new.lines ≡ records.old.lines }
 {
     let mut audit = OngoingAudit::new(alloc);
-    audit.read_until(alloc, reader, records, Until::End)?;
-    audit.close(alloc, records)
+    audit.read_to_end(alloc, reader, records)
 }
 
 /// Whether a last piece, which is no first line, is read as no entry.

@@ -1,6 +1,10 @@
 //! Reads a record of replies.
-ghost use Rattle.std.specs.Prelude.{◌≡◌, ◌++◌, ℕ, List, Some, IfOk, IfSome};
+ghost use Rattle.std.specs.Prelude.{◌≡◌, [], ℕ, List, Some, IfOk, IfSome, OnOk};
+ghost use Rattle.std.specs.List.{AllZip};
+ghost use Rattle.rv_lines.specs.Lines.{lines};
+ghost use Rattle.rv_replies.specs.Standing.{IsRecordLine};
 ghost use Rattle.rv_verify.specs.Recording.{IsRecordOf};
+ghost use Rattle.rv_verify.specs.Stages.{AreNew};
 
 use crate::fault::VerifyFault;
 use crate::parts::{NextPart, next_line};
@@ -24,7 +28,11 @@ fn take_lines<B: BufRead>(
     reader: &mut B,
     line: &mut Vec<u8>,
     records: &mut Records,
-) -> Result<(), VerifyFault> {
+) -> Result<(), VerifyFault>
+    ensures taken { (bytes : List ℕ) → B.remaining reader.old ≡ Some bytes → records.old.lines.items ≡ []
+        → OnOk result (AllZip IsRecordLine (lines bytes) records.new.lines.items) }
+    ensures are_new { AreNew records.old → OnOk result (AreNew records.new) }
+{
     for _turn in 0..u64::MAX {
         match next_line(reader, line)? {
             NextPart::Line => records.take(alloc, line)?,

@@ -7,11 +7,11 @@ ghost use Rattle.rv_verify.specs.Stages.{StandsBehind, entries_of, epoch_of};
 ghost use Rattle.rv_verify.specs.Standing.{CanReadOn};
 ghost use Rattle.rv_verify.specs.Verdicts.{IsVerdictOn};
 
+use crate::fault::VerifyFault;
 use crate::verdict::AccountVerdict;
 use crate::verifier::Verifier;
 use rv_lines::{LineFault, read_head};
 use rv_replies::Records;
-use rv_text::NoMemory;
 use std::alloc::Global;
 
 /// The lines of an account that were read so far.
@@ -36,7 +36,7 @@ impl Stage {
     }
 
     // Behind the first line.
-    fn begun(alloc: Global, line: &[u8]) -> Result<Stage, NoMemory>
+    fn begun(alloc: Global, line: &[u8]) -> Result<Stage, VerifyFault>
         ensures ready { IfOk result CanTakeLine }
         ensures read { IfOk result (λ stage. (r : records.Records) → AreNew r
             → HasReadLines (line.now ∷ []) stage r) }
@@ -76,7 +76,7 @@ impl Stage {
         alloc: Global,
         records: &mut Records,
         line: &[u8],
-    ) -> Result<(), NoMemory>
+    ) -> Result<(), VerifyFault>
         requires ready { CanTakeLine self.old }
         ensures ready { OnOk result (CanTakeLine self.new) }
         ensures lines { records.new.lines ≡ records.old.lines }
@@ -136,7 +136,7 @@ fn bad_behind(
     verifier: &mut Verifier,
     records: &mut Records,
     line: &[u8],
-) -> Result<Option<u64>, NoMemory>
+) -> Result<Option<u64>, VerifyFault>
     requires ready { CanReadOn verifier.old }
     ensures ready { OnOk result (CanReadOn verifier.new) }
     ensures lines { records.new.lines ≡ records.old.lines }
@@ -146,6 +146,6 @@ fn bad_behind(
     match verifier.line(alloc, records, line) {
         Ok(()) => Ok(None),
         Err(LineFault::Bad) => Ok(Some(verifier.entries() + 2)),
-        Err(LineFault::NoMemory) => Err(NoMemory),
+        Err(LineFault::NoMemory) => Err(VerifyFault::NoMemory),
     }
 }
