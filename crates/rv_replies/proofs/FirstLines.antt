@@ -1,5 +1,6 @@
 -- Which line is the first of its key, with one line more.
-use Rattle.rv_replies.proofs.Words.{◌++◌, ◌<◌, ◌≡◌, ◌⊎◌, ◌∙◌, ◌∷◌, [], List, None, Option, Some, ap, arith, inl, inr}
+use Rattle.rv_replies.proofs.Words.{◌++◌, ◌<◌, ◌≡◌, ◌⊎◌, ◌∙◌, ◌∷◌, [], List, None, Option, Some, ap, arith}
+use Rattle.rv_replies.proofs.Words.{inl, inr}
 use Rattle.rv_replies.proofs.Words.{length, none-some, refl, same_Some, slice_get, subst, sym, ℕ, Key}
 use Rattle.std.proofs.Common.{◌&&◌, Bool, IsSome, cond, false, is_some, nat_eq, true, unwrap_or}
 use Rattle.std.proofs.lemmas.Bool.{false≢true}
@@ -102,7 +103,8 @@ module _ (lines : List Line) (last : Line) where
           of_key = refl;
           least = λ i other there of_key. elim (get-append_cases lines last (line.Told other) i there) [
             | inl inside ↦
-                let known = subst (λ (k : Key). IsSome (first_in old k)) of_key (knows.known i other inside.1) in
+                let known = subst (λ (k : Key). IsSome (first_in old k)) of_key (knows.known i other inside.1)
+                    in
                 absurd (false≢true (sym (ap is_some was) ∙ known))
             | inr end ↦ omega (arith, end.0)
           ];
@@ -115,7 +117,8 @@ module _ (lines : List Line) (last : Line) where
             let at : first_in new own.key ≡ Some index =
             subst (λ (k : Key). first_in new k ≡ Some index) same_key there in
             subst (λ (k : Key). IsFirst k index) (sym same_key)
-            (subst (IsFirst own.key) (same_Some _ _ (sym notes.own ∙ at)) (last_first (first_in old own.key) refl))
+            (subst (IsFirst own.key) (same_Some _ _ (sym notes.own ∙ at)) (last_first (first_in old own.key)
+                refl))
         | inr apart ↦ kept key index (sym (notes.others key apart) ∙ there)
       ]
 
@@ -146,7 +149,8 @@ module _ (lines : List Line) (f : Firsts) (knows : KnowsFirsts lines f) (i : ℕ
   first_known none = false≢true (sym (ap is_some none) ∙ knows.known i told there)
 
   module _ (index : ℕ) (is : first_in f told.key ≡ Some index) where
-    own_told : (own : Told) → slice_get lines index ≡ Some (line.Told own) → IsFirstOf lines told.key index own
+    own_told : (own : Told) → slice_get lines index ≡ Some (line.Told own)
+        → IsFirstOf lines told.key index own
     own_told own at =
         let first = knows.first told.key index is in
         subst (IsFirstOf lines told.key index)

@@ -1,7 +1,8 @@
 -- A record with one line more, before any entry.
 use Rattle.rv_replies.proofs.Words.{◌++◌, ◌≡◌, ◌∙◌, ◌∷◌, [], List, None, Option, Some, ap, inl, inr, refl}
 use Rattle.rv_replies.proofs.Words.{subst, sym, same_Some, none-some, slice_get, Account}
-use Rattle.rv_replies.proofs.Words.{is_named, length, Key, IsFateOf, NamesNowhere, IsAbout, fate_in, Entry, Fate, Fates}
+use Rattle.rv_replies.proofs.Words.{is_named, length, Key, IsFateOf, NamesNowhere, IsAbout, fate_in, Entry}
+use Rattle.rv_replies.proofs.Words.{Fate, Fates}
 use Rattle.std.proofs.Common.{IsSome, Ok, Err, OnOk, Result, is_some, unwrap_or}
 use Rattle.rv_account.specs.Account.{key_at}
 use Rattle.rv_rules.proofs.Deciding.{key_or_other}

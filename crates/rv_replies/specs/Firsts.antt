@@ -12,14 +12,16 @@ use Rattle.rv_replies.specs.declared.records.Line.TheVariants as line
 pub record IsFirstOf (lines : List Line) (key : Key) (index : ℕ) (told : Told) : Type 0 where
   pub there : slice_get lines index ≡ Some (line.Told told)
   pub of_key : told.key ≡ key
-  pub least : (i : ℕ) (other : Told) → slice_get lines i ≡ Some (line.Told other) → other.key ≡ key → index ≤ i
+  pub least : (i : ℕ) (other : Told) → slice_get lines i ≡ Some (line.Told other) → other.key ≡ key
+      → index ≤ i
 
 -- the first line of the reply's key is told, where that line tells another reply
 pub record DiffersFrom (lines : List Line) (told : Told) (result : Option ℕ) : Type 0 where
   pub first : ℕ
   pub own : Told
   pub is_first : IsFirstOf lines told.key first own
-  pub differs : ((own.reply ≡ told.reply) × (result ≡ None)) ⊎ ((own.reply ≢ told.reply) × (result ≡ Some first))
+  pub differs : ((own.reply ≡ told.reply) × (result ≡ None)) ⊎ ((own.reply ≢ told.reply)
+      × (result ≡ Some first))
 
 -- the first line of the key, as it is known
 abbrev pub first_in : Firsts → Key → Option ℕ
@@ -32,5 +34,6 @@ pub record NotesFirst (old new : Firsts) (key : Key) (index : ℕ) : Type 0 wher
 
 -- of each key that a line names the first line is known
 pub record KnowsFirsts (lines : List Line) (f : Firsts) : Type 0 where
-  pub first : (key : Key) (index : ℕ) → first_in f key ≡ Some index → (told : Told) × IsFirstOf lines key index told
+  pub first : (key : Key) (index : ℕ) → first_in f key ≡ Some index
+      → (told : Told) × IsFirstOf lines key index told
   pub known : (i : ℕ) (told : Told) → slice_get lines i ≡ Some (line.Told told) → IsSome (first_in f told.key)

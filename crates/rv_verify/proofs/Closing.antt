@@ -5,7 +5,8 @@ use Rattle.rv_account.specs.declared.entry.Entry.{Entry}
 use Rattle.rv_lines.specs.Lines.{lines}
 use Rattle.rv_lines.proofs.Cutting.{Lacks}
 use Rattle.rv_replies.specs.declared.records.Records.{Records}
-use Rattle.rv_verify.specs.Ends.{AreWholeLines, EndsWithPiece, HoldsOfLines, IsTornBehind, IsTornWith, IsWholeWith}
+use Rattle.rv_verify.specs.Ends.{AreWholeLines, EndsWithPiece, HoldsOfLines, IsTornBehind, IsTornWith}
+use Rattle.rv_verify.specs.Ends.{IsWholeWith}
 use Rattle.rv_verify.specs.Noting.{HasNotedOf}
 use Rattle.rv_verify.specs.Ongoing.{IsFoundOfBytes}
 use Rattle.rv_verify.specs.Reading.{IsPiece}
@@ -76,4 +77,5 @@ module _ (whole piece : List ℕ) (are : AreWholeLines whole) (lacks : Lacks 10 
         → IsTold (lines whole ++ piece ∷ []) → IsNoted (lines whole ++ piece ∷ [])
         → IsFoundOfBytes (whole ++ piece) r found
     found_last is some behind e reads told noted =
-        both false is (last_piece IsTold some behind e reads told) (last_piece IsNoted some behind e reads noted)
+        both false is (last_piece IsTold some behind e reads told) (last_piece IsNoted some behind e reads
+            noted)

@@ -21,7 +21,8 @@ onto_some x (l ∷ ls) = cons_some (x ∷ l) ls
 lines_some : (front rest : List ℕ) → lines (front ++ 10 ∷ rest) ≢ []
 lines_some [] rest = cons_some [] (lines rest)
 lines_some (x ∷ front) rest =
-    elim (x == 10) as (λ b. cond b ([] ∷ lines (front ++ 10 ∷ rest)) (onto_first x (lines (front ++ 10 ∷ rest)))
+    elim (x == 10) as (λ b. cond b ([] ∷ lines (front ++ 10 ∷ rest))
+        (onto_first x (lines (front ++ 10 ∷ rest)))
     ≢ []) [
       | true ↦ cons_some [] (lines (front ++ 10 ∷ rest))
       | false ↦ onto_some x (lines (front ++ 10 ∷ rest))
@@ -32,7 +33,7 @@ lines_behind [] rest = refl
 lines_behind (x ∷ front) rest =
     let last = lines (front ++ 10 ∷ []) in
     let behind : lines (front ++ 10 ∷ rest) ≡ last ++ lines rest = lines_behind front rest in
-    ap (λ ls. cond (x == 10) ([] ∷ ls) (onto_first x ls)) behind
+    ap (λ (ls : List (List ℕ)). cond (x == 10) ([] ∷ ls) (onto_first x ls)) behind
     ∙ elim (x == 10) as (λ b. cond b ([] ∷ (last ++ lines rest)) (onto_first x (last ++ lines rest))
     ≡ cond b ([] ∷ last) (onto_first x last) ++ lines rest) [
       | true ↦ refl

@@ -1,8 +1,9 @@
 -- What passed is read of the longest front of the lines that is read as a legal account with room.
-use Rattle.std.proofs.Common.{◌≡◌, ◌<◌, ◌≤◌, ◌+◌, ◌-◌, ◌∷◌, ◌++◌, ◌∙◌, ℕ, zero, suc, List, [], Option, None, Some}
+use Rattle.std.proofs.Common.{◌≡◌, ◌<◌, ◌≤◌, ◌+◌, ◌-◌, ◌∷◌, ◌++◌, ◌∙◌, ℕ, zero, suc, List, [], Option, None}
+use Rattle.std.proofs.Common.{Some}
 use Rattle.std.proofs.Common.{ap, arith, inl, inr, length, length-append, length-take, refl, subst, sym, take}
 use Rattle.std.proofs.lemmas.Bool.{cases_lt}
-use Rattle.std.proofs.lemmas.List.{take_all, take-append-le}
+use Rattle.std.proofs.lemmas.List.{take_all, take-take}
 use Rattle.rv_account.specs.declared.entry.Entry.{Entry}
 use Rattle.rv_account.specs.Account.{Account, with_entry}
 use Rattle.rv_audit.specs.declared.rule.Audit.TheVariants as tells
@@ -28,9 +29,9 @@ use Rattle.rv_verify.proofs.Telling.{bound, bound_named, front, front_more}
 stops : (p : Account) (e : Entry) (reason : StopReason) → Legal p → IsStopAt (state_of p) e reason
     → Legal (with_entry p e) → StaysInRoom (state_of (with_entry p e)) → ⊥
 stops p e (stop.Breaks rule) legal broken more room =
-    let told = bound p e rule legal broken tells.Legal more in legal_is_no_fault _ told.0 told.1
+    let told = bound p e rule legal broken tells.Legal more in legal_is_no_fault (length p.entries) told.0 told.1
 stops p e (stop.NotOpen entry) legal closed more room =
-    let told = bound_named p e legal closed.0 tells.Legal more in legal_is_no_fault _ told.0 told.1
+    let told = bound_named p e legal closed.0 tells.Legal more in legal_is_no_fault (length p.entries) told.0 told.1
 stops p e stop.BeyondLimits legal passes more room =
     passes.beyond (subst StaysInRoom (state_pushed p e) room)
 
@@ -59,13 +60,14 @@ module _ (lines : List (List ℕ)) (p a : Account) (reads : ReadsLong lines a) (
         account_one long_limits (take (suc m) lines) other (before a m) read
         (front_read_as long_limits m lines a reads) in
         let with_it : before other (many + 1) ≡ with_entry p behind.entry =
-        ap (λ x. before x (many + 1)) same ∙ front_of_front_account m more
+        ap (λ (x : Account). before x (many + 1)) same ∙ front_of_front_account m more
         ∙ front_more lines p a reads reason legal had_room behind in
         stops p behind.entry reason legal behind.is_stop
         (subst Legal with_it (Legal-before other (many + 1) legal'))
-        (subst (λ x. StaysInRoom (state_of x)) with_it (room.room (many + 1)))
+        (subst (λ (x : Account). StaysInRoom (state_of x)) with_it (room.room (many + 1)))
       where
-        front_of_front_account : (m : ℕ) → many + 1 < suc m → before (before a m) (many + 1) ≡ before a (many + 1)
+        front_of_front_account : (m : ℕ) → many + 1 < suc m
+            → before (before a m) (many + 1) ≡ before a (many + 1)
         front_of_front_account m more =
             let entries = take-take (many + 1) m a.entries (omega (arith, more)) in
             λ i. record { epoch = a.epoch; opened = a.opened; entries = entries i }
@@ -109,7 +111,8 @@ longest_bad lines n a bad of =
       longest = λ m other more most read. elim (cases_lt m n) [
         | inl less ↦
             of.longest m other more (omega (arith, less, bad.among, length-take (n - 1) lines))
-            (subst (λ ls. ReadsLong ls other) (sym (front_of_front m (n - 1) lines (omega (arith, less)))) read)
+            (subst (λ ls. ReadsLong ls other) (sym (front_of_front m (n - 1) lines (omega (arith, less))))
+                read)
         | inr past ↦
             let front = front_read long_limits n (take m lines) other bad.bad.from_one read in
             absurd (bad.bad.read_no_more front.0

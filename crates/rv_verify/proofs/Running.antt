@@ -18,7 +18,7 @@ use Rattle.rv_verify.specs.declared.ongoing.OngoingAudit.{OngoingAudit}
 use Rattle.rv_verify.specs.declared.ongoing.Pause.{Pause}
 use Rattle.rv_verify.specs.declared.ongoing.Pause.TheVariants as pause
 use Rattle.rv_verify.specs.declared.ongoing.Until.{Until}
-use Rattle.rv_verify.specs.declared.ongoing.Until.TheVariants as until
+use Rattle.rv_verify.specs.declared.ongoing.Until.TheVariants as far
 use Rattle.rv_verify.specs.declared.parts.NextPart.TheVariants as next
 use Rattle.rv_verify.specs.declared.stage.Stage.{Stage}
 use Rattle.rv_verify.specs.declared.verifier.StopReason.{StopReason}
@@ -61,11 +61,12 @@ pub record Runs (until : Until) (before : List (List ℕ)) (bytes : List ℕ) (o
   pub is_rest : rest ≡ o.piece.items ++ ahead
   pub run : HasRun before bytes o.stage r rest
   pub no_lf : Lacks 10 o.piece.items
-  pub no_fault : HadNoFault until (before ++ lines run.more) (length before) (length (before ++ lines run.more))
+  pub no_fault : HadNoFault until (before ++ lines run.more) (length before)
+      (length (before ++ lines run.more))
 
 nothing_between : (until : Until) (ls : List (List ℕ)) (n : ℕ) → HadNoFault until ls n n
-nothing_between until.End ls n = tt
-nothing_between until.Fault ls n = λ k more most. absurd (omega (arith, more, most))
+nothing_between far.End ls n = tt
+nothing_between far.Fault ls n = λ k more most. absurd (omega (arith, more, most))
 
 pub runs_first : (until : Until) (before : List (List ℕ)) (bytes : List ℕ) (o : OngoingAudit) (r : Records)
     (left : Option (List ℕ)) → HasReadPart before o r → left ≡ Some bytes
@@ -94,16 +95,16 @@ front_kept ls line n within is = subst TellsLegalAccount (sym (take-append-le n 
 kept_up_to : (until : Until) (ls : List (List ℕ)) (line : List ℕ) (from : ℕ)
     → HadNoFault until ls from (length ls)
     → HadNoFault until (ls ++ line ∷ []) from (length (ls ++ line ∷ []) - 1)
-kept_up_to until.End ls line from was = tt
-kept_up_to until.Fault ls line from was = λ n more most.
+kept_up_to far.End ls line from was = tt
+kept_up_to far.Fault ls line from was = λ n more most.
     let within : n ≤ length ls = omega (arith, most, length-append ls (line ∷ [])) in
     front_kept ls line n within (was n more within)
 
 more_up_to : (until : Until) (ls : List (List ℕ)) (line : List ℕ) (from : ℕ)
-    → HadNoFault until ls from (length ls) → (until ≡ until.Fault → TellsLegalAccount (ls ++ line ∷ []))
+    → HadNoFault until ls from (length ls) → (until ≡ far.Fault → TellsLegalAccount (ls ++ line ∷ []))
     → HadNoFault until (ls ++ line ∷ []) from (length (ls ++ line ∷ []))
-more_up_to until.End ls line from was now = tt
-more_up_to until.Fault ls line from was now = λ n more most. elim (cases_lt (length ls) n) [
+more_up_to far.End ls line from was now = tt
+more_up_to far.Fault ls line from was now = λ n more most. elim (cases_lt (length ls) n) [
   | inl past ↦
       subst TellsLegalAccount
       (sym (take_all n (ls ++ line ∷ []) (omega (arith, past, length-append ls (line ∷ []))))) (now refl)
@@ -136,7 +137,7 @@ module _ {until : Until} {before : List (List ℕ)} {bytes : List ℕ} {o : Ongo
   -- or a line more
   module _ (o' : OngoingAudit) (r' : Records)
       (has : HasNextPart (o.piece.items ++ runs.ahead) left' line next.Line)
-      (then : (ls : List (List ℕ)) → HasReadLines ls o.stage r → HasReadLines (ls ++ line ∷ []) o'.stage r')
+      (step : (ls : List (List ℕ)) → HasReadLines ls o.stage r → HasReadLines (ls ++ line ∷ []) o'.stage r')
       (piece : o'.piece.items ≡ []) where
     abbrev whole : List ℕ
     whole = runs.run.more ++ (line ++ 10 ∷ [])
@@ -152,7 +153,7 @@ module _ {until : Until} {before : List (List ℕ)} {bytes : List ℕ} {o : Ongo
           ∙ sym (append_assoc line (10 ∷ []) has.rest))
           ∙ sym (append_assoc runs.run.more (line ++ 10 ∷ []) has.rest);
       are_whole = whole_more runs.run.more runs.run.are_whole line has.is_next.1;
-      read = subst (λ ls. HasReadLines ls o'.stage r') (sym lines_now) (then read_so_far runs.run.read);
+      read = subst (λ ls. HasReadLines ls o'.stage r') (sym lines_now) (step read_so_far runs.run.read);
     }
 
     -- with a fault
@@ -170,7 +171,7 @@ module _ {until : Until} {before : List (List ℕ)} {bytes : List ℕ} {o : Ongo
     cons_not_nil ls none = omega (arith, ap length none, length-append ls (line ∷ []))
 
     -- or none
-    pub runs_on : (until ≡ until.Fault → HasFault o'.stage → ⊥) → Runs until before bytes o' r' left'
+    pub runs_on : (until ≡ far.Fault → HasFault o'.stage → ⊥) → Runs until before bytes o' r' left'
     runs_on none = record {
       ahead = has.rest;
       is_left = has.is_left;
@@ -181,5 +182,5 @@ module _ {until : Until} {before : List (List ℕ)} {bytes : List ℕ} {o : Ongo
       no_fault = subst (λ ls. HadNoFault until ls (length before) (length ls)) (sym lines_now)
           (more_up_to until read_so_far line (length before) runs.no_fault
           (λ is. unfaulted (read_so_far ++ line ∷ []) o'.stage.verifier o'.stage.bad r' (none is)
-          (cons_not_nil read_so_far) (then read_so_far runs.run.read)));
+          (cons_not_nil read_so_far) (step read_so_far runs.run.read)));
     }

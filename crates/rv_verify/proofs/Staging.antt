@@ -1,6 +1,7 @@
 -- What a stage is to the lines that were read, behind one more, and what it tells of them.
 use Rattle.std.proofs.Common.{◌≡◌, ◌≢◌, ◌+◌, ◌-◌, ◌∷◌, ◌++◌, ◌∙◌, ℕ, zero, suc, List, [], Option, None, Some}
-use Rattle.std.proofs.Common.{ap, arith, false, is_some, IsSome, length, length-append, refl, subst, sym, take}
+use Rattle.std.proofs.Common.{ap, arith, false, is_some, IsSome, length, length-append, refl, subst, sym}
+use Rattle.std.proofs.Common.{take}
 use Rattle.std.proofs.lemmas.List.{take_all, take-append-le}
 use Rattle.rv_account.specs.Account.{Account}
 use Rattle.rv_lines.specs.Entries.{IsNoNext}
@@ -115,7 +116,8 @@ front_nothing : (n : ℕ) (a : Account) → ¬ ReadsLong (take n []) a
 front_nothing zero a reads = reads_nothing a reads
 front_nothing (suc n) a reads = reads_nothing a reads
 
-noted_bad : (lines : List (List ℕ)) → FirstBadLong lines 1 → (n : ℕ) (a : Account) → ¬ ReadsLong (take n lines) a
+noted_bad : (lines : List (List ℕ)) → FirstBadLong lines 1 → (n : ℕ) (a : Account)
+    → ¬ ReadsLong (take n lines) a
 noted_bad lines bad zero a reads = reads_nothing a reads
 noted_bad lines bad (suc n) a reads =
     let front = front_read long_limits 1 (take (suc n) lines) a (omega arith) reads in

@@ -9,7 +9,7 @@ use Rattle.rv_verify.specs.Stages.{CanTakeLine, HasFault, HasReadLines}
 use Rattle.rv_verify.specs.Verdicts.{IsVerdictOn, TellsLegalAccount}
 use Rattle.rv_verify.specs.declared.ongoing.OngoingAudit.{OngoingAudit}
 use Rattle.rv_verify.specs.declared.ongoing.Until.{Until}
-use Rattle.rv_verify.specs.declared.ongoing.Until.TheVariants as until
+use Rattle.rv_verify.specs.declared.ongoing.Until.TheVariants as far
 use Rattle.rv_verify.specs.declared.stage.Stage.{Stage}
 use Rattle.rv_verify.specs.declared.ongoing.Pause.{Pause}
 use Rattle.rv_verify.specs.declared.ongoing.Pause.TheVariants as pause
@@ -38,8 +38,8 @@ AreLegalUpTo lines from to = (n : ℕ) → from < n → n ≤ to → TellsLegalA
 
 -- where a fault ends the reading, there was none before
 abbrev pub HadNoFault : Until → List (List ℕ) → ℕ → ℕ → Type 0
-HadNoFault until.End lines from to = Unit {0}
-HadNoFault until.Fault lines from to = AreLegalUpTo lines from to
+HadNoFault far.End lines from to = Unit {0}
+HadNoFault far.Fault lines from to = AreLegalUpTo lines from to
 
 -- how many of these lines had no fault: all at the end; else all but the last
 abbrev pub good_lines : Pause → List (List ℕ) → ℕ
@@ -52,7 +52,8 @@ HasLeft o rest left pause.End = (left ≡ Some []) × (o.piece.items ≡ rest)
 HasLeft o rest left pause.Fault = (left ≡ Some rest) × (o.piece.items ≡ []) × HasFault o.stage
 
 -- it read on, and paused for this reason
-pub record HasGoneOn (until : Until) (before : List (List ℕ)) (bytes : List ℕ) (o : OngoingAudit) (r : Records)
+pub record HasGoneOn (until : Until) (before : List (List ℕ)) (bytes : List ℕ) (o : OngoingAudit)
+    (r : Records)
     (left : Option (List ℕ)) (why : Pause) : Type 0 where
   pub rest : List ℕ
   pub run : HasRun before bytes o.stage r rest

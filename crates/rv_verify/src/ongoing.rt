@@ -36,8 +36,8 @@ pub enum Pause {
     Fault,
 }
 
-/// An audit of an account whose bytes come bit by bit. It keeps what is open, the clients, and the last bytes,
-/// which lack their LF.
+/// An audit of an account whose bytes come bit by bit. It keeps what is open, the clients, and the last
+/// bytes, which lack their LF.
 #[derive(Drop)]
 pub struct OngoingAudit {
     pub(crate) stage: Stage,
@@ -68,8 +68,8 @@ impl OngoingAudit {
         requires ready { CanGoOn self.old }
         ensures ready { OnOk result (CanGoOn self.new) }
         ensures lines { records.new.lines ≡ records.old.lines }
-        ensures read { (before : List (List ℕ)) (bytes : List ℕ) → HasReadPart before self.old records.old
-            → B.remaining reader.old ≡ Some bytes
+        ensures read { (before : List (List ℕ)) (bytes : List ℕ)
+            → HasReadPart before self.old records.old → B.remaining reader.old ≡ Some bytes
             → IfOk result (HasGoneOn Until.Fault before (self.old.piece.items ++ bytes) self.new records.new
             (B.remaining reader.new)) }
     {
@@ -88,8 +88,8 @@ impl OngoingAudit {
         ensures ready { OnOk result (CanGoOn self.new) }
         ensures lines { records.new.lines ≡ records.old.lines }
         ensures ends { until ≡ Until.End → IfOk result (λ why. why ≡ Pause.End) }
-        ensures read { (before : List (List ℕ)) (bytes : List ℕ) → HasReadPart before self.old records.old
-            → B.remaining reader.old ≡ Some bytes
+        ensures read { (before : List (List ℕ)) (bytes : List ℕ)
+            → HasReadPart before self.old records.old → B.remaining reader.old ≡ Some bytes
             → IfOk result (HasGoneOn until before (self.old.piece.items ++ bytes) self.new records.new
             (B.remaining reader.new)) }
     {
@@ -111,7 +111,8 @@ impl OngoingAudit {
         requires ready { CanGoOn self.old }
         ensures ready { OnOk result (CanGoOn self.new) }
         ensures lines { records.new.lines ≡ records.old.lines }
-        ensures read { OnOk result ((before : List (List ℕ)) → HasReadLines before self.old.stage records.old
+        ensures read { OnOk result ((before : List (List ℕ))
+            → HasReadLines before self.old.stage records.old
             → HasReadLines (before ++ self.old.piece.items ∷ []) self.new.stage records.new) }
         ensures piece { OnOk result (self.new.piece.items ≡ []) }
     {
@@ -157,38 +158,39 @@ impl OngoingAudit {
             → IfOk result (IsFoundOfBytes (whole ++ self.old.piece.items) records.new) }
     {
         if self.piece.is_empty() {
-            return Ok(self.told(false));
+            return Ok(finding_on(&mut self.stage, false));
         }
         if self.stage.is_at_head() {
-            return Ok(self.told(true));
+            return Ok(finding_on(&mut self.stage, true));
         }
         if is_torn(alloc, &self.piece)? {
-            return Ok(self.told(true));
+            return Ok(finding_on(&mut self.stage, true));
         }
         self.take_line(alloc, records)?;
-        Ok(self.told(false))
+        Ok(finding_on(&mut self.stage, false))
     }
 
     /// What is told of an account that goes on: of its whole lines alone.
-    pub fn break_off(mut self) -> AccountFinding
+    pub fn break_off(self) -> AccountFinding
         ensures found { (read : List (List ℕ)) (r : records.Records) → HasReadLines read self.stage r
             → IsFoundOfLines read r result }
     {
-        self.told(true)
+        let mut audit = self;
+        finding_on(&mut audit.stage, true)
     }
+}
 
-    // What is told of the lines that were read, with this of the end.
-    fn told(&mut self, torn: bool) -> AccountFinding
-        ensures torn { result.torn ≡ torn }
-        ensures verdict { (read : List (List ℕ)) (r : records.Records) → HasReadLines read self.old.stage r
-            → IsVerdictOn read result.verdict }
-        ensures noted { (read : List (List ℕ)) (r : records.Records) → HasReadLines read self.old.stage r
-            → HasNotedOf read result.epoch r }
-    {
-        AccountFinding {
-            epoch: self.stage.epoch(),
-            verdict: self.stage.verdict(),
-            torn,
-        }
+// What is told of the lines that were read, with this of the end.
+fn finding_on(stage: &mut Stage, torn: bool) -> AccountFinding
+    ensures torn { result.torn ≡ torn }
+    ensures verdict { (read : List (List ℕ)) (r : records.Records) → HasReadLines read stage.old r
+        → IsVerdictOn read result.verdict }
+    ensures noted { (read : List (List ℕ)) (r : records.Records) → HasReadLines read stage.old r
+        → HasNotedOf read result.epoch r }
+{
+    AccountFinding {
+        epoch: stage.epoch(),
+        verdict: stage.verdict(),
+        torn,
     }
 }

@@ -2,8 +2,8 @@
 ghost use Rattle.std.specs.Prelude.{◌≡◌, ◌↔◌, ◌∷◌, ◌++◌, [], ℕ, List, None, Some, IfOk, IsTrue, OnOk};
 ghost use Rattle.rv_replies.specs.declared.records.Records as records;
 ghost use Rattle.rv_verify.specs.Noting.{HasNotedOf};
-ghost use Rattle.rv_verify.specs.Stages.{AreNew, CanTakeLine, HasFault, HasReadLines, HasReadNoting, IsAtHead};
-ghost use Rattle.rv_verify.specs.Stages.{StandsBehind, entries_of, epoch_of};
+ghost use Rattle.rv_verify.specs.Stages.{AreNew, CanTakeLine, HasFault, HasReadLines, HasReadNoting};
+ghost use Rattle.rv_verify.specs.Stages.{IsAtHead, StandsBehind, entries_of, epoch_of};
 ghost use Rattle.rv_verify.specs.Standing.{CanReadOn};
 ghost use Rattle.rv_verify.specs.Verdicts.{IsVerdictOn};
 
@@ -140,7 +140,8 @@ fn bad_behind(
     requires ready { CanReadOn verifier.old }
     ensures ready { OnOk result (CanReadOn verifier.new) }
     ensures lines { records.new.lines ≡ records.old.lines }
-    ensures read { IfOk result (λ bad. (before : List (List ℕ)) → HasReadNoting before verifier.old records.old
+    ensures read { IfOk result (λ bad. (before : List (List ℕ))
+        → HasReadNoting before verifier.old records.old
         → StandsBehind (before ++ line.now ∷ []) (Some verifier.new) bad records.new) }
 {
     match verifier.line(alloc, records, line) {
