@@ -75,9 +75,11 @@ front_read_as limits k lines a reads = record {
 pub front_read : (limits : LineLimits) (n : ℕ) (lines : List (List ℕ)) (a : Account) → 1 ≤ n
     → ReadsAccountUnder limits lines a → (b : Account) × ReadsAccountUnder limits (take n lines) b
 front_read limits zero lines a some reads = absurd (omega arith)
-front_read limits (suc k) lines a some reads =
-    (record { epoch = a.epoch; opened = a.opened; entries = take k a.entries }, front_read_as limits k lines a
-        reads)
+front_read limits (suc k) lines a some reads = (
+  record { epoch = a.epoch; opened = a.opened; entries = take k a.entries },
+  front_read_as limits k lines a
+      reads,
+)
 
 pub read_has_no_bad : (limits : LineLimits) (lines : List (List ℕ)) (a : Account) (n : ℕ)
     → ReadsAccountUnder limits lines a → ¬ FirstBadLineUnder limits lines n

@@ -7,7 +7,7 @@ use Rattle.std.proofs.lemmas.Bool.{false≢true}
 use Rattle.std.specs.Map.{lookup}
 use Rattle.rv_rules.proofs.Deciding.{key_or_other}
 use Rattle.rv_rules.proofs.Places.{get-append, get-append_cases, get-append_end, within}
-use Rattle.rv_replies.specs.Firsts.{DiffersFrom, IsFirstOf, KnowsFirsts, NotesFirst, first_in}
+use Rattle.rv_replies.specs.Firsts.{DiffersFrom, IsFirstOf, IsNamedIfOther, KnowsFirsts, NotesFirst, first_in}
 use Rattle.rv_replies.specs.Known.{key_name}
 use Rattle.rv_replies.specs.declared.fates.Name.{Name}
 use Rattle.rv_replies.specs.declared.findings.Told.{Told}
@@ -48,7 +48,7 @@ notes_known f key index some =
 pub notes_new : (old new : Firsts) (key : Key) (index : ℕ) (name : Name) → name ≡ key_name key
     → is_some (first_in old key) ≡ false
     → ((q : Name) → lookup (same q) new.firsts.entries
-        ≡ cond (same name q) (Some index) (lookup (same q) old.firsts.entries))
+    ≡ cond (same name q) (Some index) (lookup (same q) old.firsts.entries))
     → NotesFirst old new key index
 notes_new old new key index name is none puts = record {
   own = puts (key_name key)
@@ -104,7 +104,7 @@ module _ (lines : List Line) (last : Line) where
           least = λ i other there of_key. elim (get-append_cases lines last (line.Told other) i there) [
             | inl inside ↦
                 let known = subst (λ (k : Key). IsSome (first_in old k)) of_key (knows.known i other inside.1)
-                    in
+                in
                 absurd (false≢true (sym (ap is_some was) ∙ known))
             | inr end ↦ omega (arith, end.0)
           ];
@@ -118,7 +118,7 @@ module _ (lines : List Line) (last : Line) where
             subst (λ (k : Key). first_in new k ≡ Some index) same_key there in
             subst (λ (k : Key). IsFirst k index) (sym same_key)
             (subst (IsFirst own.key) (same_Some _ _ (sym notes.own ∙ at)) (last_first (first_in old own.key)
-                refl))
+            refl))
         | inr apart ↦ kept key index (sym (notes.others key apart) ∙ there)
       ]
 
@@ -148,23 +148,28 @@ module _ (lines : List Line) (f : Firsts) (knows : KnowsFirsts lines f) (i : ℕ
   pub first_known : first_in f told.key ≡ None → ⊥
   first_known none = false≢true (sym (ap is_some none) ∙ knows.known i told there)
 
-  module _ (index : ℕ) (is : first_in f told.key ≡ Some index) where
-    own_told : (own : Told) → slice_get lines index ≡ Some (line.Told own)
-        → IsFirstOf lines told.key index own
-    own_told own at =
-        let first = knows.first told.key index is in
-        subst (IsFirstOf lines told.key index)
-        (same_told first.0 own (same_Some _ _ (sym first.1.there ∙ at))) first.1
+  pub differs : (index : ℕ) (result : Option ℕ) → first_in f told.key ≡ Some index
+      → ((own : Told) → slice_get lines index ≡ Some (line.Told own) → IsNamedIfOther own told index result)
+      → DiffersFrom lines told result
+  differs index result is named =
+      let first = knows.first told.key index is in
+      record {
+        first = index;
+        own = first.0;
+        is_first = first.1;
+        differs = named first.0 first.1.there;
+      }
 
-    pub tells_one : ((own : Told) → slice_get lines index ≡ Some (line.Told own) → ⊥) → ⊥
-    tells_one none = let first = knows.first told.key index is in none first.0 first.1.there
+-- what is told of a line's reply is told of the reply that the line tells
+pub named_one : (lines : List Line) (index : ℕ) (own other told : Told) (result : Option ℕ)
+    → slice_get lines index ≡ Some (line.Told own) → slice_get lines index ≡ Some (line.Told other)
+    → IsNamedIfOther own told index result → IsNamedIfOther other told index result
+named_one lines index own other told result at again is =
+    subst (λ (t : Told). IsNamedIfOther t told index result)
+    (same_told own other (same_Some _ _ (sym at ∙ again))) is
 
-    pub differs : (own : Told) (result : Option ℕ) → slice_get lines index ≡ Some (line.Told own)
-        → ((own.reply ≡ told.reply) × (result ≡ None))
-        ⊎ ((own.reply ≡ told.reply → ⊥) × (result ≡ Some index)) → DiffersFrom lines told result
-    differs own result at either = record {
-      first = index;
-      own = own;
-      is_first = own_told own at;
-      differs = either;
-    }
+pub differs_one : (lines : List Line) (index : ℕ) (own other : Told) (result : Option ℕ)
+    → slice_get lines index ≡ Some (line.Told own) → slice_get lines index ≡ Some (line.Told other)
+    → DiffersFrom lines own result → DiffersFrom lines other result
+differs_one lines index own other result at again is =
+    subst (λ (t : Told). DiffersFrom lines t result) (same_told own other (same_Some _ _ (sym at ∙ again))) is

@@ -15,13 +15,17 @@ pub record IsFirstOf (lines : List Line) (key : Key) (index : ℕ) (told : Told)
   pub least : (i : ℕ) (other : Told) → slice_get lines i ≡ Some (line.Told other) → other.key ≡ key
       → index ≤ i
 
+-- the line of the one reply is told, where the other one differs
+abbrev pub IsNamedIfOther : Told → Told → ℕ → Option ℕ → Type 0
+IsNamedIfOther own told index result =
+    ((own.reply ≡ told.reply) × (result ≡ None)) ⊎ ((own.reply ≢ told.reply) × (result ≡ Some index))
+
 -- the first line of the reply's key is told, where that line tells another reply
 pub record DiffersFrom (lines : List Line) (told : Told) (result : Option ℕ) : Type 0 where
   pub first : ℕ
   pub own : Told
   pub is_first : IsFirstOf lines told.key first own
-  pub differs : ((own.reply ≡ told.reply) × (result ≡ None)) ⊎ ((own.reply ≢ told.reply)
-      × (result ≡ Some first))
+  pub differs : IsNamedIfOther own told first result
 
 -- the first line of the key, as it is known
 abbrev pub first_in : Firsts → Key → Option ℕ

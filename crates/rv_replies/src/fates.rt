@@ -14,7 +14,7 @@ use rv_text::{Call, Key, NoMemory};
 use std::alloc::Global;
 
 // A key, as it is looked up.
-#[derive(Clone, Copy, Debug, PartialEq, Eq, Hash)]
+#[derive(Clone, Copy, PartialEq, Eq, Hash)]
 pub(crate) struct Name {
     epoch: u64,
     client: u64,

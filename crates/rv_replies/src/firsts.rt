@@ -1,5 +1,5 @@
 //! The first line of each key.
-ghost use Rattle.std.specs.Prelude.{◌≡◌, None, Some, OnOk, unwrap_or};
+ghost use Rattle.std.specs.Prelude.{◌≡◌, None, OnOk, is_some};
 ghost use Rattle.rv_text.specs.declared.message.Key as message;
 
 use crate::fates::Name;
@@ -31,11 +31,17 @@ impl Firsts {
         self.firsts.get(&Name::of(key)).copied()
     }
 
+    fn knows(&self, key: &Key) -> bool
+        ensures { result ≡ is_some (first_in self.now key.now) }
+    {
+        self.get(key).is_some()
+    }
+
     /// Notes a line of the key behind all others. Fails only if memory was refused.
     pub(crate) fn note(&mut self, key: &Key, line: usize) -> Result<(), NoMemory>
         ensures { OnOk result (NotesFirst self.old self.new key.now line) }
     {
-        if self.get(key).is_none() {
+        if !self.knows(key) {
             self.firsts.insert(Name::of(key), line)?;
         }
         Ok(())

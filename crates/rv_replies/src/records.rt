@@ -3,7 +3,8 @@ ghost use Rattle.std.specs.Prelude.{◌≡◌, ◌<◌, ◌++◌, ◌==◌, ◌�
 ghost use Rattle.std.specs.Prelude.{◌↔◌, IsTrue, None, Some, option_map, slice_get};
 ghost use Rattle.rv_account.specs.Account.{Account, with_entry};
 ghost use Rattle.rv_rules.specs.Legal.{Legal};
-ghost use Rattle.rv_replies.specs.declared.findings.Told as told;
+ghost use Rattle.rv_replies.specs.Firsts.{IsNamedIfOther};
+ghost use Rattle.rv_replies.specs.declared.findings.Told as replies;
 
 use crate::fate::Fate;
 use crate::fates::Fates;
@@ -16,7 +17,7 @@ use rv_text::NoMemory;
 use std::alloc::{AllocError, Global};
 
 /// A growth of memory was refused.
-#[derive(Clone, Copy, Debug, PartialEq, Eq)]
+#[derive(Clone, Copy)]
 pub struct OutOfMemory;
 
 impl From<AllocError> for OutOfMemory {
@@ -26,7 +27,7 @@ impl From<AllocError> for OutOfMemory {
 }
 
 /// A line of a record.
-#[derive(Debug, Drop)]
+#[derive(Drop)]
 pub enum Line {
     /// A reply that a client was told.
     Told(Told),
@@ -144,7 +145,7 @@ impl Records {
     /// What became of the request that the line with an index tells of, if it tells of one.
     pub fn fate(&self, index: usize) -> Option<&Fate>
         requires { index < length self.now.lines.items }
-        ensures { (a : Account) (told : told.Told)
+        ensures { (a : Account) (told : replies.Told)
             → slice_get self.now.lines.items index ≡ Some (kinds.Told told) → HasNoted self.now a
             → (fate : fates.Fate) × (option_map (λ f. f.now) result ≡ Some fate)
             × IsFateOf a.entries told.key fate }
@@ -158,7 +159,7 @@ impl Records {
     /// The first line that tells of the same request as the line with an index, if it tells another reply.
     pub fn differs_from(&self, index: usize) -> Option<usize>
         requires { index < length self.now.lines.items }
-        ensures told { (a : Account) (told : told.Told)
+        ensures told { (a : Account) (told : replies.Told)
             → slice_get self.now.lines.items index ≡ Some (kinds.Told told) → HasNoted self.now a
             → DiffersFrom self.now.lines.items told result }
         ensures flawed { (flaw : Flaw) → slice_get self.now.lines.items index ≡ Some (kinds.Flawed flaw)
@@ -175,12 +176,20 @@ impl Records {
         ensures { (a : Account) (i : ℕ) → slice_get self.now.lines.items i ≡ Some (kinds.Told told.now)
             → HasNoted self.now a → DiffersFrom self.now.lines.items told.now result }
     {
-        let first = self.firsts.get(&told.key)?;
-        let own = self.told_at(first)?;
-        if is_same_reply(&own.reply, &told.reply) {
-            None
-        } else {
-            Some(first)
+        match self.firsts.get(&told.key) {
+            Some(first) => self.other_at(first, told),
+            None => None,
+        }
+    }
+
+    // This line, if it tells another reply.
+    fn other_at(&self, line: usize, told: &Told) -> Option<usize>
+        ensures { (own : replies.Told) → slice_get self.now.lines.items line ≡ Some (kinds.Told own)
+            → IsNamedIfOther own told.now line result }
+    {
+        match self.told_at(line) {
+            Some(own) => line_if_other(own, told, line),
+            None => None,
         }
     }
 
@@ -188,7 +197,7 @@ impl Records {
     fn told_at(&self, index: usize) -> Option<&Told>
         ensures some { IfSome result
             (λ told. slice_get self.now.lines.items index ≡ Some (kinds.Told told.now)) }
-        ensures none { result ≡ None → (told : told.Told)
+        ensures none { result ≡ None → (told : replies.Told)
             → ¬ (slice_get self.now.lines.items index ≡ Some (kinds.Told told)) }
     {
         match self.lines.get(index)? {
@@ -200,7 +209,7 @@ impl Records {
     // The finding on a line.
     fn on_line(&self, line: &Line, epoch: u64) -> Finding
         ensures { (a : Account) → Legal a → a.epoch ≡ epoch → IsAbout self.now.fates a
-            → ((told : told.Told) → line.now ≡ kinds.Told told → IsSome (fate_in self.now.fates told.key))
+            → ((told : replies.Told) → line.now ≡ kinds.Told told → IsSome (fate_in self.now.fates told.key))
             → IsLineFinding a line.now result }
     {
         match line {
@@ -219,5 +228,16 @@ impl Records {
             → Legal a → a.epoch ≡ epoch → HasNoted self.now a → IsLineFinding a line result }
     {
         self.on_line(self.line(index), epoch)
+    }
+}
+
+// The line of a reply, if that is another one.
+fn line_if_other(own: &Told, told: &Told, line: usize) -> Option<usize>
+    ensures { IsNamedIfOther own.now told.now line result }
+{
+    if is_same_reply(&own.reply, &told.reply) {
+        None
+    } else {
+        Some(line)
     }
 }

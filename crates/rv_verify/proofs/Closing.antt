@@ -78,4 +78,4 @@ module _ (whole piece : List ℕ) (are : AreWholeLines whole) (lacks : Lacks 10 
         → IsFoundOfBytes (whole ++ piece) r found
     found_last is some behind e reads told noted =
         both false is (last_piece IsTold some behind e reads told) (last_piece IsNoted some behind e reads
-            noted)
+        noted)

@@ -22,7 +22,7 @@ lines_some : (front rest : List ℕ) → lines (front ++ 10 ∷ rest) ≢ []
 lines_some [] rest = cons_some [] (lines rest)
 lines_some (x ∷ front) rest =
     elim (x == 10) as (λ b. cond b ([] ∷ lines (front ++ 10 ∷ rest))
-        (onto_first x (lines (front ++ 10 ∷ rest)))
+    (onto_first x (lines (front ++ 10 ∷ rest)))
     ≢ []) [
       | true ↦ cons_some [] (lines (front ++ 10 ∷ rest))
       | false ↦ onto_some x (lines (front ++ 10 ∷ rest))

@@ -15,6 +15,7 @@ use Rattle.rv_rules.specs.Legal.{Legal, before}
 use Rattle.rv_rules.proofs.Fronts.{Legal-before}
 use Rattle.rv_state.specs.After.{state_of}
 use Rattle.rv_state.proofs.Agreed.{state_pushed}
+use Rattle.rv_verify.specs.Laws.{LegalIsNoted}
 use Rattle.rv_verify.specs.Noting.{IsLongestLegal}
 use Rattle.rv_verify.specs.Reading.{IsBadAt}
 use Rattle.rv_verify.specs.Standing.{HasRead, IsStopAt, StandsAt, StopsBehind}
@@ -112,10 +113,21 @@ longest_bad lines n a bad of =
         | inl less ↦
             of.longest m other more (omega (arith, less, bad.among, length-take (n - 1) lines))
             (subst (λ ls. ReadsLong ls other) (sym (front_of_front m (n - 1) lines (omega (arith, less))))
-                read)
+            read)
         | inr past ↦
             let front = front_read long_limits n (take m lines) other bad.bad.from_one read in
             absurd (bad.bad.read_no_more front.0
             (subst (λ ls. ReadsLong ls front.0) (front_of_front n m lines (omega (arith, past))) front.1))
       ];
     }
+
+-- of a legal account it is all lines
+pub legal_is_noted : LegalIsNoted
+legal_is_noted lines a noted reads legal room of = elim (cases_lt of.front (length lines)) [
+  | inl less ↦
+      absurd (of.longest (length lines) a less (omega arith)
+      (subst (λ ls. ReadsLong ls a) (sym (take_all (length lines) lines (omega arith))) reads) legal room)
+  | inr past ↦
+      account_one long_limits lines noted a
+      (subst (λ ls. ReadsLong ls noted) (take_all of.front lines (omega (arith, past))) of.read) reads
+]

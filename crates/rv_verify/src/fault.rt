@@ -6,7 +6,7 @@ use std::io;
 use std::io::ErrorKind;
 
 /// Why an account is not read to its end.
-#[derive(Clone, Copy, Debug, PartialEq, Eq)]
+#[derive(Clone, Copy)]
 pub enum VerifyFault {
     /// A read failed.
     ReadFault,

@@ -19,7 +19,7 @@ use std::alloc::Global;
 use std::io::BufRead;
 
 /// How far to read.
-#[derive(Clone, Copy, Debug, PartialEq, Eq)]
+#[derive(Clone, Copy)]
 pub(crate) enum Until {
     /// To the reader's end.
     End,
@@ -28,7 +28,7 @@ pub(crate) enum Until {
 }
 
 /// Why a reading pauses.
-#[derive(Clone, Copy, Debug, PartialEq, Eq)]
+#[derive(Clone, Copy)]
 pub enum Pause {
     /// The reader has no more bytes for now.
     End,
@@ -99,7 +99,7 @@ impl OngoingAudit {
                 NextPart::Piece => return Ok(Pause::End),
                 NextPart::End => return Ok(Pause::End),
             }
-            if until == Until::Fault && self.stage.has_fault() {
+            if matches!(until, Until::Fault) && self.stage.has_fault() {
                 return Ok(Pause::Fault);
             }
         }

@@ -7,7 +7,7 @@ use crate::fault::VerifyFault;
 use std::io::BufRead;
 
 /// What a reader has next.
-#[derive(Clone, Copy, Debug, PartialEq, Eq)]
+#[derive(Clone, Copy)]
 pub(crate) enum NextPart {
     /// A line, which ended by LF.
     Line,

@@ -30,7 +30,7 @@ use rv_text::{MAX_IDENTIFIER, NoMemory};
 use std::alloc::Global;
 
 /// Why a verifier follows an account no further.
-#[derive(Debug, Drop)]
+#[derive(Drop)]
 pub(crate) enum StopReason {
     /// An entry breaks this rule first, in the order of an audit.
     Breaks(Rule),

@@ -11,5 +11,5 @@ invariant-loop-turn g l = record {
   runs : (before : List (List ℕ)) (bytes : List ℕ) → HasReadPart before l.initial.self l.initial.records
       → g.B.Read.remaining l.initial.reader ≡ Some bytes
       → Runs l.until before (l.initial.self.piece.items ++ bytes) l.self l.records
-          (g.B.Read.remaining l.reader);
+      (g.B.Read.remaining l.reader);
 }
