@@ -30,9 +30,11 @@ use Rattle.rv_verify.proofs.Telling.{bound, bound_named, front, front_more}
 stops : (p : Account) (e : Entry) (reason : StopReason) → Legal p → IsStopAt (state_of p) e reason
     → Legal (with_entry p e) → StaysInRoom (state_of (with_entry p e)) → ⊥
 stops p e (stop.Breaks rule) legal broken more room =
-    let told = bound p e rule legal broken tells.Legal more in legal_is_no_fault (length p.entries) told.0 told.1
+    let told = bound p e rule legal broken tells.Legal more in legal_is_no_fault (length p.entries) told.0
+    told.1
 stops p e (stop.NotOpen entry) legal closed more room =
-    let told = bound_named p e legal closed.0 tells.Legal more in legal_is_no_fault (length p.entries) told.0 told.1
+    let told = bound_named p e legal closed.0 tells.Legal more in legal_is_no_fault (length p.entries) told.0
+    told.1
 stops p e stop.BeyondLimits legal passes more room =
     passes.beyond (subst StaysInRoom (state_pushed p e) room)
 

@@ -10,5 +10,5 @@ returns-in-Some c a i there noted =
 
 pub returns-in-None : goal.returns-in-None
 returns-in-None c a i there noted =
-    absurd (first_known c.args.self.now.lines.items c.args.self.now.firsts noted.firsts i c.args.told.now there
-    (sym c.get.ensures ∙ c.in-None.is))
+    absurd (first_known c.args.self.now.lines.items c.args.self.now.firsts noted.firsts i c.args.told.now
+    there (sym c.get.ensures ∙ c.in-None.is))
