@@ -57,19 +57,13 @@ module _ {bytes : List ℕ} {r : Records} {left : Option (List ℕ)} (taken : Ta
 
   -- a last piece is a line like any other
   pub taken_piece : (r' : Records) → HasNextPart taken.rest left' line next.Piece → AddsLine r r' line
-      → Taken bytes r' left'
+      → AllZip IsRecordLine (lines bytes) r'.lines.items
   taken_piece r' has adds =
       let piece = has.is_next.1 in
-      record {
-        texts = taken.texts ++ line ∷ [];
-        rest = has.rest;
-        is_left = has.is_left;
-        parts = taken.parts
-            ∙ ap (λ l. taken.texts ++ l) (ap lines has.is_next.0 ∙ last_line line piece.some piece.no_lf
-            ∙ ap (λ l. line ∷ lines l) (sym has.is_next.2))
-            ∙ sym (append_assoc taken.texts (line ∷ []) (lines has.rest));
-        zip = more r' adds;
-      }
+      let parts : lines bytes ≡ taken.texts ++ line ∷ [] =
+      taken.parts
+      ∙ ap (λ l. taken.texts ++ l) (ap lines has.is_next.0 ∙ last_line line piece.some piece.no_lf) in
+      subst (λ ls. AllZip IsRecordLine ls r'.lines.items) (sym parts) (more r' adds)
 
   pub taken_end : HasNextPart taken.rest left' line next.End → AllZip IsRecordLine (lines bytes) r.lines.items
   taken_end has = subst (λ ls. AllZip IsRecordLine ls r.lines.items)

@@ -36,7 +36,10 @@ fn take_lines<B: BufRead>(
     for _turn in 0..u64::MAX {
         match next_line(reader, line)? {
             NextPart::Line => records.take(alloc, line)?,
-            NextPart::Piece => records.take(alloc, line)?,
+            NextPart::Piece => {
+                records.take(alloc, line)?;
+                return Ok(());
+            }
             NextPart::End => return Ok(()),
         }
     }
