@@ -4,6 +4,7 @@ use rv_audit::Rule;
 use rv_frame::Sink;
 use rv_run::{OutputFault, RunFault};
 use rv_text::NoMemory;
+use rv_replies::Records;
 use rv_verify::{AccountFinding, AccountVerdict, VerifyFault, rule_at, verify};
 use std::alloc::Global;
 use std::fmt::Display;
@@ -72,7 +73,8 @@ fn tell_again<F: Read + Drop>(
 // What an account is.
 fn found_in<F: Read + Drop>(alloc: Global, input: F) -> Result<AccountFinding, RunFault> {
     let mut reader = buffered(alloc, input)?;
-    verify(alloc, &mut reader).map_err(run_fault)
+    let mut records = Records::new(alloc);
+    verify(alloc, &mut reader, &mut records).map_err(run_fault)
 }
 
 // The rule that its entry breaks, if that names a closed place.
