@@ -14,7 +14,8 @@ use std::io::BufRead;
 
 /// The record that the lines of a reader are, to its end. The last one may lack its LF.
 pub fn read_records<B: BufRead>(alloc: Global, reader: &mut B) -> Result<Records, VerifyFault>
-    ensures { IfSome (B.remaining reader.old) (λ bytes. IfOk result (IsRecordOf bytes)) }
+    ensures record { IfSome (B.remaining reader.old) (λ bytes. IfOk result (IsRecordOf bytes)) }
+    ensures are_new { IfOk result AreNew }
 {
     let mut records = Records::new(alloc);
     let mut line = Vec::new(alloc);
