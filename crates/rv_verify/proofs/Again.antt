@@ -22,7 +22,7 @@ use Rattle.rv_verify.specs.Naming.{AreReadAs, BeginAlike, HaveMet, MeetsOne}
 use Rattle.rv_verify.specs.Naming.{rule_by_side}
 use Rattle.rv_verify.specs.Reading.{HasNextPart, IsPiece}
 use Rattle.rv_verify.specs.Verdicts.{AuditTells, ReadsLongEntry, TellsFaultAt, TellsNotOpen}
-use Rattle.rv_verify.specs.declared.reading.NextPart.TheVariants as next
+use Rattle.rv_verify.specs.declared.parts.NextPart.TheVariants as next
 use Rattle.rv_verify.proofs.Meeting.{told_met, told_unmet}
 
 pub same_some : {X : Type 0} (x y : X) → Some x ≡ Some y → x ≡ y

@@ -1,6 +1,6 @@
 -- What is told of bytes, of which whole lines were read, and a last piece is kept.
 use Rattle.std.proofs.Common.{◌≡◌, ◌≢◌, ◌∷◌, ◌++◌, ◌∙◌, ℕ, List, [], Bool, true, false}
-use Rattle.std.proofs.Common.{ap, append-nil, inl, inr, refl, subst, sym}
+use Rattle.std.proofs.Common.{Option, Some, ap, append-nil, inl, inr, refl, subst, sym}
 use Rattle.rv_account.specs.declared.entry.Entry.{Entry}
 use Rattle.rv_lines.specs.Lines.{lines}
 use Rattle.rv_lines.proofs.Cutting.{Lacks}
@@ -8,9 +8,13 @@ use Rattle.rv_replies.specs.declared.records.Records.{Records}
 use Rattle.rv_verify.specs.Ends.{AreWholeLines, EndsWithPiece, HoldsOfLines, IsTornBehind, IsTornWith}
 use Rattle.rv_verify.specs.Ends.{IsWholeWith}
 use Rattle.rv_verify.specs.Noting.{HasNotedOf}
-use Rattle.rv_verify.specs.Ongoing.{IsFoundOfBytes}
+use Rattle.rv_verify.specs.Ongoing.{HasGoneOn, HasLeft, HasReadPart, IsFoundOfBytes}
 use Rattle.rv_verify.specs.Reading.{IsPiece}
 use Rattle.rv_verify.specs.Verdicts.{IsVerdictOn, ReadsLongEntry}
+use Rattle.rv_verify.specs.declared.ongoing.OngoingAudit.{OngoingAudit}
+use Rattle.rv_verify.specs.declared.ongoing.Pause.{Pause}
+use Rattle.rv_verify.specs.declared.ongoing.Pause.TheVariants as pause
+use Rattle.rv_verify.specs.declared.ongoing.Until.TheVariants as far
 use Rattle.rv_verify.specs.declared.verdict.AccountFinding.{AccountFinding}
 use Rattle.rv_verify.proofs.Joining.{piece_more}
 
@@ -79,3 +83,23 @@ module _ (whole piece : List ℕ) (are : AreWholeLines whole) (lacks : Lacks 10 
     found_last is some behind e reads told noted =
         both false is (last_piece IsTold some behind e reads told) (last_piece IsNoted some behind e reads
         noted)
+
+-- all bytes are whole lines, which were read, and the piece that is kept
+pub record Reached (bytes : List ℕ) (o : OngoingAudit) (r : Records) : Type 0 where
+  pub whole : List ℕ
+  pub are_whole : AreWholeLines whole
+  pub parts : bytes ≡ whole ++ o.piece.items
+  pub read : HasReadPart (lines whole) o r
+
+-- so they are behind a reading to the end
+pub reached : (begun bytes : List ℕ) (o : OngoingAudit) (r : Records) (left : Option (List ℕ)) (why : Pause)
+    → begun ≡ [] → why ≡ pause.End → HasGoneOn far.End [] (begun ++ bytes) o r left why → Reached bytes o r
+reached begun bytes o r left why none ends went =
+    let kept : HasLeft o went.rest left pause.End =
+    subst (λ (w : Pause). HasLeft o went.rest left w) ends went.has_left in
+    record {
+      whole = went.run.more;
+      are_whole = went.run.are_whole;
+      parts = ap (λ p. p ++ bytes) (sym none) ∙ went.run.parts ∙ ap (λ l. went.run.more ++ l) (sym kept.1);
+      read = record { read = went.run.read; no_lf = went.no_lf };
+    }

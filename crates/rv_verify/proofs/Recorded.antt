@@ -38,33 +38,34 @@ taken_none bytes r left none is = record {
 }
 
 module _ {bytes : List ℕ} {r : Records} {left : Option (List ℕ)} (taken : Taken bytes r left)
-    {left' : Option (List ℕ)} {line : List ℕ} where
+    {line : List ℕ} where
   more : (r' : Records) → AddsLine r r' line → AllZip IsRecordLine (taken.texts ++ line ∷ []) r'.lines.items
   more r' adds = subst (AllZip IsRecordLine (taken.texts ++ line ∷ [])) (sym adds.lines)
       (zip_push taken.texts r.lines.items line adds.line taken.zip adds.is)
 
-  pub taken_line : (r' : Records) → HasNextPart taken.rest left' line next.Line → AddsLine r r' line
-      → Taken bytes r' left'
-  taken_line r' has adds = record {
-    texts = taken.texts ++ line ∷ [];
-    rest = has.rest;
-    is_left = has.is_left;
-    parts = taken.parts
-        ∙ ap (λ l. taken.texts ++ l) (ap lines has.is_next.0 ∙ lines_cut line has.rest has.is_next.1)
-        ∙ sym (append_assoc taken.texts (line ∷ []) (lines has.rest));
-    zip = more r' adds;
-  }
+  module _ {left' : Option (List ℕ)} where
+    pub taken_line : (r' : Records) → HasNextPart taken.rest left' line next.Line → AddsLine r r' line
+        → Taken bytes r' left'
+    taken_line r' has adds = record {
+      texts = taken.texts ++ line ∷ [];
+      rest = has.rest;
+      is_left = has.is_left;
+      parts = taken.parts
+          ∙ ap (λ l. taken.texts ++ l) (ap lines has.is_next.0 ∙ lines_cut line has.rest has.is_next.1)
+          ∙ sym (append_assoc taken.texts (line ∷ []) (lines has.rest));
+      zip = more r' adds;
+    }
 
-  -- a last piece is a line like any other
-  pub taken_piece : (r' : Records) → HasNextPart taken.rest left' line next.Piece → AddsLine r r' line
-      → AllZip IsRecordLine (lines bytes) r'.lines.items
-  taken_piece r' has adds =
-      let piece = has.is_next.1 in
-      let parts : lines bytes ≡ taken.texts ++ line ∷ [] =
-      taken.parts
-      ∙ ap (λ l. taken.texts ++ l) (ap lines has.is_next.0 ∙ last_line line piece.some piece.no_lf) in
-      subst (λ ls. AllZip IsRecordLine ls r'.lines.items) (sym parts) (more r' adds)
+    -- a last piece is a line like any other
+    pub taken_piece : (r' : Records) → HasNextPart taken.rest left' line next.Piece → AddsLine r r' line
+        → AllZip IsRecordLine (lines bytes) r'.lines.items
+    taken_piece r' has adds =
+        let piece = has.is_next.1 in
+        let parts : lines bytes ≡ taken.texts ++ line ∷ [] =
+        taken.parts
+        ∙ ap (λ l. taken.texts ++ l) (ap lines has.is_next.0 ∙ last_line line piece.some piece.no_lf) in
+        subst (λ ls. AllZip IsRecordLine ls r'.lines.items) (sym parts) (more r' adds)
 
-  pub taken_end : HasNextPart taken.rest left' line next.End → AllZip IsRecordLine (lines bytes) r.lines.items
-  taken_end has = subst (λ ls. AllZip IsRecordLine ls r.lines.items)
-      (sym (taken.parts ∙ ap (λ l. taken.texts ++ lines l) has.is_next.0 ∙ append-nil taken.texts)) taken.zip
+    pub taken_end : HasNextPart taken.rest left' line next.End → AllZip IsRecordLine (lines bytes) r.lines.items
+    taken_end has = subst (λ ls. AllZip IsRecordLine ls r.lines.items)
+        (sym (taken.parts ∙ ap (λ l. taken.texts ++ lines l) has.is_next.0 ∙ append-nil taken.texts)) taken.zip

@@ -112,75 +112,75 @@ more_up_to far.Fault ls line from was now = λ n more most. elim (cases_lt (leng
 ]
 
 module _ {until : Until} {before : List (List ℕ)} {bytes : List ℕ} {o : OngoingAudit} {r : Records}
-    {left : Option (List ℕ)} (runs : Runs until before bytes o r left) {line : List ℕ}
-    {left' : Option (List ℕ)} where
+    {left : Option (List ℕ)} (runs : Runs until before bytes o r left) where
   abbrev read_so_far : List (List ℕ)
   read_so_far = before ++ lines runs.run.more
 
-  -- the reader has no more
-  pub runs_out : (o' : OngoingAudit) → o'.stage ≡ o.stage → o'.piece.items ≡ line
-      → o.piece.items ++ runs.ahead ≡ line → Lacks 10 line → left' ≡ Some []
-      → HasGoneOn until before bytes o' r left' pause.End
-  runs_out o' same piece all lacks none = record {
-    rest = line;
-    run = record {
-      more = runs.run.more;
-      parts = runs.run.parts ∙ ap (λ l. runs.run.more ++ l) (runs.is_rest ∙ all);
-      are_whole = runs.run.are_whole;
-      read = subst (λ (s : Stage). HasReadLines read_so_far s r) (sym same) runs.run.read;
-    };
-    has_left = (none, piece);
-    no_lf = subst (Lacks 10) (sym piece) lacks;
-    no_fault = runs.no_fault;
-  }
-
-  -- or a line more
-  module _ (o' : OngoingAudit) (r' : Records)
-      (has : HasNextPart (o.piece.items ++ runs.ahead) left' line next.Line)
-      (step : (ls : List (List ℕ)) → HasReadLines ls o.stage r → HasReadLines (ls ++ line ∷ []) o'.stage r')
-      (piece : o'.piece.items ≡ []) where
-    abbrev whole : List ℕ
-    whole = runs.run.more ++ (line ++ 10 ∷ [])
-
-    lines_now : before ++ lines whole ≡ read_so_far ++ line ∷ []
-    lines_now = ap (λ ls. before ++ ls) (line_more runs.run.more runs.run.are_whole line has.is_next.1)
-        ∙ sym (append_assoc before (lines runs.run.more) (line ∷ []))
-
-    abbrev run_on : HasRun before bytes o'.stage r' has.rest
-    run_on = record {
-      more = whole;
-      parts = runs.run.parts ∙ ap (λ l. runs.run.more ++ l) (runs.is_rest ∙ has.is_next.0
-          ∙ sym (append_assoc line (10 ∷ []) has.rest))
-          ∙ sym (append_assoc runs.run.more (line ++ 10 ∷ []) has.rest);
-      are_whole = whole_more runs.run.more runs.run.are_whole line has.is_next.1;
-      read = subst (λ ls. HasReadLines ls o'.stage r') (sym lines_now) (step read_so_far runs.run.read);
+  module _ {line : List ℕ} {left' : Option (List ℕ)} where
+    -- the reader has no more
+    pub runs_out : (o' : OngoingAudit) → o'.stage ≡ o.stage → o'.piece.items ≡ line
+        → o.piece.items ++ runs.ahead ≡ line → Lacks 10 line → left' ≡ Some []
+        → HasGoneOn until before bytes o' r left' pause.End
+    runs_out o' same piece all lacks none = record {
+      rest = line;
+      run = record {
+        more = runs.run.more;
+        parts = runs.run.parts ∙ ap (λ l. runs.run.more ++ l) (runs.is_rest ∙ all);
+        are_whole = runs.run.are_whole;
+        read = subst (λ (s : Stage). HasReadLines read_so_far s r) (sym same) runs.run.read;
+      };
+      has_left = (none, piece);
+      no_lf = subst (Lacks 10) (sym piece) lacks;
+      no_fault = runs.no_fault;
     }
 
-    -- with a fault
-    pub runs_to_fault : HasFault o'.stage → HasGoneOn until before bytes o' r' left' pause.Fault
-    runs_to_fault fault = record {
-      rest = has.rest;
-      run = run_on;
-      has_left = (has.is_left, piece, fault);
-      no_lf = subst (Lacks 10) (sym piece) (All-nil (λ byte. byte ≢ 10));
-      no_fault = subst (λ ls. HadNoFault until ls (length before) (length ls - 1)) (sym lines_now)
-          (kept_up_to until read_so_far line (length before) runs.no_fault);
-    }
+    -- or a line more
+    module _ (o' : OngoingAudit) (r' : Records)
+        (has : HasNextPart (o.piece.items ++ runs.ahead) left' line next.Line)
+        (step : (ls : List (List ℕ)) → HasReadLines ls o.stage r → HasReadLines (ls ++ line ∷ []) o'.stage r')
+        (piece : o'.piece.items ≡ []) where
+      abbrev whole : List ℕ
+      whole = runs.run.more ++ (line ++ 10 ∷ [])
 
-    cons_not_nil : (ls : List (List ℕ)) → ls ++ line ∷ [] ≡ [] → ⊥
-    cons_not_nil ls none = omega (arith, ap length none, length-append ls (line ∷ []))
+      lines_now : before ++ lines whole ≡ read_so_far ++ line ∷ []
+      lines_now = ap (λ ls. before ++ ls) (line_more runs.run.more runs.run.are_whole line has.is_next.1)
+          ∙ sym (append_assoc before (lines runs.run.more) (line ∷ []))
 
-    -- or none
-    pub runs_on : (until ≡ far.Fault → HasFault o'.stage → ⊥) → Runs until before bytes o' r' left'
-    runs_on none = record {
-      ahead = has.rest;
-      is_left = has.is_left;
-      rest = has.rest;
-      is_rest = ap (λ p. p ++ has.rest) (sym piece);
-      run = run_on;
-      no_lf = subst (Lacks 10) (sym piece) (All-nil (λ byte. byte ≢ 10));
-      no_fault = subst (λ ls. HadNoFault until ls (length before) (length ls)) (sym lines_now)
-          (more_up_to until read_so_far line (length before) runs.no_fault
-          (λ is. unfaulted (read_so_far ++ line ∷ []) o'.stage.verifier o'.stage.bad r' (none is)
-          (cons_not_nil read_so_far) (step read_so_far runs.run.read)));
-    }
+      abbrev run_on : HasRun before bytes o'.stage r' has.rest
+      run_on = record {
+        more = whole;
+        parts = runs.run.parts ∙ ap (λ l. runs.run.more ++ l) (runs.is_rest ∙ has.is_next.0
+            ∙ sym (append_assoc line (10 ∷ []) has.rest))
+            ∙ sym (append_assoc runs.run.more (line ++ 10 ∷ []) has.rest);
+        are_whole = whole_more runs.run.more runs.run.are_whole line has.is_next.1;
+        read = subst (λ ls. HasReadLines ls o'.stage r') (sym lines_now) (step read_so_far runs.run.read);
+      }
+
+      -- with a fault
+      pub runs_to_fault : HasFault o'.stage → HasGoneOn until before bytes o' r' left' pause.Fault
+      runs_to_fault fault = record {
+        rest = has.rest;
+        run = run_on;
+        has_left = (has.is_left, piece, fault);
+        no_lf = subst (Lacks 10) (sym piece) (All-nil (λ byte. byte ≢ 10));
+        no_fault = subst (λ ls. HadNoFault until ls (length before) (length ls - 1)) (sym lines_now)
+            (kept_up_to until read_so_far line (length before) runs.no_fault);
+      }
+
+      cons_not_nil : (ls : List (List ℕ)) → ls ++ line ∷ [] ≡ [] → ⊥
+      cons_not_nil ls none = omega (arith, ap length none, length-append ls (line ∷ []))
+
+      -- or none
+      pub runs_on : (until ≡ far.Fault → HasFault o'.stage → ⊥) → Runs until before bytes o' r' left'
+      runs_on none = record {
+        ahead = has.rest;
+        is_left = has.is_left;
+        rest = has.rest;
+        is_rest = ap (λ p. p ++ has.rest) (sym piece);
+        run = run_on;
+        no_lf = subst (Lacks 10) (sym piece) (All-nil (λ byte. byte ≢ 10));
+        no_fault = subst (λ ls. HadNoFault until ls (length before) (length ls)) (sym lines_now)
+            (more_up_to until read_so_far line (length before) runs.no_fault
+            (λ is. unfaulted (read_so_far ++ line ∷ []) o'.stage.verifier o'.stage.bad r' (none is)
+            (cons_not_nil read_so_far) (step read_so_far runs.run.read)));
+      }

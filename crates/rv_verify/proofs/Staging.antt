@@ -48,6 +48,15 @@ reads_bad lines v r line n is stops has =
       subst (λ ls. HasReadNoting ls v r) (sym front) has,
     )
 
+-- the same of what stayed as it was
+pub reads_bad_as : (lines : List (List ℕ)) (v v' : Verifier) (r r' : Records) (line : List ℕ) (n : ℕ) → v' ≡ v
+    → r' ≡ r → n ≡ v'.entries + 2 → IsNoNext long_limits v.entries line → HasReadNoting lines v r
+    → StandsBehind (lines ++ line ∷ []) (Some v') (Some n) r'
+reads_bad_as lines v v' r r' line n same same_record is stops has =
+    subst (StandsBehind (lines ++ line ∷ []) (Some v') (Some n)) (sym same_record)
+    (subst (λ x. StandsBehind (lines ++ line ∷ []) (Some x) (Some n) r) (sym same)
+    (reads_bad lines v r line n (is ∙ ap (λ (x : Verifier). x.entries + 2) same) stops has))
+
 bad_more : (lines : List (List ℕ)) (line : List ℕ) (n : ℕ) → IsBadAt lines n → IsBadAt (lines ++ line ∷ []) n
 bad_more lines line n bad = record {
   among = omega (arith, bad.among, length-append lines (line ∷ []));

@@ -11,8 +11,8 @@ pub returns-then-asks_nothing-clause-noted : goal.returns-then-asks_nothing-clau
 returns-then-asks_nothing-clause-noted c a e says by noted =
     notes_any c.args.records.now a (with_entry a e) (c.asks_nothing.ensures.0 c.if-asks_nothing.true) noted
 
-pub returns-in_ok-pass-clause-noted : goal.returns-in_ok-pass-clause-noted
-returns-in_ok-pass-clause-noted c a e says by noted =
+pub returns-clause-noted : goal.returns-clause-noted
+returns-clause-noted c a e says by noted =
     let same = c.in_ok-entry.ensures e says in
     subst (λ (x : Entry). HasNoted c.pass.new.self (with_entry a x)) same
     (c.in_ok-pass.ensures.stands a (subst (HasPassedBy c.args.machine.now a) (sym same) by) noted)

@@ -1,5 +1,5 @@
 -- No piece is kept; or it would be the first line; or it is read as no entry; or it is a line more.
-use Rattle.std.proofs.Common.{◌≡◌, ◌≢◌, Ok, [], ap, inl, inr, is_some}
+use Rattle.std.proofs.Common.{◌≡◌, ◌≢◌, Ok, [], ap, inl, inr, is_some, rules}
 use Rattle.rv_lines.specs.Lines.{lines}
 use Rattle.rv_verify.proofs.Closing.{found_empty, found_last, found_torn}
 use Rattle.rv_verify.proofs.Staging.{reads_none, reads_some}
@@ -23,3 +23,9 @@ returns-then-is_at_head-clause-found c whole are has =
     (record { some = some; torn = inl none.0 })
     (c.finding_on-then-is_at_head.ensures.verdict (lines whole) c.args.records.now has.read)
     (c.finding_on-then-is_at_head.ensures.noted (lines whole) c.args.records.now has.read)
+
+pub returns-then-branch-clause-found : goal.returns-then-branch-clause-found
+returns-then-branch-clause-found c whole are has = ?
+
+pub returns-clause-found : goal.returns-clause-found
+returns-clause-found c whole are has = ?

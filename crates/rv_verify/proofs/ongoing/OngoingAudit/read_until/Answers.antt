@@ -5,8 +5,11 @@ use Rattle.rv_lines.proofs.Cutting.{Lacks}
 use Rattle.rv_verify.specs.Reading.{HasNextPart}
 use Rattle.rv_verify.specs.declared.parts.NextPart.{NextPart}
 use Rattle.rv_verify.specs.declared.parts.NextPart.TheVariants as next
-use Rattle.rv_verify.proofs.Running.{runs_on, runs_out, runs_to_fault}
+use Rattle.rv_verify.proofs.Running.{runs_first, runs_on, runs_out, runs_to_fault}
 use Rattle.rv_verify.proofs.ongoing.OngoingAudit.read_until.Goals as goal
+use Rattle.rv_verify.proofs.ongoing.OngoingAudit.read_until.Goals.{else-matches-via-else-matches}
+use Rattle.rv_verify.proofs.ongoing.OngoingAudit.read_until.Goals.{else-matches-via-then-matches+else-has_fault}
+use Rattle.rv_verify.proofs.ongoing.OngoingAudit.read_until.Goals.{in-Fault, in_default}
 
 pub returns-in-Piece-clause-read : goal.returns-in-Piece-clause-read
 returns-in-Piece-clause-read g c before bytes has is =
@@ -29,3 +32,45 @@ returns-in-End-clause-read g c before bytes has is =
     (part.is_next.0 ∙ sym part.is_next.1)
     (subst (Lacks 10) (sym part.is_next.1) (All-nil (λ byte. byte ≡ 10 → ⊥)))
     (part.is_left ∙ ap Some part.is_next.2)
+
+pub loop-turn-init : goal.loop-turn-init
+loop-turn-init g c = record {
+  ready = c.requires.ready;
+  lines = refl;
+  runs = λ before bytes has is. runs_first c.args.until before bytes c.args.self.now c.args.records.now
+      (g.B.Read.remaining c.args.reader.now) has is;
+}
+
+pub returns-then-has_fault-clause-read : goal.returns-then-has_fault-clause-read
+returns-then-has_fault-clause-read g c before bytes has is =
+    let line = c.more_of_line.new.line.items in
+    let runs = c.loop-turn.invariant.runs before bytes has is in
+    let part = subst (λ (n : NextPart). HasNextPart (c.loop-turn.self.piece.items ++ runs.ahead)
+    (g.B.Read.remaining c.more_of_line.new.reader) line n)
+    c.in-Line.is (c.in_ok-more_of_line.ensures.next runs.ahead runs.is_left runs.no_lf) in
+    runs_to_fault runs c.take_line.new.self c.take_line.new.records part
+    c.in_ok-take_line-in-Line.ensures.read c.in_ok-take_line-in-Line.ensures.piece
+    (c.has_fault.ensures.0 c.if-has_fault.true)
+
+pub loop-turn-preserved : goal.loop-turn-preserved
+loop-turn-preserved g c = record {
+  ready = c.in_ok-take_line-in-Line.ensures.ready;
+  lines = c.take_line.ensures.lines ∙ c.loop-turn.invariant.lines;
+  runs = λ before bytes has is.
+      let line = c.more_of_line.new.line.items in
+      let runs = c.loop-turn.invariant.runs before bytes has is in
+      let part = subst (λ (n : NextPart). HasNextPart (c.loop-turn.self.piece.items ++ runs.ahead)
+      (g.B.Read.remaining c.more_of_line.new.reader) line n)
+      c.in-Line.is (c.in_ok-more_of_line.ensures.next runs.ahead runs.is_left runs.no_lf) in
+      runs_on runs c.take_line.new.self c.take_line.new.records part
+      c.in_ok-take_line-in-Line.ensures.read c.in_ok-take_line-in-Line.ensures.piece
+      (λ fault_ends fault. elim c.else-matches.branch [
+        | else-matches-via-then-matches+else-has_fault w ↦
+            let found = w.has_fault.ensures.1 fault in
+            let no : ⊥ = cc in no
+        | else-matches-via-else-matches w ↦ elim c.match-matches.branch [
+          | in-Fault v ↦ let no : ⊥ = cc in no
+          | in_default v ↦ let no : ⊥ = cc in no
+        ]
+      ]);
+}

@@ -1,5 +1,5 @@
 -- What the verifier read is noted of the lines.
-use Rattle.std.proofs.Common.{sym, subst}
+use Rattle.std.proofs.Common.{rules, sym, subst}
 use Rattle.rv_verify.specs.Noting.{HasNotedOf}
 use Rattle.rv_verify.proofs.Staging.{noted_by}
 use Rattle.rv_verify.proofs.stage.Stage.epoch.Goals as goal

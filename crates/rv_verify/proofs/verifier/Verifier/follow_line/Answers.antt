@@ -8,4 +8,4 @@ pub returns-in_err-entry-clause-bad : goal.returns-in_err-entry-clause-bad
 returns-in_err-entry-clause-bad c told =
     let exit = err_from_is_err_and c.from_residual.result c.from_residual.ensures.1 in
     let bad : c.in_err-entry.field-0.0 ≡ line.Bad = sym exit.2 ∙ cc in
-    (c.in_err-entry.ensures.bad (ap Err bad), refl)
+    (c.in_err-entry.ensures.bad (ap Err bad), refl, refl)
