@@ -1,5 +1,5 @@
 -- What passed with one entry more, and where a verifier stands behind one line more.
-use Rattle.std.proofs.Common.{◌≡◌, ◌<◌, ◌∷◌, ◌++◌, ◌∙◌, ℕ, List, [], Option, None, Some, inl, inr}
+use Rattle.std.proofs.Common.{◌≡◌, ◌<◌, ◌+◌, ◌∷◌, ◌++◌, ◌∙◌, ℕ, List, [], Option, None, Some, inl, inr}
 use Rattle.std.proofs.Common.{IsSome, length, take, refl, sym, ap, subst, arith, append_assoc}
 use Rattle.std.proofs.Common.{length-append}
 use Rattle.std.proofs.lemmas.Bool.{cases_lt}
@@ -209,4 +209,18 @@ pub passes_over : (old new : Verifier) (r r' : Records) (line : List ℕ) → Re
 passes_over old new r r' line reads is same = record {
   reads = reads;
   notes = notes_stopped new.stop new.machine r r' reads.entry is same;
+}
+
+-- one that goes on has noted what passed
+pub goes_on : (old new : Verifier) (r r' : Records) (line : List ℕ) (e : Entry) → old.stop ≡ None
+    → ReadsLongEntry line e → new.entries ≡ old.entries + 1 → IsStopped old.machine new.machine e new.stop
+    → NotesUnlessStopped new.machine r r' e new.stop → NotesOneMore old new r r' line
+goes_on old new r r' line e goes read counted went notes = record {
+  reads = record {
+    entry = e;
+    read = read;
+    counted = counted;
+    went = subst (λ s. FollowsUnlessStopped s old new e) (sym goes) went;
+  };
+  notes = notes;
 }

@@ -1,5 +1,5 @@
 -- How far the lines of a reader are read, turn by turn.
-use Rattle.std.proofs.Common.{◌≡◌, ◌≢◌, ◌<◌, ◌≤◌, ◌+◌, ◌-◌, ◌∷◌, ◌++◌, ◌∙◌, ℕ, List, [], Option, None, Some}
+use Rattle.std.proofs.Common.{◌≡◌, ◌≢◌, ◌<◌, ◌≤◌, ◌+◌, ◌-◌, ◌∷◌, ◌++◌, ◌∙◌, ℕ, List, [], Option, None, Some, Bool, true, false}
 use Rattle.std.proofs.Common.{ap, append_assoc, append-nil, arith, inl, inr, IsSome, length, length-append}
 use Rattle.std.proofs.Common.{refl, subst, sym, take}
 use Rattle.std.proofs.lemmas.Bool.{cases_lt}
@@ -49,6 +49,13 @@ unfaulted ls None None r none some stands = absurd (some stands.0)
 unfaulted ls None (Some n) r none some stands = absurd (none (inl refl))
 unfaulted ls (Some v) None r none some stands = legal_by ls v r v.stop refl (λ is. none (inr is)) stands
 unfaulted ls (Some v) (Some n) r none some stands = absurd (none (inl refl))
+
+false_true : false ≡ true → ⊥
+false_true same = cc
+
+pub not_both : (b : Bool) → b ≡ true → b ≡ false → ⊥
+not_both true is not = false_true (sym not)
+not_both false is not = false_true is
 
 -- ---- a turn
 

@@ -34,7 +34,15 @@ loop-turn-init g c = record {
 }
 
 pub returns-in-Piece-clause-taken : goal.returns-in-Piece-clause-taken
-returns-in-Piece-clause-taken g c = ?
+returns-in-Piece-clause-taken g c bytes is none =
+    let line = c.next_line.new.line.items in
+    let taken = c.loop-turn.invariant.taken bytes is none in
+    taken_piece taken c.take-in-Piece.new.self (subst (λ (n : NextPart). HasNextPart taken.rest
+    (g.B.Read.remaining c.next_line.new.reader) line n) c.in-Piece.is
+    (c.in_ok-next_line.ensures.next taken.rest taken.is_left))
+    (subst (λ (p : List ℕ). AddsLine c.loop-turn.records c.take-in-Piece.new.self p)
+    c.deref-in-Piece.ensures.value c.in_ok-take-in-Piece.ensures.adds)
 
 pub returns-in-Piece-clause-are_new : goal.returns-in-Piece-clause-are_new
-returns-in-Piece-clause-are_new g c = ?
+returns-in-Piece-clause-are_new g c are a empty =
+    c.in_ok-take-in-Piece.ensures.stands a empty (c.loop-turn.invariant.are_new are a empty)

@@ -13,6 +13,6 @@ returns-then-asks_nothing-clause-noted c a e says by noted =
 
 pub returns-clause-noted : goal.returns-clause-noted
 returns-clause-noted c a e says by noted =
-    let same = c.in_ok-entry.ensures e says in
+    let same = c.in_ok-entry.ensures.same e says in
     subst (λ (x : Entry). HasNoted c.pass.new.self (with_entry a x)) same
     (c.in_ok-pass.ensures.stands a (subst (HasPassedBy c.args.machine.now a) (sym same) by) noted)

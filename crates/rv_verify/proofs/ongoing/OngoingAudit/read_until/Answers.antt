@@ -5,7 +5,7 @@ use Rattle.rv_lines.proofs.Cutting.{Lacks}
 use Rattle.rv_verify.specs.Reading.{HasNextPart}
 use Rattle.rv_verify.specs.declared.parts.NextPart.{NextPart}
 use Rattle.rv_verify.specs.declared.parts.NextPart.TheVariants as next
-use Rattle.rv_verify.proofs.Running.{runs_first, runs_on, runs_out, runs_to_fault}
+use Rattle.rv_verify.proofs.Running.{not_both, runs_first, runs_on, runs_out, runs_to_fault}
 use Rattle.rv_verify.proofs.ongoing.OngoingAudit.read_until.Goals as goal
 use Rattle.rv_verify.proofs.ongoing.OngoingAudit.read_until.Goals.{else-matches-via-else-matches}
 use Rattle.rv_verify.proofs.ongoing.OngoingAudit.read_until.Goals.{else-matches-via-then-matches+else-has_fault}
@@ -66,8 +66,7 @@ loop-turn-preserved g c = record {
       c.in_ok-take_line-in-Line.ensures.read c.in_ok-take_line-in-Line.ensures.piece
       (λ fault_ends fault. elim c.else-matches.branch [
         | else-matches-via-then-matches+else-has_fault w ↦
-            let found = w.has_fault.ensures.1 fault in
-            let no : ⊥ = cc in no
+            not_both w.has_fault.result (w.has_fault.ensures.1 fault) w.if-has_fault.false
         | else-matches-via-else-matches w ↦ elim c.match-matches.branch [
           | in-Fault v ↦ let no : ⊥ = cc in no
           | in_default v ↦ let no : ⊥ = cc in no
