@@ -68,8 +68,8 @@ loop-turn-preserved g c = record {
         | else-matches-via-then-matches+else-has_fault w ↦
             not_both w.has_fault.result (w.has_fault.ensures.1 fault) w.if-has_fault.false
         | else-matches-via-else-matches w ↦ elim c.match-matches.branch [
-          | in-Fault v ↦ let no : ⊥ = cc in no
-          | in_default v ↦ let no : ⊥ = cc in no
+          | in-Fault v ↦ not_both c.match-matches.matches v.matches-is w.if-matches.false
+          | in_default v ↦ v.in_default.not-Fault fault_ends
         ]
       ]);
 }
