@@ -1,6 +1,6 @@
 -- What is told of bytes, of which whole lines were read, and a last piece is kept.
 use Rattle.std.proofs.Common.{◌≡◌, ◌≢◌, ◌∷◌, ◌++◌, ◌∙◌, ℕ, List, [], Bool, true, false}
-use Rattle.std.proofs.Common.{Option, Some, ap, append-nil, inl, inr, refl, subst, sym}
+use Rattle.std.proofs.Common.{Option, ap, append-nil, inl, inr, refl, subst, sym}
 use Rattle.rv_account.specs.declared.entry.Entry.{Entry}
 use Rattle.rv_lines.specs.Lines.{lines}
 use Rattle.rv_lines.proofs.Cutting.{Lacks}
@@ -9,7 +9,6 @@ use Rattle.rv_verify.specs.Ends.{AreWholeLines, EndsWithPiece, HoldsOfLines, IsT
 use Rattle.rv_verify.specs.Ends.{IsWholeWith}
 use Rattle.rv_verify.specs.Noting.{HasNotedOf}
 use Rattle.rv_verify.specs.Ongoing.{HasGoneOn, HasLeft, HasReadPart, IsFoundOfBytes}
-use Rattle.rv_verify.specs.Reading.{IsPiece}
 use Rattle.rv_verify.specs.Verdicts.{IsVerdictOn, ReadsLongEntry}
 use Rattle.rv_verify.specs.declared.ongoing.OngoingAudit.{OngoingAudit}
 use Rattle.rv_verify.specs.declared.ongoing.Pause.{Pause}

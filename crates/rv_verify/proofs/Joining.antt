@@ -1,6 +1,6 @@
 -- The lines of whole lines and of what follows them.
 use Rattle.std.proofs.Common.{◌≡◌, ◌≢◌, ◌∷◌, ◌++◌, ◌∙◌, ◌==◌, ℕ, List, [], cond, true, false}
-use Rattle.std.proofs.Common.{append_assoc, append-nil, ap, inl, inr, refl, subst, sym}
+use Rattle.std.proofs.Common.{append_assoc, ap, inl, inr, refl, subst, sym}
 use Rattle.std.specs.List.{onto_first}
 use Rattle.rv_lines.specs.Lines.{lines}
 use Rattle.rv_lines.proofs.Cutting.{Lacks, lines_cut, lines_last}

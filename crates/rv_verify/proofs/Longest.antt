@@ -1,7 +1,7 @@
 -- What passed is read of the longest front of the lines that is read as a legal account with room.
-use Rattle.std.proofs.Common.{◌≡◌, ◌<◌, ◌≤◌, ◌+◌, ◌-◌, ◌∷◌, ◌++◌, ◌∙◌, ℕ, zero, suc, List, [], Option, None}
+use Rattle.std.proofs.Common.{◌≡◌, ◌<◌, ◌≤◌, ◌+◌, ◌-◌, ◌∷◌, ◌∙◌, ℕ, zero, suc, List, Option, None}
 use Rattle.std.proofs.Common.{Some}
-use Rattle.std.proofs.Common.{ap, arith, inl, inr, length, length-append, length-take, refl, subst, sym, take}
+use Rattle.std.proofs.Common.{ap, arith, inl, inr, length, length-append, length-take, subst, sym, take}
 use Rattle.std.proofs.lemmas.Bool.{cases_lt}
 use Rattle.std.proofs.lemmas.List.{take_all, take-take}
 use Rattle.rv_account.specs.declared.entry.Entry.{Entry}

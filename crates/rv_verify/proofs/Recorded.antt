@@ -66,6 +66,8 @@ module _ {bytes : List ℕ} {r : Records} {left : Option (List ℕ)} (taken : Ta
         ∙ ap (λ l. taken.texts ++ l) (ap lines has.is_next.0 ∙ last_line line piece.some piece.no_lf) in
         subst (λ ls. AllZip IsRecordLine ls r'.lines.items) (sym parts) (more r' adds)
 
-    pub taken_end : HasNextPart taken.rest left' line next.End → AllZip IsRecordLine (lines bytes) r.lines.items
+    pub taken_end : HasNextPart taken.rest left' line next.End
+        → AllZip IsRecordLine (lines bytes) r.lines.items
     taken_end has = subst (λ ls. AllZip IsRecordLine ls r.lines.items)
-        (sym (taken.parts ∙ ap (λ l. taken.texts ++ lines l) has.is_next.0 ∙ append-nil taken.texts)) taken.zip
+        (sym (taken.parts ∙ ap (λ l. taken.texts ++ lines l) has.is_next.0 ∙ append-nil taken.texts))
+        taken.zip

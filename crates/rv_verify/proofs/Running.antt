@@ -1,5 +1,6 @@
 -- How far the lines of a reader are read, turn by turn.
-use Rattle.std.proofs.Common.{◌≡◌, ◌≢◌, ◌<◌, ◌≤◌, ◌+◌, ◌-◌, ◌∷◌, ◌++◌, ◌∙◌, ℕ, List, [], Option, None, Some, Bool, true, false}
+use Rattle.std.proofs.Common.{◌≡◌, ◌≢◌, ◌≤◌, ◌-◌, ◌∷◌, ◌++◌, ◌∙◌, ℕ, List, [], Option, None, Some}
+use Rattle.std.proofs.Common.{Bool, true, false}
 use Rattle.std.proofs.Common.{ap, append_assoc, append-nil, arith, inl, inr, IsSome, length, length-append}
 use Rattle.std.proofs.Common.{refl, subst, sym, take}
 use Rattle.std.proofs.lemmas.Bool.{cases_lt}
@@ -8,14 +9,12 @@ use Rattle.std.proofs.lemmas.List.{take_all, take-append-le}
 use Rattle.rv_lines.specs.Lines.{lines}
 use Rattle.rv_lines.proofs.Cutting.{Lacks}
 use Rattle.rv_replies.specs.declared.records.Records.{Records}
-use Rattle.rv_verify.specs.Ends.{AreWholeLines}
-use Rattle.rv_verify.specs.Ongoing.{AreLegalUpTo, HadNoFault, HasGoneOn, HasLeft, HasReadPart, HasRun}
-use Rattle.rv_verify.specs.Reading.{HasNextPart, IsBadAt}
+use Rattle.rv_verify.specs.Ongoing.{HadNoFault, HasGoneOn, HasReadPart, HasRun}
+use Rattle.rv_verify.specs.Reading.{HasNextPart}
 use Rattle.rv_verify.specs.Stages.{HasFault, HasReadLines, HasReadNoting, StandsBehind}
 use Rattle.rv_verify.specs.Standing.{StandsAt}
 use Rattle.rv_verify.specs.Verdicts.{ReadsLong, TellsLegalAccount}
 use Rattle.rv_verify.specs.declared.ongoing.OngoingAudit.{OngoingAudit}
-use Rattle.rv_verify.specs.declared.ongoing.Pause.{Pause}
 use Rattle.rv_verify.specs.declared.ongoing.Pause.TheVariants as pause
 use Rattle.rv_verify.specs.declared.ongoing.Until.{Until}
 use Rattle.rv_verify.specs.declared.ongoing.Until.TheVariants as far

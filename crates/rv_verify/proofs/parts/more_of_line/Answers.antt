@@ -1,7 +1,6 @@
 -- What a read through the next LF gave is a line, a last piece or nothing.
-use Rattle.std.proofs.Common.{◌≡◌, ◌++◌, ◌∙◌, List, ℕ, [], Some, arith, refl, rules, sym}
+use Rattle.std.proofs.Common.{◌≡◌, ◌++◌, ◌∙◌, List, ℕ, Some, rules, sym}
 use Rattle.std.specs.Io.BufRead.{drop_through, take_through}
-use Rattle.std.proofs.lemmas.List.{nil_from_length}
 use Rattle.rv_verify.proofs.Through.{end_next, known, line_next, piece_next}
 use Rattle.rv_verify.proofs.parts.more_of_line.Goals as goal
 

@@ -1,5 +1,4 @@
 -- An audit that begins behind no line reads to the end.
-use Rattle.std.proofs.Common.{IfOk}
 use Rattle.std.proofs.lemmas.Result.{IfOk-weaker}
 use Rattle.rv_verify.specs.Ends.{IsToldOfBytes}
 use Rattle.rv_verify.specs.Noting.{IsNotedOfBytes}
@@ -12,7 +11,8 @@ returns-clause-told g c =
     known_or (g.B.Read.remaining c.args.reader.now) _ (λ bytes is.
     IfOk-weaker c.read_to_end.result (IsFoundOfBytes bytes c.read_to_end.new.records) (IsToldOfBytes bytes)
     (λ told found. found.0)
-    (c.read_to_end.ensures.found bytes (c.new-audit.ensures.read c.args.records.now c.requires) c.new-audit.ensures.piece
+    (c.read_to_end.ensures.found bytes (c.new-audit.ensures.read c.args.records.now c.requires)
+    c.new-audit.ensures.piece
     is))
 
 pub returns-clause-noted : goal.returns-clause-noted
@@ -20,5 +20,6 @@ returns-clause-noted g c =
     known_or (g.B.Read.remaining c.args.reader.now) _ (λ bytes is.
     IfOk-weaker c.read_to_end.result (IsFoundOfBytes bytes c.read_to_end.new.records)
     (λ told. IsNotedOfBytes bytes told c.read_to_end.new.records) (λ told found. found.1)
-    (c.read_to_end.ensures.found bytes (c.new-audit.ensures.read c.args.records.now c.requires) c.new-audit.ensures.piece
+    (c.read_to_end.ensures.found bytes (c.new-audit.ensures.read c.args.records.now c.requires)
+    c.new-audit.ensures.piece
     is))

@@ -1,5 +1,5 @@
 -- A turn takes a line more.
-use Rattle.std.proofs.Common.{subst, sym, ℕ, List}
+use Rattle.std.proofs.Common.{subst, ℕ, List}
 use Rattle.rv_replies.specs.Standing.{AddsLine}
 use Rattle.rv_verify.specs.Reading.{HasNextPart}
 use Rattle.rv_verify.specs.declared.parts.NextPart.{NextPart}
@@ -23,7 +23,8 @@ loop-turn-preserved g c = record {
       (c.in_ok-next_line.ensures.next taken.rest taken.is_left))
       (subst (λ (p : List ℕ). AddsLine c.loop-turn.records c.take.new.self p) c.deref.ensures.value
       c.in_ok-take-in-Line.ensures.adds);
-  are_new = λ are a empty. c.in_ok-take-in-Line.ensures.stands a empty (c.loop-turn.invariant.are_new are a empty);
+  are_new = λ are a empty. c.in_ok-take-in-Line.ensures.stands a empty (c.loop-turn.invariant.are_new are a
+      empty);
 }
 
 pub loop-turn-init : goal.loop-turn-init

@@ -1,7 +1,6 @@
 -- Behind a bad line a line is only counted; else the verifier reads it; or it is the first.
-use Rattle.std.proofs.Common.{◌∷◌, ◌++◌, [], List, ℕ, refl, rules, subst, sym}
-use Rattle.rv_verify.specs.Stages.{HasReadLines}
-use Rattle.rv_verify.proofs.Staging.{reads_none, reads_well, stays_bad}
+use Rattle.std.proofs.Common.{rules}
+use Rattle.rv_verify.proofs.Staging.{stays_bad}
 use Rattle.rv_verify.proofs.stage.Stage.line.Goals as goal
 
 pub returns-then-is_some-clause-read : goal.returns-then-is_some-clause-read
