@@ -6,9 +6,12 @@ use Rattle.rv_verify.specs.Reading.{HasNextPart}
 use Rattle.rv_verify.specs.declared.parts.NextPart.{NextPart}
 use Rattle.rv_verify.proofs.Running.{not_both, runs_first, runs_on, runs_out, runs_to_fault}
 use Rattle.rv_verify.proofs.ongoing.OngoingAudit.read_until.Goals as goal
-use Rattle.rv_verify.proofs.ongoing.OngoingAudit.read_until.Goals.{else-matches-via-else-matches}
-use Rattle.rv_verify.proofs.ongoing.OngoingAudit.read_until.Goals.{else-matches-via-then-matches+else-has_fault}
-use Rattle.rv_verify.proofs.ongoing.OngoingAudit.read_until.Goals.{in-Fault, in_default}
+use Rattle.rv_verify.proofs.ongoing.OngoingAudit.read_until.Goals.{
+  else-matches-via-else-matches,
+  else-matches-via-then-matches+else-has_fault,
+  in-Fault,
+  in_default,
+}
 
 pub returns-in-Piece-clause-read : goal.returns-in-Piece-clause-read
 returns-in-Piece-clause-read g c before bytes has is =
