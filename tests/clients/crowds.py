@@ -156,6 +156,7 @@ def a_crowd(program, seed, seconds, at_all_events=AT_ALL_EVENTS):
         drive(server, ledger, clients, limit=seconds + 2 * LONGER, calm=proxy.close, end=server.use_up)
         recorded = len(lines_of(record))
         demand(recorded == len(ledger.asked), f"{len(ledger.asked)} calls were told, and {recorded} are recorded")
+        server.keeps(record.read_bytes())
     demand(not lacking(ledger, proxy, seconds), lacking(ledger, proxy, seconds))
     named, received = receipts_of(ledger)
     return f"{len(ledger.asked)} calls, {received} receipts, of which {named} name the consumer"

@@ -130,9 +130,7 @@ def of_words():
         yield "no such file", ran([missing]), ("", f"account {missing}: No such file or directory (os error 2)\n", 1)
         yield "a folder", ran([folder]), ("", "run fault 1\n", 1)
     for words in ([], ["a", "b"], ["--help"]):
-        expected = ("", "command fault 1\n", 2)
-        yield f"the words {words}", ran(words), expected if words != ["--help"] else (
-            "", "account --help: No such file or directory (os error 2)\n", 1)
+        yield f"the words {words}", ran(words), ("", "command fault 1\n", 2)
     with open("/dev/full", "wb") as full, tempfile.NamedTemporaryFile() as file:
         file.write(joined(WORKED).encode())
         file.flush()

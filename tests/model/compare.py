@@ -1,7 +1,7 @@
 #!/usr/bin/env python3
 """Compares a program with a plain second implementation of docs/MODEL.md, over random scripts: of `rv book`, with
---play of `rv play`, with --audit over random accounts, most of them spoilt, of `rv audit`, and with --limits of a machine
-under limits of one's own, of `rv_steps`: under 50 entries, 4 clients and 8 open places each must be met. With --anew
+--play of `rv play`, with --audit over random accounts, most of them spoilt, of `rv audit`, with --replies of `rv verify` on random
+records of what clients were told, and with --limits of a machine under limits of one's own, of `rv_steps`: under 50 entries, 4 clients and 8 open places each must be met. With --anew
 that machine is made anew behind each line: of the state before it, and by following the entries that it made.
 
 A run of many lines is parted into many scripts of up to 400 lines, each a book or a world of its own: the model looks
@@ -22,6 +22,7 @@ from tests.model.bounded import Machines, limits_of  # noqa: E402
 from tests.model.broken import broken_faults  # noqa: E402
 from tests.model.broken_lines import line_faults  # noqa: E402
 from tests.model.plays import make_play, play_fault  # noqa: E402
+from tests.model.records import compare_records  # noqa: E402
 from tests.model.rows import drain_faults, play_row_faults, row_faults  # noqa: E402
 from tests.model.scripts import law_fault, make_crowd, make_script  # noqa: E402
 from tests.model.spoilt import make_texts  # noqa: E402
@@ -140,6 +141,7 @@ def main():
     parser.add_argument("--play", action="store_true", help="events of worlds, in place of messages to books")
     parser.add_argument("--audit", action="store_true", help="accounts, in place of messages to books")
     parser.add_argument("--accounts", type=int, default=2_000, help="how many of them")
+    parser.add_argument("--replies", type=int, metavar="RECORDS", help="so many records beside accounts")
     parser.add_argument("--limits", nargs=3, metavar=("ENTRIES", "CLIENTS", "OPEN"), help="messages to a machine under these")
     parser.add_argument("--anew", action="store_true", help="a machine that is made anew behind each line")
     parser.add_argument("--selftest", action="store_true", help="test the model itself, with no program")
@@ -150,6 +152,8 @@ def main():
     program = asked.program or (STEPS if asked.limits else PROGRAM)
     if asked.audit:
         same = compare_audits(program, asked.seed, asked.accounts)
+    elif asked.replies:
+        same = compare_records(program, asked.seed, asked.replies)
     elif asked.limits:
         same = compare_steps(program, asked.seed, asked.lines, Machines(limits_of(asked.limits), asked.anew))
     else:

@@ -6,7 +6,9 @@ RV_WRONG in the environment names what it does wrong; tests/sockets/serve.py --s
 usage: tests/sockets/double.py serve --listen ADDR --epoch E --workers W --connections N
        tests/sockets/double.py call --connect ADDR --client C --incarnation I --tries T --speak V
        tests/sockets/double.py audit
+       tests/sockets/double.py verify FILE --replies FILE
 """
+import json
 import os
 import pathlib
 import queue
@@ -28,6 +30,8 @@ from tests.model.texts import (  # noqa: E402
     KEY, MAX_BODY_BYTES, MAX_IDENTIFIER, NoReading, demand, members_of, read_call, read_json, read_message, written)
 from tests.model.world import is_own  # noqa: E402
 from tests.sockets.accounts import call_members, read_account  # noqa: E402
+from tests.sockets.standing import Replies  # noqa: E402
+from tests.sockets.wire import key_of, reply_of  # noqa: E402
 
 WRONG = os.environ.get("RV_WRONG", "")
 PAUSES, PAUSE = 200, 0.08 if WRONG == "pauses for too long" else 0.005
@@ -429,6 +433,13 @@ def audit():
     return int(fault is not None)
 
 
+def verify(account, replies):
+    """Looks for the reply of each line of a record in an account; gives the status."""
+    made = Replies(read_account(pathlib.Path(account).read_bytes())).made
+    lines = [json.loads(line)["told"] for line in pathlib.Path(replies).read_bytes().splitlines()]
+    return int(any(made.get(key_of(told)) != reply_of(told) for told in lines))
+
+
 def option(given, name, least, most):
     """The number of an option."""
     demand(re.fullmatch("[0-9]{1,19}", given[name]) and least <= int(given[name]) <= most)
@@ -437,6 +448,9 @@ def option(given, name, least, most):
 
 def run(words):
     """Does what the words say; gives the status."""
+    if words[:1] == ["verify"]:
+        demand(len(words) == 4 and words[2] == "--replies")
+        return verify(words[1], words[3])
     names = {"serve": ["--listen", "--epoch", "--workers", "--connections"],
              "call": ["--connect", "--client", "--incarnation", "--tries", "--speak"],
              "audit": []}.get(words[0] if words else "")

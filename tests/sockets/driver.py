@@ -68,8 +68,8 @@ def run_at_once(clients, beside, limit):
 
 def judged(server, ledger, left=None):
     """The account with which a server ends behind a crowd. It must be legal, also by `rv audit`; nothing may have arrived
-    that no client asked; and each reply that was told must stand in it. Where all was taken that was left, nothing may be
-    lost, or be told to two."""
+    that no client asked; and each reply that was told must stand in it, also by `rv verify`. Where all was taken that was left,
+    nothing may be lost, or be told to two."""
     fault = crowd_fault(ledger, left) if left is not None else None
     demand(not fault, f"{len(ledger.asked)} requests: {fault}")
     account, told = server.ended(), list(ledger.told.items())
@@ -79,4 +79,5 @@ def judged(server, ledger, left=None):
     for key, members in told:
         demand(stand.get(key) == members, f"{key} was told {members}, and {stand.get(key)} stands")
     server.audited()
+    server.verified(ledger.asked, told)
     return account

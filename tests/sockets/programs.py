@@ -6,11 +6,12 @@ import random
 import re
 import socket
 import subprocess
+import tempfile
 import threading
 import time
 
 from tests.sockets.accounts import account_fault, read_account
-from tests.sockets.wire import PATIENCE, Peer, Wrong, demand, members_of, until, welcome, hello
+from tests.sockets.wire import PATIENCE, Peer, Wrong, demand, hello, members_of, record_line, until, welcome
 
 PORTS = range(20_000, 32_000)
 # How often another free port is tried, where somebody takes the one that was free.
@@ -210,7 +211,21 @@ class Server(Process):
         fault = account_fault(account, asked, told)
         demand(not fault, f"the account: {fault}")
         self.audited()
+        self.verified(asked, told)
         return account
+
+    def verified(self, asked, told):
+        """By the program's own word the account must keep each reply that was told to one of these calls."""
+        self.keeps(b"".join(record_line(key, asked[key], reply) for key, reply in told))
+
+    def keeps(self, record):
+        """By the program's own word the account must keep each line of the record."""
+        with tempfile.TemporaryDirectory(prefix="rv-verify-") as folder:
+            account, replies = pathlib.Path(folder, "account"), pathlib.Path(folder, "replies")
+            account.write_bytes(self.printed)
+            replies.write_bytes(record)
+            ran = subprocess.run([self.program, "verify", account, "--replies", replies], capture_output=True, timeout=4 * PATIENCE)
+        demand((ran.returncode, ran.stderr) == (0, b""), f"rv verify says {ran.stdout[-2_000:]} and {ran.stderr}")
 
     def audited(self):
         """The program's own audit must find the account legal."""

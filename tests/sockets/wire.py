@@ -84,6 +84,11 @@ def replied(key, **reply):
     return written({"kind": "reply", **vars(key), **reply}).encode()
 
 
+def record_line(key, call, reply):
+    """The line of a record for a call, and its reply's members."""
+    return b'{"asked":%b,"told":%b}\n' % (request(key, call), replied(key, **reply))
+
+
 def waits(key):
     """The body that says that a request waits."""
     return written({"kind": "waiting", **vars(key)}).encode()

@@ -7,6 +7,7 @@ ghost use Rattle.rv_text.specs.Limits.{FitsIdentifier};
 mod account;
 mod audit;
 mod fault;
+mod growing;
 pub mod laws;
 mod line;
 mod opened;
@@ -14,13 +15,14 @@ mod run;
 mod server;
 mod turn;
 mod verify;
+mod watch;
 
 pub use account::write_account;
 pub use audit::{AuditSaid, audit_run};
 use fault::ProgramFault;
 pub use run::book_run;
 pub use rv_calls::{CallSaid, RecordFault, RecordingFault, call_run, record_run};
-pub use rv_command::{Command, CommandFault, read_command, read_record};
+pub use rv_command::{Command, CommandFault, read_command, read_record, read_verify};
 use rv_frame::{Sink, Source};
 pub use rv_play::play_run;
 pub use rv_run::{OutputFault, RunFault};
@@ -38,7 +40,7 @@ use std::thread::Threads;
 use std::time::Duration;
 use std::{env, io, time};
 use thiserror::Error;
-use verify::{account_to_verify, run_verify};
+use verify::run_verify;
 
 // If standard error takes nothing, the status alone tells the fault.
 fn main(rt: HostRuntime) -> ExitCode {
@@ -61,8 +63,8 @@ fn run_program<T: Threads + Wait + AllocGlobal + time::Clock + Sync>(
     if let Some((file, call)) = read_record(rt.alloc(), &words)? {
         return run_recorded(rt, file, &call);
     }
-    if let Some(path) = account_to_verify(&words) {
-        return run_verify(rt, path);
+    if let Some(verify) = read_verify(rt.alloc(), &words)? {
+        return run_verify(rt, threads, &verify);
     }
     match read_command(rt.alloc(), &words)? {
         Command::Book(epoch) => run_book(rt, epoch)?,

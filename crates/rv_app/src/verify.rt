@@ -1,173 +1,196 @@
-//! Verifies the account in a file, or on standard input, in memory of what is open and of clients.
+//! Verifies the account in a file, or on standard input, in memory of what is open and of clients, and a
+//! record of replies beside it.
+ghost use Rattle.std.specs.Prelude.{IfOk};
+ghost use Rattle.rv_verify.specs.Stages.{AreNew};
+
 use crate::fault::ProgramFault;
+use crate::growing::follow;
+use crate::watch::{Watch, Watched};
 use rv_audit::Rule;
+use rv_command::{STANDARD_INPUT, VerifyWords};
 use rv_frame::Sink;
-use rv_run::{OutputFault, RunFault};
-use rv_text::NoMemory;
-use rv_verify::{AccountFinding, AccountVerdict, VerifyFault, rule_at, verify};
+use rv_inspect::tell_found;
+use rv_replies::Records;
+use rv_run::RunFault;
+use rv_verify::{AccountFinding, AccountVerdict, VerifyFault, read_records, rule_at, verify};
 use std::alloc::Global;
 use std::fmt::Display;
 use std::fs::File;
 use std::io::{BufReader, Read};
 use std::process::ExitCode;
+use std::sync::Wait;
+use std::time;
 
-// What the words call standard input.
-const STANDARD_INPUT: &str = "-";
-
-// The status of an account with a torn end, and that of one whose state has no room behind some place.
-const TORN: u8 = 3;
-
-const BEYOND: u8 = 4;
-
-// That of an entry that breaks P1, P2 or S1, where the entries before it can't be read once more.
-const UNTOLD: u8 = 5;
-
-/// The file that the words name to be verified. The first word is the program's name.
-pub(crate) fn account_to_verify<'a>(words: &'a [&'a str]) -> Option<&'a str> {
-    match words {
-        [_, "verify", file] => Some(*file),
-        _ => None,
-    }
-}
-
-/// `rv verify FILE`: verifies the account in a file, or on standard input where that is `-`, and tells what
-/// it is.
-pub(crate) fn run_verify(rt: &HostRuntime, path: &str) -> Result<ExitCode, ProgramFault> {
-    if path == STANDARD_INPUT {
-        let found = found_in(rt.alloc(), rt.stdin())?;
-        return tell(rt, &found, None);
-    }
-    match File::open(rt, path) {
-        Ok(file) => verify_file(rt, path, file),
-        Err(error) => Ok(unread(rt, path, &error)),
-    }
-}
-
-// The same of an open file, which is opened once more where an entry names a closed place.
-fn verify_file<F: Read + Drop>(
+/// `rv verify`: verifies the account in a file, or on standard input, and tells what it is, and what it says
+/// of each line of a record, if one is named.
+pub(crate) fn run_verify<T: Wait + time::Clock>(
     rt: &HostRuntime,
-    path: &str,
-    file: F,
+    waits: &T,
+    words: &VerifyWords<'_>,
 ) -> Result<ExitCode, ProgramFault> {
-    let found = found_in(rt.alloc(), file)?;
-    if !matches!(found.verdict, AccountVerdict::NotOpen { .. }) {
-        return tell(rt, &found, None);
-    }
+    let Some(path) = words.replies else {
+        let mut records = Records::new(rt.alloc());
+        return verify_beside(rt, waits, words, &mut records);
+    };
     match File::open(rt, path) {
-        Ok(again) => tell_again(rt, &found, again),
-        Err(error) => Ok(unread(rt, path, &error)),
+        Ok(file) => {
+            let mut records = records_in(rt, file)?;
+            verify_beside(rt, waits, words, &mut records)
+        }
+        Err(error) => Ok(unread(rt, "record", path, &error)),
     }
 }
 
-// Tells what was found, with the rule that a second reading finds.
-fn tell_again<F: Read + Drop>(
+// The same beside a record, which has noted no entry yet.
+fn verify_beside<T: Wait + time::Clock>(
     rt: &HostRuntime,
+    waits: &T,
+    words: &VerifyWords<'_>,
+    records: &mut Records,
+) -> Result<ExitCode, ProgramFault>
+    requires { AreNew records.old }
+{
+    if words.file == STANDARD_INPUT {
+        let found = found_in(rt, 0, rt.stdin(), records)?;
+        return tell(rt, words, &found, None, records);
+    }
+    match File::open(rt, words.file) {
+        Ok(file) => verify_file(rt, waits, words, file, records),
+        Err(error) => Ok(unread(rt, "account", words.file, &error)),
+    }
+}
+
+// The same of an open file.
+fn verify_file<T: Wait + time::Clock>(
+    rt: &HostRuntime,
+    waits: &T,
+    words: &VerifyWords<'_>,
+    file: File,
+    records: &mut Records,
+) -> Result<ExitCode, ProgramFault>
+    requires { AreNew records.old }
+{
+    if words.follow {
+        let found = follow(rt, waits, file, records)?;
+        return tell_file(rt, words, &found, records);
+    }
+    let found = found_in(rt, size_of(&file), file, records)?;
+    tell_file(rt, words, &found, records)
+}
+
+// Tells what was found in a file, which is opened once more where an entry names a closed place.
+fn tell_file(
+    rt: &HostRuntime,
+    words: &VerifyWords<'_>,
     found: &AccountFinding,
-    again: F,
+    records: &Records,
 ) -> Result<ExitCode, ProgramFault> {
-    let rule = rule_in(rt.alloc(), &found.verdict, again)?;
-    tell(rt, found, rule)
+    if !matches!(found.verdict, AccountVerdict::NotOpen { .. }) {
+        return tell(rt, words, found, None, records);
+    }
+    match File::open(rt, words.file) {
+        Ok(again) => {
+            let rule = rule_in(rt, &found.verdict, again)?;
+            tell(rt, words, found, rule, records)
+        }
+        Err(error) => Ok(unread(rt, "account", words.file, &error)),
+    }
+}
+
+// How many bytes a file has, or 0 if nobody knows.
+fn size_of(file: &File) -> u64 {
+    file.metadata().map_or(0, |about| about.len())
+}
+
+// The record that the lines of a file are.
+fn records_in(rt: &HostRuntime, file: File) -> Result<Records, RunFault>
+    ensures { IfOk result AreNew }
+{
+    let mut watch = Watch::new(rt, size_of(&file));
+    let records = records_watched(rt, &mut watch, file);
+    watch.erase();
+    records
+}
+
+// The same, watched.
+fn records_watched(rt: &HostRuntime, watch: &mut Watch<'_>, file: File) -> Result<Records, RunFault>
+    ensures { IfOk result AreNew }
+{
+    let mut reader = buffered(rt.alloc(), Watched::new(watch, file))?;
+    read_records(rt.alloc(), &mut reader).map_err(run_fault)
 }
 
 // What an account is.
-fn found_in<F: Read + Drop>(alloc: Global, input: F) -> Result<AccountFinding, RunFault> {
-    let mut reader = buffered(alloc, input)?;
-    verify(alloc, &mut reader).map_err(run_fault)
+fn found_in<F: Read + Drop>(
+    rt: &HostRuntime,
+    size: u64,
+    input: F,
+    records: &mut Records,
+) -> Result<AccountFinding, RunFault>
+    requires { AreNew records.old }
+{
+    let mut watch = Watch::new(rt, size);
+    let found = found_watched(rt, &mut watch, input, records);
+    watch.erase();
+    found
+}
+
+// The same, watched.
+fn found_watched<F: Read + Drop>(
+    rt: &HostRuntime,
+    watch: &mut Watch<'_>,
+    input: F,
+    records: &mut Records,
+) -> Result<AccountFinding, RunFault>
+    requires { AreNew records.old }
+{
+    let mut reader = buffered(rt.alloc(), Watched::new(watch, input))?;
+    verify(rt.alloc(), &mut reader, records).map_err(run_fault)
 }
 
 // The rule that its entry breaks, if that names a closed place.
-fn rule_in<F: Read + Drop>(
-    alloc: Global,
+fn rule_in(
+    rt: &HostRuntime,
     verdict: &AccountVerdict,
-    input: F,
+    file: File,
 ) -> Result<Option<Rule>, RunFault> {
     let AccountVerdict::NotOpen { place, entry } = verdict else {
         return Ok(None);
     };
-    let mut reader = buffered(alloc, input)?;
-    rule_at(alloc, &mut reader, *place, entry).map_err(run_fault)
+    let mut reader = buffered(rt.alloc(), file)?;
+    rule_at(rt.alloc(), &mut reader, *place, entry).map_err(run_fault)
 }
 
-// A reader with a buffer.
-fn buffered<F: Read + Drop>(alloc: Global, input: F) -> Result<BufReader<F>, RunFault> {
+/// A reader with a buffer.
+pub(crate) fn buffered<F: Read + Drop>(alloc: Global, input: F) -> Result<BufReader<F>, RunFault> {
     BufReader::new(alloc, input).map_err(|_| RunFault::NoMemory)
 }
 
-// Why an account was not read to its end.
-fn run_fault(fault: VerifyFault) -> RunFault {
+/// Why an account was not read to its end.
+pub(crate) fn run_fault(fault: VerifyFault) -> RunFault {
     match fault {
         VerifyFault::ReadFault => RunFault::ReadFault,
         VerifyFault::NoMemory => RunFault::NoMemory,
     }
 }
 
-// Prints what was found, with the rule at a closed place if it is known, and gives the status.
+// Prints what was found, with the rule at a closed place if it is known, and what is found of a record if one
+// was named, and gives the status.
 fn tell(
     rt: &HostRuntime,
+    words: &VerifyWords<'_>,
     found: &AccountFinding,
     rule: Option<Rule>,
+    records: &Records,
 ) -> Result<ExitCode, ProgramFault> {
-    let text = text_of(rt.alloc(), found, rule)?;
     let mut sink = Sink::new(rt.stdout());
-    match sink.write_all(text.as_bytes()) {
-        Ok(()) => Ok(ExitCode::from(status_of(found, rule))),
-        Err(fault) => Err(ProgramFault::Run(RunFault::WriteFault(OutputFault {
-            sent: fault.sent as u128,
-        }))),
-    }
+    let records = words.replies.map(|_| records);
+    let status = tell_found(rt.alloc(), found, rule, records, &mut sink)?;
+    Ok(ExitCode::from(status))
 }
 
-// The lines that tell it.
-fn text_of(alloc: Global, found: &AccountFinding, rule: Option<Rule>) -> Result<String, RunFault> {
-    let mut text = verdict_text(alloc, &found.verdict, rule)?;
-    if found.torn {
-        text.push_str("torn end\n")?;
-    }
-    Ok(text)
-}
-
-// The line of a verdict.
-fn verdict_text(
-    alloc: Global,
-    verdict: &AccountVerdict,
-    rule: Option<Rule>,
-) -> Result<String, NoMemory> {
-    match verdict {
-        AccountVerdict::Legal => String::from_str(alloc, "legal\n"),
-        AccountVerdict::Fault { place, rule } => fault_text(alloc, *place, rule.name()),
-        AccountVerdict::NotOpen { place, .. } => match rule {
-            Some(rule) => fault_text(alloc, *place, rule.name()),
-            None => fault_text(
-                alloc,
-                *place,
-                "P1, P2 or S1: a file, read twice, tells which",
-            ),
-        },
-        AccountVerdict::BadLine(number) => format!(in alloc; "bad line {number}\n"),
-        AccountVerdict::BeyondLimits(place) => format!(in alloc; "beyond limits {place}\n"),
-    }
-}
-
-// The line of a fault.
-fn fault_text(alloc: Global, place: usize, rule: &str) -> Result<String, NoMemory> {
-    format!(in alloc; "fault {place} {rule}\n")
-}
-
-// The status that tells it.
-fn status_of(found: &AccountFinding, rule: Option<Rule>) -> u8 {
-    if found.torn {
-        return TORN;
-    }
-    match found.verdict {
-        AccountVerdict::Legal => 0,
-        AccountVerdict::BeyondLimits(_) => BEYOND,
-        AccountVerdict::NotOpen { .. } if rule.is_none() => UNTOLD,
-        _ => 1,
-    }
-}
-
-// Says which account can't be read, and why.
-fn unread<E: Display>(rt: &HostRuntime, path: &str, why: &E) -> ExitCode {
-    let _ = eprintln!(rt; "account {path}: {why}");
+// Says which file can't be opened, and why.
+fn unread<E: Display>(rt: &HostRuntime, what: &str, path: &str, why: &E) -> ExitCode {
+    let _ = eprintln!(rt; "{what} {path}: {why}");
     ExitCode::from(1)
 }

@@ -2,3 +2,4 @@
 pub mod Options
 pub mod Commands
 pub mod RecordWords
+pub mod OwnWords

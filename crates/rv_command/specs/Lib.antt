@@ -2,3 +2,4 @@
 pub mod Command
 pub mod Laws
 pub mod Recorded
+pub mod Verifying

@@ -212,8 +212,8 @@ fn number_of(options: &ArgMatches, name: &str, least: u64, most: u64) -> Option<
     read_between(text_of(options, name)?.as_bytes(), least, most)
 }
 
-// An option's value.
-fn text_of<'a>(options: &ArgMatches<'a>, name: &str) -> Option<&'a str>
+/// An option's value.
+pub(crate) fn text_of<'a>(options: &ArgMatches<'a>, name: &str) -> Option<&'a str>
     ensures { option_map (λ v. v.now) result ≡ first_of name.now (rows_of (found_of options.now)) }
 {
     options.get_str(name)

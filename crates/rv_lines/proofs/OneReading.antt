@@ -56,22 +56,29 @@ front_of_front (suc m) zero xs within = absurd (omega arith)
 front_of_front (suc m) (suc n) [] within = refl
 front_of_front (suc m) (suc n) (x ∷ xs) within = ap (λ l. x ∷ l) (front_of_front m n xs (omega arith))
 
--- some first lines of those that are read as an account are read as one too
+-- some first lines of those that are read as an account are read as a front of it
+pub front_read_as : (limits : LineLimits) (k : ℕ) (lines : List (List ℕ)) (a : Account)
+    → ReadsAccountUnder limits lines a
+    → ReadsAccountUnder limits (take (suc k) lines)
+    (record { epoch = a.epoch; opened = a.opened; entries = take k a.entries })
+front_read_as limits k lines a reads = record {
+  head = reads.head;
+  rest = take k reads.rest;
+  parts = ap (take (suc k)) reads.parts;
+  says_head = reads.says_head;
+  says_entries = record {
+    one_by_one = front_zip limits.greatest_place k reads.rest a.entries reads.says_entries.one_by_one;
+    not_too_many = omega (arith, length-take k reads.rest, reads.says_entries.not_too_many);
+  };
+}
+
 pub front_read : (limits : LineLimits) (n : ℕ) (lines : List (List ℕ)) (a : Account) → 1 ≤ n
     → ReadsAccountUnder limits lines a → (b : Account) × ReadsAccountUnder limits (take n lines) b
 front_read limits zero lines a some reads = absurd (omega arith)
 front_read limits (suc k) lines a some reads = (
   record { epoch = a.epoch; opened = a.opened; entries = take k a.entries },
-  record {
-    head = reads.head;
-    rest = take k reads.rest;
-    parts = ap (take (suc k)) reads.parts;
-    says_head = reads.says_head;
-    says_entries = record {
-      one_by_one = front_zip limits.greatest_place k reads.rest a.entries reads.says_entries.one_by_one;
-      not_too_many = omega (arith, length-take k reads.rest, reads.says_entries.not_too_many);
-    };
-  },
+  front_read_as limits k lines a
+      reads,
 )
 
 pub read_has_no_bad : (limits : LineLimits) (lines : List (List ℕ)) (a : Account) (n : ℕ)

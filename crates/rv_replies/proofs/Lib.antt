@@ -9,6 +9,7 @@ pub mod Texts
 pub mod Counts
 pub mod AskedTold
 pub mod OneRecord
+pub mod FirstLines
 pub mod Taking
 pub mod Writing
 pub mod Ending

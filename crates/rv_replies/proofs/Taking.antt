@@ -1,27 +1,36 @@
 -- A record with one line more, before any entry.
 use Rattle.rv_replies.proofs.Words.{◌++◌, ◌≡◌, ◌∙◌, ◌∷◌, [], List, None, Option, Some, ap, inl, inr, refl}
 use Rattle.rv_replies.proofs.Words.{subst, sym, same_Some, none-some, slice_get, Account}
-use Rattle.rv_replies.proofs.Words.{Key, IsFateOf, NamesNowhere, IsAbout, fate_in, Entry, Fate, Fates}
+use Rattle.rv_replies.proofs.Words.{is_named, length, Key, IsFateOf, NamesNowhere, IsAbout, fate_in, Entry}
+use Rattle.rv_replies.proofs.Words.{Fate, Fates}
 use Rattle.std.proofs.Common.{IsSome, Ok, Err, OnOk, Result, is_some, unwrap_or}
 use Rattle.rv_account.specs.Account.{key_at}
 use Rattle.rv_rules.proofs.Deciding.{key_or_other}
 use Rattle.rv_rules.proofs.Places.{get-append_cases}
 use Rattle.rv_replies.specs.Known.{AsksAbout}
-use Rattle.rv_replies.specs.Standing.{HasNoted}
+use Rattle.rv_replies.specs.Firsts.{KnowsFirsts, NotesFirst}
+use Rattle.rv_replies.specs.Standing.{AsksNothing, HasNoted}
+use Rattle.rv_replies.proofs.FirstLines.{flawed_more, no_told, same_told, told_more}
 use Rattle.rv_replies.specs.declared.fate.Fate.TheVariants.{Unnamed}
 use Rattle.rv_replies.specs.declared.reading.Flaw.{Flaw}
 use Rattle.std.proofs.lemmas.Bool.{false≢true}
+use Rattle.std.specs.Map.{lookup}
 use Rattle.rv_replies.proofs.Words.{ℕ}
 use Rattle.rv_replies.specs.declared.records.Line.{Line}
 use Rattle.rv_replies.specs.declared.records.Line.TheVariants as line
 use Rattle.rv_replies.specs.declared.records.Records.{Records}
 use Rattle.rv_replies.specs.declared.findings.Told.{Told}
 
--- two facts of what came out well give a third
+-- two facts of what came out well give a third, and three a fourth
 pub on_ok_two : {A E : Type 0} {P Q S : Type 0} (r : Result A E) → (P → Q → S) → OnOk r P → OnOk r Q
     → OnOk r S
 on_ok_two (Ok x) gives p q = gives p q
 on_ok_two (Err e) gives p q = tt
+
+pub on_ok_three : {A E : Type 0} {P Q R S : Type 0} (r : Result A E) → (P → Q → R → S) → OnOk r P
+    → OnOk r Q → OnOk r R → OnOk r S
+on_ok_three (Ok x) gives p q s = gives p q s
+on_ok_three (Err e) gives p q s = tt
 
 nowhere : (es : List Entry) (key : Key) → es ≡ [] → NamesNowhere es key
 nowhere es key is place named =
@@ -52,16 +61,12 @@ module _ (a : Account) (empty : a.entries ≡ []) where
     | inr apart ↦ ap is_some (asks.others key apart) ∙ known
   ]
 
-  same_told : (told other : Told) → line.Told told ≡ line.Told other → told ≡ other
-  same_told told other is = cc
-
-  no_told : (flaw : Flaw) (told : Told) → line.Flawed flaw ≡ line.Told told → ⊥
-  no_told flaw told is = absurd (let no : ⊥ = cc in no)
-
   pub takes_told : (old new : Records) (told : Told) → HasNoted old a
       → new.lines.items ≡ old.lines.items ++ line.Told told ∷ [] → AsksAbout old.fates new.fates told.key
-      → HasNoted new a
-  takes_told old new told stands lines asks = record {
+      → NotesFirst old.firsts new.firsts told.key (length old.lines.items) → HasNoted new a
+  takes_told old new told stands lines asks notes = record {
+    firsts = subst (λ l. KnowsFirsts l new.firsts) (sym lines)
+        (told_more old.lines.items (line.Told told) old.firsts stands.firsts new.firsts told refl notes);
     about = asks_about old.fates new.fates told.key asks stands.about;
     known = λ i other at.
         let there : slice_get (old.lines.items ++ line.Told told ∷ []) i ≡ Some (line.Told other) =
@@ -77,8 +82,11 @@ module _ (a : Account) (empty : a.entries ≡ []) where
 
   pub takes_flawed : (old new : Records) (flaw : Flaw) → HasNoted old a
       → new.lines.items ≡ old.lines.items ++ line.Flawed flaw ∷ [] → new.fates ≡ old.fates
-      → HasNoted new a
-  takes_flawed old new flaw stands lines fates = record {
+      → new.firsts ≡ old.firsts → HasNoted new a
+  takes_flawed old new flaw stands lines fates firsts = record {
+    firsts = subst (λ f. KnowsFirsts new.lines.items f) (sym firsts)
+        (subst (λ l. KnowsFirsts l old.firsts) (sym lines)
+        (flawed_more old.lines.items (line.Flawed flaw) old.firsts stands.firsts flaw refl));
     about = subst (λ f. IsAbout f a) (sym fates) stands.about;
     known = λ i other at.
         let there : slice_get (old.lines.items ++ line.Flawed flaw ∷ []) i ≡ Some (line.Told other) =
@@ -89,6 +97,15 @@ module _ (a : Account) (empty : a.entries ≡ []) where
           | inr last ↦ absurd (no_told flaw other last.1)
         ]);
   }
+
+-- where no key is known, all accounts are noted alike
+pub notes_any : (r : Records) (a b : Account) → AsksNothing r → HasNoted r a → HasNoted r b
+notes_any r a b none noted = record {
+  about = λ key fate there. absurd (none-some fate
+      (sym (ap (lookup (is_named key)) none) ∙ there));
+  known = noted.known;
+  firsts = noted.firsts;
+}
 
 -- ---- what is known of a line
 

@@ -1,5 +1,6 @@
 -- What a reader must agree with: all that the public contracts and the laws cite.
 pub mod Fates
+pub mod Firsts
 pub mod Known
 pub mod Laws
 pub mod Lines

@@ -9,6 +9,7 @@ use Rattle.rv_replies.specs.declared.findings.Told.{Told}
 use Rattle.rv_replies.specs.declared.findings.Finding.{Finding}
 use Rattle.rv_replies.specs.declared.findings.Finding.TheVariants.{NoRecord}
 use Rattle.rv_replies.specs.Known.{IsAbout, fate_in}
+use Rattle.rv_replies.specs.Firsts.{KnowsFirsts}
 use Rattle.rv_replies.specs.Lines.{ReadsTold}
 use Rattle.rv_replies.specs.Findings.{IsFinding}
 
@@ -33,7 +34,12 @@ abbrev pub KnowsEach : List Line → Fates → Type 0
 KnowsEach lines fates = (i : ℕ) (told : Told) → slice_get lines i ≡ Some (line.Told told)
     → IsSome (fate_in fates told.key)
 
--- of each reply it is known what became of its request in the account
+-- of each reply it is known what became of its request in the account, and which line is the first of it
 pub record HasNoted (r : Records) (a : Account) : Type 0 where
   pub about : IsAbout r.fates a
   pub known : KnowsEach r.lines.items r.fates
+  pub firsts : KnowsFirsts r.lines.items r.firsts
+
+-- no key is known
+abbrev pub AsksNothing : Records → Type 0
+AsksNothing r = r.fates.fates.entries ≡ []

@@ -5,7 +5,7 @@ use rv_text::{Call, Reply};
 use std::mem;
 
 /// What became of the request with a key, as an account tells it.
-#[derive(Debug, Drop)]
+#[derive(Drop)]
 pub enum Fate {
     /// No entry names the key.
     Unnamed,

@@ -1,5 +1,5 @@
 //! What became of the requests that were asked about, noted as an account passes.
-ghost use Rattle.std.specs.Prelude.{◌≡◌, None, OnOk, is_some, option_map};
+ghost use Rattle.std.specs.Prelude.{◌≡◌, ◌↔◌, [], IsTrue, None, OnOk, is_some, option_map};
 ghost use Rattle.rv_account.specs.Account.{Account, with_entry};
 ghost use Rattle.rv_machine.specs.Machines.{state_in};
 ghost use Rattle.rv_text.specs.declared.message.Key as message;
@@ -14,8 +14,8 @@ use rv_text::{Call, Key, NoMemory};
 use std::alloc::Global;
 
 // A key, as it is looked up.
-#[derive(Clone, Copy, Debug, PartialEq, Eq, Hash)]
-struct Name {
+#[derive(Clone, Copy, PartialEq, Eq, Hash)]
+pub(crate) struct Name {
     epoch: u64,
     client: u64,
     incarnation: u64,
@@ -34,7 +34,7 @@ pub(crate) struct Fates {
 impl Name {
     ghost use Rattle.rv_replies.specs.Known.{key_name};
 
-    fn of(key: &Key) -> Name
+    pub(crate) fn of(key: &Key) -> Name
         ensures { result ≡ key_name key.now }
     {
         Name {
@@ -56,6 +56,13 @@ impl Fates {
     {
         let fates = IndexMap::new(alloc);
         Fates { fates }
+    }
+
+    /// Whether no key is known.
+    pub(crate) fn is_empty(&self) -> bool
+        ensures { IsTrue result ↔ (self.now.fates.entries ≡ []) }
+    {
+        self.fates.is_empty()
     }
 
     /// What became of the key's request, if the key is known.

@@ -12,7 +12,7 @@ use crate::suits::may_tell;
 use rv_text::{Call, Items, Key, Reply};
 
 /// A reply that a client was told.
-#[derive(Debug, Drop)]
+#[derive(Drop)]
 pub struct Told {
     /// The key of its request.
     pub key: Key,
@@ -23,7 +23,7 @@ pub struct Told {
 }
 
 /// What an account says of it.
-#[derive(Clone, Copy, Debug, PartialEq, Eq)]
+#[derive(Clone, Copy, PartialEq, Eq)]
 pub enum Finding {
     /// The account gives the key that reply, and its request came with that call, or was cancelled before it
     /// came.
@@ -44,8 +44,8 @@ pub enum Finding {
     NoRecord,
 }
 
-// Whether the reply is this one.
-fn is_same_reply(reply: &Reply, other: &Reply) -> bool
+/// Whether the reply is this one.
+pub(crate) fn is_same_reply(reply: &Reply, other: &Reply) -> bool
     ensures { IsTrue result ↔ (reply.now ≡ other.now) }
 {
     match reply {

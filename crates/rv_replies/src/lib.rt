@@ -4,6 +4,7 @@
 mod fate;
 mod fates;
 mod findings;
+mod firsts;
 pub mod laws;
 mod reading;
 mod records;

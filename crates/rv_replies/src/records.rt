@@ -1,13 +1,15 @@
 //! A record of replies, line by line, beside what became of their requests.
-ghost use Rattle.std.specs.Prelude.{◌≡◌, ◌<◌, ◌++◌, ◌==◌, ◌∷◌, [], IsSome, OnOk, length};
-ghost use Rattle.std.specs.Prelude.{Some, option_map, slice_get};
+ghost use Rattle.std.specs.Prelude.{◌≡◌, ◌<◌, ◌++◌, ◌==◌, ◌∷◌, [], ℕ, IfSome, IsSome, OnOk, length};
+ghost use Rattle.std.specs.Prelude.{◌↔◌, IsTrue, None, Some, option_map, slice_get};
 ghost use Rattle.rv_account.specs.Account.{Account, with_entry};
 ghost use Rattle.rv_rules.specs.Legal.{Legal};
-ghost use Rattle.rv_replies.specs.declared.findings.Told as told;
+ghost use Rattle.rv_replies.specs.Firsts.{IsNamedIfOther};
+ghost use Rattle.rv_replies.specs.declared.findings.Told as replies;
 
 use crate::fate::Fate;
 use crate::fates::Fates;
-use crate::findings::{Finding, Told, judge};
+use crate::findings::{Finding, Told, is_same_reply, judge};
+use crate::firsts::Firsts;
 use crate::reading::{Flaw, NotRead, read_told};
 use rv_account::Entry;
 use rv_machine::Machine;
@@ -15,7 +17,7 @@ use rv_text::NoMemory;
 use std::alloc::{AllocError, Global};
 
 /// A growth of memory was refused.
-#[derive(Clone, Copy, Debug, PartialEq, Eq)]
+#[derive(Clone, Copy)]
 pub struct OutOfMemory;
 
 impl From<AllocError> for OutOfMemory {
@@ -25,7 +27,7 @@ impl From<AllocError> for OutOfMemory {
 }
 
 /// A line of a record.
-#[derive(Debug, Drop)]
+#[derive(Drop)]
 pub enum Line {
     /// A reply that a client was told.
     Told(Told),
@@ -39,11 +41,13 @@ pub enum Line {
 pub struct Records {
     lines: Vec<Line>,
     fates: Fates,
+    firsts: Firsts,
 }
 
 impl Records {
     ghost use Rattle.rv_replies.specs.Known.{AsksAbout, HasPassedBy, IsAbout, fate_in};
-    ghost use Rattle.rv_replies.specs.Standing.{AddsLine, IsLineFinding, HasNoted};
+    ghost use Rattle.rv_replies.specs.Firsts.{DiffersFrom, NotesFirst};
+    ghost use Rattle.rv_replies.specs.Standing.{AddsLine, AsksNothing, IsLineFinding, HasNoted};
     ghost use Rattle.rv_replies.specs.declared.fate.Fate as fates;
     ghost use Rattle.rv_replies.specs.declared.records.Line.TheVariants as kinds;
     ghost use Rattle.rv_replies.specs.Fates.{IsFateOf};
@@ -56,6 +60,7 @@ impl Records {
         Records {
             lines: Vec::new(alloc),
             fates: Fates::new(alloc),
+            firsts: Firsts::new(alloc),
         }
     }
 
@@ -73,10 +78,18 @@ impl Records {
         self.lines.is_empty()
     }
 
+    /// Whether no line asks about a request: then nothing is noted.
+    pub fn asks_nothing(&self) -> bool
+        ensures { IsTrue result ↔ AsksNothing self.now }
+    {
+        self.fates.is_empty()
+    }
+
     // Adds a line.
     fn push(&mut self, line: Line) -> Result<(), OutOfMemory>
         ensures lines { OnOk result (self.new.lines.items ≡ self.old.lines.items ++ line ∷ []) }
         ensures fates { self.new.fates ≡ self.old.fates }
+        ensures firsts { self.new.firsts ≡ self.old.firsts }
     {
         match self.lines.push(line) {
             Ok(()) => Ok(()),
@@ -89,8 +102,11 @@ impl Records {
         ensures lines { OnOk result
             (self.new.lines.items ≡ self.old.lines.items ++ kinds.Told told ∷ []) }
         ensures asks { OnOk result (AsksAbout self.old.fates self.new.fates told.key) }
+        ensures first { OnOk result
+            (NotesFirst self.old.firsts self.new.firsts told.key (length self.old.lines.items)) }
     {
         self.fates.ask(&told.key)?;
+        self.firsts.note(&told.key, self.lines.len())?;
         self.push(Line::Told(told))
     }
 
@@ -129,7 +145,7 @@ impl Records {
     /// What became of the request that the line with an index tells of, if it tells of one.
     pub fn fate(&self, index: usize) -> Option<&Fate>
         requires { index < length self.now.lines.items }
-        ensures { (a : Account) (told : told.Told)
+        ensures { (a : Account) (told : replies.Told)
             → slice_get self.now.lines.items index ≡ Some (kinds.Told told) → HasNoted self.now a
             → (fate : fates.Fate) × (option_map (λ f. f.now) result ≡ Some fate)
             × IsFateOf a.entries told.key fate }
@@ -140,10 +156,60 @@ impl Records {
         }
     }
 
+    /// The first line that tells of the same request as the line with an index, if it tells another reply.
+    pub fn differs_from(&self, index: usize) -> Option<usize>
+        requires { index < length self.now.lines.items }
+        ensures told { (a : Account) (told : replies.Told)
+            → slice_get self.now.lines.items index ≡ Some (kinds.Told told) → HasNoted self.now a
+            → DiffersFrom self.now.lines.items told result }
+        ensures flawed { (flaw : Flaw) → slice_get self.now.lines.items index ≡ Some (kinds.Flawed flaw)
+            → result ≡ None }
+    {
+        match self.line(index) {
+            Line::Told(told) => self.other_reply(told),
+            Line::Flawed(_) => None,
+        }
+    }
+
+    // The same of a reply that a line tells.
+    fn other_reply(&self, told: &Told) -> Option<usize>
+        ensures { (a : Account) (i : ℕ) → slice_get self.now.lines.items i ≡ Some (kinds.Told told.now)
+            → HasNoted self.now a → DiffersFrom self.now.lines.items told.now result }
+    {
+        match self.firsts.get(&told.key) {
+            Some(first) => self.other_at(first, told),
+            None => None,
+        }
+    }
+
+    // This line, if it tells another reply.
+    fn other_at(&self, line: usize, told: &Told) -> Option<usize>
+        ensures { (own : replies.Told) → slice_get self.now.lines.items line ≡ Some (kinds.Told own)
+            → IsNamedIfOther own told.now line result }
+    {
+        match self.told_at(line) {
+            Some(own) => line_if_other(own, told, line),
+            None => None,
+        }
+    }
+
+    // The reply that the line with an index tells, if it tells one.
+    fn told_at(&self, index: usize) -> Option<&Told>
+        ensures some { IfSome result
+            (λ told. slice_get self.now.lines.items index ≡ Some (kinds.Told told.now)) }
+        ensures none { result ≡ None → (told : replies.Told)
+            → ¬ (slice_get self.now.lines.items index ≡ Some (kinds.Told told)) }
+    {
+        match self.lines.get(index)? {
+            Line::Told(told) => Some(told),
+            Line::Flawed(_) => None,
+        }
+    }
+
     // The finding on a line.
     fn on_line(&self, line: &Line, epoch: u64) -> Finding
         ensures { (a : Account) → Legal a → a.epoch ≡ epoch → IsAbout self.now.fates a
-            → ((told : told.Told) → line.now ≡ kinds.Told told → IsSome (fate_in self.now.fates told.key))
+            → ((told : replies.Told) → line.now ≡ kinds.Told told → IsSome (fate_in self.now.fates told.key))
             → IsLineFinding a line.now result }
     {
         match line {
@@ -162,5 +228,16 @@ impl Records {
             → Legal a → a.epoch ≡ epoch → HasNoted self.now a → IsLineFinding a line result }
     {
         self.on_line(self.line(index), epoch)
+    }
+}
+
+// The line of a reply, if that is another one.
+fn line_if_other(own: &Told, told: &Told, line: usize) -> Option<usize>
+    ensures { IsNamedIfOther own.now told.now line result }
+{
+    if is_same_reply(&own.reply, &told.reply) {
+        None
+    } else {
+        Some(line)
     }
 }

@@ -22,7 +22,7 @@ use Rattle.rv_verify.specs.Naming.{AreReadAs, BeginAlike, HaveMet, MeetsOne}
 use Rattle.rv_verify.specs.Naming.{rule_by_side}
 use Rattle.rv_verify.specs.Reading.{HasNextPart, IsPiece}
 use Rattle.rv_verify.specs.Verdicts.{AuditTells, ReadsLongEntry, TellsFaultAt, TellsNotOpen}
-use Rattle.rv_verify.specs.declared.reading.NextPart.TheVariants as next
+use Rattle.rv_verify.specs.declared.parts.NextPart.TheVariants as next
 use Rattle.rv_verify.proofs.Meeting.{told_met, told_unmet}
 
 pub same_some : {X : Type 0} (x y : X) → Some x ≡ Some y → x ≡ y
@@ -77,7 +77,7 @@ behind_first line others k = ap (slice_get (line ∷ others)) (plus_one k)
 module _ {named : List ℕ} {es : List Entry} {i : ℕ} {left : Option (List ℕ)}
     (again : Again named es i left) (less : i < length es) {left' : Option (List ℕ)} {line : List ℕ} where
   pub no_end : HasNextPart again.rest left' line next.End → ⊥
-  no_end has = omega (arith, again.more, less, ap (λ b. length (lines b)) has.is_next)
+  no_end has = omega (arith, again.more, less, ap (λ b. length (lines b)) has.is_next.0)
 
   pub no_piece : HasNextPart again.rest left' line next.Piece → ⊥
   no_piece has = omega (
@@ -214,7 +214,7 @@ module _ (all : List (List ℕ)) (bytes : List ℕ) (place : ℕ) (e : Entry) (t
   two_there = within (lines bytes) (suc place) line_there.0 line_there.1
 
   pub first_end : {left : Option (List ℕ)} {line : List ℕ} → HasNextPart bytes left line next.End → ⊥
-  first_end has = omega (arith, two_there, ap (λ b. length (lines b)) has.is_next)
+  first_end has = omega (arith, two_there, ap (λ b. length (lines b)) has.is_next.0)
 
   pub first_piece : {left : Option (List ℕ)} {line : List ℕ} → HasNextPart bytes left line next.Piece → ⊥
   first_piece {line = line} has = omega (

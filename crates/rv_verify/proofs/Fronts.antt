@@ -52,7 +52,7 @@ module _ (a : Account) (m : ℕ) where
       ) in
       keeps r (omega arith) rule (breaks_out rule r less broken))
 
-legal_is_no_fault : (place : ℕ) (rule : Rule) → tells.Legal ≡ tells.Fault place rule → ⊥
+pub legal_is_no_fault : (place : ℕ) (rule : Rule) → tells.Legal ≡ tells.Fault place rule → ⊥
 legal_is_no_fault place rule same = cc
 
 -- what an audit tells of the front up to a place and the entry there, it tells of the whole, if that is a

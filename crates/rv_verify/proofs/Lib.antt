@@ -3,9 +3,13 @@ pub mod Opening
 pub mod Passing
 pub mod Fronts
 pub mod Telling
-pub mod Turning
+pub mod Longest
+pub mod Staging
+pub mod Joining
 pub mod Through
-pub mod Going
+pub mod Running
+pub mod Closing
 pub mod Agreeing
 pub mod Meeting
 pub mod Again
+pub mod Recorded

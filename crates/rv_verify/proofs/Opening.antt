@@ -15,7 +15,9 @@ use Rattle.rv_state.specs.After.{state_of}
 use Rattle.rv_state.specs.State.{opening}
 use Rattle.rv_text.specs.Limits.{FitsIdentifier}
 use Rattle.rv_lines.specs.Reading.{ReadsHead}
-use Rattle.rv_verify.specs.Standing.{HasRead, CanReadOn, StandsAt}
+use Rattle.rv_replies.specs.declared.records.Records.{Records}
+use Rattle.rv_verify.specs.Stages.{AreNew, HasReadNoting}
+use Rattle.rv_verify.specs.Standing.{CanReadOn, StandsAt}
 use Rattle.rv_verify.specs.declared.verifier.Verifier.{Verifier}
 
 nothing_there : (j : ℕ) (e : Entry) → slice_get [] j ≡ Some e → ⊥
@@ -44,30 +46,33 @@ module _ (v : Verifier) (epoch opened : ℕ) (fits : FitsIdentifier epoch) (smal
   room_at zero = (openings_resume epoch opened fits small).room
   room_at (suc j) = (openings_resume epoch opened fits small).room
 
-  pub opens_read : v.entries ≡ 0 → v.stop ≡ None → (head : List ℕ) → ReadsHead head epoch opened
-      → HasRead (head ∷ []) v
-  opens_read none goes head says =
+  pub opens_read : v.entries ≡ 0 → v.stop ≡ None → (head : List ℕ) (r : Records) → ReadsHead head epoch opened
+      → AreNew r → HasReadNoting (head ∷ []) v r
+  opens_read none goes head r says are_new =
       let a : Account = record { epoch = epoch; opened = opened; entries = [] } in
       record {
-        passed = a;
-        holds = record {
-          state = is;
-          legal = legal;
-          had_room = record {
-            epoch = fits;
-            opened = small;
-            entries = λ r e there. absurd (nothing_there r e there);
-            room = room_at;
-          };
-        };
-        account = a;
         read = record {
-          head = head;
-          rest = [];
-          parts = refl;
-          says_head = says;
-          says_entries = record { one_by_one = tt; not_too_many = omega arith };
+          passed = a;
+          holds = record {
+            state = is;
+            legal = legal;
+            had_room = record {
+              epoch = fits;
+              opened = small;
+              entries = λ r e there. absurd (nothing_there r e there);
+              room = room_at;
+            };
+          };
+          account = a;
+          read = record {
+            head = head;
+            rest = [];
+            parts = refl;
+            says_head = says;
+            says_entries = record { one_by_one = tt; not_too_many = omega arith };
+          };
+          counted = none;
+          stands = subst (StandsAt a a) (sym goes) refl;
         };
-        counted = none;
-        stands = subst (StandsAt a a) (sym goes) refl;
+        noted = are_new a refl;
       }

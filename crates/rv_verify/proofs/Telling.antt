@@ -28,11 +28,11 @@ get_at_end [] x more = refl
 get_at_end (y ∷ xs) x more = get_at_end xs x more
 
 -- what an audit tells of what passed with the entry that stopped the verifier
-bound : (p : Account) (e : Entry) (rule : Rule) → Legal p → IsFirstBroken (state_of p) e rule
+pub bound : (p : Account) (e : Entry) (rule : Rule) → Legal p → IsFirstBroken (state_of p) e rule
     → AuditTells (with_entry p e) (length p.entries) (λ other. other ≡ rule)
 bound p e rule legal broken told is = (rule, (rules_break p e rule legal).told broken told is, refl)
 
-bound_named : (p : Account) (e : Entry) → Legal p → NamesClosed (state_of p) e
+pub bound_named : (p : Account) (e : Entry) → Legal p → NamesClosed (state_of p) e
     → AuditTells (with_entry p e) (length p.entries) IsOnNamed
 bound_named p e legal closed told is =
     let named = closed_breaks p e told legal closed is in (named.rule, named.is, named.on_named)
@@ -40,14 +40,14 @@ bound_named p e legal closed told is =
 module _ (lines : List (List ℕ)) (p a : Account) (reads : ReadsLong lines a) (reason : StopReason)
     (legal : Legal p) (had_room : HadRoom p) (behind : StopsBehind p a reason) where
   -- the account's fronts before the entry and with it
-  front : before a (length p.entries) ≡ p
+  pub front : before a (length p.entries) ≡ p
   front =
       let entries : take (length p.entries) a.entries ≡ p.entries =
       ap (take (length p.entries)) behind.entries
       ∙ take-append_seam p.entries (behind.entry ∷ behind.more) in
       λ i. record { epoch = behind.epoch i; opened = behind.opened i; entries = entries i }
 
-  front_more : before a (length p.entries + 1) ≡ with_entry p behind.entry
+  pub front_more : before a (length p.entries + 1) ≡ with_entry p behind.entry
   front_more =
       let entries : take (length p.entries + 1) a.entries ≡ p.entries ++ behind.entry ∷ [] =
       ap (take (length p.entries + 1)) behind.entries

@@ -1,22 +1,27 @@
 -- What a read through the next LF gives.
-use Rattle.std.proofs.Common.{◌≡◌, ◌≢◌, ◌⊎◌, ◌∷◌, ◌++◌, ◌∙◌, ℕ, List, [], cond}
+use Rattle.std.proofs.Common.{◌≡◌, ◌≢◌, ◌⊎◌, ◌∷◌, ◌++◌, ◌∙◌, ℕ, List, [], cond, length, length-append}
 use Rattle.std.proofs.Common.{Option, None, Some, IfSome, Result, Ok, Err, IfOk, IsOk}
-use Rattle.std.proofs.Common.{refl, sym, ap, subst, eq-eqb, ne_eqb, inl, inr, arith}
-use Rattle.std.specs.List.{All}
+use Rattle.std.proofs.Common.{refl, sym, ap, subst, eq-eqb, ne_eqb, inl, inr, arith, append_assoc}
 use Rattle.std.specs.Io.BufRead.{drop_through, take_through}
 use Rattle.std.proofs.lemmas.Bool.{cases_order}
+use Rattle.std.proofs.lemmas.List.{same_from_push}
 use Rattle.std.proofs.lemmas.List.Elements.{All-cons, All-nil}
 use Rattle.rv_account.specs.declared.entry.Entry.{Entry}
 use Rattle.rv_lines.specs.declared.fault.LineFault.{LineFault}
-use Rattle.rv_verify.specs.Reading.{IsPiece}
+use Rattle.rv_lines.proofs.Cutting.{Lacks, not_lacking}
+use Rattle.rv_lines.proofs.OneLine.{line_append}
+use Rattle.rv_verify.specs.Reading.{IsNext}
+use Rattle.rv_verify.specs.declared.parts.NextPart.TheVariants as next
 
--- the bytes have an LF (10), through which all is taken; or they have none
+-- the bytes have a first LF (10), through which all is taken; or they have none
 pub record Cut (bytes : List ℕ) : Type 0 where
   pub front : List ℕ
+  pub lacks : Lacks 10 front
   pub taken : take_through 10 bytes ≡ front ++ 10 ∷ []
+  pub parts : bytes ≡ front ++ 10 ∷ drop_through 10 bytes
 
 pub record Uncut (bytes : List ℕ) : Type 0 where
-  pub lacks : All (λ byte. byte ≢ 10) bytes
+  pub lacks : Lacks 10 bytes
   pub taken : take_through 10 bytes ≡ bytes
   pub left : drop_through 10 bytes ≡ []
 
@@ -25,7 +30,10 @@ cut_or_not [] = inr (record { lacks = All-nil (λ byte. byte ≢ 10); taken = re
 cut_or_not (x ∷ xs) = elim (cases_order x 10) [
   | inl same ↦ inl (record {
     front = [];
+    lacks = All-nil (λ byte. byte ≢ 10);
     taken = ap (λ b. cond b (x ∷ []) (x ∷ take_through 10 xs)) (eq-eqb x 10 same) ∙ ap (λ n. n ∷ []) same;
+    parts = ap (λ n. n ∷ xs) same
+        ∙ ap (λ l. 10 ∷ l) (sym (ap (λ b. cond b xs (drop_through 10 xs)) (eq-eqb x 10 same)));
   })
   | inr differ ↦
       let other : x ≢ 10 = λ same. elim differ [
@@ -36,7 +44,10 @@ cut_or_not (x ∷ xs) = elim (cases_order x 10) [
       elim (cut_or_not xs) [
         | inl cut ↦ inl (record {
           front = x ∷ cut.front;
+          lacks = All-cons (λ byte. byte ≢ 10) x cut.front other cut.lacks;
           taken = ap (λ b. cond b (x ∷ []) (x ∷ take_through 10 xs)) no ∙ ap (λ l. x ∷ l) cut.taken;
+          parts = ap (λ l. x ∷ l) cut.parts
+              ∙ ap (λ l. x ∷ (cut.front ++ 10 ∷ l)) (sym (ap (λ b. cond b xs (drop_through 10 xs)) no));
         })
         | inr uncut ↦ inr (record {
           lacks = All-cons (λ byte. byte ≢ 10) x xs other uncut.lacks;
@@ -46,24 +57,50 @@ cut_or_not (x ∷ xs) = elim (cases_order x 10) [
       ]
 ]
 
--- what was taken and doesn't end by LF is all, and a last piece
-pub record IsLast (bytes rest line : List ℕ) : Type 0 where
-  pub all : bytes ≡ line
-  pub none : rest ≡ []
-  pub is_piece : IsPiece line
+-- behind these bytes, which have no LF, what is taken through the next LF gives a line, a last piece or none
+module _ (old xs read : List ℕ) (begun : Lacks 10 old) (is : read ≡ old ++ take_through 10 xs) where
+  cut_there : (cut : Cut xs) → read ≡ (old ++ cut.front) ++ 10 ∷ []
+  cut_there cut = is ∙ ap (λ l. old ++ l) cut.taken ∙ sym (append_assoc old cut.front (10 ∷ []))
 
-pub last_taken : (bytes rest line : List ℕ) → line ≡ take_through 10 bytes → rest ≡ drop_through 10 bytes
-    → line ≢ [] → ((front : List ℕ) → line ≢ front ++ 10 ∷ []) → IsLast bytes rest line
-last_taken bytes rest line taken left some no_end = elim (cut_or_not bytes) [
-  | inl cut ↦ absurd (no_end cut.front (taken ∙ cut.taken))
-  | inr uncut ↦
-      let all : bytes ≡ line = sym (taken ∙ uncut.taken) in
+  uncut_there : Uncut xs → read ≡ old ++ xs
+  uncut_there uncut = is ∙ ap (λ l. old ++ l) uncut.taken
+
+  pub line_next : (line : List ℕ) → read ≡ line ++ 10 ∷ []
+      → IsNext (old ++ xs) (drop_through 10 xs) line next.Line
+  line_next line ends = elim (cut_or_not xs) [
+    | inl cut ↦
+        let same : line ≡ old ++ cut.front =
+        (same_from_push line (old ++ cut.front) 10 10 (sym ends ∙ cut_there cut)).0 in (
+          ap (λ l. old ++ l) cut.parts ∙ sym (append_assoc old cut.front (10 ∷ drop_through 10 xs))
+              ∙ ap (λ l. l ++ 10 ∷ drop_through 10 xs) (sym same),
+          subst (Lacks 10) (sym same) (line_append old cut.front begun cut.lacks),
+        )
+    | inr uncut ↦
+        absurd (not_lacking 10 line [] (subst (Lacks 10) (sym (uncut_there uncut) ∙ ends)
+        (line_append old xs begun uncut.lacks)))
+  ]
+
+  pub piece_next : read ≢ [] → ((front : List ℕ) → read ≢ front ++ 10 ∷ [])
+      → IsNext (old ++ xs) (drop_through 10 xs) read next.Piece
+  piece_next some no_end = elim (cut_or_not xs) [
+    | inl cut ↦ absurd (no_end (old ++ cut.front) (cut_there cut))
+    | inr uncut ↦ (
+      sym (uncut_there uncut),
       record {
-        all = all;
-        none = left ∙ uncut.left;
-        is_piece = record { some = some; no_lf = subst (All (λ byte. byte ≢ 10)) all uncut.lacks };
-      }
-]
+        some = some;
+        no_lf = subst (Lacks 10) (sym (uncut_there uncut)) (line_append old xs begun uncut.lacks);
+      },
+      uncut.left,
+    )
+  ]
+
+  pub end_next : read ≡ [] → IsNext (old ++ xs) (drop_through 10 xs) read next.End
+  end_next none = elim (cut_or_not xs) [
+    | inl cut ↦
+        let many = ap length (sym none ∙ cut_there cut) in
+        absurd (omega (arith, many, length-append (old ++ cut.front) (10 ∷ [])))
+    | inr uncut ↦ (sym (uncut_there uncut) ∙ none, none, uncut.left)
+  ]
 
 -- what holds of known bytes
 pub known : (left : Option (List ℕ)) (Holds : List ℕ → Type 0) (bytes : List ℕ) → left ≡ Some bytes

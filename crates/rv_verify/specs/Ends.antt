@@ -5,7 +5,6 @@ use Rattle.rv_account.specs.declared.entry.Entry.{Entry}
 use Rattle.rv_lines.specs.Lines.{lines}
 use Rattle.rv_verify.specs.Verdicts.{IsVerdictOn, ReadsLongEntry}
 use Rattle.rv_verify.specs.declared.verdict.AccountFinding.{AccountFinding}
-use Rattle.rv_verify.specs.declared.verdict.AccountVerdict.{AccountVerdict}
 
 -- bytes that are none, or end by LF (10)
 abbrev pub AreWholeLines : List ℕ → Type 0
@@ -23,30 +22,27 @@ pub record IsTornBehind (before : List (List ℕ)) (piece : List ℕ) : Type 0 w
   pub some : piece ≢ []
   pub torn : (before ≡ []) ⊎ ((e : Entry) → ¬ ReadsLongEntry piece e)
 
--- behind these lines the bytes end by a torn piece, and this is the verdict on all lines before it
-pub record IsTornWith (front : List (List ℕ)) (bytes : List ℕ) (verdict : AccountVerdict) : Type 0 where
+-- the bytes end by a torn piece, and this holds of all lines before it
+pub record IsTornWith (bytes : List ℕ) (Holds : List (List ℕ) → Type 0) : Type 0 where
   pub whole : List ℕ
   pub piece : List ℕ
   pub ends : EndsWithPiece bytes whole piece
-  pub torn : IsTornBehind (front ++ lines whole) piece
-  pub told : IsVerdictOn (front ++ lines whole) verdict
+  pub torn : IsTornBehind (lines whole) piece
+  pub holds : Holds (lines whole)
 
--- they don't, and this is the verdict on all lines
-pub record IsWholeWith (front : List (List ℕ)) (bytes : List ℕ) (verdict : AccountVerdict) : Type 0 where
+-- they don't, and this holds of all lines
+pub record IsWholeWith (bytes : List ℕ) (Holds : List (List ℕ) → Type 0) : Type 0 where
   pub whole : List ℕ
   pub piece : List ℕ
   pub ends : EndsWithPiece bytes whole piece
-  pub untorn : ¬ IsTornBehind (front ++ lines whole) piece
-  pub told : IsVerdictOn (front ++ lines bytes) verdict
+  pub untorn : ¬ IsTornBehind (lines whole) piece
+  pub holds : Holds (lines bytes)
 
-abbrev pub IsToldIf : Bool → List (List ℕ) → List ℕ → AccountVerdict → Type 0
-IsToldIf true front bytes verdict = IsTornWith front bytes verdict
-IsToldIf false front bytes verdict = IsWholeWith front bytes verdict
-
--- what is told of the bytes behind these lines is so
-abbrev pub IsToldBehind : List (List ℕ) → List ℕ → AccountFinding → Type 0
-IsToldBehind front bytes told = IsToldIf told.torn front bytes told.verdict
+-- whether the end of the bytes is torn is told so, and this holds of the lines that count
+abbrev pub HoldsOfLines : Bool → List ℕ → (List (List ℕ) → Type 0) → Type 0
+HoldsOfLines true bytes Holds = IsTornWith bytes Holds
+HoldsOfLines false bytes Holds = IsWholeWith bytes Holds
 
 -- what is told of the bytes of an account is so
 abbrev pub IsToldOfBytes : List ℕ → AccountFinding → Type 0
-IsToldOfBytes bytes told = IsToldBehind [] bytes told
+IsToldOfBytes bytes told = HoldsOfLines told.torn bytes (λ ls. IsVerdictOn ls told.verdict)

@@ -7,7 +7,9 @@ use Rattle.rv_audit.specs.declared.rule.Audit.TheVariants as tells
 use Rattle.rv_follow.specs.Ruling.{IsOnNamed}
 use Rattle.rv_lines.specs.Reading.{ReadsAccount}
 use Rattle.rv_resume.specs.Laws.{HadRoom}
-use Rattle.rv_verify.specs.Verdicts.{IsVerdictOn}
+use Rattle.rv_rules.specs.Legal.{Legal}
+use Rattle.rv_verify.specs.Noting.{IsLongestLegal}
+use Rattle.rv_verify.specs.Verdicts.{IsVerdictOn, ReadsLong}
 use Rattle.rv_verify.specs.declared.verdict.AccountVerdict.{AccountVerdict}
 use Rattle.rv_verify.specs.declared.verdict.AccountVerdict.TheVariants as verdict
 
@@ -31,3 +33,9 @@ SayTheSame (tells.Fault place rule) (verdict.BeyondLimits other) = ⊥
 abbrev pub VerdictsAgree : Type 0
 VerdictsAgree = (lines : List (List ℕ)) (a : Account) (told : Audit) (said : AccountVerdict)
     → ReadsAccount lines a → HadRoom a → IsToldOf a told → IsVerdictOn lines said → SayTheSame told said
+
+-- of lines that are read as a legal account, whose state has had room after each entry, that is the account
+-- of which a record of replies notes what passed
+abbrev pub LegalIsNoted : Type 0
+LegalIsNoted = (lines : List (List ℕ)) (a noted : Account) → ReadsLong lines a → Legal a → HadRoom a
+    → IsLongestLegal lines noted → noted ≡ a

@@ -3,12 +3,16 @@ use Rattle.std.specs.Prelude.{◌≡◌, ◌≢◌, ◌≤◌, ◌+◌, ◌∷�
 use Rattle.std.specs.Prelude.{length}
 use Rattle.std.specs.List.{All}
 use Rattle.rv_account.specs.declared.entry.Entry.{Entry}
+use Rattle.rv_account.specs.Account.{Account, with_entry}
+use Rattle.rv_replies.specs.Known.{HasPassedBy}
+use Rattle.rv_replies.specs.Standing.{HasNoted}
+use Rattle.rv_replies.specs.declared.records.Records.{Records}
 use Rattle.rv_machine.specs.declared.machine.Machine.{Machine}
 use Rattle.rv_follow.specs.Outcomes.{HasBroken, HasFollowed, PassesRoom}
 use Rattle.rv_follow.specs.Ruling.{IsFirstBroken, NamesClosed}
 use Rattle.rv_verify.specs.Verdicts.{FirstBadLong, ReadsLongEntry}
-use Rattle.rv_verify.specs.declared.reading.NextPart.{NextPart}
-use Rattle.rv_verify.specs.declared.reading.NextPart.TheVariants as next
+use Rattle.rv_verify.specs.declared.parts.NextPart.{NextPart}
+use Rattle.rv_verify.specs.declared.parts.NextPart.TheVariants as next
 use Rattle.rv_verify.specs.declared.verifier.StopReason.{StopReason}
 use Rattle.rv_verify.specs.declared.verifier.StopReason.TheVariants as stop
 use Rattle.rv_verify.specs.declared.verifier.Verifier.{Verifier}
@@ -21,8 +25,8 @@ pub record IsPiece (piece : List ℕ) : Type 0 where
 -- the bytes are this line, which has no LF, LF (10), and the rest; or they are a last piece; or none
 abbrev pub IsNext : List ℕ → List ℕ → List ℕ → NextPart → Type 0
 IsNext bytes rest line next.Line = (bytes ≡ line ++ 10 ∷ rest) × All (λ byte. byte ≢ 10) line
-IsNext bytes rest line next.Piece = (bytes ≡ line) × IsPiece line
-IsNext bytes rest line next.End = bytes ≡ []
+IsNext bytes rest line next.Piece = (bytes ≡ line) × IsPiece line × (rest ≡ [])
+IsNext bytes rest line next.End = (bytes ≡ []) × (line ≡ []) × (rest ≡ [])
 
 -- so much is left, and the bytes were this line and that
 pub record HasNextPart (bytes : List ℕ) (left : Option (List ℕ)) (line : List ℕ) (next : NextPart) :
@@ -49,6 +53,17 @@ pub record ReadsOneMore (old new : Verifier) (line : List ℕ) : Type 0 where
   pub read : ReadsLongEntry line entry
   pub counted : new.entries ≡ old.entries + 1
   pub went : FollowsUnlessStopped old.stop old new entry
+
+-- the record has noted the entry behind which the machine stands; of one that stopped it nothing
+abbrev pub NotesUnlessStopped : Machine → Records → Records → Entry → Option StopReason → Type 0
+NotesUnlessStopped m old new e None = (a : Account) → HasPassedBy m a e → HasNoted old a
+    → HasNoted new (with_entry a e)
+NotesUnlessStopped m old new e (Some reason) = new ≡ old
+
+-- the verifier read the line as an entry more, and the record has noted it, if it passed
+pub record NotesOneMore (old new : Verifier) (before after : Records) (line : List ℕ) : Type 0 where
+  pub reads : ReadsOneMore old new line
+  pub notes : NotesUnlessStopped new.machine before after reads.entry new.stop
 
 -- the line of this number is the first bad one of these, and stands among them
 pub record IsBadAt (lines : List (List ℕ)) (n : ℕ) : Type 0 where

@@ -1,11 +1,12 @@
 //! Why an account is not read to its end.
 use rv_lines::LineFault;
+use rv_replies::OutOfMemory;
 use rv_text::NoMemory;
 use std::io;
 use std::io::ErrorKind;
 
 /// Why an account is not read to its end.
-#[derive(Clone, Copy, Debug, PartialEq, Eq)]
+#[derive(Clone, Copy)]
 pub enum VerifyFault {
     /// A read failed.
     ReadFault,
@@ -24,6 +25,12 @@ impl From<io::Error> for VerifyFault {
 
 impl From<NoMemory> for VerifyFault {
     fn from(_fault: NoMemory) -> VerifyFault {
+        VerifyFault::NoMemory
+    }
+}
+
+impl From<OutOfMemory> for VerifyFault {
+    fn from(_fault: OutOfMemory) -> VerifyFault {
         VerifyFault::NoMemory
     }
 }

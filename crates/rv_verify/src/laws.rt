@@ -1,8 +1,14 @@
 //! Laws of what is told of an account: each function is its contract, over the definitions alone.
-ghost use Rattle.rv_verify.specs.Laws.{VerdictsAgree};
+ghost use Rattle.rv_verify.specs.Laws.{LegalIsNoted, VerdictsAgree};
 
 /// Of lines that an audit reads as an account, whose state has had room after each of its entries, the
 /// verdict says what the audit tells.
 pub fn verdicts_agree()
     ensures { VerdictsAgree }
+{}
+
+/// Of lines that are read as a legal account, whose state has had room after each entry, the account on which
+/// the findings of a record are is that one.
+pub fn legal_is_noted()
+    ensures { LegalIsNoted }
 {}

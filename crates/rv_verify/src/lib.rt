@@ -5,12 +5,17 @@ mod fault;
 pub mod laws;
 mod looks;
 mod naming;
+mod ongoing;
+mod parts;
 mod reading;
+mod recording;
+mod stage;
 mod verdict;
 mod verifier;
 
 pub use fault::VerifyFault;
 pub use naming::rule_at;
+pub use ongoing::{OngoingAudit, Pause};
 pub use reading::verify;
+pub use recording::read_records;
 pub use verdict::{AccountFinding, AccountVerdict};
-pub use verifier::{StopReason, Verifier};

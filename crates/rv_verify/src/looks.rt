@@ -7,21 +7,21 @@ use rv_machine::Machine;
 
 impl Verifier {
     /// How many entries were read.
-    pub fn entries(&self) -> u64
+    pub(crate) fn entries(&self) -> u64
         ensures { result ≡ entries_read self.now }
     {
         self.entries
     }
 
     /// The machine, which holds the state of the entries that passed.
-    pub fn machine(&self) -> &Machine
+    pub(crate) fn machine(&self) -> &Machine
         ensures { result.now ≡ machine_of self.now }
     {
         &self.machine
     }
 
     /// Whether an entry stopped the verifier.
-    pub fn stopped(&self) -> bool
+    pub(crate) fn stopped(&self) -> bool
         ensures { IsTrue result ↔ IsSome (stop_of self.now) }
     {
         self.stop.is_some()

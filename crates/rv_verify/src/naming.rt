@@ -10,7 +10,7 @@ ghost use Rattle.rv_verify.specs.Naming.{AreReadAs, BeginAlike, HasMet, IsRuleAt
 ghost use Rattle.rv_verify.specs.Verdicts.{ReadsLongEntry, TellsNotOpen};
 
 use crate::fault::VerifyFault;
-use crate::reading::{NextPart, next_line};
+use crate::parts::{NextPart, next_line};
 use rv_account::{Act, Entry, Place};
 use rv_audit::Rule;
 use rv_lines::{LineFault, read_entry};

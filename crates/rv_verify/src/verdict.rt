@@ -3,7 +3,7 @@ use rv_account::{Entry, Place};
 use rv_audit::Rule;
 
 /// The verdict on the lines of an account.
-#[derive(Debug, Drop)]
+#[derive(Drop)]
 pub enum AccountVerdict {
     /// They are read as a legal account.
     Legal,
@@ -29,8 +29,10 @@ pub enum AccountVerdict {
 }
 
 /// What is told of the bytes of an account.
-#[derive(Debug, Drop)]
+#[derive(Drop)]
 pub struct AccountFinding {
+    /// The epoch that the first line says, unless that is bad or torn.
+    pub epoch: Option<u64>,
     /// The verdict on the lines; if the end is torn, on those before it.
     pub verdict: AccountVerdict,
     /// Whether the bytes end by a piece that lacks its LF, and would be the first line or is no entry's.

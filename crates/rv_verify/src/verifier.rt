@@ -10,8 +10,13 @@ ghost use Rattle.rv_resume.specs.Resuming.{CanResume};
 ghost use Rattle.rv_lines.specs.Entries.{IsNoNext};
 ghost use Rattle.rv_lines.specs.Reading.{ReadsHead};
 ghost use Rattle.rv_verify.specs.Verdicts.{IsVerdictOn, ReadsLongEntry, long_limits};
+ghost use Rattle.rv_account.specs.Account.{Account, with_entry};
+ghost use Rattle.rv_replies.specs.Known.{HasPassedBy};
+ghost use Rattle.rv_replies.specs.Standing.{HasNoted};
+ghost use Rattle.rv_replies.specs.declared.records.Records as records;
 ghost use Rattle.rv_verify.specs.Standing.{HasRead, CanReadOn, entries_read};
-ghost use Rattle.rv_verify.specs.Reading.{IsStopped, ReadsOneMore};
+ghost use Rattle.rv_verify.specs.Reading.{IsStopped, NotesOneMore, NotesUnlessStopped, ReadsOneMore};
+ghost use Rattle.rv_verify.specs.Stages.{AreNew, HasReadNoting};
 
 use crate::fault::VerifyFault;
 use crate::verdict::AccountVerdict;
@@ -20,12 +25,13 @@ use rv_audit::Rule;
 use rv_follow::{Followed, follow};
 use rv_lines::{LineFault, read_entry};
 use rv_machine::Machine;
+use rv_replies::Records;
 use rv_text::{MAX_IDENTIFIER, NoMemory};
 use std::alloc::Global;
 
 /// Why a verifier follows an account no further.
-#[derive(Debug, Drop)]
-pub enum StopReason {
+#[derive(Drop)]
+pub(crate) enum StopReason {
     /// An entry breaks this rule first, in the order of an audit.
     Breaks(Rule),
     /// This entry names a place that is open nowhere, and breaks no rule before P1.
@@ -37,7 +43,7 @@ pub enum StopReason {
 /// An account that was read so far. It keeps what is open and the clients; of entries that passed it keeps
 /// nothing.
 #[derive(Drop)]
-pub struct Verifier {
+pub(crate) struct Verifier {
     pub(crate) machine: Machine,
     // How many entries were read.
     pub(crate) entries: u64,
@@ -47,12 +53,12 @@ pub struct Verifier {
 
 impl Verifier {
     /// Behind the first line of an account, which says its epoch and its opening moment.
-    pub fn open(alloc: Global, epoch: u64, opened: u64) -> Result<Verifier, NoMemory>
+    pub(crate) fn open(alloc: Global, epoch: u64, opened: u64) -> Result<Verifier, NoMemory>
         requires epoch { FitsIdentifier epoch }
         requires opened { opened ≤ max_moment }
         ensures ready { IfOk result CanReadOn }
-        ensures read { IfOk result (λ v. (head : List ℕ) → ReadsHead head epoch opened
-            → HasRead (head ∷ []) v) }
+        ensures read { IfOk result (λ v. (head : List ℕ) (r : records.Records) → ReadsHead head epoch opened
+            → AreNew r → HasReadNoting (head ∷ []) v r) }
     {
         Ok(Verifier {
             machine: Machine::open(alloc, epoch, opened)?,
@@ -61,15 +67,22 @@ impl Verifier {
         })
     }
 
-    /// Reads the next line, and follows its entry, if all before it passed. It fails if the line is read as
-    /// no entry more, or memory was refused.
-    pub fn line(&mut self, alloc: Global, line: &[u8]) -> Result<(), LineFault>
+    /// Reads the next line, follows its entry, if all before it passed, and hands it to the records, if it
+    /// passed too. It fails if the line is read as no entry more, or memory was refused.
+    pub(crate) fn line(
+        &mut self,
+        alloc: Global,
+        records: &mut Records,
+        line: &[u8],
+    ) -> Result<(), LineFault>
         requires ready { CanReadOn self.old }
         ensures ready { OnOk result (CanReadOn self.new) }
-        ensures read { OnOk result ((before : List (List ℕ)) → HasRead before self.old
-            → HasRead (before ++ line.now ∷ []) self.new) }
+        ensures lines { records.new.lines ≡ records.old.lines }
+        ensures read { OnOk result ((before : List (List ℕ)) → HasReadNoting before self.old records.old
+            → HasReadNoting (before ++ line.now ∷ []) self.new records.new) }
         ensures bad { result ≡ Err LineFault.Bad
-            → IsNoNext long_limits (entries_read self.old) line.now × (self.new ≡ self.old) }
+            → IsNoNext long_limits (entries_read self.old) line.now × (self.new ≡ self.old)
+            × (records.new ≡ records.old) }
     {
         if self.entries == MAX_IDENTIFIER {
             return Err(LineFault::Bad);
@@ -77,7 +90,7 @@ impl Verifier {
         if self.stop.is_some() {
             self.pass_over(alloc, line)
         } else {
-            self.follow_line(alloc, line)
+            self.follow_line(alloc, records, line)
         }
     }
 
@@ -87,6 +100,7 @@ impl Verifier {
         requires few { self.old.entries < max_identifier }
         requires stopped { IsSome self.old.stop }
         ensures ready { OnOk result (CanReadOn self.new) }
+        ensures stopped { OnOk result (IsSome self.new.stop) }
         ensures read { OnOk result (ReadsOneMore self.old self.new line.now) }
         ensures bad { result ≡ Err LineFault.Bad
             → ((e : entries.Entry) → ¬ ReadsLongEntry line.now e) × (self.new ≡ self.old) }
@@ -96,18 +110,25 @@ impl Verifier {
         Ok(())
     }
 
-    // Reads a line, and follows its entry.
-    fn follow_line(&mut self, alloc: Global, line: &[u8]) -> Result<(), LineFault>
+    // Reads a line, follows its entry, and hands it to the records, if it passed.
+    fn follow_line(
+        &mut self,
+        alloc: Global,
+        records: &mut Records,
+        line: &[u8],
+    ) -> Result<(), LineFault>
         requires ready { CanReadOn self.old }
         requires few { self.old.entries < max_identifier }
         requires goes { self.old.stop ≡ None }
         ensures ready { OnOk result (CanReadOn self.new) }
-        ensures read { OnOk result (ReadsOneMore self.old self.new line.now) }
+        ensures lines { records.new.lines ≡ records.old.lines }
+        ensures read { OnOk result (NotesOneMore self.old self.new records.old records.new line.now) }
         ensures bad { result ≡ Err LineFault.Bad
-            → ((e : entries.Entry) → ¬ ReadsLongEntry line.now e) × (self.new ≡ self.old) }
+            → ((e : entries.Entry) → ¬ ReadsLongEntry line.now e) × (self.new ≡ self.old)
+            × (records.new ≡ records.old) }
     {
         let entry = read_entry(alloc, line, MAX_IDENTIFIER)?;
-        let Ok(stop) = stop_at(alloc, &mut self.machine, line, entry) else {
+        let Ok(stop) = stop_at(alloc, &mut self.machine, records, line, entry) else {
             return Err(LineFault::NoMemory);
         };
         self.stop = stop;
@@ -116,7 +137,7 @@ impl Verifier {
     }
 
     /// The verdict on the lines that were read. Of a verifier that stopped it is told once.
-    pub fn verdict(&mut self) -> AccountVerdict
+    pub(crate) fn verdict(&mut self) -> AccountVerdict
         ensures told { (lines : List (List ℕ)) → HasRead lines self.old → IsVerdictOn lines result }
     {
         let place = self.machine.length();
@@ -129,10 +150,11 @@ impl Verifier {
     }
 }
 
-// Follows the entry that a line says, or tells why it doesn't go on.
+// Follows the entry that a line says, and hands it to the records, or tells why it doesn't go on.
 fn stop_at(
     alloc: Global,
     machine: &mut Machine,
+    records: &mut Records,
     line: &[u8],
     entry: Entry,
 ) -> Result<Option<StopReason>, VerifyFault>
@@ -142,14 +164,40 @@ fn stop_at(
     ensures ready { IsWhole machine.new }
     ensures resumes { CanResume (state_in machine.new) }
     ensures stopped { IfOk result (IsStopped machine.old machine.new entry) }
+    ensures lines { records.new.lines ≡ records.old.lines }
+    ensures noted { IfOk result (NotesUnlessStopped machine.new records.old records.new entry) }
 {
     match follow(machine, entry) {
-        Followed::Done => Ok(None),
+        Followed::Done => {
+            hand_on(alloc, machine, records, line)?;
+            Ok(None)
+        }
         Followed::Breaks(rule) => Ok(Some(StopReason::Breaks(rule))),
         Followed::NotOpen => Ok(Some(StopReason::NotOpen(entry_again(alloc, line)?))),
         Followed::BeyondLimits => Ok(Some(StopReason::BeyondLimits)),
         Followed::NoMemory => Err(VerifyFault::NoMemory),
     }
+}
+
+// Hands the entry that a line says to the records, by the machine that has followed it. Where they ask about
+// nothing, it is not read once more.
+fn hand_on(
+    alloc: Global,
+    machine: &Machine,
+    records: &mut Records,
+    line: &[u8],
+) -> Result<(), VerifyFault>
+    requires says { (e : entries.Entry) × ReadsLongEntry line.now e }
+    ensures lines { records.new.lines ≡ records.old.lines }
+    ensures noted { OnOk result ((a : Account) (e : entries.Entry) → ReadsLongEntry line.now e
+        → HasPassedBy machine.now a e → HasNoted records.old a → HasNoted records.new (with_entry a e)) }
+{
+    if records.asks_nothing() {
+        return Ok(());
+    }
+    let entry = entry_again(alloc, line)?;
+    records.pass(alloc, machine, &entry)?;
+    Ok(())
 }
 
 // The entry that a line says, once more.

@@ -3,7 +3,7 @@ use Rattle.std.proofs.Common.{◌<◌, List, ℕ, true, false, arith, length, re
 use Rattle.std.proofs.Common.{sym}
 use Rattle.rv_verify.specs.Reading.{HasNextPart}
 use Rattle.rv_verify.specs.Verdicts.{ReadsLongEntry}
-use Rattle.rv_verify.specs.declared.reading.NextPart.{NextPart}
+use Rattle.rv_verify.specs.declared.parts.NextPart.{NextPart}
 use Rattle.rv_verify.proofs.Again.{again_on, here, met_there, no_end, no_piece, none_met}
 use Rattle.rv_verify.proofs.naming.read_met.Goals as goal
 

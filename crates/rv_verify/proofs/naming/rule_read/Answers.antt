@@ -2,7 +2,7 @@
 use Rattle.std.proofs.Common.{◌≡◌, ◌∙◌, List, ℕ, refl, subst, sym, take}
 use Rattle.rv_verify.specs.Naming.{HaveMet}
 use Rattle.rv_verify.specs.Reading.{HasNextPart}
-use Rattle.rv_verify.specs.declared.reading.NextPart.{NextPart}
+use Rattle.rv_verify.specs.declared.parts.NextPart.{NextPart}
 use Rattle.rv_verify.proofs.Again.{are_more, are_read, by_met, first_cut, first_end, first_piece, none_some}
 use Rattle.rv_verify.proofs.Again.{same_some, so_many}
 use Rattle.rv_verify.proofs.naming.rule_read.Goals as goal

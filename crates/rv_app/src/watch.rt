@@ -1,0 +1,131 @@
+//! Tells on a terminal how far a reading is.
+use rv_text::NoMemory;
+use std::alloc::Global;
+use std::io;
+use std::io::{IsTerminal, Read};
+use std::time::Instant;
+
+// How many seconds pass at least between two lines.
+const PAUSE_SECONDS: u64 = 2;
+
+// How many bytes a megabyte has.
+const MEGABYTE: u64 = 1_000_000;
+
+// Takes a line of a terminal away.
+const ERASED: &str = "\r\x1b[K";
+
+/// How far the reading of a file is, which is told on standard error now and then, if that is a terminal.
+#[derive(Drop)]
+pub(crate) struct Watch<'a> {
+    rt: &'a HostRuntime,
+    // How many bytes there are, or 0 if nobody knows.
+    size: u64,
+    bytes: u64,
+    lines: u64,
+    // When the reading began, if it is told how far it is.
+    start: Option<Instant>,
+    // The second at which the next line is due.
+    due: u64,
+}
+
+impl<'a> Watch<'a> {
+    /// Nothing was read yet, of so many bytes, or of 0 if nobody knows how many.
+    pub(crate) fn new(rt: &'a HostRuntime, size: u64) -> Watch<'a> {
+        let start = if rt.stderr().is_terminal() {
+            Instant::now(rt).ok()
+        } else {
+            None
+        };
+        Watch {
+            rt,
+            size,
+            bytes: 0,
+            lines: 0,
+            start,
+            due: PAUSE_SECONDS,
+        }
+    }
+
+    // Counts what was read, and tells how far it is, if that is due.
+    fn note(&mut self, piece: &[u8]) {
+        let Some(start) = self.start else {
+            return;
+        };
+        let ended = piece.iter().filter(|byte| **byte == b'\n').count();
+        self.lines = self.lines.saturating_add(ended as u64);
+        self.bytes = self.bytes.saturating_add(piece.len() as u64);
+        let seconds = start.elapsed(self.rt).map_or(0, |since| since.as_secs());
+        if seconds >= self.due {
+            self.due = seconds.saturating_add(PAUSE_SECONDS);
+            self.tell(seconds);
+        }
+    }
+
+    // Tells how far it is behind so many seconds.
+    fn tell(&self, seconds: u64) {
+        if let Ok(text) = progress_text(
+            self.rt.alloc(),
+            self.lines,
+            self.bytes,
+            self.size,
+            seconds,
+        ) {
+            let _ = eprint!(self.rt; "{ERASED}{text}");
+        }
+    }
+
+    /// Takes away what was told.
+    pub(crate) fn erase(&self) {
+        if self.due > PAUSE_SECONDS {
+            let _ = eprint!(self.rt; "{ERASED}");
+        }
+    }
+}
+
+/// A reader that is watched.
+#[derive(Drop)]
+pub(crate) struct Watched<'w, 'a, R> {
+    watch: &'w mut Watch<'a>,
+    inner: R,
+}
+
+impl<'w, 'a, R> Watched<'w, 'a, R> {
+    pub(crate) fn new(watch: &'w mut Watch<'a>, inner: R) -> Watched<'w, 'a, R> {
+        Watched { watch, inner }
+    }
+}
+
+impl<'w, 'a, R: Read> Read for Watched<'w, 'a, R> {
+    fn read(&mut self, buffer: &mut [u8]) -> io::Result<usize> {
+        let count = self.inner.read(buffer)?;
+        self.watch.note(&buffer[..count]);
+        Ok(count)
+    }
+}
+
+// How many lines were read, of how many bytes, and about how many seconds the rest takes, if it takes as
+// long for each byte.
+fn progress_text(
+    alloc: Global,
+    lines: u64,
+    bytes: u64,
+    size: u64,
+    seconds: u64,
+) -> Result<String, NoMemory> {
+    let read = bytes / MEGABYTE;
+    if size == 0 {
+        return format!(in alloc; "{lines} lines, {read} MB");
+    }
+    let (all, left) = (size / MEGABYTE, seconds_left(bytes, size, seconds));
+    format!(in alloc; "{lines} lines, {read} of {all} MB, about {left} s still")
+}
+
+// About how many seconds the rest of so many bytes takes, if the first took so many.
+fn seconds_left(bytes: u64, size: u64, seconds: u64) -> u64 {
+    if bytes == 0 {
+        return 0;
+    }
+    let rest = size.saturating_sub(bytes) as u128;
+    let left = rest * seconds as u128 / bytes as u128;
+    u64::try_from(left).unwrap_or(u64::MAX)
+}

@@ -1,0 +1,122 @@
+//! Prints what was found of an account and of a record, and gives the status that tells it.
+ghost use Rattle.std.specs.Prelude.{◌≡◌, ◌∷◌, ◌++◌, [], IfOk, OnOk, length, option_map};
+ghost use Rattle.rv_inspect.specs.Lines.{FindsFirst};
+ghost use Rattle.rv_inspect.specs.Statuses.{TellsFound, TellsKept};
+
+use crate::lines::{count_line, differs_line, finding_line, verdict_line};
+use crate::pieces::Pieces;
+use crate::status::status_of;
+use rv_audit::Rule;
+use rv_frame::Sink;
+use rv_replies::{Finding, Records, are_kept, count_of};
+use rv_run::RunFault;
+use rv_text::NoMemory;
+use rv_verify::AccountFinding;
+use std::alloc::{AllocError, Global};
+use std::io::Write;
+
+/// Prints the verdict on an account, with the rule at a closed place if it is known, and whether its end is
+/// torn. Where a record stood beside it, and its first line says an epoch, it then prints what the account
+/// says of each line, and how many lines have which finding. Gives the status that tells it.
+pub fn tell_found<W: Write>(
+    alloc: Global,
+    found: &AccountFinding,
+    rule: Option<Rule>,
+    records: Option<&Records>,
+    sink: &mut Sink<W>,
+) -> Result<u8, RunFault>
+    ensures { IfOk result (TellsFound found.now rule (option_map (λ r. r.now) records)) }
+{
+    let mut pieces = Pieces::new(alloc, sink);
+    let line = verdict_line(alloc, &found.verdict, rule)?;
+    pieces.line(line.as_str())?;
+    if found.torn {
+        pieces.line("torn end")?;
+    }
+    let kept = match (records, found.epoch) {
+        (Some(records), Some(epoch)) => tell_records(alloc, records, epoch, &mut pieces)?,
+        _ => true,
+    };
+    pieces.flush()?;
+    Ok(status_of(found, rule, kept))
+}
+
+// Prints what the account of this epoch says of each line of a record, and tells whether all are kept. Where
+// two lines of one key differ, one isn't.
+fn tell_records<W: Write>(
+    alloc: Global,
+    records: &Records,
+    epoch: u64,
+    pieces: &mut Pieces<'_, W>,
+) -> Result<bool, RunFault>
+    ensures { IfOk result (TellsKept records.now epoch) }
+{
+    let findings = findings_on(alloc, records, epoch)?;
+    tell_lines(alloc, records, &findings, pieces)?;
+    tell_counts(alloc, records, &findings, pieces)?;
+    Ok(are_kept(&findings))
+}
+
+// The finding on each line.
+fn findings_on(alloc: Global, records: &Records, epoch: u64) -> Result<Vec<Finding>, NoMemory>
+    ensures { IfOk result (λ findings.
+        FindsFirst records.now epoch (length records.now.lines.items) findings.items) }
+{
+    let mut findings = Vec::new(alloc);
+    for index in 0..records.len() {
+        add(&mut findings, records.finding(index, epoch))?;
+    }
+    Ok(findings)
+}
+
+// Adds a finding.
+fn add(findings: &mut Vec<Finding>, finding: Finding) -> Result<(), NoMemory>
+    ensures { OnOk result (findings.new.items ≡ findings.old.items ++ finding ∷ []) }
+{
+    match findings.push(finding) {
+        Ok(()) => Ok(()),
+        Err(refused) => Err(AllocError::from(refused)),
+    }
+}
+
+// Prints the finding on each line, and behind it that the line differs from the first one of its key.
+fn tell_lines<W: Write>(
+    alloc: Global,
+    records: &Records,
+    findings: &[Finding],
+    pieces: &mut Pieces<'_, W>,
+) -> Result<(), RunFault>
+    requires { length findings.now ≡ length records.now.lines.items }
+{
+    for index in 0..findings.len() {
+        let line = finding_line(alloc, records, index, findings[index])?;
+        pieces.line(line.as_str())?;
+        if let Some(first) = records.differs_from(index) {
+            let line = differs_line(alloc, index, first)?;
+            pieces.line(line.as_str())?;
+        }
+    }
+    Ok(())
+}
+
+// Prints how many lines have each finding, and how many differ from the first one of their key.
+fn tell_counts<W: Write>(
+    alloc: Global,
+    records: &Records,
+    findings: &[Finding],
+    pieces: &mut Pieces<'_, W>,
+) -> Result<(), RunFault> {
+    for finding in Finding::ALL {
+        let line = count_line(alloc, finding.words(), count_of(findings, finding))?;
+        pieces.line(line.as_str())?;
+    }
+    let line = count_line(alloc, "differing", differing(records))?;
+    pieces.line(line.as_str())
+}
+
+// How many lines tell another reply than the first one of their key.
+fn differing(records: &Records) -> usize {
+    (0..records.len())
+        .filter(|index| records.differs_from(*index).is_some())
+        .count()
+}

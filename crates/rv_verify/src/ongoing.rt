@@ -1,0 +1,196 @@
+//! Audits an account as it comes, also while it grows.
+ghost use Rattle.std.specs.Prelude.{◌≡◌, ◌∷◌, ◌++◌, [], ℕ, List, Some, IfOk, OnOk};
+ghost use Rattle.rv_replies.specs.declared.records.Records as records;
+ghost use Rattle.rv_lines.specs.Lines.{lines};
+ghost use Rattle.rv_verify.specs.Ends.{AreWholeLines};
+ghost use Rattle.rv_verify.specs.Noting.{HasNotedOf};
+ghost use Rattle.rv_verify.specs.Verdicts.{IsVerdictOn};
+ghost use Rattle.rv_verify.specs.Ongoing.{CanGoOn, HasGoneOn, HasReadPart, IsFoundOfBytes};
+ghost use Rattle.rv_verify.specs.Ongoing.{IsFoundOfLines};
+ghost use Rattle.rv_verify.specs.Stages.{AreNew, HasReadLines, entries_of};
+
+use crate::fault::VerifyFault;
+use crate::parts::{NextPart, more_of_line};
+use crate::reading::is_torn;
+use crate::stage::Stage;
+use crate::verdict::AccountFinding;
+use rv_replies::Records;
+use std::alloc::Global;
+use std::io::BufRead;
+
+/// How far to read.
+#[derive(Clone, Copy)]
+pub(crate) enum Until {
+    /// To the reader's end.
+    End,
+    /// Up to the first line that is bad, or whose entry isn't followed, if there is one.
+    Fault,
+}
+
+/// Why a reading pauses.
+#[derive(Clone, Copy)]
+pub enum Pause {
+    /// The reader has no more bytes for now.
+    End,
+    /// The line that was read last is bad; or its entry breaks a rule, or leaves no room.
+    Fault,
+}
+
+/// An audit of an account whose bytes come bit by bit. It keeps what is open, the clients, and the last
+/// bytes, which lack their LF.
+#[derive(Drop)]
+pub struct OngoingAudit {
+    pub(crate) stage: Stage,
+    pub(crate) piece: Vec<u8>,
+}
+
+impl OngoingAudit {
+    /// Before the first byte. It takes no memory yet.
+    pub fn new(alloc: Global) -> OngoingAudit
+        ensures ready { CanGoOn result }
+        ensures read { (r : records.Records) → AreNew r → HasReadPart [] result r }
+        ensures piece { result.piece.items ≡ [] }
+    {
+        OngoingAudit {
+            stage: Stage::new(),
+            piece: Vec::new(alloc),
+        }
+    }
+
+    /// Reads on to the reader's end, or up to the first fault, and hands each entry that passed to the
+    /// records. It may be called again once the reader has more. If it fails, it is of no further use.
+    pub fn read_on<B: BufRead>(
+        &mut self,
+        alloc: Global,
+        reader: &mut B,
+        records: &mut Records,
+    ) -> Result<Pause, VerifyFault>
+        requires ready { CanGoOn self.old }
+        ensures ready { OnOk result (CanGoOn self.new) }
+        ensures lines { records.new.lines ≡ records.old.lines }
+        ensures read { (before : List (List ℕ)) (bytes : List ℕ)
+            → HasReadPart before self.old records.old → B.remaining reader.old ≡ Some bytes
+            → IfOk result (HasGoneOn Until.Fault before (self.old.piece.items ++ bytes) self.new records.new
+            (B.remaining reader.new)) }
+    {
+        self.read_until(alloc, reader, records, Until::Fault)
+    }
+
+    // The same, or on behind faults.
+    pub(crate) fn read_until<B: BufRead>(
+        &mut self,
+        alloc: Global,
+        reader: &mut B,
+        records: &mut Records,
+        until: Until,
+    ) -> Result<Pause, VerifyFault>
+        requires ready { CanGoOn self.old }
+        ensures ready { OnOk result (CanGoOn self.new) }
+        ensures lines { records.new.lines ≡ records.old.lines }
+        ensures ends { until ≡ Until.End → IfOk result (λ why. why ≡ Pause.End) }
+        ensures read { (before : List (List ℕ)) (bytes : List ℕ)
+            → HasReadPart before self.old records.old → B.remaining reader.old ≡ Some bytes
+            → IfOk result (HasGoneOn until before (self.old.piece.items ++ bytes) self.new records.new
+            (B.remaining reader.new)) }
+    {
+        for _turn in 0..u64::MAX {
+            match more_of_line(reader, &mut self.piece)? {
+                NextPart::Line => self.take_line(alloc, records)?,
+                NextPart::Piece => return Ok(Pause::End),
+                NextPart::End => return Ok(Pause::End),
+            }
+            if matches!(until, Until::Fault) && self.stage.has_fault() {
+                return Ok(Pause::Fault);
+            }
+        }
+        Err(VerifyFault::ReadFault)
+    }
+
+    // Takes the line that is kept.
+    fn take_line(&mut self, alloc: Global, records: &mut Records) -> Result<(), VerifyFault>
+        requires ready { CanGoOn self.old }
+        ensures ready { OnOk result (CanGoOn self.new) }
+        ensures lines { records.new.lines ≡ records.old.lines }
+        ensures read { OnOk result ((before : List (List ℕ))
+            → HasReadLines before self.old.stage records.old
+            → HasReadLines (before ++ self.old.piece.items ∷ []) self.new.stage records.new) }
+        ensures piece { OnOk result (self.new.piece.items ≡ []) }
+    {
+        self.stage.line(alloc, records, &self.piece)?;
+        self.piece.clear();
+        Ok(())
+    }
+
+    /// How many entries were read.
+    pub fn entries(&self) -> u64
+        ensures { result ≡ entries_of self.now.stage.verifier }
+    {
+        self.stage.entries()
+    }
+
+    /// Reads the rest of an account, and tells what it is.
+    pub(crate) fn read_to_end<B: BufRead>(
+        &mut self,
+        alloc: Global,
+        reader: &mut B,
+        records: &mut Records,
+    ) -> Result<AccountFinding, VerifyFault>
+        requires ready { CanGoOn self.old }
+        ensures lines { records.new.lines ≡ records.old.lines }
+        ensures found { (bytes : List ℕ) → HasReadPart [] self.old records.old
+            → self.old.piece.items ≡ [] → B.remaining reader.old ≡ Some bytes
+            → IfOk result (IsFoundOfBytes bytes records.new) }
+    {
+        self.read_until(alloc, reader, records, Until::End)?;
+        self.finish(alloc, records)
+    }
+
+    // What is told of an account that ends here: of its last bytes too, unless they are torn.
+    fn finish(
+        &mut self,
+        alloc: Global,
+        records: &mut Records,
+    ) -> Result<AccountFinding, VerifyFault>
+        requires ready { CanGoOn self.old }
+        ensures lines { records.new.lines ≡ records.old.lines }
+        ensures found { (whole : List ℕ) → AreWholeLines whole
+            → HasReadPart (lines whole) self.old records.old
+            → IfOk result (IsFoundOfBytes (whole ++ self.old.piece.items) records.new) }
+    {
+        if self.piece.is_empty() {
+            return Ok(finding_on(&mut self.stage, false));
+        }
+        if self.stage.is_at_head() {
+            return Ok(finding_on(&mut self.stage, true));
+        }
+        if is_torn(alloc, &self.piece)? {
+            return Ok(finding_on(&mut self.stage, true));
+        }
+        self.take_line(alloc, records)?;
+        Ok(finding_on(&mut self.stage, false))
+    }
+
+    /// What is told of an account that goes on: of its whole lines alone.
+    pub fn break_off(self) -> AccountFinding
+        ensures found { (read : List (List ℕ)) (r : records.Records) → HasReadLines read self.stage r
+            → IsFoundOfLines read r result }
+    {
+        let mut audit = self;
+        finding_on(&mut audit.stage, true)
+    }
+}
+
+// What is told of the lines that were read, with this of the end.
+fn finding_on(stage: &mut Stage, torn: bool) -> AccountFinding
+    ensures torn { result.torn ≡ torn }
+    ensures verdict { (read : List (List ℕ)) (r : records.Records) → HasReadLines read stage.old r
+        → IsVerdictOn read result.verdict }
+    ensures noted { (read : List (List ℕ)) (r : records.Records) → HasReadLines read stage.old r
+        → HasNotedOf read result.epoch r }
+{
+    AccountFinding {
+        epoch: stage.epoch(),
+        verdict: stage.verdict(),
+        torn,
+    }
+}

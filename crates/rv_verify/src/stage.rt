@@ -1,0 +1,152 @@
+//! How far the lines of an account were read, from the first one on.
+ghost use Rattle.std.specs.Prelude.{◌≡◌, ◌↔◌, ◌∷◌, ◌++◌, [], ℕ, List, None, Some, IfOk, IsTrue, OnOk};
+ghost use Rattle.rv_replies.specs.declared.records.Records as records;
+ghost use Rattle.rv_verify.specs.Noting.{HasNotedOf};
+ghost use Rattle.rv_verify.specs.Stages.{AreNew, CanTakeLine, HasFault, HasReadLines, HasReadNoting};
+ghost use Rattle.rv_verify.specs.Stages.{IsAtHead, StandsBehind, entries_of, epoch_of};
+ghost use Rattle.rv_verify.specs.Standing.{CanReadOn};
+ghost use Rattle.rv_verify.specs.Verdicts.{IsVerdictOn};
+
+use crate::fault::VerifyFault;
+use crate::verdict::AccountVerdict;
+use crate::verifier::Verifier;
+use rv_lines::{LineFault, read_head};
+use rv_replies::Records;
+use std::alloc::Global;
+
+/// The lines of an account that were read so far.
+#[derive(Drop)]
+pub(crate) struct Stage {
+    // What read the lines before the first bad one.
+    pub(crate) verifier: Option<Verifier>,
+    // The number of the first bad line.
+    pub(crate) bad: Option<u64>,
+}
+
+impl Stage {
+    /// Before the first line.
+    pub(crate) fn new() -> Stage
+        ensures ready { CanTakeLine result }
+        ensures read { (r : records.Records) → AreNew r → HasReadLines [] result r }
+    {
+        Stage {
+            verifier: None,
+            bad: None,
+        }
+    }
+
+    // Behind the first line.
+    fn begun(alloc: Global, line: &[u8]) -> Result<Stage, VerifyFault>
+        ensures ready { IfOk result CanTakeLine }
+        ensures read { IfOk result (λ stage. (r : records.Records) → AreNew r
+            → HasReadLines (line.now ∷ []) stage r) }
+    {
+        match read_head(line) {
+            Some((epoch, opened)) => Ok(Stage {
+                verifier: Some(Verifier::open(alloc, epoch, opened)?),
+                bad: None,
+            }),
+            None => Ok(Stage {
+                verifier: None,
+                bad: Some(1),
+            }),
+        }
+    }
+
+    /// Whether no line was read.
+    pub(crate) fn is_at_head(&self) -> bool
+        ensures { IsTrue result ↔ IsAtHead self.now }
+    {
+        self.verifier.is_none() && self.bad.is_none()
+    }
+
+    /// Whether a line is bad, or its entry isn't followed.
+    pub(crate) fn has_fault(&self) -> bool
+        ensures { IsTrue result ↔ HasFault self.now }
+    {
+        match &self.verifier {
+            Some(verifier) => self.bad.is_some() || verifier.stopped(),
+            None => self.bad.is_some(),
+        }
+    }
+
+    /// Reads one line more, and hands its entry to the records, if that passed.
+    pub(crate) fn line(
+        &mut self,
+        alloc: Global,
+        records: &mut Records,
+        line: &[u8],
+    ) -> Result<(), VerifyFault>
+        requires ready { CanTakeLine self.old }
+        ensures ready { OnOk result (CanTakeLine self.new) }
+        ensures lines { records.new.lines ≡ records.old.lines }
+        ensures read { OnOk result ((before : List (List ℕ)) → HasReadLines before self.old records.old
+            → HasReadLines (before ++ line.now ∷ []) self.new records.new) }
+    {
+        if self.bad.is_some() {
+            return Ok(());
+        }
+        match &mut self.verifier {
+            Some(verifier) => self.bad = bad_behind(alloc, verifier, records, line)?,
+            None => *self = Stage::begun(alloc, line)?,
+        }
+        Ok(())
+    }
+
+    /// The verdict on the lines that were read. It is told once.
+    pub(crate) fn verdict(&mut self) -> AccountVerdict
+        ensures told { (lines : List (List ℕ)) (r : records.Records) → HasReadLines lines self.old r
+            → IsVerdictOn lines result }
+    {
+        if let Some(number) = self.bad {
+            return AccountVerdict::BadLine(number);
+        }
+        match &mut self.verifier {
+            Some(verifier) => verifier.verdict(),
+            None => AccountVerdict::BadLine(1),
+        }
+    }
+
+    /// The epoch that the first line says.
+    pub(crate) fn epoch(&self) -> Option<u64>
+        ensures is { result ≡ epoch_of self.now.verifier }
+        ensures noted { (lines : List (List ℕ)) (r : records.Records) → HasReadLines lines self.now r
+            → HasNotedOf lines result r }
+    {
+        match &self.verifier {
+            Some(verifier) => Some(verifier.machine().epoch()),
+            None => None,
+        }
+    }
+
+    /// How many entries were read.
+    pub(crate) fn entries(&self) -> u64
+        ensures { result ≡ entries_of self.now.verifier }
+    {
+        match &self.verifier {
+            Some(verifier) => verifier.entries(),
+            None => 0,
+        }
+    }
+}
+
+// Reads one line more by a verifier, and tells its number if it is bad.
+fn bad_behind(
+    alloc: Global,
+    verifier: &mut Verifier,
+    records: &mut Records,
+    line: &[u8],
+) -> Result<Option<u64>, VerifyFault>
+    requires ready { CanReadOn verifier.old }
+    ensures ready { OnOk result (CanReadOn verifier.new) }
+    ensures lines { records.new.lines ≡ records.old.lines }
+    ensures read { IfOk result (λ bad. (before : List (List ℕ))
+        → HasReadNoting before verifier.old records.old
+        → StandsBehind (before ++ line.now ∷ []) (Some verifier.new) bad records.new) }
+{
+    match verifier.line(alloc, records, line) {
+        Ok(()) => Ok(None),
+        Err(LineFault::Bad) => Ok(Some(verifier.entries() + 2)),
+        Err(LineFault::NoMemory) => Err(VerifyFault::NoMemory),
+    }
+}
