@@ -1,8 +1,8 @@
 -- What the findings on all lines of a record tell: whether the account keeps each.
 use Rattle.std.proofs.Common.{◌<◌, ◌≡◌, ◌++◌, ◌+◌, ◌∷◌, ◌↔◌, ◌∙◌, [], Bool, IsTrue, List, Some, arith, get_or}
-use Rattle.std.proofs.Common.{inl, inr, length, length-append, none-some, refl, slice_get, subst, sym, ℕ}
+use Rattle.std.proofs.Common.{inl, inr, length, length-append, refl, slice_get, subst, sym, ℕ}
 use Rattle.std.specs.List.{All}
-use Rattle.std.proofs.lemmas.Option.{slice_get-get_or, slice_get_cases, slice_get_within}
+use Rattle.std.proofs.lemmas.Option.{none-some, slice_get-get_or, slice_get_cases, slice_get_within}
 use Rattle.std.proofs.lemmas.List.Elements.{All-from_get_or, All-get_or}
 use Rattle.rv_account.specs.Account.{Account}
 use Rattle.rv_rules.specs.Legal.{Legal}
