@@ -1,6 +1,6 @@
 -- Words that begin as those of an account to be verified.
 use Rattle.std.proofs.Common.{◌≡◌, ◌≤◌, ◌-◌, ◌∷◌, ◌∙◌, [], Bor, List, arith, codes, drop, length}
-use Rattle.std.proofs.Common.{slice_index_or, take, ℕ}
+use Rattle.std.proofs.Common.{slice_index_or, take}
 use Rattle.std.proofs.lemmas.List.{take_rest}
 use Rattle.clap.specs.Words.{Text}
 use Rattle.clap.specs.Walk.{texts}

@@ -1,6 +1,6 @@
 -- Words that begin as those of a record.
 use Rattle.std.proofs.Common.{◌≡◌, ◌≤◌, ◌-◌, ◌∷◌, [], Bor, List, arith, codes, drop, length, slice_index_or}
-use Rattle.std.proofs.Common.{sym, take, ℕ}
+use Rattle.std.proofs.Common.{sym, take}
 use Rattle.std.proofs.lemmas.List.{take_rest}
 use Rattle.clap.specs.Words.{Text}
 use Rattle.clap.specs.Walk.{texts}

@@ -1,8 +1,8 @@
 -- What the findings on all lines of a record tell: whether the account keeps each.
 use Rattle.std.proofs.Common.{◌<◌, ◌≡◌, ◌++◌, ◌+◌, ◌∷◌, ◌↔◌, ◌∙◌, [], Bool, IsTrue, List, Some, arith, get_or}
-use Rattle.std.proofs.Common.{inl, inr, length, length-append, none-some, refl, slice_get, subst, sym, ℕ}
+use Rattle.std.proofs.Common.{inl, inr, length, length-append, refl, slice_get, subst, sym, ℕ}
 use Rattle.std.specs.List.{All}
-use Rattle.std.proofs.lemmas.Option.{slice_get-get_or, slice_get_cases, slice_get_within}
+use Rattle.std.proofs.lemmas.Option.{none-some, slice_get-get_or, slice_get_cases, slice_get_within}
 use Rattle.std.proofs.lemmas.List.Elements.{All-from_get_or, All-get_or}
 use Rattle.rv_account.specs.Account.{Account}
 use Rattle.rv_rules.specs.Legal.{Legal}
@@ -41,7 +41,7 @@ finds_none r epoch = record {
 pub finds_more : (r : Records) (epoch count : ℕ) (fs : List Finding) (f : Finding)
     → FindsFirst r epoch count fs
     → ((a : Account) (own : Line) → slice_get r.lines.items count ≡ Some own → Legal a → a.epoch ≡ epoch
-        → HasNoted r a → IsLineFinding a own f)
+    → HasNoted r a → IsLineFinding a own f)
     → FindsFirst r epoch (count + 1) (fs ++ f ∷ [])
 finds_more r epoch count fs f finds last = record {
   each = omega (arith, length-append fs (f ∷ []), finds.each);
@@ -49,7 +49,7 @@ finds_more r epoch count fs f finds last = record {
       elim (get-append_cases fs f finding index found) [
         | inl h ↦ finds.are a legal is noted index own finding there h.1
         | inr h ↦ subst (λ (g : Finding). IsLineFinding a own g) h.1 (last a own
-        (subst (λ n. slice_get r.lines.items n ≡ Some own) (h.0 ∙ finds.each) there) legal is noted)
+            (subst (λ n. slice_get r.lines.items n ≡ Some own) (h.0 ∙ finds.each) there) legal is noted)
       ];
 }
 
@@ -75,7 +75,7 @@ all_kept r epoch fs a finds legal is noted each = All-from_get_or (λ f. f ≡ K
     let inside : index < length r.lines.items = subst (λ n. index < n) finds.each less in
     elim (slice_get_cases r.lines.items index).1 [
       | inl h ↦ one_kept a h.0 (get_or fs index Kept) (finds.are a legal is noted index h.0
-      (get_or fs index Kept) h.2 (slice_get-get_or fs index Kept less)) (each index h.0 h.2)
+          (get_or fs index Kept) h.2 (slice_get-get_or fs index Kept less)) (each index h.0 h.2)
       | inr h ↦ absurd (omega (arith, inside, h.0))
     ])
 

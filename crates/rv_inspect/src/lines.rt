@@ -49,7 +49,7 @@ pub(crate) fn count_line(alloc: Global, words: &str, count: usize) -> Result<Str
 
 /// The line which tells that a line of a record tells another reply than the first one of its key.
 pub(crate) fn differs_line(alloc: Global, index: usize, first: usize) -> Result<String, NoMemory> {
-    let (number, other) = (index as u64 + 1, first as u64 + 1);
+    let (number, other) = (index as u128 + 1, first as u128 + 1);
     format!(in alloc; "{number} differs from line {other}")
 }
 

@@ -1,7 +1,7 @@
 //! Prints what was found of an account and of a record, and gives the status that tells it.
 ghost use Rattle.std.specs.Prelude.{◌≡◌, ◌∷◌, ◌++◌, [], IfOk, OnOk, length, option_map};
 ghost use Rattle.rv_inspect.specs.Lines.{FindsFirst};
-ghost use Rattle.rv_inspect.specs.Statuses.{TellsFound, TellsKept};
+ghost use Rattle.rv_inspect.specs.Statuses.{IsKeptBeside, TellsFound, TellsKept};
 
 use crate::lines::{count_line, differs_line, finding_line, verdict_line};
 use crate::pieces::Pieces;
@@ -25,20 +25,47 @@ pub fn tell_found<W: Write>(
     records: Option<&Records>,
     sink: &mut Sink<W>,
 ) -> Result<u8, RunFault>
-    ensures { IfOk result (TellsFound found.now rule (option_map (λ r. r.now) records)) }
+    ensures { IfOk result (TellsFound found.now rule (option_map (λ r. r.now) records.entry)) }
 {
     let mut pieces = Pieces::new(alloc, sink);
+    tell_verdict(alloc, found, rule, &mut pieces)?;
+    let kept = kept_beside(alloc, records, found.epoch, &mut pieces)?;
+    pieces.flush()?;
+    Ok(status_of(found, rule, kept))
+}
+
+// Prints the verdict, and whether the end is torn.
+fn tell_verdict<W: Write>(
+    alloc: Global,
+    found: &AccountFinding,
+    rule: Option<Rule>,
+    pieces: &mut Pieces<'_, W>,
+) -> Result<(), RunFault> {
     let line = verdict_line(alloc, &found.verdict, rule)?;
     pieces.line(line.as_str())?;
     if found.torn {
-        pieces.line("torn end")?;
+        return pieces.line("torn end");
     }
-    let kept = match (records, found.epoch) {
-        (Some(records), Some(epoch)) => tell_records(alloc, records, epoch, &mut pieces)?,
-        _ => true,
+    Ok(())
+}
+
+// Prints what is found of a record, if one stood beside an account that says an epoch, and tells whether all
+// of it is kept.
+fn kept_beside<W: Write>(
+    alloc: Global,
+    records: Option<&Records>,
+    epoch: Option<u64>,
+    pieces: &mut Pieces<'_, W>,
+) -> Result<bool, RunFault>
+    ensures { IfOk result (IsKeptBeside (option_map (λ r. r.now) records.entry) epoch) }
+{
+    let Some(records) = records else {
+        return Ok(true);
     };
-    pieces.flush()?;
-    Ok(status_of(found, rule, kept))
+    match epoch {
+        Some(epoch) => tell_records(alloc, records, epoch, pieces),
+        None => Ok(true),
+    }
 }
 
 // Prints what the account of this epoch says of each line of a record, and tells whether all are kept. Where
