@@ -117,7 +117,10 @@ fn records_watched(rt: &HostRuntime, watch: &mut Watch<'_>, file: File) -> Resul
     ensures { IfOk result AreNew }
 {
     let mut reader = buffered(rt.alloc(), Watched::new(watch, file))?;
-    read_records(rt.alloc(), &mut reader).map_err(run_fault)
+    match read_records(rt.alloc(), &mut reader) {
+        Ok(records) => Ok(records),
+        Err(fault) => Err(run_fault(fault)),
+    }
 }
 
 // What an account is.
