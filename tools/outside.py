@@ -72,17 +72,24 @@ class Bar:
 BAR = Bar()
 
 
+# What rt ci says of edits that don't compile: it lets them pass, and here each is a failure, since it shows nothing.
+BAD_EDITS = re.compile(r"rt: note: bad must-fail edits, as told above: (\d+)\..*\n")
+
+
 def run(words):
     """Runs a command, shows what it prints, and gives the numbers of its last line that counts, its status, and what it
-    says of how much it did and how much was kept, where it says that."""
+    says of how much it did and how much was kept, where it says that. An edit that is bad counts as failed."""
     print(f"== {' '.join(words)}", flush=True)
     counted = share = None
+    bad = 0
     with subprocess.Popen(words, stdout=subprocess.PIPE, stderr=subprocess.STDOUT, text=True, errors="replace") as ran:
         for line in ran.stdout:
             BAR.pass_on(line)
             counted = re.fullmatch(r"(\d+) passed, (\d+) failed\n", line) or counted
             share = re.fullmatch(r"rt: ok; .*; ((?:done in this run:|every proof) .*)\n", line) or share
-    return counted and [int(number) for number in counted.groups()], ran.returncode, share and share[1]
+            bad += sum(map(int, BAD_EDITS.findall(line)))
+    numbers = counted and [int(counted[1]), int(counted[2]) + bad]
+    return numbers, ran.returncode, share and share[1]
 
 
 def count(words):
