@@ -21,6 +21,8 @@ AT_HAND = 400
 FULL_RUN = 2_000
 # The most entries of an account that `rv audit` reads.
 MAX_ENTRIES = 100_000
+# More digits than these Python doesn't read as a number.
+MOST_DIGITS = 4_000
 # The most seconds that one account may take, on a slow machine too.
 MOST_SECONDS = 600
 
@@ -73,7 +75,8 @@ def is_past(text):
     """Whether `rv verify` may say another thing: where the end may be torn, or a place or the entries are past `rv audit`'s limits."""
     rows = [line.split(b" ") for line in text.split(b"\n")[1:]]
     places = [place for row in rows if len(row) > 1 for place in row[1].split(b",") if place.isdigit()]
-    return not text.endswith(b"\n") or len(rows) > MAX_ENTRIES + 1 or any(int(place) >= MAX_ENTRIES for place in places)
+    far = any(len(place) > MOST_DIGITS or int(place) >= MAX_ENTRIES for place in places)
+    return far or not text.endswith(b"\n") or len(rows) > MAX_ENTRIES + 1
 
 
 def told_of(program, text, expected):
