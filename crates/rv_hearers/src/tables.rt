@@ -1,7 +1,8 @@
 //! The tables by which a connection that waits is found.
 ghost use Rattle.std.specs.Prelude.{◌≡◌, ℕ, None, Some, false, true, IfNone, IfSome, OnErr, OnOk};
 ghost use Rattle.rv_hearers.specs.Hearing.{HearsOf, IsFirstHearer, IsNextUntil, SetsHearing, nobody};
-ghost use Rattle.rv_hearers.specs.Indexed.{IsIndexed, SameTables, StandsAs, stands_under, who_hears};
+ghost use Rattle.rv_hearers.specs.Indexed.{IsIndexed, SameTables, StandsAs, who_hears};
+ghost use Rattle.rv_hearers.specs.Pairs.{stands_under};
 
 use crate::pairs::Pairs;
 use rv_text::{Key, NoMemory};
