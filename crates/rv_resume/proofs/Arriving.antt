@@ -8,7 +8,7 @@ use Rattle.rv_text.specs.declared.message.Key.{Key}
 use Rattle.rv_text.specs.declared.answer.Reply.{Reply}
 use Rattle.rv_text.specs.declared.answer.Reply.TheVariants as reply
 use Rattle.rv_text.specs.Calls.{side_of, wait_of}
-use Rattle.rv_text.specs.Limits.{FitsCall, FitsKey}
+use Rattle.rv_text.specs.Limits.{FitsCall, FitsKey, FitsReply, IsOfEpoch}
 use Rattle.rv_session.specs.declared.client.LastRequest.{LastRequest}
 use Rattle.rv_session.specs.declared.client.LastRequest.TheVariants.{Fresh, RepliedTo, Waits}
 use Rattle.rv_session.specs.Clients.{place_waiting}
@@ -238,6 +238,20 @@ module _ (s : State) (is : CanResume s) (moment : ℕ) (key : Key) (c : Call) (k
         of_epoch = told.of_epoch;
         suits = told.suits;
       })
+
+  -- what it is told when it comes is within the limits
+  pub own_fits : (its : Reply) → own ≡ Some its → FitsReply its × IsOfEpoch s.epoch its
+  own_fits its told = elim (ends_by met refl) [
+    | inl goes ↦
+        let same : its ≡ goes.reply = same_Some _ _ (sym told ∙ goes.is) in
+        subst (λ (r : Reply). FitsReply r × IsOfEpoch s.epoch r) (sym same) (goes.fits, goes.of_epoch)
+    | inr stays ↦ elim stays [
+      | inl leaves ↦
+          let same : its ≡ reply.Done = same_Some _ _ (sym told ∙ leaves.is) in
+          subst (λ (r : Reply). FitsReply r × IsOfEpoch s.epoch r) (sym same) (tt, tt)
+      | inr waits ↦ absurd (none-some its (sym waits.untold ∙ told))
+    ]
+  ]
 
   pub arrived_holds : HoldsTogether (following s moment (Arrive key c)).after
   arrived_holds = elim (ends_by met refl) [

@@ -15,6 +15,7 @@ pub mod NextNumbers
 pub mod Rooms
 pub mod ResumeLaws
 pub mod StepLaws
+pub mod AnswersFit
 pub mod Ordered
 pub mod AccountLaws
 pub mod Knowing

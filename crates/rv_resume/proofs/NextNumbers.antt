@@ -25,7 +25,7 @@ place_or_not (Some place) = inr (place, refl)
 
 module _ (s : State) (key : Key) (epoch : NotDue (EpochDiffers s key)) (lacks : NotDue (SessionLacks s key))
     (old : NotDue (IncarnationOld s key.client key.incarnation)) where
-  same_epoch : key.epoch ≡ s.epoch
+  pub same_epoch : key.epoch ≡ s.epoch
   same_epoch = elim (cases_eq key.epoch s.epoch) [
     | inl same ↦ same
     | inr apart ↦ absurd (epoch (OtherEpoch s.epoch) (apart, refl))

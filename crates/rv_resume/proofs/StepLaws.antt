@@ -34,12 +34,12 @@ use Rattle.rv_resume.proofs.Rooms.{PlaceLeft, cancel_room, ended_room, hello_roo
 
 -- ---- the ends of a step's lines
 
-refuse_end : (P : Type 0) (due refuses : Refusal → Type 0) (other : Type 0)
+pub refuse_end : (P : Type 0) (due refuses : Refusal → Type 0) (other : Type 0)
     → ((refusal : Refusal) → refuses refusal → P) → (NotDue due → other → P) → RefuseOr due refuses other → P
 refuse_end P due refuses other refused goes_on (inl h) = refused h.refusal h.refuses_it
 refuse_end P due refuses other refused goes_on (inr h) = goes_on h.0 h.1
 
-where_end : (P condition this that : Type 0) → (condition → this → P) → ((condition → ⊥) → that → P)
+pub where_end : (P condition this that : Type 0) → (condition → this → P) → ((condition → ⊥) → that → P)
     → WhereElse condition this that → P
 where_end P condition this that first second (inl h) = first h.0 h.1
 where_end P condition this that first second (inr h) = second h.0 h.1

@@ -1,0 +1,4 @@
+pub mod Totals
+pub mod Changing
+pub mod Marks
+pub mod Sound

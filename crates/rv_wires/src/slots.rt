@@ -1,6 +1,6 @@
 //! The connections under their numbers, and the index of those that hold something back.
 ghost use Rattle.std.specs.Prelude.{◌≡◌, ◌≢◌, ◌≤◌, ◌<◌, ◌+◌, ◌↔◌, ◌⊎◌, true, length, vec_capacity};
-ghost use Rattle.std.specs.Prelude.{IfOk, IsSome, IsSomeAnd, IsTrue, OnErr, OnOk};
+ghost use Rattle.std.specs.Prelude.{ℕ, ◌*◌, Some, IfOk, IfSome, IsSome, IsSomeAnd, IsTrue, OnErr, OnOk};
 ghost use Rattle.std.specs.Bool.{OnFalse, OnTrue};
 ghost use Rattle.std.specs.Option.{option_copied};
 ghost use Rattle.rv_frame.specs.Cut.{IsFrameBody};
@@ -8,9 +8,9 @@ ghost use Rattle.rv_connection.specs.Traffic.{IsDue};
 ghost use Rattle.rv_connection.specs.Steps.{AnswersBy, TakesIn, input_ended, left_by, taken};
 ghost use Rattle.rv_wires.specs.Connections.{ChangesWire, HasWire, IsReleased, IsTotalHeld, Opens};
 ghost use Rattle.rv_wires.specs.Connections.{ReleasesAll, SetsWire, none_open};
-ghost use Rattle.rv_wires.specs.Fields.{IsHeldIn, IsIndexed, IsSoundSlots, OwesFirst, ReleasesOne, Remarks};
-ghost use Rattle.rv_wires.specs.Fields.{SameBut, SameRest, StandsAt, mark_count, state_in};
-ghost use Rattle.rv_hearers.specs.Pairs.{pair_count};
+ghost use Rattle.rv_wires.specs.Fields.{AreHeldBack, Drops, Gives, IsHeldIn, IsIndexed, IsSoundSlots, OwesFirst, ReleasesOne};
+ghost use Rattle.rv_wires.specs.Fields.{Remarks, SameBut, SameRest, StandsAt, mark_count, state_in};
+ghost use Rattle.rv_hearers.specs.Pairs.{pair_count, stands_under};
 ghost use Rattle.slab.specs.Slab.{get};
 
 use rv_connection::{NoMemory, Wire};
@@ -42,10 +42,10 @@ pub(crate) struct Slots {
     pub(crate) held: u128,
 }
 
-// A connection stands in the index no longer, where it stood under a mark.
+// A connection stands under a mark no longer, if it has one.
 fn drop_mark(index: &mut Pairs, connection: ConnectionNumber, mark: Option<u64>)
-    requires { StandsAt index.old connection mark }
-    ensures dropped { Remarks index.old connection None index.new }
+    requires { (entries : ℕ) → mark ≡ Some entries → stands_under index.old entries connection ≡ true }
+    ensures dropped { Drops index.old connection mark index.new }
     ensures count { pair_count index.new + mark_count mark ≡ pair_count index.old }
 {
     if let Some(entries) = mark {
@@ -68,13 +68,19 @@ fn move_mark(
     ensures mark { (result ≡ next) ⊎ ((result ≡ mark) × IsSome next) }
     ensures count { pair_count index.new ≤ pair_count index.old }
 {
-    if let Some(entries) = next {
-        if index.add(entries, connection).is_err() {
-            return mark;
+    match next {
+        None => {
+            drop_mark(index, connection, mark);
+            None
         }
+        Some(entries) => match index.add(entries, connection) {
+            Ok(()) => {
+                drop_mark(index, connection, mark);
+                Some(entries)
+            }
+            Err(_) => mark,
+        },
     }
-    drop_mark(index, connection, mark);
-    next
 }
 
 // Whether the entries are written for which something waits.
@@ -85,6 +91,15 @@ fn is_written(waits_for: Option<u64>, written: u64) -> bool
         Some(entries) => entries <= written,
         None => false,
     }
+}
+
+// So many bytes more, where at most 131,071 are held for each number that has room.
+fn add_held(held: u128, more: usize, room: usize) -> u128
+    requires { held ≤ 131071 * room }
+    ensures { result ≡ held + more }
+{
+    let _ = room;
+    held + more as u128
 }
 
 impl Slots {
@@ -178,17 +193,6 @@ impl Slots {
         self.held -= count as u128;
     }
 
-    // So many more bytes are held.
-    fn count_held(&mut self, more: usize)
-        requires held { IsHeldIn self.old }
-        ensures slots { self.new.slots ≡ self.old.slots }
-        ensures rest { SameRest self.old self.new }
-        ensures held { self.new.held ≡ self.old.held + more }
-    {
-        let _room = self.slots.capacity();
-        self.held += more as u128;
-    }
-
     // Makes room in the lists of those to which the index leads for one more.
     fn make_room(&mut self) -> Result<(), NoMemory>
         ensures same { SameBut self.old self.new }
@@ -198,6 +202,39 @@ impl Slots {
         let count = self.index.count() + 1;
         self.released.reserve(count)?;
         self.reached.reserve(count)
+    }
+
+    // The mark of a connection.
+    fn mark_of(&self, connection: ConnectionNumber) -> Option<u64>
+        requires { IsSome (get self.now.slots connection) }
+        ensures { IfSome (get self.now.slots connection) (λ slot. result ≡ slot.mark) }
+    {
+        self.slots.get(connection).unwrap().mark
+    }
+
+    // Gives an answer to a connection that has this mark from then on.
+    fn give(
+        &mut self,
+        connection: ConnectionNumber,
+        entries: u64,
+        body: &[u8],
+        mark: Option<u64>,
+    ) -> Result<(), NoMemory>
+        requires counted { IsHeldIn self.old }
+        requires held_back { AreHeldBack self.old.written (get self.old.slots) }
+        requires owes { HasWire (state_in self.old) connection (λ wire. wire.owes ≡ true) }
+        requires fits { IsFrameBody body.now }
+        ensures gives { OnOk result (Gives self.old connection entries body.now mark self.new) }
+        ensures refused { OnErr result (self.new ≡ self.old) }
+    {
+        let room = self.slots.capacity();
+        let slot = self.slots.get_mut(connection).unwrap();
+        let before = slot.wire.held();
+        slot.wire.answer(self.written, entries, body)?;
+        let more = slot.wire.held() - before;
+        slot.mark = mark;
+        self.held = add_held(self.held, more, room);
+        Ok(())
     }
 
     // Gives an answer that may not leave, the first of its connection.
@@ -219,13 +256,10 @@ impl Slots {
     {
         self.make_room()?;
         self.index.add(entries, connection)?;
-        let slot = self.slots.get_mut(connection).unwrap();
-        if let Err(refused) = slot.wire.answer(self.written, entries, body) {
+        if let Err(refused) = self.give(connection, entries, body, Some(entries)) {
             self.index.remove(entries, connection);
             return Err(refused);
         }
-        slot.mark = Some(entries);
-        self.count_held(body.len() + 2);
         Ok(())
     }
 
@@ -244,13 +278,12 @@ impl Slots {
             (state_in self.new)) }
         ensures refused { OnErr result (state_in self.new ≡ state_in self.old) }
     {
-        let slot = self.slots.get_mut(connection).unwrap();
-        if slot.mark.is_none() && self.written < entries {
-            return self.hold_back(connection, entries, body);
+        let mark = self.mark_of(connection);
+        if mark.is_none() && self.written < entries {
+            self.hold_back(connection, entries, body)
+        } else {
+            self.give(connection, entries, body, mark)
         }
-        slot.wire.answer(self.written, entries, body)?;
-        self.count_held(body.len() + 2);
-        Ok(())
     }
 
     // Lets what may leave of a connection leave, and tells whether something may.
@@ -277,8 +310,11 @@ impl Slots {
         true
     }
 
-    // Looks at all that the index leads to.
-    fn release_reached(&mut self, written: u64) {
+    // Looks at all that the index led to.
+    fn release_reached(&mut self, written: u64)
+        requires { IsReaching written (get self.old.slots) self.old }
+        ensures { IsReaching written (get self.old.slots) self.new × (self.new.reached.items ≡ []) }
+    {
         while let Some(connection) = self.reached.pop() {
             if self.release_one(written, connection) {
                 self.released.push_reserved(connection);
