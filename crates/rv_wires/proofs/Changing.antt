@@ -1,12 +1,13 @@
 -- What holds of all slots still does where one changes.
-use Rattle.std.proofs.Common.{◌≡◌, ◌≢◌, ◌<◌, ◌≤◌, ◌+◌, ◌∙◌, ℕ, Bool, Option, None, Some, arith, refl, sym, ap, subst}
+use Rattle.std.proofs.Common.{◌≡◌, ◌≢◌, ◌<◌, ◌≤◌, ◌+◌, ◌∙◌, ℕ, Bool, Option, None, Some, arith, refl, sym, ap}
+use Rattle.std.proofs.Common.{subst}
 use Rattle.std.proofs.Common.{inl, inr, IsSome, List, slice_set}
 use Rattle.std.proofs.lemmas.Bool.{cases_eq}
 use Rattle.std.proofs.lemmas.List.{set-get_or}
 use Rattle.slab.specs.Slab.{Slab, get, with_value}
 use Rattle.rv_connection.specs.Traffic.{Traffic, held_count}
 use Rattle.rv_hearers.specs.declared.pairs.Pairs.{Pairs}
-use Rattle.rv_hearers.specs.Pairs.{stands_under}
+use Rattle.rv_hearers.specs.Pairs.{ChangesPairs, stands_under}
 use Rattle.slab.proofs.SlabLemmas.{Updates-with_value}
 use Rattle.rv_wires.specs.declared.slots.Slot.{Slot}
 use Rattle.rv_wires.specs.Connections.{count_at, total_below}
@@ -100,3 +101,9 @@ pub unwritten : (s : Slab Slot) (c : ℕ) (slot : Slot) → get s c ≡ Some slo
 unwritten s c slot there =
     ap (λ (o : Option Slot). record s { slots = slice_set s.slots c o }) (sym there)
     ∙ ap (λ (l : List (Option Slot)). record s { slots = l }) (set-get_or s.slots c None)
+
+-- ---- an index under another name
+
+pub moved_pairs : (p q r : Pairs) (n c : ℕ) {b : Bool} → p ≡ q → ChangesPairs p r n c b
+    → ChangesPairs q r n c b
+moved_pairs p q r n c {b} same changes = subst (λ (x : Pairs). ChangesPairs x r n c b) same changes

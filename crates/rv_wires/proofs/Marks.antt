@@ -1,5 +1,6 @@
 -- The mark under which a connection stands in the index: dropped, and moved.
-use Rattle.std.proofs.Common.{◌≡◌, ◌≢◌, ◌⊎◌, ◌∙◌, ℕ, Bool, true, false, Option, None, Some, arith, refl, sym, ap}
+use Rattle.std.proofs.Common.{◌≡◌, ◌≢◌, ◌⊎◌, ◌∙◌, ℕ, Bool, true, false, Option, None, Some, arith, refl, sym}
+use Rattle.std.proofs.Common.{ap}
 use Rattle.std.proofs.Common.{inl, inr, nat_eq, IsSome, subst}
 use Rattle.std.proofs.lemmas.Bool.{cases_eq, false≢true, eq-eqb, eqb-true}
 use Rattle.rv_hearers.specs.declared.pairs.Pairs.{Pairs}
@@ -38,3 +39,19 @@ added_removed p q r n c none adds removes e k = elim (cases_eq e n) [
   ]
   | inr apart ↦ removes.others e k (inl apart) ∙ adds.others e k (inl apart)
 ]
+
+-- who stood nowhere and was added stands there alone
+pub added_alone : (p q : Pairs) (c n : ℕ) → ((e : ℕ) → stands_under p e c ≡ false)
+    → ChangesPairs p q n c true → Remarks p c (Some n) q
+added_alone p q c n none adds = record {
+  own = λ e. own_at e (cases_eq e n);
+  others = λ e k apart. adds.others e k (inr apart);
+}
+  where
+    apart_false : (e : ℕ) (b : Bool) → nat_eq n e ≡ b → (e ≢ n) → nat_eq n e ≡ false
+    apart_false e true same apart = absurd (apart (sym (eqb-true n e same)))
+    apart_false e false other apart = other
+
+    own_at : (e : ℕ) → (e ≡ n) ⊎ (e ≢ n) → stands_under q e c ≡ nat_eq n e
+    own_at e (inl same) = ap (λ m. stands_under q m c) same ∙ adds.own ∙ sym (eq-eqb n e (sym same))
+    own_at e (inr apart) = adds.others e c (inl apart) ∙ none e ∙ sym (apart_false e (nat_eq n e) refl apart)

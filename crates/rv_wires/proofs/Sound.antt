@@ -1,26 +1,30 @@
 -- The slots stay sound where a connection's bytes change, and where one is opened or closed.
 use Rattle.std.proofs.Common.{◌≡◌, ◌<◌, ◌≤◌, ◌+◌, ◌∙◌, ℕ, Option, None, Some, arith, refl, sym, ap, subst}
-use Rattle.std.proofs.Common.{List, Result, Ok, Err, IfOk, OnErr, ◌-◌, ◌*◌, ◌++◌, drop, length, length-append, length-drop}
+use Rattle.std.proofs.Common.{List, Result, Ok, Err, IfOk, OnErr, ◌-◌, ◌*◌, ◌++◌, drop, length, vec_capacity}
+use Rattle.std.proofs.Common.{length-append, length-drop}
 use Rattle.std.proofs.lemmas.List.{length-map}
 use Rattle.slab.specs.Slab.{Slab, Updates, get, with_value}
 use Rattle.rv_connection.specs.Traffic.{AnswerByte, Traffic, bytes_of, first_rests_on, held_count, resting}
 use Rattle.rv_frame.specs.Cut.{frame_bytes}
 use Rattle.rv_connection.specs.Steps.{AnswersBy, TakesIn, fresh_traffic, left_by}
 use Rattle.rv_hearers.specs.declared.pairs.Pairs.{Pairs}
-use Rattle.rv_hearers.specs.Pairs.{pair_count}
+use Rattle.rv_hearers.specs.Pairs.{SamePairs, pair_count, stands_under}
 use Rattle.rv_wires.specs.declared.slots.Slot.{Slot}
 use Rattle.rv_wires.specs.declared.slots.Slots.{Slots}
+use Rattle.rv_wires.specs.Fields.{SameBut}
 use Rattle.rv_wires.specs.Fields.{AreHeld, Drops, IsHeldBack, IsIndexed, IsSoundSlot, IsSoundSlots, SetsSlot}
-use Rattle.rv_wires.specs.Fields.{AreSound, IsHeldIn, StandsAt, is_slot_marked, mark_count, state_in, wire_of, wires_at}
+use Rattle.rv_wires.specs.Fields.{AreSound, IsHeldIn, StandsAt, is_slot_marked, mark_count, state_in, wire_of}
+use Rattle.rv_wires.specs.Fields.{wires_at}
 use Rattle.rv_wires.specs.Connections.{HasWire, count_at}
-use Rattle.rv_wires.proofs.Changing.{each_set, held_part, held_set, index_set, index_stays, within_room, written}
+use Rattle.rv_wires.proofs.Changing.{each_set, held_part, held_set, index_set, index_stays, within_room}
+use Rattle.rv_wires.proofs.Changing.{written}
 use Rattle.rv_wires.proofs.Marks.{moves_none}
-use Rattle.rv_wires.proofs.Totals.{bounded}
+use Rattle.rv_wires.proofs.Totals.{bounded, totals}
 
 none-some : {A : Type 0} (x : A) → None ≡ Some x → ⊥
 none-some x is = cc
 
-same_Some : {A : Type 0} (x y : A) → Some x ≡ Some y → x ≡ y
+pub same_Some : {A : Type 0} (x y : A) → Some x ≡ Some y → x ≡ y
 same_Some x y is = cc
 
 pub stands_at : (s : Slots) → IsIndexed s → (c : ℕ) (slot : Slot) → get s.slots c ≡ Some slot
@@ -221,3 +225,65 @@ answered_count written entries old new body answers =
     ∙ length-append answers.front new.behind in
     let long : length (frame_bytes body) ≡ length body + 2 = omega arith in
     omega (arith, goes, front, frame, parts, long, length-append old.ready (bytes_of answers.front))
+
+-- ---- nothing but room changed
+
+pub same_sound : (s t : Slots) → IsSoundSlots s → ((k : ℕ) → get t.slots k ≡ get s.slots k)
+    → s.slots.capacity ≤ t.slots.capacity → t.written ≡ s.written → t.held ≡ s.held
+    → SamePairs s.index t.index → pair_count t.index ≤ pair_count s.index
+    → vec_capacity s.released ≤ vec_capacity t.released → vec_capacity s.reached ≤ vec_capacity t.reached
+    → IsSoundSlots t
+same_sound s t sound same grows written held pairs count released reached =
+    let counted = sound.indexed.counted in
+    let below = λ (k : ℕ) (past : t.slots.capacity ≤ k). same k ∙ counted.held.all_below k
+    (omega (
+      arith,
+      grows,
+      past,
+    )) in
+    let sum = totals held_count (wires_at (get s.slots)) (wires_at (get t.slots)) 0 s.slots.capacity
+    t.slots.capacity (λ k past. ap wire_of (counted.held.all_below k past)) (λ k past. ap wire_of
+    (below k past))
+    (λ k apart. ap wire_of (same k)) in
+    let first : count_at held_count (wires_at (get t.slots) 0) ≡ count_at held_count (wires_at (get s.slots)
+    0) =
+    ap (λ (o : Option Slot). count_at held_count (wire_of o)) (same 0) in
+    record {
+      indexed = record {
+        counted = record {
+          each = λ k slot there. counted.each k slot (sym (same k) ∙ there);
+          held = record {
+            all_below = below;
+            total_is = omega (arith, sum, first, held, counted.held.total_is);
+          };
+        };
+        indexed = λ e k. pairs e k ∙ sound.indexed.indexed e k
+            ∙ ap (λ (o : Option Slot). is_slot_marked o e) (sym (same k));
+        room = omega (arith, count, released, sound.indexed.room);
+        looks = omega (arith, count, reached, sound.indexed.looks);
+      };
+      held_back = λ k slot there. subst (λ n. IsHeldBack n slot) (sym written)
+          (sound.held_back k slot (sym (same k) ∙ there));
+    }
+
+pub same_counted : (s t : Slots) → IsHeldIn s → t.slots ≡ s.slots → t.held ≡ s.held → IsHeldIn t
+same_counted s t counted slots held = record {
+  each = subst (λ (x : Slab Slot). AreSound (get x)) (sym slots) counted.each;
+  held = subst (λ (x : Slab Slot). AreHeld (get x) x.capacity t.held) (sym slots)
+      (subst (λ n. AreHeld (get s.slots) s.slots.capacity n) (sym held) counted.held);
+}
+
+-- lists got room, and the index is the same in what it tells
+pub room_sound : (s u t : Slots) → IsSoundSlots s → SameBut s u → SamePairs u.index t.index
+    → pair_count t.index ≤ pair_count u.index → t.slots ≡ u.slots → t.written ≡ u.written → t.held ≡ u.held
+    → t.released ≡ u.released → t.reached ≡ u.reached → IsSoundSlots t
+room_sound s u t sound but pairs count slots written held released reached =
+    let all : t.slots ≡ s.slots = slots ∙ but.slots in
+    let first : vec_capacity t.released ≡ vec_capacity u.released = ap vec_capacity released in
+    let second : vec_capacity t.reached ≡ vec_capacity u.reached = ap vec_capacity reached in
+    let index : pair_count u.index ≡ pair_count s.index = ap pair_count but.index in
+    let same_capacity : t.slots.capacity ≡ s.slots.capacity = ap (λ (x : Slab Slot). x.capacity) all in
+    same_sound s t sound (λ k. ap (λ (x : Slab Slot). get x k) all) (omega (arith, same_capacity))
+    (written ∙ but.written) (held ∙ but.held)
+    (λ e k. pairs e k ∙ ap (λ (p : Pairs). stands_under p e k) but.index) (omega (arith, count, index))
+    (omega (arith, first, but.room)) (omega (arith, second, but.looks))

@@ -1,5 +1,6 @@
 -- Sums over the connections that are open, where one changes.
-use Rattle.std.proofs.Common.{◌≡◌, ◌≢◌, ◌<◌, ◌≤◌, ◌+◌, ◌-◌, ◌*◌, ◌∙◌, ℕ, Option, None, Some, arith, refl, sym, ap}
+use Rattle.std.proofs.Common.{◌≡◌, ◌≢◌, ◌<◌, ◌≤◌, ◌+◌, ◌-◌, ◌*◌, ◌∙◌, ℕ, Option, None, Some, arith, refl, sym}
+use Rattle.std.proofs.Common.{ap}
 use Rattle.std.proofs.Common.{inl, inr, zero, suc}
 use Rattle.std.proofs.lemmas.Bool.{cases_eq}
 use Rattle.rv_connection.specs.Traffic.{Traffic}
@@ -60,7 +61,8 @@ module _ (count : Traffic → ℕ) where
 
   -- where each counts as before, the sum does
   pub same_totals : (w v : ℕ → Option Traffic) (n : ℕ)
-      → ((o : ℕ) → count_at count (v o) ≡ count_at count (w o)) → total_below count v n ≡ total_below count w n
+      → ((o : ℕ) → count_at count (v o) ≡ count_at count (w o))
+      → total_below count v n ≡ total_below count w n
   same_totals w v zero same = refl
   same_totals w v (suc n) same = omega (arith, same n, same_totals w v n same)
 

@@ -8,7 +8,7 @@ ghost use Rattle.rv_connection.specs.Traffic.{IsDue};
 ghost use Rattle.rv_connection.specs.Steps.{AnswersBy, TakesIn, input_ended, left_by, taken};
 ghost use Rattle.rv_wires.specs.Connections.{ChangesWire, HasWire, IsReleased, IsTotalHeld, Opens};
 ghost use Rattle.rv_wires.specs.Connections.{ReleasesAll, SetsWire, none_open};
-ghost use Rattle.rv_wires.specs.Fields.{AreHeldBack, Drops, Gives, IsHeldIn, IsIndexed, IsSoundSlots, OwesFirst, ReleasesOne};
+ghost use Rattle.rv_wires.specs.Fields.{AreHeldBack, Drops, Gives, IsHeldIn, IsIndexed, IsReaching, IsSoundSlots, OwesFirst, ReleasesOne};
 ghost use Rattle.rv_wires.specs.Fields.{Remarks, SameBut, SameRest, StandsAt, mark_count, state_in};
 ghost use Rattle.rv_hearers.specs.Pairs.{pair_count, stands_under};
 ghost use Rattle.slab.specs.Slab.{get};
@@ -90,6 +90,17 @@ fn is_written(waits_for: Option<u64>, written: u64) -> bool
     match waits_for {
         Some(entries) => entries <= written,
         None => false,
+    }
+}
+
+// Whether an answer is the first of its connection that may not leave.
+fn is_first_back(mark: Option<u64>, written: u64, entries: u64) -> bool
+    ensures yes { OnTrue result ((mark ≡ None) × (written < entries)) }
+    ensures no { OnFalse result (IsSome mark ⊎ (entries ≤ written)) }
+{
+    match mark {
+        None => written < entries,
+        Some(_) => false,
     }
 }
 
@@ -279,7 +290,7 @@ impl Slots {
         ensures refused { OnErr result (state_in self.new ≡ state_in self.old) }
     {
         let mark = self.mark_of(connection);
-        if mark.is_none() && self.written < entries {
+        if is_first_back(mark, self.written, entries) {
             self.hold_back(connection, entries, body)
         } else {
             self.give(connection, entries, body, mark)
