@@ -1,7 +1,7 @@
 -- The slots stay sound where a connection was given an answer.
 use Rattle.std.proofs.Common.{◌≡◌, ◌≢◌, ◌⊎◌, ◌<◌, ◌≤◌, ◌+◌, ◌∙◌, ℕ, List, Option, None, Some, arith, refl}
 use Rattle.std.proofs.Common.{sym, ap, subst}
-use Rattle.std.proofs.Common.{Result, Ok, Err, OnOk, OnErr}
+use Rattle.std.proofs.Common.{IfSome, Result, Ok, Err, OnOk, OnErr}
 use Rattle.std.specs.declared.alloc.AllocError.{AllocError}
 use Rattle.std.proofs.Common.{true, inl, inr, IsSome, unwrap_or, vec_capacity}
 use Rattle.slab.specs.Slab.{Slab, get, with_value}
@@ -166,3 +166,15 @@ gave_or_not (Ok u) s t c entries body mark slot sound there same which gives ref
     (same ∙ ap (λ (x : Slot). x.mark) (same_Some slot gives.slot (sym there ∙ gives.there))) which
 gave_or_not (Err e) s t c entries body mark slot sound there same which gives refused =
     subst IsSoundSlots (sym refused) sound
+
+-- a connection whose bytes are there has a slot
+pub slot_of : (o : Option Slot) (wire : Traffic) → wire_of o ≡ Some wire → (slot : Slot) × (o ≡ Some slot)
+slot_of None wire is = absurd (some_none wire (sym is))
+  where
+    some_none : (x : Traffic) → Some x ≡ None → ⊥
+    some_none x is = cc
+slot_of (Some slot) wire is = (slot, refl)
+
+pub mark_is : (o : Option Slot) (slot : Slot) (mark : Option ℕ) → o ≡ Some slot
+    → IfSome o (λ x. mark ≡ x.mark) → mark ≡ slot.mark
+mark_is o slot mark is same = subst (λ (x : Option Slot). IfSome x (λ (y : Slot). mark ≡ y.mark)) is same

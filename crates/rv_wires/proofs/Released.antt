@@ -25,7 +25,7 @@ some_none x is = cc
 
 some_and : (o : Option ℕ) (written : ℕ) → IsSomeAnd o (λ e. e ≤ written)
     → (e : ℕ) × (o ≡ Some e) × (e ≤ written)
-some_and None written no = absurd no
+some_and None written never = absurd never
 some_and (Some e) written low = (e, refl, low)
 
 pub written_first : (o first : Option ℕ) (written : ℕ) → o ≡ first → IsSomeAnd o (λ e. e ≤ written)
@@ -37,7 +37,7 @@ written_first o first written same low =
 pub later_first : (o first : Option ℕ) (written : ℕ) → o ≡ first → (IsSomeAnd o (λ e. e ≤ written) → ⊥)
     → (e : ℕ)
     → first ≡ Some e → written < e
-later_first o first written same no e is = above e written (λ low. no
+later_first o first written same never e is = above e written (λ low. never
     (subst (λ (x : Option ℕ). IsSomeAnd x (λ n. n ≤ written)) (sym (same ∙ is)) low))
   where
     above : (a b : ℕ) → (a ≤ b → ⊥) → b < a

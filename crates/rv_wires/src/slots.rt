@@ -1,6 +1,6 @@
 //! The connections under their numbers, and the index of those that hold something back.
 ghost use Rattle.std.specs.Prelude.{◌≡◌, ◌≢◌, ◌≤◌, ◌<◌, ◌+◌, ◌↔◌, ◌⊎◌, true, length, vec_capacity};
-ghost use Rattle.std.specs.Prelude.{ℕ, ◌*◌, Some, IfOk, IfSome, IsSome, IsSomeAnd, IsTrue, OnErr, OnOk};
+ghost use Rattle.std.specs.Prelude.{ℕ, [], ◌*◌, Some, IfOk, IfSome, IsSome, IsSomeAnd, IsTrue, OnErr, OnOk};
 ghost use Rattle.std.specs.Bool.{OnFalse, OnTrue};
 ghost use Rattle.std.specs.Option.{option_copied};
 ghost use Rattle.rv_frame.specs.Cut.{IsFrameBody};
