@@ -7,7 +7,7 @@ use rv_hearers::ConnectionNumber;
 impl Hub {
     // The open connection of a number.
     fn open_wire(&self, connection: ConnectionNumber) -> Result<&Wire, EventRefusal> {
-        match self.desk.wire(connection) {
+        match self.desk.wires().get(connection) {
             Some(wire) => Ok(wire),
             None => Err(EventRefusal::NotOpen),
         }

@@ -45,7 +45,7 @@ impl Hub {
     /// The connection of a number, if it is open. It tells whether an answer is owed, so whether it waits; its unread,
     /// held and ready bytes; whether it may offer more.
     pub fn wire(&self, connection: ConnectionNumber) -> Option<&Wire> {
-        self.desk.wire(connection)
+        self.desk.wires().get(connection)
     }
 
     /// How many bytes of answers are held for all connections.
