@@ -3,7 +3,8 @@ ghost use Rattle.std.specs.Prelude.{◌≡◌, ◌+◌, ℕ, None, Some, false, 
 ghost use Rattle.std.specs.Prelude.{if◌then◌else◌, is_ok, is_some};
 ghost use Rattle.std.specs.BTreeMap.{btree_map_len};
 ghost use Rattle.rv_hearers.specs.Hearing.{HearsOf, IsFirstHearer, IsNextUntil, SetsHearing, nobody};
-ghost use Rattle.rv_hearers.specs.Indexed.{IsIndexed, SameTables, StandsAs, stands_under, who_hears};
+ghost use Rattle.rv_hearers.specs.Indexed.{IsIndexed, SameTables, StandsAs, who_hears};
+ghost use Rattle.rv_hearers.specs.Pairs.{stands_under};
 
 use crate::pairs::Pairs;
 use rv_text::{Key, NoMemory};
