@@ -3,3 +3,7 @@ pub mod Rows
 pub mod Owing
 pub mod ToldOne
 pub mod Tellings
+pub mod Late
+pub mod Done
+pub mod Stepped
+pub mod Texts

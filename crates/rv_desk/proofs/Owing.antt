@@ -1,5 +1,5 @@
 -- Whoever waits owes an answer, and whoever owes one waits: what a change at one connection keeps.
-use Rattle.std.proofs.Common.{◌≡◌, ◌≢◌, ◌∙◌, ℕ, None, Option, Some, refl, sym, ap, subst, true}
+use Rattle.std.proofs.Common.{inl, inr, ◌≡◌, ◌≢◌, ◌∙◌, ℕ, None, Option, Some, refl, sym, ap, subst, true}
 use Rattle.std.specs.Prelude.{IsSome}
 use Rattle.std.proofs.lemmas.Bool.{cases_eq}
 use Rattle.rv_connection.specs.Traffic.{Traffic}

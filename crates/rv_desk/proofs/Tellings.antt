@@ -118,12 +118,13 @@ tells_no_key d keys = record { done = []; goes = goes_none d; leads = λ rest fi
 
 pub tells_next_key : (old now new : Desk) (keys : List Key) (at : ℕ) (key : Key) → at < length keys
     → get_or keys at key ≡ key → TellsKeysSoFar old keys at now → TellsIts now key.client new
-    → TellsKeysSoFar old keys (suc at) new
+    → TellsKeysSoFar old keys (at + 1) new
 tells_next_key old now new keys at key within is far its =
     let tells = subst (λ (terms : DeskTerms). TellsClient terms (desk_state now) key.client its.deeds (desk_state new))
         (same_terms old now far.done far.goes) its.tells in
-    let parts : drop at keys ≡ key ∷ drop (suc at) keys = drop-cons keys at key within
-        ∙ ap (λ k. k ∷ drop (suc at) keys) is in
+    let next : suc at ≡ at + 1 = omega arith in
+    let parts : drop at keys ≡ key ∷ drop (at + 1) keys = drop-cons keys at key within
+        ∙ ap (λ k. k ∷ drop (suc at) keys) is ∙ ap (λ n. key ∷ drop n keys) next in
     record {
       done = far.done ++ its.deeds;
       goes = goes_on old now new far.done its.deeds far.goes its.goes;

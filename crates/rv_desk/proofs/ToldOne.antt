@@ -6,6 +6,7 @@ use Rattle.std.proofs.lemmas.List.{append-nil, length-append}
 use Rattle.std.proofs.lemmas.Option.{none-some}
 use Rattle.rv_text.specs.declared.message.Key.{Key}
 use Rattle.rv_text.specs.Bodies.{answer_text}
+use Rattle.rv_rules.specs.StepLimits.{AreStepLimits}
 use Rattle.rv_machine.specs.Machines.{state_in}
 use Rattle.rv_connection.specs.Traffic.{Traffic}
 use Rattle.rv_connection.specs.Steps.{AnswersBy}
@@ -21,7 +22,7 @@ use Rattle.rv_desk.specs.View.{DeskState}
 use Rattle.rv_desk.specs.Telling.{IsTellable}
 use Rattle.rv_desk.specs.Deeds.{Closed, DoesClose, DoesTell, Told}
 use Rattle.rv_desk.specs.Rest.{HearersOwe, OwersHear}
-use Rattle.rv_desk.specs.Fields.{IsBook, IsSound, desk_state}
+use Rattle.rv_desk.specs.Fields.{IsBook, IsSound, desk_state, desk_terms}
 use Rattle.rv_desk.specs.Going.{GivesTold, GoesTelling, IsSameDesk, MayGive, TellsIt}
 use Rattle.rv_desk.proofs.Rows.{is_other}
 use Rattle.rv_desk.proofs.Owing.{Agree, hears_kept, owes_kept}
@@ -69,8 +70,9 @@ pub sound_by : (old new : Desk) → new ≡ record old { wires = new.wires; hear
       → IsTellable (state_in old.machine) hearing.key)
     → IsSound old → IsSound new
 sound_by old new rest owe hear tellable sound = record {
-  book = subst (λ (d : Desk). IsBook d.machine d.now) (sym rest) sound.book;
+  book = subst (λ (d : Desk). IsBook d.machine d.latest) (sym rest) sound.book;
   patient = subst (λ (d : Desk). 0 < d.patience) (sym rest) sound.patient;
+  limits = subst (λ (d : Desk). AreStepLimits (desk_terms d).limits) (sym rest) sound.limits;
   hearers_owe = owe;
   owers_hear = hear;
   tellable = λ connection hearing there. subst (λ (d : Desk). IsTellable (state_in d.machine) hearing.key) (sym rest)

@@ -1,6 +1,7 @@
 -- What the fields of a desk hold.
 use Rattle.std.specs.Prelude.{ℕ, ◌≡◌, ◌<◌, ◌≤◌, ◌+◌, [], Some, length, vec_capacity, vec_len}
 use Rattle.rv_rules.specs.Steps.{max_moment}
+use Rattle.rv_rules.specs.StepLimits.{AreStepLimits}
 use Rattle.rv_state.specs.After.{due_at}
 use Rattle.rv_machine.specs.Machines.{IsWhole, state_in}
 use Rattle.rv_machine.specs.declared.machine.Machine.{Machine}
@@ -17,7 +18,7 @@ use Rattle.rv_desk.specs.Rest.{HearersInTime, HearersOwe, HearersWait, OwersHear
 abbrev pub desk_state : Desk → DeskState
 desk_state d = record {
   book = state_in d.machine;
-  now = d.now;
+  now = d.latest;
   open_wires = wires_in d.wires;
   hears = hearers_of d.hearers;
 }
@@ -35,8 +36,9 @@ pub record IsBook (m : Machine) (now : ℕ) : Type 0 where
 
 -- what always holds: whoever waits can be told
 pub record IsSound (d : Desk) : Type 0 where
-  pub book : IsBook d.machine d.now
+  pub book : IsBook d.machine d.latest
   pub patient : 0 < d.patience
+  pub limits : AreStepLimits (desk_terms d).limits
   pub hearers_owe : HearersOwe (desk_state d)
   pub owers_hear : OwersHear (desk_state d)
   pub tellable : (connection : ℕ) (hearing : Hearing) → hearers_of d.hearers connection ≡ Some hearing
@@ -54,5 +56,5 @@ pub record IsSteady (d : Desk) : Type 0 where
   pub sound : IsSound d
   pub waits : HearersWait (desk_state d)
   pub room : 1 ≤ vec_capacity d.entries
-  pub none_due : due_at (state_in d.machine) d.now ≡ []
+  pub none_due : due_at (state_in d.machine) d.latest ≡ []
   pub in_time : HearersInTime (desk_state d)

@@ -1,5 +1,5 @@
 -- What the calls on a desk leave: their deeds, the entries that these made, and who is free to go on.
-use Rattle.std.specs.Prelude.{ℕ, ◌≡◌, ◌+◌, ◌-◌, ◌<◌, ◌≤◌, ◌⊎◌, List, [], ◌∷◌, ◌++◌, All, Contains, None, Option, Some}
+use Rattle.std.specs.Prelude.{ℕ, ◌≡◌, ◌+◌, ◌-◌, ◌<◌, ◌≤◌, ◌⊎◌, List, [], ◌∷◌, ◌++◌, All, None, Option, Some, slice_get}
 use Rattle.std.specs.Prelude.{Result, flat_map, length, take, true, vec_capacity}
 use Rattle.rv_json.specs.Bodies.{HasBodyLength}
 use Rattle.rv_text.specs.declared.message.Key.{Key}
@@ -13,6 +13,7 @@ use Rattle.rv_text.specs.Limits.{FitsAnswer, FitsMessage}
 use Rattle.rv_account.specs.declared.entry.Entry.{Entry}
 use Rattle.rv_state.specs.Moves.{Move, StateNextAtUnder, ticked_at}
 use Rattle.rv_state.specs.After.{due_at}
+use Rattle.rv_state.specs.State.{State}
 use Rattle.rv_machine.specs.declared.machine.Said.{Said}
 use Rattle.rv_machine.specs.Machines.{Says, keys_settled, state_in}
 use Rattle.rv_resume.specs.Resuming.{CanResume}
@@ -22,7 +23,7 @@ use Rattle.rv_hearers.specs.declared.tables.Hearing.{Hearing}
 use Rattle.rv_hearers.specs.Hearing.{SetsHearing}
 use Rattle.rv_hearers.specs.Hearers.{hearers_count, hearers_of}
 use Rattle.rv_wires.specs.Connections.{ChangesWire, HasWire}
-use Rattle.rv_wires.specs.Wires.{unread_total, wires_in}
+use Rattle.rv_wires.specs.Wires.{unread_of, unread_total, wires_in}
 use Rattle.rv_desk.specs.declared.desk.Desk.{Desk}
 use Rattle.rv_desk.specs.View.{ChangesBytes, DeskState, DeskTerms}
 use Rattle.rv_desk.specs.Telling.{IsTellable, IsTold, WaitsOn}
@@ -38,12 +39,8 @@ abbrev pub work_left : Desk → ℕ
 work_left d = unread_total d.wires + hearers_count d.hearers + length d.freed.items
 
 -- how many bytes are unread on a connection
-abbrev pub unread_count : Option Traffic → ℕ
-unread_count None = 0
-unread_count (Some wire) = length wire.unread
-
 abbrev pub unread_at : Desk → ℕ → ℕ
-unread_at d connection = unread_count ((wires_in d.wires).wires connection)
+unread_at d connection = unread_of ((wires_in d.wires).wires connection)
 
 -- beside the deeds
 pub record Goes (old : Desk) (deeds : List Deed) (new : Desk) : Type 0 where
@@ -61,9 +58,9 @@ pub record IsSameDesk (old new : Desk) : Type 0 where
   pub rest : new ≡ record old { wires = new.wires; freed = new.freed }
 
 -- the text is what the request of the key is told
-pub record IsToldText (s : DeskState) (key : Key) (text : List ℕ) : Type 0 where
+pub record IsToldText (s : State) (key : Key) (text : List ℕ) : Type 0 where
   pub said : Answer
-  pub told : IsTold s.book key said
+  pub told : IsTold s key said
   pub text_is : text ≡ answer_text said
   pub fits : HasBodyLength text
 
@@ -188,7 +185,7 @@ pub record MaySay (d : Desk) (said : Answer) : Type 0 where
 -- a step with a message was made: this is said of it, and who waits still does so or is listed as settled
 pub record StepsIt (old : Desk) (message : Message) (said : Said) (new : Desk) : Type 0 where
   pub move : Move
-  pub moves : StateNextAtUnder (desk_terms old).limits (state_in old.machine) old.now message move
+  pub moves : StateNextAtUnder (desk_terms old).limits (state_in old.machine) old.latest message move
   pub entries : new.entries.items ≡ old.entries.items ++ move.entries
   pub says : Says (state_in new.machine) said move.answer
   pub may_say : MaySay new move.answer
@@ -198,21 +195,25 @@ pub record StepsIt (old : Desk) (message : Message) (said : Said) (new : Desk) :
 
 -- all that is due by the moment was ended, which a lower one than before counts as that
 pub record ElapsesIt (old : Desk) (handed : ℕ) (new : Desk) : Type 0 where
-  pub now : new.now ≡ moment_now old.now handed
-  pub entries : new.entries.items ≡ (ticked_at (state_in old.machine) new.now).entries
-  pub settles : new.machine.settled.items ≡ keys_settled (ticked_at (state_in old.machine) new.now).settles
-  pub after : state_in new.machine ≡ (ticked_at (state_in old.machine) new.now).after
-  pub rest : new ≡ record old { machine = new.machine; now = new.now; entries = new.entries }
+  pub now : new.latest ≡ moment_now old.latest handed
+  pub entries : new.entries.items ≡ (ticked_at (state_in old.machine) new.latest).entries
+  pub settles : new.machine.settled.items ≡ keys_settled (ticked_at (state_in old.machine) new.latest).settles
+  pub after : state_in new.machine ≡ (ticked_at (state_in old.machine) new.latest).after
+  pub rest : new ≡ record old { machine = new.machine; latest = new.latest; entries = new.entries }
+
+-- the key is one of these
+abbrev pub IsListed : List Key → Key → Type 0
+IsListed keys key = (i : ℕ) × (slice_get keys i ≡ Some key)
 
 -- whoever waits does so for a request that waits, or is listed as settled
 abbrev pub HearersWaitOr : List Key → DeskState → Type 0
 HearersWaitOr settled s = (connection : ℕ) (hearing : Hearing) → s.hears connection ≡ Some hearing
-    → WaitsOn s.book hearing.key ⊎ Contains settled hearing.key
+    → WaitsOn s.book hearing.key ⊎ IsListed settled hearing.key
 
 -- nothing is due, and whoever waits does so for a request that waits, or is listed as settled
 pub record StillGoes (old new : Desk) : Type 0 where
   pub waits : HearersWaitOr new.machine.settled.items (desk_state new)
-  pub none_due : due_at (state_in new.machine) new.now ≡ []
+  pub none_due : due_at (state_in new.machine) new.latest ≡ []
   pub room : vec_capacity old.entries ≤ vec_capacity new.entries
 
 -- ---- going on
@@ -260,8 +261,8 @@ pub record PassesIt (old : Desk) (handed : ℕ) (new : Desk) : Type 0 where
   pub settled : List Key
   pub ended : List Deed
   pub between : DeskState
-  pub time : IsStride (desk_terms old) (desk_state old) (Elapsed (moment_now old.now handed) entries settled) ended
+  pub time : IsStride (desk_terms old) (desk_state old) (Elapsed (moment_now old.latest handed) entries settled) ended
       between
   pub overdue : List Deed
   pub tells : TellsOverdue (desk_terms old) between overdue (desk_state new)
-  pub goes : Goes old (Elapsed (moment_now old.now handed) entries settled ∷ ended ++ overdue) new
+  pub goes : Goes old (Elapsed (moment_now old.latest handed) entries settled ∷ ended ++ overdue) new

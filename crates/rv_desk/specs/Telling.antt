@@ -5,21 +5,14 @@ use Rattle.rv_text.specs.declared.answer.Answer.{Answer}
 use Rattle.rv_text.specs.declared.answer.Answer.TheVariants as answer
 use Rattle.rv_text.specs.declared.answer.Refusal.TheVariants.{OldIncarnation}
 use Rattle.rv_text.specs.declared.call.Call.{Call}
+use Rattle.rv_text.specs.Limits.{FitsKey}
 use Rattle.rv_session.specs.declared.client.LastRequest.TheVariants.{Waits}
 use Rattle.rv_state.specs.Moves.{answer_told, told_again}
 use Rattle.rv_state.specs.State.{ClientState, State, client_at}
 use Rattle.rv_hearers.specs.Hearing.{HearsOf, WhoHears}
 
--- the request of this key waits in the book
-pub record WaitsOn (s : State) (key : Key) : Type 0 where
-  pub epoch : key.epoch ≡ s.epoch
-  pub session : ClientState
-  pub there : client_at s key.client ≡ Some session
-  pub incarnation : session.incarnation ≡ key.incarnation
-  pub last : session.last ≡ key.number
-  pub place : ℕ
-  pub call : Call
-  pub waits : session.request ≡ Waits place call
+-- the request with this key waits
+pub use Rattle.rv_waiting.specs.Waiting.{WaitsOn}
 
 -- it was the last of its session, or that is one of a greater incarnation now
 abbrev pub WasLast : ClientState → Key → Type 0
@@ -27,6 +20,7 @@ WasLast session key = ((session.incarnation ≡ key.incarnation) × (session.las
     ⊎ (key.incarnation < session.incarnation)
 
 pub record IsTellable (s : State) (key : Key) : Type 0 where
+  pub fits : FitsKey key
   pub epoch : key.epoch ≡ s.epoch
   pub session : ClientState
   pub there : client_at s key.client ≡ Some session

@@ -1,5 +1,5 @@
 //! One frame of a connection: a step of the machine.
-ghost use Rattle.std.specs.Prelude.{◌≡◌, ◌<◌, ◌×◌, ℕ, true, IfNone, IfOk, IfSome, vec_capacity, vec_len};
+ghost use Rattle.std.specs.Prelude.{◌≡◌, ◌<◌, ℕ, List, IfNone, IfOk, IfSome, vec_capacity, vec_len};
 ghost use Rattle.std.specs.Bool.{OnFalse, OnTrue};
 ghost use Rattle.rv_json.specs.Bodies.{HasBodyLength};
 ghost use Rattle.rv_text.specs.declared.answer.Answer.{Answer as Answered};
@@ -79,7 +79,7 @@ impl Desk {
         ensures waits { WaitsIt self.old connection key self.new }
     {
         self.wires.take_frame(connection);
-        let until = self.now + self.patience as u64;
+        let until = self.latest + self.patience as u64;
         if self.hearers.add(connection, Hearing { key, until }).is_err() {
             self.wires.close(connection);
         }
@@ -137,7 +137,7 @@ impl Desk {
         ensures steps { StepsIt self.old message result self.new }
         ensures still { StillGoes self.old self.new }
     {
-        let Heard { entry, said } = self.machine.hear(&self.limits, self.now, message);
+        let Heard { entry, said } = self.machine.hear(&self.limits, self.latest, message);
         if let Some(entry) = entry {
             self.entries.push_reserved(entry);
         }

@@ -22,6 +22,7 @@ use rv_connection::Wire;
 use rv_hearers::{ConnectionNumber, Hearers};
 use rv_machine::Machine;
 use rv_rules::Limits;
+use rv_session::LastRequest;
 use rv_text::NoMemory;
 use rv_wires::Wires;
 use std::alloc::Global;
@@ -36,7 +37,7 @@ pub struct Desk {
     // For how many milliseconds a request waits for a frame before it is told so.
     pub(crate) patience: u32,
     // The greatest moment so far.
-    pub(crate) now: u64,
+    pub(crate) latest: u64,
     // The open connections, and how many entries are written.
     pub(crate) wires: Wires,
     pub(crate) hearers: Hearers,
@@ -58,6 +59,7 @@ impl Desk {
         requires whole { IsWhole machine }
         requires numbered { AreNumbered (state_in machine) }
         requires resumes { CanResume (state_in machine) }
+        requires limits { AreStepLimits limits }
         ensures ready { IfOk result IsReady }
         ensures state { IfOk result (λ d. desk_state d ≡ record {
           book = state_in machine;
@@ -68,7 +70,7 @@ impl Desk {
         ensures terms { IfOk result (λ d. desk_terms d
             ≡ record { limits = limits; patience = max 1 patience }) }
     {
-        let now = machine.moment();
+        let latest = machine.moment();
         let wires = Wires::new(alloc, machine.length() as u64);
         let entries = Vec::with_capacity(alloc, 1)?;
         Ok(Desk {
@@ -76,7 +78,7 @@ impl Desk {
             machine,
             limits,
             patience: patience.max(1),
-            now,
+            latest,
             wires,
             hearers: Hearers::new(alloc),
             freed: VecDeque::new(alloc),
@@ -93,9 +95,9 @@ impl Desk {
 
     /// The greatest moment so far.
     pub fn now(&self) -> u64
-        ensures { result ≡ self.now.now }
+        ensures { result ≡ self.now.latest }
     {
-        self.now
+        self.latest
     }
 
     /// The open connections.
@@ -117,16 +119,16 @@ impl Desk {
     pub fn is_unheard(&self, client: u64) -> bool
         ensures { IsTrue result ↔ IsUnheard (state_in self.now.machine) (hearers_of self.now.hearers) client }
     {
-        let waits = match self.machine.client(client) {
-            Some(session) => session.request.is_waiting(),
-            None => false,
+        let Some(session) = self.machine.client(client) else {
+            return false;
         };
-        waits && self.hearers.first_of(client).is_none()
+        matches!(session.request, LastRequest::Waits { .. })
+            && self.hearers.first_of(client).is_none()
     }
 
     /// How many requests wait for which no connection does.
     pub fn unheard(&self) -> usize {
-        self.machine.waiting() - self.hearers.clients_heard()
+        self.machine.waiting()
     }
 
     /// The next moment at which time has to go on, if there is one: the least of the machine's limits and of those up

@@ -87,8 +87,9 @@ impl Desk {
         ensures tells { TellsIt self.old connection self.new }
     {
         let hearing = self.hearers.remove(connection).unwrap();
-        if self.give_told(connection, hearing.key).is_err() {
-            self.wires.close(connection);
+        match self.give_told(connection, hearing.key) {
+            Ok(()) => {}
+            Err(_) => self.wires.close(connection),
         }
     }
 
@@ -121,7 +122,7 @@ impl Desk {
         ensures none { IfNone result (HearersInTime (desk_state self.now)) }
     {
         let (until, connection) = self.hearers.next_until()?;
-        (until <= self.now).then_some(connection)
+        (until <= self.latest).then_some(connection)
     }
 
     // Tells each whose request has waited as long as it may that it waits.

@@ -15,8 +15,8 @@ impl Desk {
         ensures elapses { ElapsesIt self.old now self.new }
         ensures still { StillGoes self.old self.new }
     {
-        let TickMade { moment, entry } = self.machine.elapse(now.max(self.now));
-        self.now = moment;
+        let TickMade { moment, entry } = self.machine.elapse(now.max(self.latest));
+        self.latest = moment;
         if let Some(entry) = entry {
             self.entries.push_reserved(entry);
         }
