@@ -30,7 +30,7 @@ use Rattle.rv_desk.specs.Telling.{IsTellable, IsTold, WaitsOn}
 use Rattle.rv_desk.specs.View.{moment_now}
 use Rattle.rv_desk.specs.Fields.{desk_state, desk_terms}
 use Rattle.rv_desk.specs.Deeds.{AnswersNow, AnswersOrWaits, Deed, Does, DoesClose, IsDueWith, WaitsNow}
-use Rattle.rv_desk.specs.Deeds.{Elapsed, bytes_by, bytes_in, entries_of, rests_on, told_in}
+use Rattle.rv_desk.specs.Deeds.{Elapsed, bytes_in, entries_of, rests_on, told_in}
 use Rattle.rv_desk.specs.Order.{IsOwnDeed, IsStride, RunsStrides, TellsClient, TellsKeys, TellsOne, TellsOverdue}
 use Rattle.rv_desk.specs.Order.{IsTurn, deeds_of}
 
@@ -224,7 +224,7 @@ pub record Strides (old : Desk) (connection : ℕ) (new : Desk) : Type 0 where
   pub tells : List Deed
   pub stride : IsStride (desk_terms old) (desk_state old) deed tells (desk_state new)
   pub own : IsOwnDeed connection deed
-  pub bytes : bytes_by deed ≡ []
+  pub bytes : bytes_in (deed ∷ tells) ≡ []
   pub goes : Goes old (deed ∷ tells) new
   pub work : work_left new + 2 ≤ work_left old
   pub emptied : unread_at new connection ≡ 0

@@ -6,6 +6,7 @@ mod checks;
 mod events;
 mod handling;
 mod hub;
+pub mod laws;
 
 pub use events::{EventRefusal, HubEvent};
 pub use hub::Hub;
