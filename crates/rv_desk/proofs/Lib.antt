@@ -12,3 +12,4 @@ pub mod Saying
 pub mod Quiet
 pub mod Striding
 pub mod Turning
+pub mod Passed

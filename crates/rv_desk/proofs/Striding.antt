@@ -12,7 +12,7 @@ use Rattle.rv_text.specs.declared.answer.Answer.TheVariants as answer
 use Rattle.rv_text.specs.declared.answer.Refusal.TheVariants.{BadText, NoMemory}
 use Rattle.rv_text.specs.Bodies.{Decodes, IsMessageBody, answer_text}
 use Rattle.rv_json.specs.declared.fault.TextFault.{TextFault}
-use Rattle.rv_json.specs.declared.fault.TextFault.TheVariants.{NoMemory as NoMemoryFault}
+use Rattle.rv_json.specs.declared.fault.TextFault.TheVariants as fault
 use Rattle.rv_account.specs.declared.entry.Entry.{Entry}
 use Rattle.rv_state.specs.After.{due_at}
 use Rattle.rv_state.specs.State.{State}
@@ -32,7 +32,7 @@ use Rattle.rv_desk.specs.Order.{IsOwnDeed, IsStride, TellsKeys}
 use Rattle.rv_desk.specs.Rest.{HearersInTime, HearersWait}
 use Rattle.rv_desk.specs.Fields.{IsSound, IsSteady, desk_state, desk_terms}
 use Rattle.rv_desk.specs.Going.{AnswersIt, Goes, GoesTelling, HearersWaitOr, IsAsked, IsListed, MaySay, Saying, SaysIt, StepsIt, StillGoes}
-use Rattle.rv_desk.specs.Going.{Strides, TakesFrame, TellsThem, unread_at, work_left}
+use Rattle.rv_desk.specs.Going.{Strides, TakesFrame, TellsThem, fault_text, unread_at, work_left}
 use Rattle.rv_desk.proofs.Answering.{some_is}
 use Rattle.rv_desk.proofs.Done.{keys_done, keys_fewer}
 use Rattle.rv_desk.proofs.Quiet.{keys_quiet, keys_unread}
@@ -392,11 +392,23 @@ steady_from d entries more steady = record {
 }
 
 -- what isn't read as a message, for another cause than memory, is none
-pub no_message : (body : List ℕ) (read : Result Message TextFault) (fault : TextFault)
-    → Decodes Message IsMessageBody body read → read ≡ Err fault → (fault ≡ NoMemoryFault → ⊥) → (message : Message)
+pub no_message : (body : List ℕ) (read : Result Message TextFault) (f : TextFault)
+    → Decodes Message IsMessageBody body read → read ≡ Err f → (f ≡ fault.NoMemory → ⊥) → (message : Message)
     → ¬ IsMessageBody body message
-no_message body read fault reads is other message its =
+no_message body read f reads is other message its =
     elim (reads.only message its) [
-      inl found ↦ absurd (let at : Err fault ≡ Ok message = sym is ∙ found in cc)
-    | inr none ↦ other (let at : Err fault ≡ Err NoMemoryFault = sym is ∙ none in cc)
+      inl found ↦ absurd (let at : Err f ≡ Ok message = sym is ∙ found in cc)
+    | inr none ↦ other (let at : Err f ≡ Err fault.NoMemory = sym is ∙ none in cc)
     ]
+
+-- the deed of a frame of which no message was read
+pub fault_deed : (terms : DeskTerms) (s t : DeskState) (connection : ℕ) (body : List ℕ) (read : Result Message TextFault)
+    (f : TextFault) → Decodes Message IsMessageBody body read → read ≡ Err f
+    → AnswersNow s connection body 0 (fault_text f) t ⊎ DoesClose s connection t → OneDeed terms s t connection [] []
+fault_deed terms s t connection body read fault.NoMemory reads is did = lacking_deed terms s t connection body did
+fault_deed terms s t connection body read fault.NotJson reads is did =
+    reading_deed terms s t connection body
+    (no_message body read fault.NotJson reads is (λ same. let e = same in absurd (cc))) did
+fault_deed terms s t connection body read fault.NotMessage reads is did =
+    reading_deed terms s t connection body
+    (no_message body read fault.NotMessage reads is (λ same. let e = same in absurd (cc))) did

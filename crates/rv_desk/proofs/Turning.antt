@@ -11,7 +11,7 @@ use Rattle.rv_connection.specs.Traffic.{IsBad, IsDue, IsWholeFrame, Traffic}
 use Rattle.rv_connection.specs.Steps.{TakesIn}
 use Rattle.rv_hearers.specs.declared.tables.Hearing.{Hearing}
 use Rattle.rv_hearers.specs.Hearers.{hearers_count, hearers_of}
-use Rattle.rv_wires.specs.Connections.{ChangesWire, SetsWire}
+use Rattle.rv_wires.specs.Connections.{ChangesWire, SetsWire, WiresState}
 use Rattle.rv_wires.specs.Wires.{unread_of, unread_total, wires_in}
 use Rattle.rv_wires.specs.declared.wires.Wires.{Wires}
 use Rattle.rv_desk.specs.declared.desk.Desk.{Desk}
@@ -154,11 +154,15 @@ fed_some d wires connection piece count steady takes unread =
     )
 
 pub fed_closed : (d mid new : Desk) (connection : ℕ) (piece : List ℕ) → mid ≡ record d { wires = mid.wires }
-    → wires_in mid.wires ≡ wires_in d.wires → unread_total mid.wires ≡ unread_total d.wires
+    → wires_in mid.wires ≡ wires_in d.wires
+    → unread_total mid.wires + unread_of ((wires_in d.wires).wires connection)
+      ≡ unread_total d.wires + unread_of ((wires_in mid.wires).wires connection)
     → DoesClose (desk_state mid) connection (desk_state new)
     → new ≡ record mid { wires = new.wires; hearers = new.hearers } → work_left new ≤ work_left mid
     → Feeds d connection piece 0 new × TakesNoMore (desk_state new) connection
-fed_closed d mid new connection piece same wires unread closes rest less =
+fed_closed d mid new connection piece same wires counted closes rest less =
+    let own = ap (λ (w : WiresState). unread_of (w.wires connection)) wires in
+    let unread : unread_total mid.wires ≡ unread_total d.wires = omega arith in
     let state : desk_state mid ≡ desk_state d =
         ap desk_state same ∙ ap (λ w. record (desk_state d) { open_wires = w }) wires in
     let closing = subst (λ s. DoesClose s connection (desk_state new)) state closes in

@@ -6,9 +6,10 @@ use Rattle.rv_text.specs.declared.message.Key.{Key}
 use Rattle.rv_text.specs.declared.message.Message.{Message}
 use Rattle.rv_text.specs.declared.answer.Answer.{Answer}
 use Rattle.rv_text.specs.declared.answer.Answer.TheVariants as answer
-use Rattle.rv_text.specs.declared.answer.Refusal.TheVariants.{NoMemory}
+use Rattle.rv_text.specs.declared.answer.Refusal.TheVariants.{BadText, NoMemory}
 use Rattle.rv_text.specs.Bodies.{Decodes, IsMessageBody, answer_text}
 use Rattle.rv_json.specs.declared.fault.TextFault.{TextFault}
+use Rattle.rv_json.specs.declared.fault.TextFault.TheVariants as fault
 use Rattle.rv_text.specs.Limits.{FitsAnswer, FitsMessage}
 use Rattle.rv_account.specs.declared.entry.Entry.{Entry}
 use Rattle.rv_state.specs.Moves.{Move, StateNextAtUnder, ticked_at}
@@ -132,6 +133,12 @@ pub record IsMessageAt (d : Desk) (connection : ℕ) (read : Result Message Text
   pub body : List ℕ
   pub asked : IsAsked d connection body
   pub reads : Decodes Message IsMessageBody body read
+
+-- the text of the answer to a frame of which no message was read
+abbrev pub fault_text : TextFault → List ℕ
+fault_text fault.NoMemory = answer_text (answer.Refused NoMemory)
+fault_text fault.NotJson = answer_text (answer.Refused BadText)
+fault_text fault.NotMessage = answer_text (answer.Refused BadText)
 
 -- that frame was taken: nothing is unread on the connection, and less work is left
 pub record TakesFrame (old : Desk) (connection : ℕ) (new : Desk) : Type 0 where

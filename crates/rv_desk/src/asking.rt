@@ -13,7 +13,7 @@ ghost use Rattle.rv_desk.specs.Deeds.{rests_on};
 ghost use Rattle.rv_desk.specs.Telling.{WaitsOn};
 ghost use Rattle.rv_desk.specs.Fields.{IsSound, IsSteady, desk_state};
 ghost use Rattle.rv_desk.specs.Going.{AnswersIt, HasDue, IsAsked, IsMessageAt, LacksIt, MaySay, SaysIt, SaysText};
-ghost use Rattle.rv_desk.specs.Going.{StepsIt, StillGoes, Strides, WaitsIt};
+ghost use Rattle.rv_desk.specs.Going.{StepsIt, StillGoes, Strides, WaitsIt, fault_text};
 
 use crate::desk::Desk;
 use crate::telling::reply_to;
@@ -40,6 +40,19 @@ fn answer_of(alloc: Global, machine: &Machine, said: Said) -> Result<Answer, NoM
             reply_to(alloc, key, &client.request)
         }
         Said::Refused(refusal) => Ok(Answer::Refused(refusal)),
+    }
+}
+
+// The body of the answer to a frame of which no message was read.
+#[tactic(auto, unfolding(rv_text::specs::Bodies::refused_text))]
+fn fault_body(fault: TextFault) -> &'static [u8]
+    ensures text { result.now ≡ fault_text fault }
+    ensures length { HasBodyLength result.now }
+{
+    match fault {
+        TextFault::NoMemory => no_memory_body(),
+        TextFault::NotJson => bad_text_body(),
+        TextFault::NotMessage => bad_text_body(),
     }
 }
 
@@ -209,9 +222,7 @@ impl Desk {
     {
         match read {
             Ok(message) => self.hear(connection, message),
-            Err(TextFault::NoMemory) => self.lack(connection),
-            Err(TextFault::NotJson) => self.answer_by(connection, 0, bad_text_body()),
-            Err(TextFault::NotMessage) => self.answer_by(connection, 0, bad_text_body()),
+            Err(fault) => self.answer_by(connection, 0, fault_body(fault)),
         }
     }
 

@@ -9,4 +9,7 @@ returns-in-Ok-clause-feeds c =
     c.in-Ok.ensures.takes c.in-Ok.ensures.unread).1
 
 pub returns-in-Err-clause-feeds : goal.returns-in-Err-clause-feeds
-returns-in-Err-clause-feeds c = let t = c.take_in in let k = c.close in let e = c.in-Err in ?
+returns-in-Err-clause-feeds c =
+    (fed_closed c.args.self.now (record c.args.self.now { wires = c.take_in.new.self }) c.close.new.self
+    c.args.connection c.args.piece.now refl c.in-Err.ensures.refused c.in-Err.ensures.unread c.close.ensures.closes
+    c.close.ensures.rest c.close.ensures.less).0
