@@ -13,3 +13,4 @@ pub mod Quiet
 pub mod Striding
 pub mod Turning
 pub mod Passed
+pub mod Opening

@@ -6,7 +6,7 @@ use Rattle.rv_desk.proofs.Turning.{TurnSoFar}
 use Rattle.rv_desk.proofs.desk.Desk.turn.Given as goal
 
 abbrev pub invariant-loop-self : goal.invariant-loop-self
-invariant-loop-self l = IsSteady l.self × TurnSoFar l.initial.self l.connection l.piece.now l.taken l.self
+invariant-loop-self l = IsSteady l.self × TurnSoFar l.fn.self l.connection l.piece l.taken l.self
 
 abbrev pub decreases-loop-self : goal.decreases-loop-self
-decreases-loop-self l = unread_at l.self l.connection + (length l.piece.now - l.taken)
+decreases-loop-self l = unread_at l.self l.connection + (length l.piece - l.taken)
