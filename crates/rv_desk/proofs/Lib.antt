@@ -14,3 +14,5 @@ pub mod Striding
 pub mod Turning
 pub mod Passed
 pub mod Opening
+pub mod OneBook
+pub mod Others

@@ -6,7 +6,6 @@ mod checks;
 mod events;
 mod handling;
 mod hub;
-pub mod laws;
 
 pub use events::{EventRefusal, HubEvent};
 pub use hub::Hub;

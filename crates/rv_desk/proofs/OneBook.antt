@@ -10,7 +10,7 @@ use Rattle.rv_state.specs.State.{State}
 use Rattle.rv_desk.specs.View.{DeskState, DeskTerms}
 use Rattle.rv_desk.specs.Deeds.{AnswersOrWaits, Deed, Does, DoesAll, MakesStep, Stepped, entries_of}
 use Rattle.rv_desk.specs.Deeds.{Asked, Closed, Elapsed, EndedInput, Lacked, Left, Lost, Opened, ReadNothing, Told, TookIn, Wrote}
-use Rattle.rv_hub.specs.Runs.{Cause, Heard, OneRun, RunsBook, Time}
+use Rattle.rv_desk.specs.Runs.{Cause, Heard, OneRun, RunsBook, Time}
 
 -- a run at equal ends
 run_at : (limits : StepLimits) (now now' later : ℕ) (s s' t : State) (causes : List Cause) (entries : List Entry)

@@ -1,12 +1,13 @@
 -- What the deeds of a desk are of the account: steps of messages and time alone, one after another.
-use Rattle.std.specs.Prelude.{ℕ, ◌≡◌, ◌≤◌, List, [], ◌∷◌, ◌++◌, flat_map}
+use Rattle.std.specs.Prelude.{ℕ, ◌≡◌, ◌≢◌, ◌≤◌, ◌⊎◌, List, [], ◌∷◌, ◌++◌, Contains, None, flat_map}
 use Rattle.rv_text.specs.declared.message.Message.{Message}
 use Rattle.rv_account.specs.declared.entry.Entry.{Entry}
 use Rattle.rv_rules.specs.StepLimits.{StepLimits}
 use Rattle.rv_state.specs.State.{State}
 use Rattle.rv_state.specs.Moves.{Move, StateNextAtUnder, ticked_at}
 use Rattle.rv_desk.specs.View.{DeskState, DeskTerms}
-use Rattle.rv_desk.specs.Deeds.{Deed, DoesAll, entries_of}
+use Rattle.rv_desk.specs.Deeds.{Deed, DoesAll, entries_of, told_in}
+use Rattle.rv_desk.specs.Order.{IsTurn}
 
 -- what leads from one state of the account to the next: time alone up to a moment, or a message at the moment up to
 -- which time went
@@ -29,3 +30,14 @@ abbrev pub OneRun : Type 0
 OneRun = (terms : DeskTerms) (deeds : List Deed) (old new : DeskState) → DoesAll terms old deeds new
     → (causes : List Cause)
     × RunsBook terms.limits old.now old.book causes (flat_map entries_of deeds) new.now new.book
+
+-- a connection stays as it is, or is closed, or is among those that were told
+abbrev pub IsKept : DeskState → List ℕ → ℕ → DeskState → Type 0
+IsKept s told n t = (t.open_wires.wires n ≡ s.open_wires.wires n)
+    ⊎ ((t.open_wires.wires n ≡ None) ⊎ Contains told n)
+
+-- so does each connection through a turn of another
+abbrev pub OthersStay : Type 0
+OthersStay = (terms : DeskTerms) (old new : DeskState) (connection : ℕ) (piece : List ℕ) (deeds : List Deed) (count : ℕ)
+    → IsTurn terms old connection piece deeds count new → (other : ℕ) → other ≢ connection
+    → IsKept old (told_in deeds) other new
