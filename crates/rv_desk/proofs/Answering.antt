@@ -66,7 +66,7 @@ due_length wire due =
     let least = fits.0 in
     omega arith
 
-not_some : {X : Type 0} → (o : Option X) → ((x : X) → o ≡ Some x → ⊥) → o ≡ None
+pub not_some : {X : Type 0} → (o : Option X) → ((x : X) → o ≡ Some x → ⊥) → o ≡ None
 not_some None none = refl
 not_some (Some x) none = absurd (none x refl)
 
@@ -108,6 +108,12 @@ pub record FrameTaken (d : Desk) (connection : ℕ) (wires : Wires) : Type 0 whe
   pub takes : ChangesWire (wires_in d.wires) connection (λ wire after. after ≡ taken wire) (wires_in wires)
   pub unread : unread_total wires + unread_of ((wires_in d.wires).wires connection)
       ≡ unread_total d.wires + unread_of ((wires_in wires).wires connection)
+
+pub had_unread : (d : Desk) (connection : ℕ) → HasDue d connection → 3 ≤ unread_at d connection
+had_unread d connection due =
+    let long = due_length due.wire due.so in
+    let was = ap unread_of due.there in
+    omega arith
 
 pub less_unread : (d : Desk) (connection : ℕ) (wires : Wires) → FrameTaken d connection wires
     → unread_total wires + 3 ≤ unread_total d.wires
@@ -178,7 +184,12 @@ answered_it d connection entries text one wires sound taking answers unread =
             rest = refl;
           };
         });
-        takes = record { rest = refl; work = omega arith; emptied = emptied };
+        takes = record {
+          rest = refl;
+          work = omega arith;
+          had = had_unread d connection taking.due;
+          emptied = emptied;
+        };
       },
     )
 
@@ -194,7 +205,12 @@ not_answered d connection entries text one two wires sound taking same unread cu
       closed.0,
       record {
         did = λ body asked. inr closed.1;
-        takes = record { rest = refl; work = omega arith; emptied = closed.2 };
+        takes = record {
+          rest = refl;
+          work = omega arith;
+          had = had_unread d connection taking.due;
+          emptied = closed.2;
+        };
       },
     )
 
@@ -265,6 +281,7 @@ waited_it d connection key wires hearers sound waits taking hears count =
         takes = record {
           rest = refl;
           work = omega arith;
+          had = had_unread d connection taking.due;
           emptied = ap unread_of takes.sets.own ∙ ap (λ (t : Traffic). length t.unread) takes.changes;
         };
       },
@@ -289,6 +306,11 @@ not_waited d connection key one wires hearers sound taking same count cut fewer 
       same_hears d wires hearers same closed.0,
       record {
         did = λ body asked. inr (subst (λ s. DoesClose (desk_state d) connection s) (sym state) closed.1);
-        takes = record { rest = refl; work = omega arith; emptied = closed.2 };
+        takes = record {
+          rest = refl;
+          work = omega arith;
+          had = had_unread d connection taking.due;
+          emptied = closed.2;
+        };
       },
     )

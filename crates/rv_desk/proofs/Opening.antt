@@ -1,5 +1,5 @@
 -- A connection is opened, ended, let go or closed, and entries are written: the desk stays as it has to be.
-use Rattle.std.proofs.Common.{inl, inr, ◌≡◌, ◌≢◌, ◌+◌, ◌≤◌, ◌∙◌, ℕ, List, None, Option, Some, refl, sym, ap, subst, arith, length, true, false}
+use Rattle.std.proofs.Common.{inl, inr, ◌≡◌, ◌≢◌, ◌+◌, ◌≤◌, ◌∙◌, ℕ, List, None, Option, Some, refl, sym, ap, subst, arith, length, true, false, Ok, Err, Result, IfOk, OnErr}
 use Rattle.std.specs.Prelude.{IsSome, IsSomeAnd}
 use Rattle.std.proofs.lemmas.Option.{none-some}
 use Rattle.rv_connection.specs.Traffic.{Traffic}
@@ -155,3 +155,34 @@ closed_steady d wires hearers connection steady sets hears =
       none_due = steady.none_due;
       in_time = λ n h there. steady.in_time n h (fewer n h there);
     }
+
+-- ---- opened, if memory was there
+
+same_ready : (d : Desk) (wires : Wires) → IsReady d → wires_in wires ≡ wires_in d.wires
+    → IsReady (record d { wires = wires })
+same_ready d wires ready same = record {
+  sound = record {
+    book = ready.sound.book;
+    patient = ready.sound.patient;
+    limits = ready.sound.limits;
+    hearers_owe = λ n h there.
+        let owing = ready.sound.hearers_owe n h there in
+        record {
+          wire = owing.wire;
+          there = ap (λ (w : WiresState). w.wires n) same ∙ owing.there;
+          so = owing.so;
+        };
+    owers_hear = λ n wire there owing.
+        ready.sound.owers_hear n wire (ap (λ (w : WiresState). w.wires n) (sym same) ∙ there) owing;
+    tellable = ready.sound.tellable;
+  };
+  waits = ready.waits;
+  room = ready.room;
+  none_freed = ready.none_freed;
+}
+
+pub maybe_opened : {E : Type 0} → (d : Desk) (wires : Wires) (result : Result ℕ E) → IsReady d
+    → IfOk result (λ connection. Opens (wires_in d.wires) connection (wires_in wires))
+    → OnErr result (wires_in wires ≡ wires_in d.wires) → IsReady (record d { wires = wires })
+maybe_opened d wires (Ok connection) ready opens refused = opened_ready d wires connection ready opens
+maybe_opened d wires (Err e) ready opens refused = same_ready d wires ready refused

@@ -226,8 +226,8 @@ pub strides_by : (d0 d2 d3 : Desk) (connection : ℕ) (settled : List Key) (entr
     → TellsKeys (desk_terms d0) (desk_state d2) settled tells (desk_state d3)
     → d2.entries.items ≡ d0.entries.items ++ entries → d2.freed.items ≡ d0.freed.items
     → desk_terms d2 ≡ desk_terms d0 → GoesTelling d2 tells d3 → work_left d2 + 2 ≤ work_left d0
-    → unread_at d2 connection ≡ 0 → Strides d0 connection d3
-strides_by d0 d2 d3 connection settled entries tells one told made freed terms goes work emptied =
+    → 3 ≤ unread_at d0 connection → unread_at d2 connection ≡ 0 → Strides d0 connection d3
+strides_by d0 d2 d3 connection settled entries tells one told made freed terms goes work had emptied =
     let quiet = keys_quiet (desk_terms d0) (desk_state d2) (desk_state d3) settled tells told in
     let unread = keys_unread (desk_terms d0) (desk_state d2) (desk_state d3) settled tells told connection in
     let lesser = goes.work in
@@ -252,6 +252,7 @@ strides_by d0 d2 d3 connection settled entries tells one told made freed terms g
         terms = ap desk_terms goes.rest ∙ terms;
       };
       work = omega arith;
+      had = had;
       emptied = omega arith;
     }
 
@@ -322,7 +323,8 @@ strided d0 d1 d2 d3 connection message told body steady asked is steps still say
       strides_by d0 d2 d3 connection (keys_settled move.settles) move.entries tells.deeds one telling
           (ap (λ (d : Desk). d.entries.items) r2 ∙ steps.entries)
           (ap (λ (d : Desk). d.freed.items) r2 ∙ ap (λ (d : Desk). d.freed.items) r1) terms2 tells.goes
-          (omega arith) it.takes.emptied,
+          (omega arith) (let before = it.takes.had in let same = ap (λ (d : Desk). unread_at d connection) r1 in omega arith)
+          it.takes.emptied,
     )
 
 -- ---- no step
@@ -353,7 +355,7 @@ unstepped d new connection entries text body steady sound did takes one =
       },
       strides_by d new new connection [] [] [] one (refl, refl)
           (ap (λ (x : Desk). x.entries.items) rest ∙ sym (append-nil d.entries.items))
-          (ap (λ (x : Desk). x.freed.items) rest) (ap desk_terms rest) (goes_none new) takes.work takes.emptied,
+          (ap (λ (x : Desk). x.freed.items) rest) (ap desk_terms rest) (goes_none new) takes.work takes.had takes.emptied,
     )
 
 -- a desk with room for more entries
@@ -371,6 +373,7 @@ strides_from d new entries connection same strides = record {
     terms = strides.goes.terms;
   };
   work = strides.work;
+  had = strides.had;
   emptied = strides.emptied;
 }
 

@@ -322,3 +322,15 @@ turn_ended old now new connection piece taken far finishes =
             work = omega arith;
           }
     ]
+
+-- less is unread, of the connection and of the piece, behind a frame and more bytes
+pub smaller : (now mid new : Desk) (connection : ℕ) (piece : List ℕ) (taken count : ℕ) → Strides now connection mid
+    → Feeds mid connection (drop taken piece) count new
+    → unread_at new connection + (length piece - (taken + count)) < unread_at now connection + (length piece - taken)
+smaller now mid new connection piece taken count strides feeds =
+    let had = strides.had in
+    let emptied = strides.emptied in
+    let more = feeds.unread in
+    let within = feeds.within in
+    let long = length-drop taken piece in
+    omega arith

@@ -144,6 +144,7 @@ fault_text fault.NotMessage = answer_text (answer.Refused BadText)
 pub record TakesFrame (old : Desk) (connection : ℕ) (new : Desk) : Type 0 where
   pub rest : new ≡ record old { wires = new.wires; hearers = new.hearers }
   pub work : work_left new + 2 ≤ work_left old
+  pub had : 3 ≤ unread_at old connection
   pub emptied : unread_at new connection ≡ 0
 
 -- it was answered by a text, or its connection was closed
@@ -234,6 +235,7 @@ pub record Strides (old : Desk) (connection : ℕ) (new : Desk) : Type 0 where
   pub bytes : bytes_in (deed ∷ tells) ≡ []
   pub goes : Goes old (deed ∷ tells) new
   pub work : work_left new + 2 ≤ work_left old
+  pub had : 3 ≤ unread_at old connection
   pub emptied : unread_at new connection ≡ 0
 
 -- bytes of a piece were taken, or none where it is closed

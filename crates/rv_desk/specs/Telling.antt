@@ -6,6 +6,7 @@ use Rattle.rv_text.specs.declared.answer.Answer.TheVariants as answer
 use Rattle.rv_text.specs.declared.answer.Refusal.TheVariants.{OldIncarnation}
 use Rattle.rv_text.specs.declared.call.Call.{Call}
 use Rattle.rv_text.specs.Limits.{FitsKey}
+use Rattle.rv_session.specs.declared.client.LastRequest.{LastRequest}
 use Rattle.rv_session.specs.declared.client.LastRequest.TheVariants.{Waits}
 use Rattle.rv_state.specs.Moves.{answer_told, told_again}
 use Rattle.rv_state.specs.State.{ClientState, State, client_at}
@@ -40,11 +41,13 @@ pub record AreHearersOf (who : WhoHears) (client : ℕ) (row : List ℕ) : Type 
   pub hear : All (HearsOf who client) row
   pub all : (connection : ℕ) → HearsOf who client connection → Contains row connection
 
+-- a session's last request waits
+abbrev pub DoesWait : LastRequest → Type 0
+DoesWait request = (place : ℕ) × (call : Call) × (request ≡ Waits place call)
+
 -- a request of the client waits for which no connection does
 pub record IsUnheard (s : State) (who : WhoHears) (client : ℕ) : Type 0 where
   pub session : ClientState
   pub there : client_at s client ≡ Some session
-  pub place : ℕ
-  pub call : Call
-  pub waits : session.request ≡ Waits place call
+  pub waits : DoesWait session.request
   pub nobody : (connection : ℕ) → ¬ HearsOf who client connection

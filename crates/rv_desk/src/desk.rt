@@ -8,10 +8,10 @@ ghost use Rattle.rv_resume.specs.Resuming.{CanResume};
 ghost use Rattle.rv_connection.specs.Steps.{input_ended, left_by};
 ghost use Rattle.rv_wires.specs.Connections.{HasWire, none_open};
 ghost use Rattle.rv_wires.specs.Wires.{wires_in};
-ghost use Rattle.rv_hearers.specs.Hearing.{nobody};
+ghost use Rattle.rv_hearers.specs.Hearing.{HearsOf, nobody};
 ghost use Rattle.rv_hearers.specs.Hearers.{hearers_of};
 ghost use Rattle.rv_desk.specs.View.{ChangesBytes, begun};
-ghost use Rattle.rv_desk.specs.Telling.{IsUnheard};
+ghost use Rattle.rv_desk.specs.Telling.{DoesWait, IsUnheard};
 ghost use Rattle.rv_desk.specs.Deeds.{DoesClose, DoesOpen, DoesWrite};
 ghost use Rattle.rv_desk.specs.Rest.{AllHeldBack, IsNextMoment};
 ghost use Rattle.rv_desk.specs.Fields.{IsReady, IsSound, IsSteady, desk_state, desk_terms};
@@ -45,6 +45,18 @@ pub struct Desk {
     pub(crate) freed: VecDeque<ConnectionNumber>,
     // The entries that were made since they were last let go.
     pub(crate) entries: Vec<Entry>,
+}
+
+// Whether a last request waits.
+fn is_waiting(request: &LastRequest) -> bool
+    ensures { IsTrue result ↔ DoesWait request.now }
+{
+    match request {
+        LastRequest::Waits { .. } => true,
+        LastRequest::Fresh => false,
+        LastRequest::RepliedTo { .. } => false,
+        LastRequest::CancelledUnseen => false,
+    }
 }
 
 impl Desk {
@@ -119,11 +131,20 @@ impl Desk {
     pub fn is_unheard(&self, client: u64) -> bool
         ensures { IsTrue result ↔ IsUnheard (state_in self.now.machine) (hearers_of self.now.hearers) client }
     {
-        let Some(session) = self.machine.client(client) else {
-            return false;
-        };
-        matches!(session.request, LastRequest::Waits { .. })
-            && self.hearers.first_of(client).is_none()
+        match self.machine.client(client) {
+            Some(session) => is_waiting(&session.request) && self.hears_none(client),
+            None => false,
+        }
+    }
+
+    // Whether no connection waits for a request of the client.
+    fn hears_none(&self, client: u64) -> bool
+        ensures { IsTrue result ↔ ((connection : ℕ) → ¬ HearsOf (hearers_of self.now.hearers) client connection) }
+    {
+        match self.hearers.first_of(client) {
+            Some(_) => false,
+            None => true,
+        }
     }
 
     /// How many requests wait for which no connection does.

@@ -1,10 +1,10 @@
 -- Bytes, and a frame, one after another.
-use Rattle.std.proofs.Common.{◌≡◌, ◌+◌, ◌-◌, ◌<◌, ◌≤◌, ℕ, List, arith, drop, length, subst, take}
+use Rattle.std.proofs.Common.{◌≡◌, ◌+◌, ◌-◌, ◌<◌, ◌≤◌, ℕ, List, arith, drop, length, subst, sym, take}
 use Rattle.std.proofs.lemmas.List.{length-drop, take_rest}
 use Rattle.rv_desk.specs.Going.{Feeds}
 use Rattle.rv_desk.specs.Rest.{TakesNoMore}
 use Rattle.rv_desk.specs.Fields.{desk_state}
-use Rattle.rv_desk.proofs.Turning.{turn_begun, turn_ended, turn_on}
+use Rattle.rv_desk.proofs.Turning.{TurnSoFar, smaller, turn_begun, turn_ended, turn_on}
 use Rattle.rv_desk.proofs.desk.Desk.turn.Goals as goal
 
 pub loop-self-init : goal.loop-self-init
@@ -19,7 +19,8 @@ loop-self-smaller c =
     let feeds = subst (λ l. Feeds c.ask.new.self c.args.connection l c.feed-taken-in-loop-self.result
         c.feed-taken-in-loop-self.new.self) (take_rest c.args.piece.now c.loop-self.taken)
         c.feed-taken-in-loop-self.ensures.feeds in
-    let t = c.loop-self-test in ?
+    smaller c.loop-self.self c.ask.new.self c.feed-taken-in-loop-self.new.self c.args.connection c.args.piece.now
+    c.loop-self.taken c.feed-taken-in-loop-self.result c.loop-self-test.ensures.strides feeds
 
 pub loop-self-preserved : goal.loop-self-preserved
 loop-self-preserved c =
@@ -37,5 +38,7 @@ loop-self-preserved c =
 
 pub returns-clause-turn : goal.returns-clause-turn
 returns-clause-turn c =
-    turn_ended c.args.self.now c.loop-self.self c.finish.new.self c.args.connection c.args.piece.now
-    c.loop-self.taken c.loop-self.invariant.1 c.finish.ensures.finishes
+    turn_ended c.args.self.now c.ask.new.self c.finish.new.self c.args.connection c.args.piece.now
+    c.loop-self.taken
+    (subst (λ d. TurnSoFar c.args.self.now c.args.connection c.args.piece.now c.loop-self.taken d)
+    (sym c.loop-self-test.ensures.same) c.loop-self.invariant.1) c.finish.ensures.finishes
