@@ -1,5 +1,5 @@
 -- What happens to a hub, and which of it can't be.
-use Rattle.std.specs.Prelude.{ℕ, ◌≡◌, ◌<◌, ◌⊎◌, List, [], ◌∷◌, None, Option, Some, length, true}
+use Rattle.std.specs.Prelude.{ℕ, ◌≡◌, ◌<◌, ◌≤◌, ◌⊎◌, None, Some, false, length, true}
 use Rattle.rv_connection.specs.Traffic.{Traffic}
 use Rattle.rv_wires.specs.Connections.{HasWire}
 use Rattle.rv_desk.specs.View.{DeskState}
@@ -29,3 +29,13 @@ EventCannotBe s (event.Written entries) why =
     ((entries < s.open_wires.written) × (why ≡ refused.WrittenFalls))
     ⊎ ((s.book.length < entries) × (why ≡ refused.NotMade))
 EventCannotBe s event.Passed why = ⊥
+
+-- what an event that can be rests on
+abbrev pub EventCan : DeskState → HubEvent → Type 0
+EventCan s event.Opened = Unit {0}
+EventCan s (event.Came connection piece) = HasWire s.open_wires connection (λ wire. wire.ended ≡ false)
+EventCan s (event.Ended connection) = HasWire s.open_wires connection (λ wire. wire.ended ≡ false)
+EventCan s (event.Gone connection) = HasWire s.open_wires connection (λ wire. Unit {0})
+EventCan s (event.Took connection count) = HasWire s.open_wires connection (λ wire. count ≤ length wire.ready)
+EventCan s (event.Written entries) = (s.open_wires.written ≤ entries) × (entries ≤ s.book.length)
+EventCan s event.Passed = Unit {0}

@@ -2,4 +2,4 @@
 pub mod Events
 pub mod Turns
 -- What the fields hold: the public contracts cite it as a whole, `IsHub`.
-pub mod Fields
+pub mod Hubs

@@ -4,7 +4,7 @@ ghost use Rattle.rv_desk.specs.View.{begun};
 ghost use Rattle.rv_desk.specs.Fields.{desk_terms};
 ghost use Rattle.rv_hub.specs.declared.events.EventRefusal.{EventRefusal as Refused};
 ghost use Rattle.rv_hub.specs.Events.{EventCannotBe};
-ghost use Rattle.rv_hub.specs.Fields.{IsHub, hub_state};
+ghost use Rattle.rv_hub.specs.Hubs.{IsHub, hub_state};
 ghost use Rattle.rv_hub.specs.Turns.{TakesEvent, TakesPiece};
 
 use crate::events::{EventRefusal, HubEvent};
