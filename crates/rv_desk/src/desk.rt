@@ -117,6 +117,7 @@ impl Desk {
         ensures wires { result.now ≡ self.now.wires }
         ensures held_back { AllHeldBack (desk_state self.now) }
     {
+        self.wires.held_back();
         &self.wires
     }
 

@@ -49,7 +49,7 @@ impl Hub {
     }
 
     /// How many bytes of answers are held for all connections.
-    pub fn held(&self) -> usize {
+    pub fn held(&self) -> u128 {
         self.desk.wires().held()
     }
 
