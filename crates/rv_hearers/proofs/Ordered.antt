@@ -23,7 +23,7 @@ pair_cmp_total = search rules
 abbrev pub as_pairs : BTreeSet Pair → Pairs
 as_pairs s = record { pairs = s }
 
-own_pair : (x : Pair) → is_eq (pair_cmp x x) ≡ true
+pub own_pair : (x : Pair) → is_eq (pair_cmp x x) ≡ true
 own_pair x = (eq_by_cmp_equiv pair_cmp_total).refl x
 
 other_by : (x y : Pair) (b : Bool) → is_eq (pair_cmp x y) ≡ b → (y.0 ≢ x.0) ⊎ (y.1 ≢ x.1) → b ≡ false

@@ -1,5 +1,5 @@
 //! Connections, each under a number: a client's, a moment, or how many entries are written.
-ghost use Rattle.std.specs.Prelude.{◌≡◌, ◌+◌, ◌≤◌, false, true, IfNone, IfSome, OnErr, OnOk, vec_capacity};
+ghost use Rattle.std.specs.Prelude.{◌≡◌, ◌+◌, ◌^◌, ◌<◌, ◌≤◌, false, true, IfNone, IfSome, OnErr, OnOk, vec_capacity};
 ghost use Rattle.rv_hearers.specs.Pairs.{ChangesPairs, IsLeastPair, IsLowestUnder, ListsUpTo, NoPairs};
 ghost use Rattle.rv_hearers.specs.Pairs.{NoneUnder, SamePairs, pair_count, stands_under};
 
@@ -71,7 +71,8 @@ impl Pairs {
 
     /// How many there are, each counted under each of its numbers.
     pub fn count(&self) -> usize
-        ensures { result ≡ pair_count self.now }
+        ensures count { result ≡ pair_count self.now }
+        ensures small { result < 2 ^ 63 }
     {
         self.pairs.len()
     }

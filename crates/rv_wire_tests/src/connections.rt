@@ -95,10 +95,12 @@ fn connections_wait_and_are_found(rt: HostRuntime) -> Result<(), Fail> {
     }
     same(&rt, hearers.first_of(2), Some(3));
     same(&rt, hearers.next_until(), Some((10, 5)));
+    same(&rt, hearers.clients_heard(), 2);
     holds(&rt, hearers.remove(3).is_some(), "a connection that waited");
     holds(&rt, hearers.remove(5).is_some(), "a connection that waited");
     same(&rt, hearers.first_of(2), Some(7));
     same(&rt, hearers.first_of(1), None);
     same(&rt, hearers.next_until(), Some((30, 7)));
+    same(&rt, hearers.clients_heard(), 1);
     Ok(())
 }

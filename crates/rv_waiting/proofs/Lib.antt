@@ -1,0 +1,9 @@
+pub mod Closed
+pub mod Carried
+pub mod Entries
+pub mod OwnMoments
+pub mod Refusals
+pub mod Told
+pub mod KeyEnds
+pub mod MoveEnds
+pub mod WaitingLaws

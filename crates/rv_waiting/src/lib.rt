@@ -1,0 +1,4 @@
+//! The laws of what waits in a state to resume from.
+#![tactic(auto)]
+
+pub mod laws;
