@@ -1,7 +1,7 @@
 -- The bytes behind those that may leave: an answer more, and the first one less.
 use Rattle.std.proofs.Common.{◌≡◌, ◌<◌, ◌≤◌, ◌+◌, ◌∙◌, ℕ, List, [], ◌∷◌, ◌++◌, refl, sym, ap, subst}
 use Rattle.std.proofs.Common.{append-nil, append_assoc, arith, drop, length, length-append, length-drop, take}
-use Rattle.std.proofs.Common.{get_or, inl, inr, suc, zero, ◌⊎◌}
+use Rattle.std.proofs.Common.{None, Some, get_or, inl, inr, suc, zero, ◌⊎◌}
 use Rattle.std.specs.List.{All}
 use Rattle.std.proofs.lemmas.List.{drop-append-le, drop-drop, length-map, length-take-le, map-append}
 use Rattle.std.proofs.lemmas.List.{take-append-le}
@@ -11,7 +11,7 @@ use Rattle.std.proofs.lemmas.List.Elements.{All-append, All-cons, All-nil}
 use Rattle.rv_connection.specs.declared.answers.Outgoing.{Outgoing}
 use Rattle.rv_connection.specs.declared.answers.Mark.{Mark}
 use Rattle.rv_frame.specs.Cut.{IsFrameBody, frame_bytes}
-use Rattle.rv_connection.specs.Traffic.{AnswerByte, bytes_of, most_held, resting}
+use Rattle.rv_connection.specs.Traffic.{AnswerByte, bytes_of, first_rests_on, most_held, resting}
 use Rattle.rv_connection.specs.Steps.{HoldsBack}
 use Rattle.rv_connection.specs.Fields.{IsSoundOutgoing, NoneEmpty, behind_in, marked_bytes, marked_count}
 use Rattle.rv_connection.specs.Fields.{ready_in}
@@ -94,6 +94,28 @@ first_held written m marks (b ∷ rest) none all more = begins m.bytes none.0
         ∷ rest)))
     begins zero some = absurd (omega arith)
     begins (suc n) some = more
+
+-- what it rests on is what the first byte does
+first_waits : (m : Mark) (marks : List Mark) (rest : List ℕ) → NoneEmpty (m ∷ marks)
+    → marked_count (m ∷ marks) ≡ length rest → first_rests_on (marked_bytes (m ∷ marks) rest) ≡ Some m.entries
+first_waits m marks [] none all = absurd (omega (arith, none.0))
+first_waits m marks (b ∷ rest) none all = begins m.bytes none.0
+  where
+    begins : (n : ℕ) → 0 < n
+        → first_rests_on (resting m.entries (take n (b ∷ rest)) ++ marked_bytes marks (drop n (b ∷ rest)))
+        ≡ Some m.entries
+    begins zero some = absurd (omega arith)
+    begins (suc n) some = refl
+
+pub waits_first : (m : Mark) (marks more : List Mark) (rest : List ℕ) → marks ≡ m ∷ more → NoneEmpty marks
+    → marked_count marks ≡ length rest → first_rests_on (marked_bytes marks rest) ≡ Some m.entries
+waits_first m marks more rest is none all = ap (λ l. first_rests_on (marked_bytes l rest)) is
+    ∙ first_waits m more rest (subst NoneEmpty is none) (ap marked_count (sym is) ∙ all)
+
+-- nothing waits where there is no mark
+pub waits_none : (marks : List Mark) (rest : List ℕ) → marks ≡ []
+    → first_rests_on (marked_bytes marks rest) ≡ None
+waits_none marks rest none = ap (λ l. first_rests_on (marked_bytes l rest)) none
 
 -- no bytes are left, and so no marks
 pub no_marks : (marks : List Mark) → NoneEmpty marks → marked_count marks ≡ 0 → marks ≡ []

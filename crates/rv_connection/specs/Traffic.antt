@@ -1,6 +1,6 @@
 -- What contracts see of a connection: what came of its input, and what is there of its answers.
 use Rattle.std.specs.Prelude.{ℕ, ◌≡◌, ◌+◌, ◌≤◌, ◌⊎◌, Bool, false, true, List, ◌∷◌, ◌++◌}
-use Rattle.std.specs.Prelude.{length, map}
+use Rattle.std.specs.Prelude.{None, Option, Some, [], length, map}
 use Rattle.rv_frame.specs.Cut.{IsFrameBody, IsUnfinished, frame_bytes, length_bytes}
 use Rattle.rv_connection.specs.declared.unread.Coming.{Coming}
 use Rattle.rv_connection.specs.declared.unread.Coming.TheVariants.{BadLength, Frame, Part}
@@ -29,6 +29,11 @@ resting entries bytes = map (λ byte. record { byte = byte; rests_on = entries }
 -- the bytes alone
 abbrev pub bytes_of : List AnswerByte → List ℕ
 bytes_of held = map (λ b. b.byte) held
+
+-- what the first byte rests on
+abbrev pub first_rests_on : List AnswerByte → Option ℕ
+first_rests_on [] = None
+first_rests_on (b ∷ behind) = Some b.rests_on
 
 -- how many bytes of answers are held
 abbrev pub held_count : Traffic → ℕ

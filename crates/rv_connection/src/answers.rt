@@ -4,7 +4,7 @@ ghost use Rattle.std.specs.VecDeque.{deque_capacity, deque_len};
 ghost use Rattle.std.specs.Prelude.{OnErr, OnOk};
 ghost use Rattle.std.specs.Bool.{OnFalse, OnTrue};
 ghost use Rattle.rv_frame.specs.Cut.{IsFrameBody, frame_bytes};
-ghost use Rattle.rv_connection.specs.Traffic.{most_held};
+ghost use Rattle.rv_connection.specs.Traffic.{first_rests_on, most_held};
 ghost use Rattle.rv_connection.specs.Steps.{HoldsBack};
 ghost use Rattle.rv_connection.specs.Fields.{IsSoundOutgoing, behind_in, ready_in};
 ghost use Rattle.rv_connection.specs.Answering.{FreesFirst, Pushes, ReleasesIn, SameOutgoing};
@@ -160,6 +160,17 @@ impl Outgoing {
         self.bytes.advance(count);
         self.ready -= count;
         self.tidy();
+    }
+
+    /// How many entries the first answer rests on that may not leave, if there is one.
+    pub(crate) fn waits_for(&self) -> Option<u64>
+        requires { IsSoundOutgoing self.now }
+        ensures { result ≡ first_rests_on (behind_in self.now) }
+    {
+        match self.marks.front() {
+            Some(first) => Some(first.entries),
+            None => None,
+        }
     }
 
     /// The bytes that may leave.

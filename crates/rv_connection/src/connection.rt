@@ -36,7 +36,8 @@ impl Model for Wire {
 impl Wire {
     ghost use Rattle.std.specs.Prelude.{◌≤◌, ◌↔◌, true, length, IfNone, IfOk, IfSome, IsTrue, OnErr, OnOk};
     ghost use Rattle.rv_frame.specs.Cut.{IsFrameBody, frame_bytes};
-    ghost use Rattle.rv_connection.specs.Traffic.{IsDue, IsFinished, IsComing, MayOffer, held_count};
+    ghost use Rattle.rv_connection.specs.Traffic.{IsDue, IsFinished, IsComing, MayOffer, first_rests_on};
+    ghost use Rattle.rv_connection.specs.Traffic.{held_count};
     ghost use Rattle.rv_connection.specs.Steps.{AnswersBy, HoldsBack, Releases, TakesIn};
     ghost use Rattle.rv_connection.specs.Steps.{fresh_traffic, input_ended, left_by, taken};
 
@@ -100,6 +101,14 @@ impl Wire {
         ensures { Releases written self.old self.new }
     {
         self.buffers.release(written)
+    }
+
+    /// How many entries have to be written before any of the bytes may leave that may not yet, if there are
+    /// such.
+    pub fn waits_for(&self) -> Option<u64>
+        ensures { result ≡ first_rests_on self.now.behind }
+    {
+        self.buffers.answers.waits_for()
     }
 
     /// The bytes that may leave.

@@ -1,3 +1,5 @@
 pub mod Ordered
 pub mod Finding
 pub mod Listed
+pub mod Numbering
+pub mod Heard

@@ -1,14 +1,14 @@
 -- The connections that stand under the numbers up to one, read off the set in its order.
-use Rattle.std.proofs.Common.{◌≡◌, ◌≢◌, ◌<◌, ◌≤◌, ◌+◌, ◌∷◌, ◌++◌, ◌∙◌, ◌⊎◌, ℕ, arith, Bool, true, false, List, [], IsTrue, inl, inr}
-use Rattle.std.proofs.Common.{Contains, refl, sym, ap, subst, length, get_or, length-append, append_assoc}
+use Rattle.std.proofs.Common.{◌≡◌, ◌≢◌, ◌<◌, ◌≤◌, ◌∷◌, ◌++◌, ◌∙◌, ◌⊎◌, ℕ, arith, true, List, [], inl, inr}
+use Rattle.std.proofs.Common.{Contains, sym, ap, subst, length, get_or, length-append, append_assoc}
 use Rattle.std.specs.List.{All, AllPairs}
 use Rattle.std.specs.Map.{values_of}
-use Rattle.std.specs.Ordering.{nat_cmp, eq_by_cmp, is_eq, is_gt}
+use Rattle.std.specs.Ordering.{nat_cmp, eq_by_cmp, is_gt}
 use Rattle.std.specs.declared.cmp.Ordering.TheVariants.{Less}
 use Rattle.std.specs.List.Sorted.{IsStrictlySortedBy}
-use Rattle.std.specs.BTreeSet.{IsOrdered, contains}
+use Rattle.std.specs.BTreeSet.{IsOrdered}
 use Rattle.std.proofs.lemmas.Bool.{false≢true}
-use Rattle.std.proofs.lemmas.List.{map-append, get_or_append_left, get_or-map, length-map}
+use Rattle.std.proofs.lemmas.List.{map-append, get_or_append_left, get_or-map}
 use Rattle.std.proofs.lemmas.List.Elements.{All-cons, All-contains, All-nil, All-push, All-weaker}
 use Rattle.std.proofs.lemmas.List.Elements.{Contains-append_cases, Contains-append_left, Contains-get_or}
 use Rattle.std.proofs.lemmas.Map.Entries.{length-values_of}
@@ -49,8 +49,14 @@ one_read p most listed rest more k was next up_to = record {
 pub room_left : (p : Pairs) (most : ℕ) (listed : List ℕ) (rest more : List Pair) (k : Pair)
     → HasRead p most listed rest → rest ≡ k ∷ more → length listed < pair_count p
 room_left p most listed rest more k was next =
-    omega (arith, ap length was.split, length-append was.front rest, ap length next, ap length was.listed_is,
-    length-values_of was.front)
+    omega (
+      arith,
+      ap length was.split,
+      length-append was.front rest,
+      ap length next,
+      ap length was.listed_is,
+      length-values_of was.front,
+    )
 
 -- ---- what is left stands above what ends the reading
 
@@ -70,8 +76,8 @@ all_above p most listed rest more k was ordered next above =
     (subst (IsStrictlySortedBy pair_cmp) was.split ordered)) in
     let after = All-weaker (λ q. pair_cmp k q ≡ Less) (λ (q : Pair). most < q.0)
     (λ q less. elim (less_above k q less) as (λ _. most < q.0) [
-      inl lower ↦ omega arith
-    | inr same ↦ omega (arith, same.0)
+      | inl lower ↦ omega arith
+      | inr same ↦ omega (arith, same.0)
     ]) more (All-after_first pair_cmp k more sorted) in
     subst (All (λ (q : Pair). most < q.0)) (sym next)
     (All-cons (λ (q : Pair). most < q.0) k more above after)
@@ -110,10 +116,13 @@ module _ (p : Pairs) (most : ℕ) (listed : List ℕ) (rest : List Pair) (was : 
       (stands_to p stands.number c stands.there) in
       subst (λ l. Contains l c) (sym was.listed_is) (Contains-values_of was.front stands.number c
       (elim (Contains-append_cases was.front rest (stands.number, c) in_split) as
-          (λ _. Contains was.front (stands.number, c)) [
-        inl there ↦ there
-      | inr there ↦ absurd (omega (arith, stands.up_to,
-          All-contains (λ (k : Pair). most < k.0) rest (stands.number, c) above there))
+      (λ _. Contains was.front (stands.number, c)) [
+        | inl there ↦ there
+        | inr there ↦ absurd (omega (
+          arith,
+          stands.up_to,
+          All-contains (λ (k : Pair). most < k.0) rest (stands.number, c) above there,
+        ))
       ]))
 
   -- two places of the front have two pairs

@@ -1,7 +1,8 @@
 //! The connections that wait to hear of a request.
-ghost use Rattle.rv_hearers.specs.Indexed.{IsIndexed};
+ghost use Rattle.rv_hearers.specs.Indexed.{IsCounted};
 
-use crate::tables::{ConnectionNumber, Hearing, Tables};
+use crate::counted::Counted;
+use crate::tables::{ConnectionNumber, Hearing};
 use rv_text::NoMemory;
 use std::alloc::Global;
 
@@ -12,21 +13,24 @@ use std::alloc::Global;
 /// takes time logarithmic in the number of those that wait.
 #[derive(Drop)]
 pub struct Hearers {
-    tables: Tables,
-    ghost indexed: { IsIndexed tables },
+    counted: Counted,
+    ghost whole: { IsCounted counted },
 }
 
 impl Hearers {
-    ghost use Rattle.std.specs.Prelude.{◌≡◌, ℕ, None, Some, IfNone, IfSome, OnErr, OnOk};
-    ghost use Rattle.rv_hearers.specs.Hearing.{HearsOf, IsFirstHearer, IsNextUntil, SetsHearing, nobody};
-    ghost use Rattle.rv_hearers.specs.Hearers.{hearers_of};
+    ghost use Rattle.std.specs.Prelude.{◌≡◌, ◌+◌, ℕ, None, Some, IfNone, IfSome, OnErr, OnOk};
+    ghost use Rattle.std.specs.Prelude.{if◌then◌else◌, is_ok, is_some};
+    ghost use Rattle.rv_hearers.specs.Hearing.{CountsHeard, HearsOf, IsFirstHearer, IsNextUntil, SetsHearing};
+    ghost use Rattle.rv_hearers.specs.Hearing.{nobody};
+    ghost use Rattle.rv_hearers.specs.Hearers.{hearers_count, hearers_of};
 
     /// Nobody waits. It takes no memory yet.
     pub fn new(alloc: Global) -> Hearers
-        ensures { hearers_of result ≡ nobody }
+        ensures nobody { hearers_of result ≡ nobody }
+        ensures count { hearers_count result ≡ 0 }
     {
         Hearers {
-            tables: Tables::empty(alloc),
+            counted: Counted::empty(alloc),
         }
     }
 
@@ -36,23 +40,25 @@ impl Hearers {
         ensures added { OnOk result (SetsHearing (hearers_of self.old) connection (Some hearing)
             (hearers_of self.new)) }
         ensures refused { OnErr result (hearers_of self.new ≡ hearers_of self.old) }
+        ensures count { hearers_count self.new ≡ hearers_count self.old + (if is_ok result then 1 else 0) }
     {
-        self.tables.add(connection, hearing)
+        self.counted.add(connection, hearing)
     }
 
     /// A connection waits no longer. It gives what that waited for, if it waited.
     pub fn remove(&mut self, connection: ConnectionNumber) -> Option<Hearing>
         ensures was { result ≡ hearers_of self.old connection }
         ensures removed { SetsHearing (hearers_of self.old) connection None (hearers_of self.new) }
+        ensures count { hearers_count self.new + (if is_some result then 1 else 0) ≡ hearers_count self.old }
     {
-        self.tables.remove(connection)
+        self.counted.remove(connection)
     }
 
     /// What a connection waits for, if it waits.
     pub fn get(&self, connection: ConnectionNumber) -> Option<Hearing>
         ensures { result ≡ hearers_of self.now connection }
     {
-        self.tables.get(connection)
+        self.counted.tables.get(connection)
     }
 
     /// The connection of the lowest number that waits for a request of this client.
@@ -60,7 +66,7 @@ impl Hearers {
         ensures first { IfSome result (IsFirstHearer (hearers_of self.now) client) }
         ensures none { IfNone result ((connection : ℕ) → ¬ HearsOf (hearers_of self.now) client connection) }
     {
-        self.tables.first_of(client)
+        self.counted.tables.first_of(client)
     }
 
     /// The least moment up to which a connection waits, with the connection of the lowest number that does.
@@ -68,6 +74,12 @@ impl Hearers {
         ensures next { IfSome result (λ next. IsNextUntil (hearers_of self.now) next.0 next.1) }
         ensures none { IfNone result ((connection : ℕ) → hearers_of self.now connection ≡ None) }
     {
-        self.tables.next_until()
+        self.counted.tables.next_until()
+    }
+    /// How many clients there are for a request of whom some connection waits. It takes constant time.
+    pub fn clients_heard(&self) -> usize
+        ensures { CountsHeard (hearers_of self.now) result }
+    {
+        self.counted.heard()
     }
 }

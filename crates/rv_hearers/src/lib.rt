@@ -2,6 +2,7 @@
 //! moment up to which they wait.
 #![tactic(auto)]
 
+mod counted;
 mod hearers;
 mod pairs;
 mod tables;

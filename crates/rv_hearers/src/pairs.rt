@@ -1,5 +1,6 @@
 //! Connections, each under a number: a client's, a moment, or how many entries are written.
-ghost use Rattle.std.specs.Prelude.{◌≡◌, ◌+◌, ◌^◌, ◌<◌, ◌≤◌, false, true, IfNone, IfSome, OnErr, OnOk, vec_capacity};
+ghost use Rattle.std.specs.Prelude.{◌≡◌, ◌+◌, ◌^◌, ◌<◌, ◌≤◌, false, true, IfNone, IfSome, OnErr, OnOk};
+ghost use Rattle.std.specs.Prelude.{vec_capacity};
 ghost use Rattle.rv_hearers.specs.Pairs.{ChangesPairs, IsLeastPair, IsLowestUnder, ListsUpTo, NoPairs};
 ghost use Rattle.rv_hearers.specs.Pairs.{NoneUnder, SamePairs, pair_count, stands_under};
 
@@ -10,8 +11,8 @@ use std::ops::Bound;
 
 /// Connections, each under a number, or under several.
 ///
-/// Contracts see whether a connection stands under a number (`stands_under`). Each call but `list_up_to` takes
-/// time logarithmic in how many stand there.
+/// Contracts see whether a connection stands under a number (`stands_under`). Each call but `list_up_to`
+/// takes time logarithmic in how many stand there.
 #[derive(Drop)]
 pub struct Pairs {
     pub(crate) pairs: BTreeSet<(u64, usize)>,
@@ -77,8 +78,8 @@ impl Pairs {
         self.pairs.len()
     }
 
-    /// Makes a list of those that stand under a number up to this one, for which it has room: first those under
-    /// the lowest number, and under one number the lowest first.
+    /// Makes a list of those that stand under a number up to this one, for which it has room: first those
+    /// under the lowest number, and under one number the lowest first.
     pub fn list_up_to(&self, most: u64, list: &mut Vec<usize>)
         requires { pair_count self.now ≤ vec_capacity list.old }
         ensures listed { ListsUpTo self.now most list.new.items }

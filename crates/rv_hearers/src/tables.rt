@@ -1,5 +1,8 @@
 //! The tables by which a connection that waits is found.
-ghost use Rattle.std.specs.Prelude.{◌≡◌, ℕ, None, Some, false, true, IfNone, IfSome, OnErr, OnOk};
+ghost use Rattle.std.specs.Prelude.{◌≡◌, ◌+◌, ◌<◌, ◌^◌, ℕ, None, Some, false, true, IfNone, IfSome};
+ghost use Rattle.std.specs.Prelude.{OnErr, OnOk, if◌then◌else◌, is_ok, is_some};
+ghost use Rattle.std.specs.BTreeMap.{IsOrdered, btree_map_len};
+ghost use Rattle.std.specs.Ordering.{nat_cmp};
 ghost use Rattle.rv_hearers.specs.Hearing.{HearsOf, IsFirstHearer, IsNextUntil, SetsHearing, nobody};
 ghost use Rattle.rv_hearers.specs.Indexed.{IsIndexed, SameTables, StandsAs, who_hears};
 ghost use Rattle.rv_hearers.specs.Pairs.{stands_under};
@@ -33,6 +36,7 @@ impl Tables {
     pub(crate) fn empty(alloc: Global) -> Tables
         ensures indexed { IsIndexed result }
         ensures nobody { who_hears result ≡ nobody }
+        ensures count { btree_map_len result.hearings ≡ 0 }
     {
         Tables {
             hearings: BTreeMap::new(alloc),
@@ -77,6 +81,8 @@ impl Tables {
         ensures added { OnOk result (SetsHearing (who_hears self.old) connection (Some hearing)
             (who_hears self.new)) }
         ensures refused { OnErr result (who_hears self.new ≡ who_hears self.old) }
+        ensures count { btree_map_len self.new.hearings
+            ≡ btree_map_len self.old.hearings + (if is_ok result then 1 else 0) }
     {
         self.enter(connection, &hearing)?;
         if let Err(refused) = self.hearings.insert(connection, hearing) {
@@ -91,10 +97,21 @@ impl Tables {
         ensures indexed { IsIndexed self.new }
         ensures was { result ≡ who_hears self.old connection }
         ensures removed { SetsHearing (who_hears self.old) connection None (who_hears self.new) }
+        ensures count { btree_map_len self.new.hearings + (if is_some result then 1 else 0)
+            ≡ btree_map_len self.old.hearings }
     {
         let hearing = self.hearings.remove(&connection)?;
         self.leave(connection, &hearing);
         Some(hearing)
+    }
+
+    // How many connections wait.
+    pub(crate) fn count(&self) -> usize
+        ensures count { result ≡ btree_map_len self.now.hearings }
+        ensures small { result < 2 ^ 63 }
+        ensures ordered { IsOrdered nat_cmp self.now.hearings }
+    {
+        self.hearings.len()
     }
 
     pub(crate) fn get(&self, connection: ConnectionNumber) -> Option<Hearing>

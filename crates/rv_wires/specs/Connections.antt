@@ -69,20 +69,20 @@ pub record ReleasesAll (old : WiresState) (written : ℕ) (new : WiresState) : T
   pub listed : (connection : ℕ) → Contains new.released connection ↔ IsReleased old written connection
   pub once : AllPairs (λ one other. one ≢ other) new.released
 
--- ---- all bytes that are held
+-- ---- counts of bytes
 
--- how many are held for a connection, if it is open
-abbrev pub held_of : Option Traffic → ℕ
-held_of None = 0
-held_of (Some wire) = held_count wire
+-- a count of a connection's bytes, if it is open
+abbrev pub count_at : (Traffic → ℕ) → Option Traffic → ℕ
+count_at count None = 0
+count_at count (Some wire) = count wire
 
--- how many are held for the connections of the numbers below this one
-abbrev pub held_below : (ℕ → Option Traffic) → ℕ → ℕ
-held_below wires zero = 0
-held_below wires (suc n) = held_below wires n + held_of (wires n)
+-- the sum of it over the connections of the numbers below this one
+abbrev pub total_below : (Traffic → ℕ) → (ℕ → Option Traffic) → ℕ → ℕ
+total_below count wires zero = 0
+total_below count wires (suc n) = total_below count wires n + count_at count (wires n)
 
--- all are below some number, and so many bytes are held for them
+-- all that are open are below a number, and so many bytes are held for them
 pub record IsTotalHeld (wires : ℕ → Option Traffic) (total : ℕ) : Type 0 where
   pub bound : ℕ
   pub all_below : (connection : ℕ) → bound ≤ connection → wires connection ≡ None
-  pub total_is : total ≡ held_below wires bound
+  pub total_is : total ≡ total_below held_count wires bound

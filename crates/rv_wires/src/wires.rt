@@ -61,11 +61,7 @@ impl Wires {
 
     /// Takes bytes of a piece of a connection's input, and tells how many (`Wire::take_in`). If memory for
     /// them is refused nothing changes.
-    pub fn take_in(
-        &mut self,
-        connection: ConnectionNumber,
-        piece: &[u8],
-    ) -> Result<usize, NoMemory>
+    pub fn take_in(&mut self, connection: ConnectionNumber, piece: &[u8]) -> Result<usize, NoMemory>
         requires { IsSome ((wires_in self.old).wires connection) }
         ensures takes { IfOk result (λ count. ChangesWire (wires_in self.old) connection
             (λ wire after. TakesIn wire piece.now count after) (wires_in self.new)) }

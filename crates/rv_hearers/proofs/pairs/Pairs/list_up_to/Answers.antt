@@ -4,10 +4,12 @@ use Rattle.rv_hearers.proofs.Listed.{all_above, lists, none_left, none_read, one
 use Rattle.rv_hearers.proofs.pairs.Pairs.list_up_to.Goals as goal
 
 pub loop-number-init : goal.loop-number-init
-loop-number-init c =
-    (none_read c.args.self.now c.args.most c.clear.new.self.items c.into_iter-number-iterator.result
-    c.clear.ensures.items
-    (c.into_iter-number-iterator.ensures.into_iter_gives ∙ c.iter-number-items.ensures.rest), c.clear.ensures.capacity)
+loop-number-init c = (
+  none_read c.args.self.now c.args.most c.clear.new.self.items c.into_iter-number-iterator.result
+      c.clear.ensures.items
+      (c.into_iter-number-iterator.ensures.into_iter_gives ∙ c.iter-number-items.ensures.rest),
+  c.clear.ensures.capacity,
+)
 
 pub push_reserved-requires : goal.push_reserved-requires
 push_reserved-requires c =
