@@ -150,7 +150,7 @@ impl Desk {
 
     /// How many requests wait for which no connection does.
     pub fn unheard(&self) -> usize {
-        self.machine.waiting()
+        self.machine.waiting() - self.hearers.clients_heard()
     }
 
     /// The next moment at which time has to go on, if there is one: the least of the machine's limits and of those up
