@@ -12,6 +12,7 @@ use crate::hub::Hub;
 use rv_hearers::ConnectionNumber;
 
 // A connection, and what is left of the piece that came of it.
+#[derive(Drop)]
 struct Offer<'a> {
     connection: ConnectionNumber,
     piece: &'a [u8],
