@@ -1,4 +1,7 @@
 //! The hub: its parts, and what is asked of it.
+ghost use Rattle.std.specs.Prelude.{◌≡◌};
+ghost use Rattle.rv_hub.specs.Hubs.{hub_state};
+
 use rv_account::Entry;
 use rv_connection::Wire;
 use rv_desk::Desk;
@@ -54,7 +57,9 @@ impl Hub {
     }
 
     /// How many entries are written.
-    pub fn written(&self) -> u64 {
+    pub fn written(&self) -> u64
+        ensures { result ≡ (hub_state self.now).open_wires.written }
+    {
         self.desk.wires().written()
     }
 
@@ -64,7 +69,9 @@ impl Hub {
     }
 
     /// The machine, whose steps are the account.
-    pub fn machine(&self) -> &Machine {
+    pub fn machine(&self) -> &Machine
+        ensures { result.now ≡ self.now.desk.machine }
+    {
         self.desk.machine()
     }
 
