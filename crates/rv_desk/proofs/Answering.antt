@@ -46,12 +46,12 @@ sets_again a b c connection one other first second = record {
   written = second.written ∙ first.written;
   changed = λ n. (
     λ now. elim ((second.changed n).0 now) [
-      inl before ↦ (first.changed n).0 before
-    | inr same ↦ inr same
+      | inl before ↦ (first.changed n).0 before
+      | inr same ↦ inr same
     ],
     λ was. elim was [
-      inl before ↦ (second.changed n).1 (inl ((first.changed n).1 (inl before)))
-    | inr same ↦ (second.changed n).1 (inr same)
+      | inl before ↦ (second.changed n).1 (inl ((first.changed n).1 (inl before)))
+      | inr same ↦ (second.changed n).1 (inr same)
     ],
   );
 }
@@ -75,9 +75,9 @@ pub not_hearing : (d : Desk) (connection : ℕ) → IsSound d → HasDue d conne
     → hearers_of d.hearers connection ≡ None
 not_hearing d connection sound due =
     not_some (hearers_of d.hearers connection) (λ hearing there.
-      let owing = sound.hearers_owe connection hearing there in
-      let same = some_is due.wire owing.wire (sym due.there ∙ owing.there) in
-      false≢true (sym due.so.none_owed ∙ ap (λ (t : Traffic). t.owes) same ∙ owing.so))
+    let owing = sound.hearers_owe connection hearing there in
+    let same = some_is due.wire owing.wire (sym due.there ∙ owing.there) in
+    false≢true (sym due.so.none_owed ∙ ap (λ (t : Traffic). t.owes) same ∙ owing.so))
 
 pub hears_same : (who : WhoHears) (connection : ℕ) (o : Option Hearing) → who connection ≡ o
     → SetsHearing who connection o who
@@ -121,17 +121,17 @@ less_unread d connection wires taking =
     let count = taking.unread in
     let long = due_length taking.due.wire taking.due.so in
     let before : unread_of ((wires_in d.wires).wires connection) ≡ length taking.due.wire.unread =
-        ap unread_of taking.due.there in
+    ap unread_of taking.due.there in
     let behind : unread_of ((wires_in wires).wires connection) ≡ 0 =
-        ap unread_of taking.takes.sets.own ∙ ap (λ (t : Traffic). length t.unread) taking.takes.changes in
+    ap unread_of taking.takes.sets.own ∙ ap (λ (t : Traffic). length t.unread) taking.takes.changes in
     omega arith
 
 pub closed_behind : (d : Desk) (connection : ℕ) (one wires : Wires) → IsSound d → HasDue d connection
     → (first : Option Traffic) → SetsWire (wires_in d.wires) connection first (wires_in one)
     → SetsWire (wires_in one) connection None (wires_in wires)
     → IsSound (record d { wires = wires })
-      × DoesClose (desk_state d) connection (desk_state (record d { wires = wires }))
-      × (unread_at (record d { wires = wires }) connection ≡ 0)
+    × DoesClose (desk_state d) connection (desk_state (record d { wires = wires }))
+    × (unread_at (record d { wires = wires }) connection ≡ 0)
 closed_behind d connection one wires sound due first sets cut =
     let both = sets_again (wires_in d.wires) (wires_in one) (wires_in wires) connection first None sets cut in
     let none = not_hearing d connection sound due in (
@@ -151,22 +151,22 @@ closed_behind d connection one wires sound due first sets cut =
 pub answered_it : (d : Desk) (connection entries : ℕ) (text : List ℕ) (one wires : Wires) → IsSound d
     → FrameTaken d connection one
     → ChangesWire (wires_in one) connection
-      (λ wire after. AnswersBy (wires_in one).written wire entries text after) (wires_in wires)
+    (λ wire after. AnswersBy (wires_in one).written wire entries text after) (wires_in wires)
     → unread_total wires ≡ unread_total one
     → IsSound (record d { wires = wires }) × AnswersIt d connection entries text (record d { wires = wires })
 answered_it d connection entries text one wires sound taking answers unread =
     let takes = taking.takes in
     let both = sets_again (wires_in d.wires) (wires_in one) (wires_in wires) connection (Some takes.after)
-        (Some answers.after) takes.sets answers.sets in
+    (Some answers.after) takes.sets answers.sets in
     let same : answers.wire ≡ taken takes.wire =
-        some_is answers.wire takes.after (sym answers.there ∙ takes.sets.own) ∙ takes.changes in
+    some_is answers.wire takes.after (sym answers.there ∙ takes.sets.own) ∙ takes.changes in
     let by : AnswersBy (wires_in d.wires).written (taken takes.wire) entries text answers.after =
-        subst (λ n. AnswersBy n (taken takes.wire) entries text answers.after) takes.sets.written
-        (subst (λ t. AnswersBy (wires_in one).written t entries text answers.after) same answers.changes) in
+    subst (λ n. AnswersBy n (taken takes.wire) entries text answers.after) takes.sets.written
+    (subst (λ t. AnswersBy (wires_in one).written t entries text answers.after) same answers.changes) in
     let none = not_hearing d connection sound taking.due in
     let less = less_unread d connection one taking in
     let emptied : unread_of ((wires_in wires).wires connection) ≡ 0 =
-        ap unread_of answers.sets.own ∙ ap (λ (t : Traffic). length t.unread) by.goes in (
+    ap unread_of answers.sets.own ∙ ap (λ (t : Traffic). length t.unread) by.goes in (
       sound_wire d wires connection (Some answers.after) sound both
           (subst (λ o. Agree (Some answers.after) o) (sym none)
           (not_owing answers.after (ap (λ (t : Traffic). t.owes) by.goes))),
@@ -200,7 +200,7 @@ pub not_answered : (d : Desk) (connection entries : ℕ) (text : List ℕ) (one 
 not_answered d connection entries text one two wires sound taking same unread cut fewer =
     let cut_one = subst (λ w. SetsWire w connection None (wires_in wires)) same cut in
     let closed = closed_behind d connection one wires sound taking.due (Some taking.takes.after) taking.takes.sets
-        cut_one in
+    cut_one in
     let less = less_unread d connection one taking in (
       closed.0,
       record {
@@ -222,10 +222,10 @@ set_hearing : (was now : WhoHears) (connection : ℕ) (hearing : Hearing) → Se
     → (h : Hearing) → now other ≡ Some h → P h.key
 set_hearing was now connection hearing sets P own before other h there =
     elim (cases_eq other connection) [
-      inl same ↦
+      | inl same ↦
           let is : hearing ≡ h = some_is hearing h (sym sets.own ∙ ap now (sym same) ∙ there) in
           subst (λ (x : Hearing). P x.key) is own
-    | inr apart ↦ before other h (sym (sets.others other apart) ∙ there)
+      | inr apart ↦ before other h (sym (sets.others other apart) ∙ there)
     ]
 
 -- a desk whose hearers hear the same
@@ -254,10 +254,10 @@ waiting_tellable d key sound waits = record {
 pub waited_it : (d : Desk) (connection : ℕ) (key : Key) (wires : Wires) (hearers : Hearers) → IsSound d
     → WaitsOn (state_in d.machine) key → FrameTaken d connection wires
     → SetsHearing (hearers_of d.hearers) connection (Some (record { key = key; until = d.latest + d.patience }))
-      (hearers_of hearers)
+    (hearers_of hearers)
     → hearers_count hearers ≡ hearers_count d.hearers + 1
     → IsSound (record d { wires = wires; hearers = hearers })
-      × WaitsIt d connection key (record d { wires = wires; hearers = hearers })
+    × WaitsIt d connection key (record d { wires = wires; hearers = hearers })
 waited_it d connection key wires hearers sound waits taking hears count =
     let takes = taking.takes in
     let new = record d { wires = wires; hearers = hearers } in
@@ -292,17 +292,17 @@ pub not_waited : (d : Desk) (connection : ℕ) (key : Key) (one wires : Wires) (
     → hearers_count hearers ≡ hearers_count d.hearers + 0
     → SetsWire (wires_in one) connection None (wires_in wires) → unread_total wires ≤ unread_total one
     → IsSound (record d { wires = wires; hearers = hearers })
-      × WaitsIt d connection key (record d { wires = wires; hearers = hearers })
+    × WaitsIt d connection key (record d { wires = wires; hearers = hearers })
 not_waited d connection key one wires hearers sound taking same count cut fewer =
     let closed = closed_behind d connection one wires sound taking.due (Some taking.takes.after) taking.takes.sets cut in
     let less = less_unread d connection one taking in
     let state : desk_state (record d { wires = wires; hearers = hearers }) ≡ desk_state (record d { wires = wires }) =
-        ap (λ (who : WhoHears). record {
-          book = state_in d.machine;
-          now = d.latest;
-          open_wires = wires_in wires;
-          hears = who;
-        }) same in (
+    ap (λ (who : WhoHears). record {
+      book = state_in d.machine;
+      now = d.latest;
+      open_wires = wires_in wires;
+      hears = who;
+    }) same in (
       same_hears d wires hearers same closed.0,
       record {
         did = λ body asked. inr (subst (λ s. DoesClose (desk_state d) connection s) (sym state) closed.1);

@@ -43,14 +43,14 @@ some_same x y same = cc
 comes_behind : (s : DeskState) (after : WhoHears) (connection : ℕ) (hearing : Hearing) (other : ℕ) (its : Hearing)
     → s.hears connection ≡ Some hearing
     → ((n : ℕ) (h : Hearing) → s.hears n ≡ Some h
-      → (hearing.until < h.until) ⊎ ((hearing.until ≡ h.until) × (connection ≤ n)))
+    → (hearing.until < h.until) ⊎ ((hearing.until ≡ h.until) × (connection ≤ n)))
     → SetsHearing s.hears connection None after → after other ≡ Some its
     → WaitsSooner (connection, hearing) (other, its)
 comes_behind s after connection hearing other its there first sets is =
     let apart = is_other after connection other its sets.own is in
     elim (first other its (fewer_hear s.hears after connection sets other its is)) [
-      inl sooner ↦ inl sooner
-    | inr same ↦ let at_most = same.1 in inr (same.0, omega arith)
+      | inl sooner ↦ inl sooner
+      | inr same ↦ let at_most = same.1 in inr (same.0, omega arith)
     ]
 
 pub late_first : (s : DeskState) (connection : ℕ) (hearers : List (ℕ × Hearing))
@@ -59,23 +59,23 @@ pub late_first : (s : DeskState) (connection : ℕ) (hearers : List (ℕ × Hear
 late_first s connection hearers t next sets same rest = record {
   order = AllPairs-cons WaitsSooner (connection, next.hearing) hearers
       (λ k d within. let it = rest.wait k d within in
-        let one = slice_index_or hearers k d in
-        comes_behind s t.hears connection next.hearing one.0 one.1 next.there next.first sets it.0)
+      let one = slice_index_or hearers k d in
+      comes_behind s t.hears connection next.hearing one.0 one.1 next.there next.first sets it.0)
       rest.order;
   wait = All-cons (λ (h : ℕ × Hearing). (s.hears h.0 ≡ Some h.1) × (h.1.until ≤ s.now)) (connection, next.hearing)
       hearers (next.there, next.overdue)
       (λ k d within. let it = rest.wait k d within in
-        let one = slice_index_or hearers k d in
-        let late : one.1.until ≤ s.now = subst (λ n. one.1.until ≤ n) same it.1 in
-        (fewer_hear s.hears t.hears connection sets one.0 one.1 it.0, late));
+      let one = slice_index_or hearers k d in
+      let late : one.1.until ≤ s.now = subst (λ n. one.1.until ≤ n) same it.1 in
+      (fewer_hear s.hears t.hears connection sets one.0 one.1 it.0, late));
   all = λ other its there late.
       elim (cases_eq other connection) [
-        inl is ↦
+        | inl is ↦
             let own : s.hears connection ≡ Some its = ap s.hears (sym is) ∙ there in
             let hearing : next.hearing ≡ its = some_same next.hearing its (sym next.there ∙ own) in
             there_first (connection, next.hearing) hearers (other, its)
             (ap (λ (n : ℕ). (n, next.hearing)) (sym is) ∙ ap (λ (h : Hearing). (other, h)) hearing)
-      | inr apart ↦
+        | inr apart ↦
             there_later (connection, next.hearing) hearers (other, its)
             (rest.all other its (sets.others other apart ∙ there) (subst (λ n. its.until ≤ n) (sym same) late))
       ];
@@ -87,10 +87,10 @@ waits_told : (s : State) (key : Key) (said : Answer) → WaitsOn s key → IsTol
 waits_told s key said waits told =
     let same : told.session ≡ waits.session = some_same told.session waits.session (sym told.there ∙ waits.there) in
     elim told.told [
-      inl is ↦
+      | inl is ↦
           is.2 ∙ ap (λ (c : ClientState). answer_told key (told_again c.request)) same
           ∙ ap (λ r. answer_told key (told_again r)) waits.waits
-    | inr old ↦
+      | inr old ↦
           let less = subst (λ (c : ClientState). key.incarnation < c.incarnation) same old.0 in
           let equal = waits.incarnation in
           absurd (omega arith)
@@ -102,10 +102,10 @@ tells_so : (terms : DeskTerms) (s t : DeskState) (connection : ℕ) (deed : Deed
     → (deed ≡ Told connection hearing.key (answer.Waiting hearing.key)) ⊎ (deed ≡ Closed connection)
 tells_so terms s t connection (Told n key said) hearing there waits same does =
     let its : does.hearing ≡ hearing = some_same does.hearing hearing
-        (sym does.waited ∙ ap s.hears same ∙ there) in
+    (sym does.waited ∙ ap s.hears same ∙ there) in
     let key_is : key ≡ hearing.key = sym does.key_is ∙ ap (λ (h : Hearing). h.key) its in
     let said_is : said ≡ answer.Waiting hearing.key =
-        waits_told s.book hearing.key said waits (subst (λ k. IsTold s.book k said) key_is does.told) in
+    waits_told s.book hearing.key said waits (subst (λ k. IsTold s.book k said) key_is does.told) in
     inl (ap (λ m. Told m key said) same ∙ ap (λ k. Told connection k said) key_is
     ∙ ap (λ a. Told connection hearing.key a) said_is)
 tells_so terms s t connection (Closed n) hearing there waits same does = inr (ap Closed same)
@@ -139,11 +139,11 @@ pub late_next : (old now new : Desk) (connection : ℕ) → TellsLateSoFar old n
     → IsNextOverdue (desk_state now) connection → TellsIt now connection new → TellsLateSoFar old new
 late_next old now new connection far next it =
     let does = subst (λ (terms : DeskTerms). Does terms (desk_state now) it.deed (desk_state new))
-        (same_terms old now far.done far.goes) it.does in
+    (same_terms old now far.done far.goes) it.does in
     let sets = tells_sets (desk_terms old) (desk_state now) (desk_state new) connection it.deed it.tells does in
     let same = same_book now new (it.deed ∷ []) it.goes in
     let so = tells_so (desk_terms old) (desk_state now) (desk_state new) connection it.deed next.hearing next.there
-        (far.waits connection next.hearing next.there) it.tells does in
+    (far.waits connection next.hearing next.there) it.tells does in
     record {
       done = far.done ++ it.deed ∷ [];
       goes = goes_on old now new far.done (it.deed ∷ []) far.goes it.goes;

@@ -27,8 +27,8 @@ not_hearing_closed : (d : Desk) (connection : ℕ) → IsSound d → (wires_in d
     → hearers_of d.hearers connection ≡ None
 not_hearing_closed d connection sound none =
     not_some (hearers_of d.hearers connection) (λ hearing there.
-      let owing = sound.hearers_owe connection hearing there in
-      none-some owing.wire (sym none ∙ owing.there))
+    let owing = sound.hearers_owe connection hearing there in
+    none-some owing.wire (sym none ∙ owing.there))
 
 pub opened_ready : (d : Desk) (wires : Wires) (connection : ℕ) → IsReady d
     → Opens (wires_in d.wires) connection (wires_in wires) → IsReady (record d { wires = wires })
@@ -47,8 +47,8 @@ pub ended_it : (d : Desk) (wires : Wires) (connection : ℕ) → IsSteady d
     → HasWire (wires_in d.wires) connection (λ wire. wire.ended ≡ false)
     → (ends : ChangesWire (wires_in d.wires) connection (λ wire after. after ≡ input_ended wire) (wires_in wires))
     → IsSteady (record d { wires = wires })
-      × ChangesBytes (desk_state d) connection (λ wire after. (wire.ended ≡ false) × (after ≡ input_ended wire))
-        (desk_state (record d { wires = wires }))
+    × ChangesBytes (desk_state d) connection (λ wire after. (wire.ended ≡ false) × (after ≡ input_ended wire))
+    (desk_state (record d { wires = wires }))
 ended_it d wires connection steady has ends =
     let same = some_is has.wire ends.wire (sym has.there ∙ ends.there) in (
       steady_wire d wires connection ends.wire ends.after steady ends.there
@@ -69,9 +69,9 @@ pub left_it : (d : Desk) (wires : Wires) (connection count : ℕ) → IsSteady d
     → HasWire (wires_in d.wires) connection (λ wire. count ≤ length wire.ready)
     → (leaves : ChangesWire (wires_in d.wires) connection (λ wire after. after ≡ left_by wire count) (wires_in wires))
     → IsSteady (record d { wires = wires })
-      × ChangesBytes (desk_state d) connection
-        (λ wire after. (count ≤ length wire.ready) × (after ≡ left_by wire count))
-        (desk_state (record d { wires = wires }))
+    × ChangesBytes (desk_state d) connection
+    (λ wire after. (count ≤ length wire.ready) × (after ≡ left_by wire count))
+    (desk_state (record d { wires = wires }))
 left_it d wires connection count steady has leaves =
     let same = some_is has.wire leaves.wire (sym has.there ∙ leaves.there) in (
       steady_wire d wires connection leaves.wire leaves.after steady leaves.there
@@ -116,11 +116,11 @@ written_steady d wires written steady all = record {
     hearers_owe = λ n h there.
         let owing = steady.sound.hearers_owe n h there in
         let behind = owes_behind written ((wires_in d.wires).wires n) ((wires_in wires).wires n) owing.wire (all.each n)
-            owing.there in
+        owing.there in
         record { wire = behind.0; there = behind.1; so = behind.2 ∙ owing.so };
     owers_hear = λ n wire there owing.
         let before = owes_before written ((wires_in d.wires).wires n) ((wires_in wires).wires n) wire (all.each n)
-            there in
+        there in
         steady.sound.owers_hear n before.0 before.1 (sym before.2 ∙ owing);
     tellable = steady.sound.tellable;
   };

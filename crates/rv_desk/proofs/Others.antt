@@ -33,13 +33,13 @@ one_kept : (terms : DeskTerms) (s t : DeskState) (connection : ℕ) (deed : Deed
     → Does terms s deed t → (n : ℕ) → IsKept s (told_by deed) n t
 one_kept terms s t connection (Told m key said) tells does n =
     elim (cases_eq n m) [
-      inl same ↦ inr (inr (there_first m [] n (sym same)))
-    | inr apart ↦ inl (does.answers.sets.others n apart)
+      | inl same ↦ inr (inr (there_first m [] n (sym same)))
+      | inr apart ↦ inl (does.answers.sets.others n apart)
     ]
 one_kept terms s t connection (Closed m) tells does n =
     elim (cases_eq n m) [
-      inl same ↦ inr (inl (ap t.open_wires.wires same ∙ does.sets.own))
-    | inr apart ↦ inl (does.sets.others n apart)
+      | inl same ↦ inr (inl (ap t.open_wires.wires same ∙ does.sets.own))
+      | inr apart ↦ inl (does.sets.others n apart)
     ]
 one_kept terms s t connection deed tells does n = absurd tells
 
@@ -112,9 +112,9 @@ strides_kept terms s t connection [] own same n apart = inl (ap (λ (u : DeskSta
 strides_kept terms s t connection (stride ∷ strides) own (mid, one, more) n apart =
     let first = own 0 stride (omega arith) in
     let others : All (λ (x : Deed × List Deed). IsOwnDeed connection x.0) strides =
-        λ k d within. own (suc k) d (let h = within in omega arith) in
+    λ k d within. own (suc k) d (let h = within in omega arith) in
     let deed : IsKept s (told_by stride.0) n one.between =
-        inl (own_kept terms s one.between connection stride.0 first one.does n apart) in
+    inl (own_kept terms s one.between connection stride.0 first one.does n apart) in
     let tells = keys_kept terms one.between mid (settled_by stride.0) stride.1 one.told n in
     subst (λ told. IsKept s told n t)
     (sym (flat_map-append told_by (stride.0 ∷ stride.1) (deeds_of strides)))

@@ -19,7 +19,7 @@ pub owes_kept : (s t : DeskState) (connection : ℕ) (wire : Option Traffic) (he
     → SetsHearing s.hears connection hearing t.hears → Agree wire hearing → HearersOwe t
 owes_kept s t connection wire hearing owe sets hears agree other h there =
     elim (cases_eq other connection) [
-      inl same ↦
+      | inl same ↦
           let own : t.hears connection ≡ Some h = ap t.hears (sym same) ∙ there in
           let found = agree.owes h (sym hears.own ∙ own) in
           record {
@@ -27,7 +27,7 @@ owes_kept s t connection wire hearing owe sets hears agree other h there =
             there = ap t.open_wires.wires same ∙ sets.own ∙ found.1;
             so = found.2;
           }
-    | inr apart ↦
+      | inr apart ↦
           let was = owe other h (sym (hears.others other apart) ∙ there) in
           record { wire = was.wire; there = sets.others other apart ∙ was.there; so = was.so }
     ]
@@ -37,11 +37,11 @@ pub hears_kept : (s t : DeskState) (connection : ℕ) (wire : Option Traffic) (h
     → SetsHearing s.hears connection hearing t.hears → Agree wire hearing → OwersHear t
 hears_kept s t connection wire hearing hear sets hears agree other bytes there owing =
     elim (cases_eq other connection) [
-      inl same ↦
+      | inl same ↦
           let own : t.open_wires.wires connection ≡ Some bytes = ap t.open_wires.wires (sym same) ∙ there in
           subst (λ o. IsSome o) (sym (ap t.hears same ∙ hears.own))
           (agree.hears bytes (sym sets.own ∙ own) owing)
-    | inr apart ↦
+      | inr apart ↦
           subst (λ o. IsSome o) (sym (hears.others other apart))
           (hear other bytes (sym (sets.others other apart) ∙ there) owing)
     ]

@@ -44,8 +44,8 @@ pub elapsed : (old : Desk) (m : Machine) (now handed : ℕ) (made : TickMade) (e
     → IsTick old.machine m made → entries.items ≡ old.entries.items ++ option_to_list made.entry
     → old.entries.items ≡ [] → vec_capacity old.entries ≤ vec_capacity entries
     → IsSound (record old { machine = m; latest = now; entries = entries })
-      × ElapsesIt old handed (record old { machine = m; latest = now; entries = entries })
-      × StillGoes old (record old { machine = m; latest = now; entries = entries })
+    × ElapsesIt old handed (record old { machine = m; latest = now; entries = entries })
+    × StillGoes old (record old { machine = m; latest = now; entries = entries })
 elapsed old m now handed made entries ready is moment whole numbered time tick laid begun room =
     let s = state_in old.machine in
     let sound = ready.sound in
@@ -54,7 +54,7 @@ elapsed old m now handed made entries ready is moment whole numbered time tick l
     let last = ticks_last s now sound.book.resumes later time in
     let ticked : state_in m ≡ (ticked_at s now).after = tick.after ∙ ap (λ n. (ticked_at s n).after) moment in
     let keys : m.settled.items ≡ keys_settled (ticked_at s now).settles =
-        tick.settles ∙ ap (λ n. keys_settled (ticked_at s n).settles) moment in
+    tick.settles ∙ ap (λ n. keys_settled (ticked_at s n).settles) moment in
     let new = record old { machine = m; latest = now; entries = entries } in (
       sound_with old m now entries sound (record {
         whole = whole;
@@ -106,29 +106,29 @@ passed d0 d1 d2 d3 handed ready begun elapses still tells waits2 sound late in_t
     let terms1 : desk_terms d1 ≡ desk_terms d0 = ap desk_terms r1 in
     let terms2 : desk_terms d2 ≡ desk_terms d0 = ap desk_terms r2 ∙ terms1 in
     let r13 : d3 ≡ record d1 { wires = d3.wires; hearers = d3.hearers; freed = d3.freed } =
-        r3 ∙ ap (λ (d : Desk). record d { wires = d3.wires; hearers = d3.hearers; freed = d3.freed }) r2 in
+    r3 ∙ ap (λ (d : Desk). record d { wires = d3.wires; hearers = d3.hearers; freed = d3.freed }) r2 in
     let state1 : desk_state d1 ≡ record (desk_state d0) { now = d1.latest; book = (ticked_at s d1.latest).after } =
-        ap desk_state r1 ∙ ap (λ b. record (desk_state d0) { now = d1.latest; book = b }) elapses.after in
+    ap desk_state r1 ∙ ap (λ b. record (desk_state d0) { now = d1.latest; book = b }) elapses.after in
     let moment = moment_now d0.latest handed in
     let entries = (ticked_at s moment).entries in
     let settled = keys_settled (ticked_at s moment).settles in
     let keys : d1.machine.settled.items ≡ settled =
-        elapses.settles ∙ ap (λ n. keys_settled (ticked_at s n).settles) elapses.now in
+    elapses.settles ∙ ap (λ n. keys_settled (ticked_at s n).settles) elapses.now in
     let telling : TellsKeys (desk_terms d0) (desk_state d1) settled tells.deeds (desk_state d2) =
-        subst (λ ks. TellsKeys (desk_terms d0) (desk_state d1) ks tells.deeds (desk_state d2)) keys
-        (subst (λ t. TellsKeys t (desk_state d1) d1.machine.settled.items tells.deeds (desk_state d2)) terms1
-        tells.tells) in
+    subst (λ ks. TellsKeys (desk_terms d0) (desk_state d1) ks tells.deeds (desk_state d2)) keys
+    (subst (λ t. TellsKeys t (desk_state d1) d1.machine.settled.items tells.deeds (desk_state d2)) terms1
+    tells.tells) in
     let overdue = subst (λ t. TellsOverdue t (desk_state d2) late.deeds (desk_state d3)) terms2 late.tells in
     let quiet = keys_quiet (desk_terms d0) (desk_state d1) (desk_state d2) settled tells.deeds telling in
     let quiet2 = late_quiet overdue.hearers late.deeds overdue.each in
     let none : flat_map entries_of (tells.deeds ++ late.deeds) ≡ [] =
-        flat_map-append entries_of tells.deeds late.deeds ∙ ap (λ l. l ++ flat_map entries_of late.deeds) quiet.0
-        ∙ quiet2 in
+    flat_map-append entries_of tells.deeds late.deeds ∙ ap (λ l. l ++ flat_map entries_of late.deeds) quiet.0
+    ∙ quiet2 in
     let more = still.room in
     let least = ready.room in
     let roomy : 1 ≤ vec_capacity d1.entries = omega arith in
     let made : d3.entries.items ≡ entries =
-        ap (λ (d : Desk). d.entries.items) r13 ∙ elapses.entries ∙ ap (λ n. (ticked_at s n).entries) elapses.now in (
+    ap (λ (d : Desk). d.entries.items) r13 ∙ elapses.entries ∙ ap (λ n. (ticked_at s n).entries) elapses.now in (
       record {
         sound = sound;
         waits = waits3;
@@ -158,7 +158,7 @@ passed d0 d1 d2 d3 handed ready begun elapses still tells waits2 sound late in_t
               ∙ ap (λ l. l ++ (entries ++ flat_map entries_of (tells.deeds ++ late.deeds))) (sym begun);
           freed = late.goes.freed ∙ ap (λ l. l ++ told_in late.deeds) tells.goes.freed
               ∙ ap (λ (f : List ℕ). (f ++ told_in tells.deeds) ++ told_in late.deeds)
-                  (ap (λ (d : Desk). d.freed.items) r1)
+              (ap (λ (d : Desk). d.freed.items) r1)
               ∙ append_assoc d0.freed.items (told_in tells.deeds) (told_in late.deeds)
               ∙ ap (λ l. d0.freed.items ++ l) (sym (flat_map-append told_by tells.deeds late.deeds));
           terms = ap desk_terms r3 ∙ terms2;

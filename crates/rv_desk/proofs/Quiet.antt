@@ -45,12 +45,12 @@ set_unread : (a b : WiresState) (connection : ℕ) (wire : Option Traffic) → S
     → unread_of wire ≤ unread_of (a.wires connection) → (n : ℕ) → unread_of (b.wires n) ≤ unread_of (a.wires n)
 set_unread a b connection wire sets less n =
     elim (cases_eq n connection) [
-      inl same ↦
+      | inl same ↦
           let now : unread_of (b.wires n) ≡ unread_of wire = ap (λ m. unread_of (b.wires m)) same
-              ∙ ap unread_of sets.own in
+          ∙ ap unread_of sets.own in
           let was : unread_of (a.wires n) ≡ unread_of (a.wires connection) = ap (λ m. unread_of (a.wires m)) same in
           omega arith
-    | inr apart ↦ let same = ap unread_of (sets.others n apart) in omega arith
+      | inr apart ↦ let same = ap unread_of (sets.others n apart) in omega arith
     ]
 
 one_unread : (terms : DeskTerms) (s t : DeskState) (connection : ℕ) (deed : Deed) → TellsOne connection deed
@@ -58,7 +58,7 @@ one_unread : (terms : DeskTerms) (s t : DeskState) (connection : ℕ) (deed : De
 one_unread terms s t connection (Told m key said) tells does =
     let was = ap unread_of does.answers.there in
     let now : unread_of (Some does.answers.after) ≡ unread_of (Some does.answers.wire) =
-        ap (λ (w : Traffic). length w.unread) does.answers.changes.goes in
+    ap (λ (w : Traffic). length w.unread) does.answers.changes.goes in
     set_unread s.open_wires t.open_wires m (Some does.answers.after) does.answers.sets (omega arith)
 one_unread terms s t connection (Closed m) tells does =
     set_unread s.open_wires t.open_wires m None does.sets (omega arith)

@@ -74,11 +74,11 @@ found : (who after : WhoHears) (client connection : ℕ) (row : List ℕ) (other
 found who after client connection row other first sets all hears =
     let least = first.first other hears in
     elim (cases_lt connection other) [
-      inl less ↦
+      | inl less ↦
           let apart : other ≢ connection = λ same. (let is = same in omega arith) in
           there_later connection row other
           (all other (heard_after who after client connection other sets apart hears))
-    | inr no_less ↦ let same : connection ≡ other = omega arith in there_first connection row other same
+      | inr no_less ↦ let same : connection ≡ other = omega arith in there_first connection row other same
     ]
 
 pub row_first : (who after : WhoHears) (client connection : ℕ) (row : List ℕ)

@@ -26,7 +26,7 @@ pub says_same : (s : State) (told : Said) (a b : Answer) → Says s told a → S
 says_same s (said.Welcome epoch client incarnation version) a b one other = one ∙ sym other
 says_same s (said.Told key) a b (session, there, one) (again, found, other) =
     one ∙ ap (λ (c : ClientState). answer_told key (told_again c.request))
-        (some_is session again (sym there ∙ found)) ∙ sym other
+    (some_is session again (sym there ∙ found)) ∙ sym other
 says_same s (said.Refused refusal) a b one other = one ∙ sym other
 
 -- answered by its text
@@ -34,9 +34,9 @@ pub text_said : (old : Desk) (connection : ℕ) (a : Answer) (text : List ℕ) (
     → AnswersIt old connection (rests_on a (state_in old.machine).length) text new → SaysText old connection a new
 text_said old connection a text new is answers = record {
   did = λ body asked. elim (answers.did body asked) [
-    inl now ↦ inl (subst (λ t. AnswersNow (desk_state old) connection body
+    | inl now ↦ inl (subst (λ t. AnswersNow (desk_state old) connection body
         (rests_on a (state_in old.machine).length) t (desk_state new)) is now)
-  | inr closed ↦ inr (inr closed)
+    | inr closed ↦ inr (inr closed)
   ];
   takes = answers.takes;
 }
@@ -45,8 +45,8 @@ pub text_lacked : (old : Desk) (connection : ℕ) (a : Answer) (new : Desk) → 
     → SaysText old connection a new
 text_lacked old connection a new lacks = record {
   did = λ body asked. elim (lacks.did body asked) [
-    inl now ↦ inr (inl now)
-  | inr closed ↦ inr (inr closed)
+    | inl now ↦ inr (inl now)
+    | inr closed ↦ inr (inr closed)
   ];
   takes = lacks.takes;
 }
@@ -76,8 +76,8 @@ pub lacks_so : (old : Desk) (connection : ℕ) (a : Answer) (new : Desk) → Lac
     → SaysIt old connection a new
 lacks_so old connection a new lacks = record {
   did = λ body asked. elim (lacks.did body asked) [
-    inl now ↦ inr (inl now)
-  | inr closed ↦ inr (inr closed)
+    | inl now ↦ inr (inl now)
+    | inr closed ↦ inr (inr closed)
   ];
   takes = lacks.takes;
 }

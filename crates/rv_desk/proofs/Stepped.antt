@@ -33,14 +33,14 @@ pub tellable_after : (s after : State) (settles : List Settled) (moment : ℕ) (
 tellable_after s after settles moment key resumes last waits =
     let fits = waiting_fits s key resumes waits in
     elim (last.just.waits key waits) [
-      inl still ↦ record {
+      | inl still ↦ record {
         fits = fits;
         epoch = still.epoch;
         session = still.session;
         there = still.there;
         last = inl (still.incarnation, still.last);
       }
-    | inr over ↦ record {
+      | inr over ↦ record {
         fits = fits;
         epoch = over.0.epoch;
         session = over.0.session;
@@ -55,14 +55,14 @@ pub waits_or_listed : (s after : State) (settles : List Settled) (moment : ℕ) 
     → WaitsOn after key ⊎ IsListed keys key
 waits_or_listed s after settles moment key keys listed last waits =
     elim (last.just.waits key waits) [
-      inl still ↦ inl still
-    | inr over ↦ inr (subst (λ ks. IsListed ks key) (sym listed) over.1)
+      | inl still ↦ inl still
+      | inr over ↦ inr (subst (λ ks. IsListed ks key) (sym listed) over.1)
     ]
 
 -- a desk with another machine
 pub sound_with : (old : Desk) (m : Machine) (now : ℕ) (entries : Vec Entry) → IsSound old → IsBook m now
     → ((connection : ℕ) (hearing : Hearing) → hearers_of old.hearers connection ≡ Some hearing
-      → IsTellable (state_in m) hearing.key)
+    → IsTellable (state_in m) hearing.key)
     → IsSound (record old { machine = m; latest = now; entries = entries })
 sound_with old m now entries sound book tellable = record {
   book = book;
@@ -78,15 +78,15 @@ pub stepped : (old : Desk) (m : Machine) (entries : Vec Entry) (message : Messag
     → IsHearing (desk_terms old).limits old.machine m old.latest message made
     → entries.items ≡ old.entries.items ++ option_to_list made.entry → vec_capacity old.entries ≤ vec_capacity entries
     → IsSound (record old { machine = m; entries = entries })
-      × StepsIt old message made.said (record old { machine = m; entries = entries })
-      × StillGoes old (record old { machine = m; entries = entries })
+    × StepsIt old message made.said (record old { machine = m; entries = entries })
+    × StillGoes old (record old { machine = m; entries = entries })
 stepped old m entries message made steady fits whole numbered hearing laid room =
     let s = state_in old.machine in
     let move = hearing.move in
     let last = moves_last (desk_terms old).limits s old.latest message move steady.sound.limits steady.sound.book.resumes
-        steady.none_due steady.sound.book.later steady.sound.book.time fits hearing.moves in
+    steady.none_due steady.sound.book.later steady.sound.book.time fits hearing.moves in
     let well = moves_answer (desk_terms old).limits s old.latest message move steady.sound.limits
-        steady.sound.book.resumes steady.none_due steady.sound.book.later steady.sound.book.time fits hearing.moves in
+    steady.sound.book.resumes steady.none_due steady.sound.book.later steady.sound.book.time fits hearing.moves in
     let after = hearing.after in (
       sound_with old m old.latest entries steady.sound (record {
         whole = whole;

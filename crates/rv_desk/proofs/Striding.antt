@@ -59,10 +59,10 @@ hear_more : (P : ℕ → Hearing → Type 0) (was now : WhoHears) (one : ℕ) (o
     → SetsHearing was one (Some own) now → ((n : ℕ) → P n own) → AllHear P was → AllHear P now
 hear_more P was now one own sets is all connection hearing there =
     elim (cases_eq connection one) [
-      inl same ↦
+      | inl same ↦
           let found : own ≡ hearing = some_is own hearing (sym sets.own ∙ ap now (sym same) ∙ there) in
           subst (λ h. P connection h) found (is connection)
-    | inr apart ↦ all connection hearing (sym (sets.others connection apart) ∙ there)
+      | inr apart ↦ all connection hearing (sym (sets.others connection apart) ∙ there)
     ]
 
 -- behind what is said of a step
@@ -89,8 +89,8 @@ pub settled_told : (terms : DeskTerms) (s t : DeskState) (keys : List Key) (deed
 settled_told terms s t keys deeds book tells waits connection hearing there =
     let was = keys_fewer terms s t keys deeds tells connection hearing there in
     elim (waits connection hearing was) [
-      inl still ↦ subst (λ b. WaitsOn b hearing.key) (sym book) still
-    | inr listed ↦ absurd (keys_done terms s t keys deeds tells listed.0 hearing.key listed.1 connection
+      | inl still ↦ subst (λ b. WaitsOn b hearing.key) (sym book) still
+      | inr listed ↦ absurd (keys_done terms s t keys deeds tells listed.0 hearing.key listed.1 connection
           (record { hearing = hearing; there = there; same = refl }))
     ]
 
@@ -232,8 +232,8 @@ strides_by d0 d2 d3 connection settled entries tells one told made freed terms g
     let unread = keys_unread (desk_terms d0) (desk_state d2) (desk_state d3) settled tells told connection in
     let lesser = goes.work in
     let all : entries_of one.deed ++ flat_map entries_of tells ≡ entries =
-        ap (λ l. l ++ flat_map entries_of tells) one.entries_is ∙ ap (λ l. entries ++ l) quiet.0
-        ∙ append-nil entries in
+    ap (λ l. l ++ flat_map entries_of tells) one.entries_is ∙ ap (λ l. entries ++ l) quiet.0
+    ∙ append-nil entries in
     record {
       deed = one.deed;
       tells = tells;
@@ -271,9 +271,9 @@ strided d0 d1 d2 d3 connection message told body steady asked is steps still say
     let terms1 : desk_terms d1 ≡ desk_terms d0 = ap desk_terms r1 in
     let terms2 : desk_terms d2 ≡ desk_terms d0 = ap desk_terms r2 ∙ terms1 in
     let state1 : desk_state d1 ≡ record (desk_state d0) { book = move.after } =
-        ap desk_state r1 ∙ ap (λ b. record (desk_state d0) { book = b }) steps.after in
+    ap desk_state r1 ∙ ap (λ b. record (desk_state d0) { book = b }) steps.after in
     let asked1 : IsAsked d1 connection body =
-        subst (λ (d : Desk). IsAsked d connection body) (sym r1) (record { frame = asked.frame }) in
+    subst (λ (d : Desk). IsAsked d connection body) (sym r1) (record { frame = asked.frame }) in
     let step : Stepped = record { message = message; entries = move.entries; settled = keys_settled move.settles } in
     let makes : MakesStep (desk_terms d0) (desk_state d0) step move.answer (desk_state d1) = record {
       move = move;
@@ -284,23 +284,23 @@ strided d0 d1 d2 d3 connection message told body steady asked is steps still say
       after = state1;
     } in
     let saying : Saying (desk_terms d0) (desk_state d1) connection body move.answer (desk_state d2) =
-        subst (λ t. Saying t (desk_state d1) connection body move.answer (desk_state d2)) terms1
-        (it.did body asked1) in
+    subst (λ t. Saying t (desk_state d1) connection body move.answer (desk_state d2)) terms1
+    (it.did body asked1) in
     let one = stepped_deed (desk_terms d0) (desk_state d0) (desk_state d1) (desk_state d2) connection body step
-        move.answer is asked1.frame makes saying in
+    move.answer is asked1.frame makes saying in
     let keys : d2.machine.settled.items ≡ keys_settled move.settles =
-        ap (λ (d : Desk). d.machine.settled.items) r2 ∙ steps.settles in
+    ap (λ (d : Desk). d.machine.settled.items) r2 ∙ steps.settles in
     let telling : TellsKeys (desk_terms d0) (desk_state d2) (keys_settled move.settles) tells.deeds (desk_state d3) =
-        subst (λ ks. TellsKeys (desk_terms d0) (desk_state d2) ks tells.deeds (desk_state d3)) keys
-        (subst (λ t. TellsKeys t (desk_state d2) d2.machine.settled.items tells.deeds (desk_state d3)) terms2
-        tells.tells) in
+    subst (λ ks. TellsKeys (desk_terms d0) (desk_state d2) ks tells.deeds (desk_state d3)) keys
+    (subst (λ t. TellsKeys t (desk_state d2) d2.machine.settled.items tells.deeds (desk_state d3)) terms2
+    tells.tells) in
     let saying1 = it.did body asked1 in
     let waits2 : HearersWaitOr (keys_settled move.settles) (desk_state d2) =
-        subst (λ ks. HearersWaitOr ks (desk_state d2)) steps.settles
-        (waiting_on d1 d2 connection body move.answer r2 saying1 steps.may_say still.waits) in
+    subst (λ ks. HearersWaitOr ks (desk_state d2)) steps.settles
+    (waiting_on d1 d2 connection body move.answer r2 saying1 steps.may_say still.waits) in
     let patient : 0 < d1.patience = subst (λ (d : Desk). 0 < d.patience) (sym r1) steady.sound.patient in
     let soon1 : HearersInTime (desk_state d1) =
-        subst (λ (d : Desk). HearersInTime (desk_state d)) (sym r1) steady.in_time in
+    subst (λ (d : Desk). HearersInTime (desk_state d)) (sym r1) steady.in_time in
     let soon2 = in_time_on d1 d2 connection body move.answer patient r2 saying1 soon1 in
     let r13 = behind_both d1 d2 d3 r2 r3 in
     let worked = it.takes.work in
@@ -331,17 +331,17 @@ strided d0 d1 d2 d3 connection message told body steady asked is steps still say
 
 pub unstepped : (d new : Desk) (connection entries : ℕ) (text body : List ℕ) → IsSteady d → IsSound new
     → AnswersNow (desk_state d) connection body entries text (desk_state new)
-      ⊎ DoesClose (desk_state d) connection (desk_state new)
+    ⊎ DoesClose (desk_state d) connection (desk_state new)
     → TakesFrame d connection new
     → OneDeed (desk_terms d) (desk_state d) (desk_state new) connection [] []
     → IsSteady new × Strides d connection new
 unstepped d new connection entries text body steady sound did takes one =
     let rest = takes.rest in
     let back : (P : ℕ → Hearing → Type 0) → AllHear P (desk_state d).hears → AllHear P (desk_state new).hears =
-        λ P all. elim did [
-          inl now ↦ hear_bytes P (desk_state d) (desk_state new) now.answers.rest all
-        | inr closed ↦ hear_less P (desk_state d).hears (desk_state new).hears connection closed.hears all
-        ] in (
+    λ P all. elim did [
+      | inl now ↦ hear_bytes P (desk_state d) (desk_state new) now.answers.rest all
+      | inr closed ↦ hear_less P (desk_state d).hears (desk_state new).hears connection closed.hears all
+    ] in (
       record {
         sound = sound;
         waits = λ other hearing there.
@@ -400,8 +400,8 @@ pub no_message : (body : List ℕ) (read : Result Message TextFault) (f : TextFa
     → ¬ IsMessageBody body message
 no_message body read f reads is other message its =
     elim (reads.only message its) [
-      inl found ↦ absurd (let at : Err f ≡ Ok message = sym is ∙ found in cc)
-    | inr none ↦ other (let at : Err f ≡ Err fault.NoMemory = sym is ∙ none in cc)
+      | inl found ↦ absurd (let at : Err f ≡ Ok message = sym is ∙ found in cc)
+      | inr none ↦ other (let at : Err f ≡ Err fault.NoMemory = sym is ∙ none in cc)
     ]
 
 -- the deed of a frame of which no message was read

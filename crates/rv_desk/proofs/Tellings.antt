@@ -78,7 +78,7 @@ pub tells_next : (old now new : Desk) (client connection : ℕ) → TellsSoFar o
     → TellsSoFar old client new
 tells_next old now new client connection far first it =
     let does = subst (λ (terms : DeskTerms). Does terms (desk_state now) it.deed (desk_state new))
-        (same_terms old now far.done far.goes) it.does in
+    (same_terms old now far.done far.goes) it.does in
     record {
       done = far.done ++ it.deed ∷ [];
       goes = goes_on old now new far.done (it.deed ∷ []) far.goes it.goes;
@@ -122,10 +122,10 @@ pub tells_next_key : (old now new : Desk) (list keys : List Key) (at : ℕ) (d :
 tells_next_key old now new list keys at d same within far its =
     let key = get_or list at d in
     let tells = subst (λ (terms : DeskTerms). TellsClient terms (desk_state now) key.client its.deeds (desk_state new))
-        (same_terms old now far.done far.goes) its.tells in
+    (same_terms old now far.done far.goes) its.tells in
     let next : suc at ≡ at + 1 = omega arith in
     let parts : drop at keys ≡ key ∷ drop (at + 1) keys = ap (λ l. drop at l) (sym same)
-        ∙ drop-cons list at d within ∙ ap (λ n. key ∷ drop n list) next ∙ ap (λ l. key ∷ drop (at + 1) l) same in
+    ∙ drop-cons list at d within ∙ ap (λ n. key ∷ drop n list) next ∙ ap (λ l. key ∷ drop (at + 1) l) same in
     record {
       done = far.done ++ its.deeds;
       goes = goes_on old now new far.done its.deeds far.goes its.goes;

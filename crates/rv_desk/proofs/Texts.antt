@@ -17,10 +17,10 @@ pub told_answer_fits : (s : State) (key : Key) (said : Answer) → CanResume s �
     → FitsAnswer said
 told_answer_fits s key said resumes tellable told =
     elim told.told [
-      inl is ↦
+      | inl is ↦
           subst (λ a. FitsAnswer a) (sym is.2)
           (told_fits s key told.session resumes told.there tellable.epoch tellable.fits.3 is.0 is.1)
-    | inr old ↦ subst (λ a. FitsAnswer a) (sym old.1) (old_fits s key.client told.session resumes told.there)
+      | inr old ↦ subst (λ a. FitsAnswer a) (sym old.1) (old_fits s key.client told.session resumes told.there)
     ]
 
 pub text_told : {T E : Type 0} → (bytes : T → List ℕ) (s : State) (key : Key) (said : Answer) (written : Result T E)

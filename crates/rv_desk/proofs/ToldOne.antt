@@ -67,7 +67,7 @@ fewer_hear old new connection sets other hearing there =
 pub sound_by : (old new : Desk) → new ≡ record old { wires = new.wires; hearers = new.hearers; freed = new.freed }
     → HearersOwe (desk_state new) → OwersHear (desk_state new)
     → ((connection : ℕ) (hearing : Hearing) → hearers_of new.hearers connection ≡ Some hearing
-      → IsTellable (state_in old.machine) hearing.key)
+    → IsTellable (state_in old.machine) hearing.key)
     → IsSound old → IsSound new
 sound_by old new rest owe hear tellable sound = record {
   book = subst (λ (d : Desk). IsBook d.machine d.latest) (sym rest) sound.book;
@@ -96,7 +96,7 @@ rest_of : (old new : Desk) (hearers : Hearers)
     → new ≡ record old { wires = new.wires; hearers = new.hearers; freed = new.freed }
 rest_of old new hearers rest =
     rest ∙ ap (λ (h : Hearers). record old { wires = new.wires; hearers = h; freed = new.freed })
-        (sym (ap (λ (d : Desk). d.hearers) rest))
+    (sym (ap (λ (d : Desk). d.hearers) rest))
 
 -- it waits no more, and its answer stands behind all that is held
 pub told_it : (old new : Desk) (hearers : Hearers) (connection : ℕ) (hearing : Hearing) → IsSound old
@@ -109,7 +109,7 @@ told_it old new hearers connection hearing sound there sets count gives =
     let rest = rest_of old new hearers gives.rest in
     let hears : new.hearers ≡ hearers = ap (λ (d : Desk). d.hearers) gives.rest in
     let sets_new = subst (λ (h : Hearers). SetsHearing (hearers_of old.hearers) connection None (hearers_of h))
-        (sym hears) sets in
+    (sym hears) sets in
     let count_new = subst (λ (h : Hearers). hearers_count h + 1 ≡ hearers_count old.hearers) (sym hears) count in
     let unread = gives.unread in
     let longer = ap length gives.freed ∙ length-append old.freed.items (connection ∷ []) in
@@ -149,13 +149,13 @@ pub closed_it : (old mid new : Desk) (hearers : Hearers) (connection : ℕ) (hea
     → unread_total new.wires ≤ unread_total mid.wires → IsSound new × TellsIt old connection new
 closed_it old mid new hearers connection hearing sound there sets count same closes cut less =
     let first : new ≡ record old { hearers = hearers; wires = new.wires; freed = mid.freed } =
-        closes ∙ ap (λ (d : Desk). record d { wires = new.wires }) same.rest in
+    closes ∙ ap (λ (d : Desk). record d { wires = new.wires }) same.rest in
     let freed : new.freed ≡ mid.freed = ap (λ (d : Desk). d.freed) first in
     let rest = rest_of old new hearers
-        (subst (λ f. new ≡ record old { hearers = hearers; wires = new.wires; freed = f }) (sym freed) first) in
+    (subst (λ f. new ≡ record old { hearers = hearers; wires = new.wires; freed = f }) (sym freed) first) in
     let hears : new.hearers ≡ hearers = ap (λ (d : Desk). d.hearers) first in
     let sets_new = subst (λ (h : Hearers). SetsHearing (hearers_of old.hearers) connection None (hearers_of h))
-        (sym hears) sets in
+    (sym hears) sets in
     let count_new = subst (λ (h : Hearers). hearers_count h + 1 ≡ hearers_count old.hearers) (sym hears) count in
     let cut_old = subst (λ w. SetsWire w connection None (wires_in new.wires)) same.wires cut in
     let unread = same.unread in

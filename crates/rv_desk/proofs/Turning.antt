@@ -105,18 +105,18 @@ takes_all wire after piece count takes =
 pub fed_some : (d : Desk) (wires : Wires) (connection : ℕ) (piece : List ℕ) (count : ℕ) → IsSteady d
     → (takes : ChangesWire (wires_in d.wires) connection (λ wire after. TakesIn wire piece count after) (wires_in wires))
     → unread_total wires + unread_of ((wires_in d.wires).wires connection)
-      ≡ unread_total d.wires + unread_of ((wires_in wires).wires connection)
+    ≡ unread_total d.wires + unread_of ((wires_in wires).wires connection)
     → IsSteady (record d { wires = wires }) × Feeds d connection piece count (record d { wires = wires })
-      × (count < length piece → TakesNoMore (desk_state (record d { wires = wires })) connection)
+    × (count < length piece → TakesNoMore (desk_state (record d { wires = wires })) connection)
 fed_some d wires connection piece count steady takes unread =
     let changes = takes.changes in
     let bytes = take count piece in
     let new = record d { wires = wires } in
     let long : length takes.after.unread ≡ length takes.wire.unread + length bytes =
-        ap (λ (t : Traffic). length t.unread) changes.unread ∙ length-append takes.wire.unread bytes in
+    ap (λ (t : Traffic). length t.unread) changes.unread ∙ length-append takes.wire.unread bytes in
     let was : unread_of ((wires_in d.wires).wires connection) ≡ length takes.wire.unread = ap unread_of takes.there in
     let now : unread_of ((wires_in wires).wires connection) ≡ length takes.after.unread =
-        ap unread_of takes.sets.own in
+    ap unread_of takes.sets.own in
     let counted : length bytes ≡ count = length-take-le count piece changes.within in (
       steady_wire d wires connection takes.wire takes.after steady takes.there
           (ap (λ (t : Traffic). t.owes) changes.unread) takes.sets,
@@ -156,7 +156,7 @@ fed_some d wires connection piece count steady takes unread =
 pub fed_closed : (d mid new : Desk) (connection : ℕ) (piece : List ℕ) → mid ≡ record d { wires = mid.wires }
     → wires_in mid.wires ≡ wires_in d.wires
     → unread_total mid.wires + unread_of ((wires_in d.wires).wires connection)
-      ≡ unread_total d.wires + unread_of ((wires_in mid.wires).wires connection)
+    ≡ unread_total d.wires + unread_of ((wires_in mid.wires).wires connection)
     → DoesClose (desk_state mid) connection (desk_state new)
     → new ≡ record mid { wires = new.wires; hearers = new.hearers } → work_left new ≤ work_left mid
     → Feeds d connection piece 0 new × TakesNoMore (desk_state new) connection
@@ -164,15 +164,15 @@ fed_closed d mid new connection piece same wires counted closes rest less =
     let own = ap (λ (w : WiresState). unread_of (w.wires connection)) wires in
     let unread : unread_total mid.wires ≡ unread_total d.wires = omega arith in
     let state : desk_state mid ≡ desk_state d =
-        ap desk_state same ∙ ap (λ w. record (desk_state d) { open_wires = w }) wires in
+    ap desk_state same ∙ ap (λ w. record (desk_state d) { open_wires = w }) wires in
     let closing = subst (λ s. DoesClose s connection (desk_state new)) state closes in
     let gone : unread_at new connection ≡ 0 = ap unread_of closes.sets.own in
     let entries : new.entries.items ≡ d.entries.items =
-        ap (λ (x : Desk). x.entries.items) rest ∙ ap (λ (x : Desk). x.entries.items) same in
+    ap (λ (x : Desk). x.entries.items) rest ∙ ap (λ (x : Desk). x.entries.items) same in
     let freed : new.freed.items ≡ d.freed.items =
-        ap (λ (x : Desk). x.freed.items) rest ∙ ap (λ (x : Desk). x.freed.items) same in
+    ap (λ (x : Desk). x.freed.items) rest ∙ ap (λ (x : Desk). x.freed.items) same in
     let worked : work_left mid ≡ work_left d = ap work_left same
-        ∙ ap (λ n. n + hearers_count d.hearers + length d.freed.items) unread in (
+    ∙ ap (λ n. n + hearers_count d.hearers + length d.freed.items) unread in (
       record {
         strides = (Closed connection, []) ∷ [];
         own = All-cons (λ (s : Deed × List Deed). IsOwnDeed connection s.0) (Closed connection, []) [] refl
@@ -243,10 +243,10 @@ pub turn_on : (old now mid new : Desk) (connection : ℕ) (piece : List ℕ) (ta
 turn_on old now mid new connection piece taken count far strides feeds stops =
     let one = (strides.deed, strides.tells) ∷ [] in
     let mid_runs = further old now mid connection far.strides one far.goes far.runs
-        (desk_state mid, strides.stride, refl)
-        (subst (λ ds. Goes now ds mid) (sym (append-nil (strides.deed ∷ strides.tells))) strides.goes) in
+    (desk_state mid, strides.stride, refl)
+    (subst (λ ds. Goes now ds mid) (sym (append-nil (strides.deed ∷ strides.tells))) strides.goes) in
     let all_runs = further old mid new connection (far.strides ++ one) feeds.strides mid_runs.1 mid_runs.0 feeds.runs
-        feeds.goes in
+    feeds.goes in
     let long = length-drop taken piece in
     let within = feeds.within in
     let before = far.within in
@@ -265,10 +265,10 @@ turn_on old now mid new connection piece taken count far strides feeds stops =
       bytes = ap bytes_in (deeds_append (far.strides ++ one) feeds.strides)
           ∙ bytes_append (deeds_of (far.strides ++ one)) (deeds_of feeds.strides)
           ∙ ap (λ l. l ++ bytes_in (deeds_of feeds.strides))
-              (ap bytes_in (deeds_append far.strides one) ∙ bytes_append (deeds_of far.strides) (deeds_of one)
-              ∙ ap (λ l. bytes_in (deeds_of far.strides) ++ l)
-                  (ap bytes_in (append-nil (strides.deed ∷ strides.tells)) ∙ strides.bytes)
-              ∙ append-nil (bytes_in (deeds_of far.strides)) ∙ far.bytes)
+          (ap bytes_in (deeds_append far.strides one) ∙ bytes_append (deeds_of far.strides) (deeds_of one)
+          ∙ ap (λ l. bytes_in (deeds_of far.strides) ++ l)
+          (ap bytes_in (append-nil (strides.deed ∷ strides.tells)) ∙ strides.bytes)
+          ∙ append-nil (bytes_in (deeds_of far.strides)) ∙ far.bytes)
           ∙ ap (λ l. take taken piece ++ l) feeds.bytes ∙ sym (take-add taken count piece);
       work = omega arith;
       stops = λ less. stops (let l = less in omega arith);
@@ -279,7 +279,7 @@ pub turn_ended : (old now new : Desk) (connection : ℕ) (piece : List ℕ) (tak
     → TurnSoFar old connection piece taken now → Finishes now connection new → TakesTurn old connection piece taken new
 turn_ended old now new connection piece taken far finishes =
     elim finishes.did [
-      inl same ↦ subst (λ d. TakesTurn old connection piece taken d) (sym same) (record {
+      | inl same ↦ subst (λ d. TakesTurn old connection piece taken d) (sym same) (record {
         deeds = deeds_of far.strides;
         turn = record {
           strides = far.strides;
@@ -292,7 +292,7 @@ turn_ended old now new connection piece taken far finishes =
         goes = far.goes;
         work = far.work;
       })
-    | inr closed ↦
+      | inr closed ↦
           let one = (Closed connection, []) ∷ [] in
           let rest = finishes.rest in
           let less = finishes.work in
@@ -304,8 +304,8 @@ turn_ended old now new connection piece taken far finishes =
             terms = ap desk_terms rest;
           } in
           let both = further old now new connection far.strides one far.goes far.runs
-              (one_stride (desk_terms now) (desk_state now) (desk_state new) (Closed connection)
-              (record { between = desk_state new; does = closed; told = (refl, refl) })) ends in
+          (one_stride (desk_terms now) (desk_state now) (desk_state new) (Closed connection)
+          (record { between = desk_state new; does = closed; told = (refl, refl) })) ends in
           record {
             deeds = deeds_of (far.strides ++ one);
             turn = record {

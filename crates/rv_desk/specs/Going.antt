@@ -151,7 +151,7 @@ pub record TakesFrame (old : Desk) (connection : ℕ) (new : Desk) : Type 0 wher
 pub record AnswersIt (old : Desk) (connection entries : ℕ) (text : List ℕ) (new : Desk) : Type 0 where
   pub did : (body : List ℕ) → IsAsked old connection body
       → AnswersNow (desk_state old) connection body entries text (desk_state new)
-        ⊎ DoesClose (desk_state old) connection (desk_state new)
+      ⊎ DoesClose (desk_state old) connection (desk_state new)
   pub takes : TakesFrame old connection new
 
 -- it was answered that memory was refused, or its connection was closed
@@ -162,16 +162,16 @@ LacksIt old connection new = AnswersIt old connection 0 (answer_text (answer.Ref
 pub record SaysText (old : Desk) (connection : ℕ) (said : Answer) (new : Desk) : Type 0 where
   pub did : (body : List ℕ) → IsAsked old connection body
       → AnswersNow (desk_state old) connection body (rests_on said (state_in old.machine).length) (answer_text said)
-          (desk_state new)
-        ⊎ (AnswersNow (desk_state old) connection body 0 (answer_text (answer.Refused NoMemory)) (desk_state new)
-        ⊎ DoesClose (desk_state old) connection (desk_state new))
+      (desk_state new)
+      ⊎ (AnswersNow (desk_state old) connection body 0 (answer_text (answer.Refused NoMemory)) (desk_state new)
+      ⊎ DoesClose (desk_state old) connection (desk_state new))
   pub takes : TakesFrame old connection new
 
 -- its connection waits, or was closed
 pub record WaitsIt (old : Desk) (connection : ℕ) (key : Key) (new : Desk) : Type 0 where
   pub did : (body : List ℕ) → IsAsked old connection body
       → WaitsNow old.patience (desk_state old) connection body key (desk_state new)
-        ⊎ DoesClose (desk_state old) connection (desk_state new)
+      ⊎ DoesClose (desk_state old) connection (desk_state new)
   pub takes : TakesFrame old connection new
 
 -- it was answered by what is said, or let wait; or memory for that was refused

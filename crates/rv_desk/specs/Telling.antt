@@ -11,7 +11,6 @@ use Rattle.rv_session.specs.declared.client.LastRequest.TheVariants.{Waits}
 use Rattle.rv_state.specs.Moves.{answer_told, told_again}
 use Rattle.rv_state.specs.State.{ClientState, State, client_at}
 use Rattle.rv_hearers.specs.Hearing.{HearsOf, WhoHears}
-
 -- the request with this key waits
 pub use Rattle.rv_waiting.specs.Waiting.{WaitsOn}
 
@@ -32,7 +31,7 @@ pub record IsTold (s : State) (key : Key) (said : Answer) : Type 0 where
   pub session : ClientState
   pub there : client_at s key.client ≡ Some session
   pub told : ((session.incarnation ≡ key.incarnation) × (session.last ≡ key.number)
-        × (said ≡ answer_told key (told_again session.request)))
+      × (said ≡ answer_told key (told_again session.request)))
       ⊎ ((key.incarnation < session.incarnation) × (said ≡ answer.Refused (OldIncarnation session.incarnation)))
 
 -- the connections that wait for a request of the client, by their numbers

@@ -19,8 +19,10 @@ use crate::desk::Desk;
 use crate::telling::reply_to;
 use rv_hearers::{ConnectionNumber, Hearing};
 use rv_machine::{Heard, Machine, Said};
-use rv_text::{Answer, Key, Message, NoMemory, Refusal, TextFault};
-use rv_text::{bad_text_body, decode_message, encode_answer, no_memory_body};
+use rv_text::{
+    Answer, Key, Message, NoMemory, Refusal, TextFault, bad_text_body, decode_message,
+    encode_answer, no_memory_body,
+};
 use std::alloc::Global;
 
 // What is said of a step, as an answer.

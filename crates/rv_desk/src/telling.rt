@@ -20,11 +20,7 @@ use rv_text::{Answer, Key, NoMemory, Refusal, Reply, encode_answer};
 use std::alloc::Global;
 
 // What a request of a key is answered, by what became of it.
-pub(crate) fn reply_to(
-    alloc: Global,
-    key: Key,
-    request: &LastRequest,
-) -> Result<Answer, NoMemory>
+pub(crate) fn reply_to(alloc: Global, key: Key, request: &LastRequest) -> Result<Answer, NoMemory>
     ensures { IfOk result (λ said. said ≡ answer_told key (told_again request.now)) }
 {
     match request {

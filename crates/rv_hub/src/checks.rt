@@ -36,11 +36,7 @@ impl Hub {
     }
 
     // A connection is open, and so many bytes were offered.
-    fn check_offered(
-        &self,
-        connection: ConnectionNumber,
-        count: usize,
-    ) -> Result<(), EventRefusal>
+    fn check_offered(&self, connection: ConnectionNumber, count: usize) -> Result<(), EventRefusal>
         ensures can { OnOk result (HasWire (hub_state self.now).open_wires connection
             (λ wire. count ≤ length wire.ready)) }
         ensures cannot { IfErr result (λ why. (IsNotOpen (hub_state self.now) connection × (why ≡ refused.NotOpen))

@@ -19,7 +19,7 @@ hear-requires-clause-asked c = (
 pub returns-in-Err-clause-steady : goal.returns-in-Err-clause-steady
 returns-in-Err-clause-steady c =
     let answers = subst (λ t. AnswersIt c.args.self.now c.args.connection 0 t c.answer_by.new.self)
-        c.fault_body.ensures.text c.answer_by.ensures.answers in
+    c.fault_body.ensures.text c.answer_by.ensures.answers in
     let did = answers.did c.requires.message.body c.requires.message.asked in
     (unstepped c.args.self.now c.answer_by.new.self c.args.connection 0 (fault_text c.in-Err.fault)
     c.requires.message.body c.requires.steady c.answer_by.ensures.sound did answers.takes
@@ -29,7 +29,7 @@ returns-in-Err-clause-steady c =
 pub returns-in-Err-clause-strides : goal.returns-in-Err-clause-strides
 returns-in-Err-clause-strides c =
     let answers = subst (λ t. AnswersIt c.args.self.now c.args.connection 0 t c.answer_by.new.self)
-        c.fault_body.ensures.text c.answer_by.ensures.answers in
+    c.fault_body.ensures.text c.answer_by.ensures.answers in
     let did = answers.did c.requires.message.body c.requires.message.asked in
     (unstepped c.args.self.now c.answer_by.new.self c.args.connection 0 (fault_text c.in-Err.fault)
     c.requires.message.body c.requires.steady c.answer_by.ensures.sound did answers.takes

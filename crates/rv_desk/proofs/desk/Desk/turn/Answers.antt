@@ -17,19 +17,19 @@ loop-self-init c = (
 pub loop-self-smaller : goal.loop-self-smaller
 loop-self-smaller c =
     let feeds = subst (λ l. Feeds c.ask.new.self c.args.connection l c.feed-taken-in-loop-self.result
-        c.feed-taken-in-loop-self.new.self) (take_rest c.args.piece.now c.loop-self.taken)
-        c.feed-taken-in-loop-self.ensures.feeds in
+    c.feed-taken-in-loop-self.new.self) (take_rest c.args.piece.now c.loop-self.taken)
+    c.feed-taken-in-loop-self.ensures.feeds in
     smaller c.loop-self.self c.ask.new.self c.feed-taken-in-loop-self.new.self c.args.connection c.args.piece.now
     c.loop-self.taken c.feed-taken-in-loop-self.result c.loop-self-test.ensures.strides feeds
 
 pub loop-self-preserved : goal.loop-self-preserved
 loop-self-preserved c =
     let feeds = subst (λ l. Feeds c.ask.new.self c.args.connection l c.feed-taken-in-loop-self.result
-        c.feed-taken-in-loop-self.new.self) (take_rest c.args.piece.now c.loop-self.taken)
-        c.feed-taken-in-loop-self.ensures.feeds in
+    c.feed-taken-in-loop-self.new.self) (take_rest c.args.piece.now c.loop-self.taken)
+    c.feed-taken-in-loop-self.ensures.feeds in
     let stops = subst (λ l. c.feed-taken-in-loop-self.result < length l
-        → TakesNoMore (desk_state c.feed-taken-in-loop-self.new.self) c.args.connection)
-        (take_rest c.args.piece.now c.loop-self.taken) c.feed-taken-in-loop-self.ensures.stops in (
+    → TakesNoMore (desk_state c.feed-taken-in-loop-self.new.self) c.args.connection)
+    (take_rest c.args.piece.now c.loop-self.taken) c.feed-taken-in-loop-self.ensures.stops in (
       c.feed-taken-in-loop-self.ensures.steady,
       turn_on c.args.self.now c.loop-self.self c.ask.new.self c.feed-taken-in-loop-self.new.self c.args.connection
           c.args.piece.now c.loop-self.taken c.feed-taken-in-loop-self.result c.loop-self.invariant.1
