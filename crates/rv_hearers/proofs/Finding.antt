@@ -5,7 +5,8 @@ use Rattle.std.proofs.lemmas.Bool.{eq-eqb, eqb-true, false≢true}
 use Rattle.rv_hearers.specs.declared.tables.Hearing.{Hearing}
 use Rattle.rv_hearers.specs.declared.tables.Tables.{Tables}
 use Rattle.rv_hearers.specs.Hearing.{HearsOf, IsFirstHearer, IsNextUntil, WhoHears}
-use Rattle.rv_hearers.specs.Indexed.{IsIndexed, IsLeastPair, IsLowestUnder, NoPairs, NoneUnder}
+use Rattle.rv_hearers.specs.Indexed.{IsIndexed}
+use Rattle.rv_hearers.specs.Pairs.{IsLeastPair, IsLowestUnder, NoPairs, NoneUnder}
 use Rattle.rv_hearers.specs.Indexed.{is_of, is_until, who_hears}
 
 of_some : (client : ℕ) (was : Option Hearing) (hearing : Hearing) → was ≡ Some hearing

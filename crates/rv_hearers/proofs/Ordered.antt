@@ -9,7 +9,7 @@ use Rattle.std.specs.BTreeSet.{BTreeSet, contains, IsKeyRangeOf}
 use Rattle.std.specs.declared.ops.Bound.TheVariants.{Included, Unbounded}
 use Rattle.std.specs.Cmp.{IsTotalOrder, eq_by_cmp_equiv}
 use Rattle.rv_hearers.specs.declared.pairs.Pairs.{Pairs}
-use Rattle.rv_hearers.specs.Indexed.{ChangesPairs, IsLeastPair, IsLowestUnder, NoneUnder, stands_under}
+use Rattle.rv_hearers.specs.Pairs.{ChangesPairs, IsLeastPair, IsLowestUnder, NoneUnder, stands_under}
 
 abbrev pub Pair : Type 0
 Pair = ℕ × ℕ

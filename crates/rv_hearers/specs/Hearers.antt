@@ -1,4 +1,6 @@
 -- What contracts see of the hearers.
+use Rattle.std.specs.Prelude.{ℕ}
+use Rattle.std.specs.BTreeMap.{btree_map_len}
 use Rattle.rv_hearers.specs.declared.hearers.Hearers.{Hearers}
 use Rattle.rv_hearers.specs.Hearing.{WhoHears}
 use Rattle.rv_hearers.specs.Indexed.{who_hears}
@@ -6,3 +8,7 @@ use Rattle.rv_hearers.specs.Indexed.{who_hears}
 -- of each connection, for what it waits
 abbrev pub hearers_of : Hearers → WhoHears
 hearers_of hearers = who_hears hearers.tables
+
+-- how many wait
+abbrev pub hearers_count : Hearers → ℕ
+hearers_count hearers = btree_map_len hearers.tables.hearings

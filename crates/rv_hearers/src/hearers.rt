@@ -17,13 +17,15 @@ pub struct Hearers {
 }
 
 impl Hearers {
-    ghost use Rattle.std.specs.Prelude.{◌≡◌, ℕ, None, Some, IfNone, IfSome, OnErr, OnOk};
+    ghost use Rattle.std.specs.Prelude.{◌≡◌, ◌+◌, ℕ, None, Some, IfNone, IfSome, OnErr, OnOk};
+    ghost use Rattle.std.specs.Prelude.{if◌then◌else◌, is_ok, is_some};
     ghost use Rattle.rv_hearers.specs.Hearing.{HearsOf, IsFirstHearer, IsNextUntil, SetsHearing, nobody};
-    ghost use Rattle.rv_hearers.specs.Hearers.{hearers_of};
+    ghost use Rattle.rv_hearers.specs.Hearers.{hearers_count, hearers_of};
 
     /// Nobody waits. It takes no memory yet.
     pub fn new(alloc: Global) -> Hearers
-        ensures { hearers_of result ≡ nobody }
+        ensures nobody { hearers_of result ≡ nobody }
+        ensures count { hearers_count result ≡ 0 }
     {
         Hearers {
             tables: Tables::empty(alloc),
@@ -36,6 +38,7 @@ impl Hearers {
         ensures added { OnOk result (SetsHearing (hearers_of self.old) connection (Some hearing)
             (hearers_of self.new)) }
         ensures refused { OnErr result (hearers_of self.new ≡ hearers_of self.old) }
+        ensures count { hearers_count self.new ≡ hearers_count self.old + (if is_ok result then 1 else 0) }
     {
         self.tables.add(connection, hearing)
     }
@@ -44,6 +47,7 @@ impl Hearers {
     pub fn remove(&mut self, connection: ConnectionNumber) -> Option<Hearing>
         ensures was { result ≡ hearers_of self.old connection }
         ensures removed { SetsHearing (hearers_of self.old) connection None (hearers_of self.new) }
+        ensures count { hearers_count self.new + (if is_some result then 1 else 0) ≡ hearers_count self.old }
     {
         self.tables.remove(connection)
     }

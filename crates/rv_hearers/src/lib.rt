@@ -7,4 +7,5 @@ mod pairs;
 mod tables;
 
 pub use hearers::Hearers;
+pub use pairs::Pairs;
 pub use tables::{ConnectionNumber, Hearing};

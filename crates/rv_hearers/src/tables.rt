@@ -1,7 +1,10 @@
 //! The tables by which a connection that waits is found.
-ghost use Rattle.std.specs.Prelude.{◌≡◌, ℕ, None, Some, false, true, IfNone, IfSome, OnErr, OnOk};
+ghost use Rattle.std.specs.Prelude.{◌≡◌, ◌+◌, ℕ, None, Some, false, true, IfNone, IfSome, OnErr, OnOk};
+ghost use Rattle.std.specs.Prelude.{if◌then◌else◌, is_ok, is_some};
+ghost use Rattle.std.specs.BTreeMap.{btree_map_len};
 ghost use Rattle.rv_hearers.specs.Hearing.{HearsOf, IsFirstHearer, IsNextUntil, SetsHearing, nobody};
-ghost use Rattle.rv_hearers.specs.Indexed.{IsIndexed, SameTables, StandsAs, stands_under, who_hears};
+ghost use Rattle.rv_hearers.specs.Indexed.{IsIndexed, SameTables, StandsAs, who_hears};
+ghost use Rattle.rv_hearers.specs.Pairs.{stands_under};
 
 use crate::pairs::Pairs;
 use rv_text::{Key, NoMemory};
@@ -32,6 +35,7 @@ impl Tables {
     pub(crate) fn empty(alloc: Global) -> Tables
         ensures indexed { IsIndexed result }
         ensures nobody { who_hears result ≡ nobody }
+        ensures count { btree_map_len result.hearings ≡ 0 }
     {
         Tables {
             hearings: BTreeMap::new(alloc),
@@ -76,6 +80,8 @@ impl Tables {
         ensures added { OnOk result (SetsHearing (who_hears self.old) connection (Some hearing)
             (who_hears self.new)) }
         ensures refused { OnErr result (who_hears self.new ≡ who_hears self.old) }
+        ensures count { btree_map_len self.new.hearings
+            ≡ btree_map_len self.old.hearings + (if is_ok result then 1 else 0) }
     {
         self.enter(connection, &hearing)?;
         if let Err(refused) = self.hearings.insert(connection, hearing) {
@@ -90,6 +96,8 @@ impl Tables {
         ensures indexed { IsIndexed self.new }
         ensures was { result ≡ who_hears self.old connection }
         ensures removed { SetsHearing (who_hears self.old) connection None (who_hears self.new) }
+        ensures count { btree_map_len self.new.hearings + (if is_some result then 1 else 0)
+            ≡ btree_map_len self.old.hearings }
     {
         let hearing = self.hearings.remove(&connection)?;
         self.leave(connection, &hearing);

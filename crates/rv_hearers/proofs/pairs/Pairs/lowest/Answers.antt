@@ -1,6 +1,6 @@
 -- The first from a number on stands under it, or none does.
 use Rattle.std.proofs.Common.{IfNone, IfSome, sym, subst}
-use Rattle.rv_hearers.specs.Indexed.{IsLowestUnder, NoneUnder}
+use Rattle.rv_hearers.specs.Pairs.{IsLowestUnder, NoneUnder}
 use Rattle.rv_hearers.proofs.Ordered.{found, nothing_found}
 use Rattle.rv_hearers.proofs.pairs.Pairs.lowest.Goals as goal
 

@@ -3,6 +3,6 @@ use Rattle.rv_hearers.proofs.Ordered.{changes}
 use Rattle.std.proofs.Common.{false}
 use Rattle.rv_hearers.proofs.pairs.Pairs.remove.Goals as goal
 
-pub returns : goal.returns
-returns c = changes c.args.self.now.pairs c.remove.new.self c.args.number c.args.connection false
-    c.remove.ensures.updates.0
+pub returns-clause-removed : goal.returns-clause-removed
+returns-clause-removed c = changes c.args.self.now.pairs c.remove.new.self c.args.number c.args.connection
+    false c.remove.ensures.updates.0

@@ -1,6 +1,7 @@
 -- The lowest under the client is the first that waits for a request of it.
 use Rattle.rv_hearers.specs.Hearing.{IsFirstHearer}
-use Rattle.rv_hearers.specs.Indexed.{IsLowestUnder, who_hears}
+use Rattle.rv_hearers.specs.Indexed.{who_hears}
+use Rattle.rv_hearers.specs.Pairs.{IsLowestUnder}
 use Rattle.rv_hearers.proofs.Finding.{first_hearer, no_hearer, none_of, some_of}
 use Rattle.rv_hearers.proofs.tables.Tables.first_of.Goals as goal
 

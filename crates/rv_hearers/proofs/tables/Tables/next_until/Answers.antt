@@ -1,7 +1,8 @@
 -- The lowest under the lowest moment waits up to that, and nobody up to an earlier one.
 use Rattle.std.proofs.Common.{ℕ}
 use Rattle.rv_hearers.specs.Hearing.{IsNextUntil}
-use Rattle.rv_hearers.specs.Indexed.{IsLeastPair, who_hears}
+use Rattle.rv_hearers.specs.Indexed.{who_hears}
+use Rattle.rv_hearers.specs.Pairs.{IsLeastPair}
 use Rattle.rv_hearers.proofs.Finding.{next_until, nobody_hears, none_of, some_of}
 use Rattle.rv_hearers.proofs.tables.Tables.next_until.Goals as goal
 

@@ -1,0 +1,9 @@
+pub mod Chains
+pub mod Rows
+pub mod Owing
+pub mod ToldOne
+pub mod Tellings
+pub mod Late
+pub mod Done
+pub mod Stepped
+pub mod Texts

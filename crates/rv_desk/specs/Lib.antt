@@ -1,0 +1,10 @@
+-- What a reader must agree with: all that the public contracts cite.
+pub mod View
+pub mod Telling
+pub mod Deeds
+pub mod Order
+pub mod Rest
+-- What the fields hold: the public contracts cite it as a whole, `IsSound` and `IsSteady`.
+pub mod Fields
+-- What private clauses and proofs cite.
+pub mod Going

@@ -1,0 +1,188 @@
+//! One frame of a connection: a step of the machine.
+ghost use Rattle.std.specs.Prelude.{◌≡◌, ◌<◌, ℕ, List, IfNone, IfOk, IfSome, vec_capacity, vec_len};
+ghost use Rattle.std.specs.Bool.{OnFalse, OnTrue};
+ghost use Rattle.rv_json.specs.Bodies.{HasBodyLength};
+ghost use Rattle.rv_text.specs.declared.answer.Answer.{Answer as Answered};
+ghost use Rattle.rv_text.specs.Bodies.{IsMessageBody, answer_text};
+ghost use Rattle.rv_text.specs.Limits.{FitsAnswer, FitsMessage};
+ghost use Rattle.rv_machine.specs.Machines.{Says, state_in};
+ghost use Rattle.rv_connection.specs.Traffic.{IsDue};
+ghost use Rattle.rv_wires.specs.Connections.{HasWire};
+ghost use Rattle.rv_wires.specs.Wires.{wires_in};
+ghost use Rattle.rv_desk.specs.Deeds.{rests_on};
+ghost use Rattle.rv_desk.specs.Telling.{WaitsOn};
+ghost use Rattle.rv_desk.specs.Fields.{IsSound, IsSteady, desk_state};
+ghost use Rattle.rv_desk.specs.Going.{AnswersIt, HasDue, IsAsked, IsMessageAt, LacksIt, MaySay, SaysIt, SaysText};
+ghost use Rattle.rv_desk.specs.Going.{StepsIt, StillGoes, Strides, WaitsIt};
+
+use crate::desk::Desk;
+use crate::telling::reply_to;
+use rv_hearers::{ConnectionNumber, Hearing};
+use rv_machine::{Heard, Machine, Said};
+use rv_text::{Answer, Key, Message, NoMemory, Refusal, TextFault};
+use rv_text::{bad_text_body, decode_message, encode_answer, no_memory_body};
+use std::alloc::Global;
+
+// What is said of a step, as an answer.
+fn answer_of(alloc: Global, machine: &Machine, said: Said) -> Result<Answer, NoMemory>
+    requires { (a : Answered) × Says (state_in machine.now) said a }
+    ensures { IfOk result (Says (state_in machine.now) said) }
+{
+    match said {
+        Said::Welcome(epoch, client, incarnation, version) => Ok(Answer::Welcome {
+            epoch,
+            client,
+            incarnation,
+            version,
+        }),
+        Said::Told(key) => {
+            let client = machine.client(key.client).unwrap();
+            reply_to(alloc, key, &client.request)
+        }
+        Said::Refused(refusal) => Ok(Answer::Refused(refusal)),
+    }
+}
+
+// How many entries an answer to a step rests on: all, but for want of memory, which rests on none.
+fn rests_on(answer: &Answer, entries: u64) -> u64
+    ensures { result ≡ rests_on answer.now entries }
+{
+    match answer {
+        Answer::Refused(Refusal::NoMemory) => 0,
+        _ => entries,
+    }
+}
+
+impl Desk {
+    // Takes the frame that is due and answers it by a body, which rests on so many entries. If memory is refused the
+    // connection is closed.
+    fn answer_by(&mut self, connection: ConnectionNumber, entries: u64, body: &[u8])
+        requires sound { IsSound self.old }
+        requires due { HasDue self.old connection }
+        requires fits { HasBodyLength body.now }
+        ensures sound { IsSound self.new }
+        ensures answers { AnswersIt self.old connection entries body.now self.new }
+    {
+        self.wires.take_frame(connection);
+        if self.wires.answer(connection, entries, body).is_err() {
+            self.wires.close(connection);
+        }
+    }
+
+    // Takes the frame that is due, and lets its connection wait for the reply of a request. If memory is refused the
+    // connection is closed.
+    fn wait(&mut self, connection: ConnectionNumber, key: Key)
+        requires sound { IsSound self.old }
+        requires due { HasDue self.old connection }
+        requires waits { WaitsOn (state_in self.old.machine) key }
+        ensures sound { IsSound self.new }
+        ensures waits { WaitsIt self.old connection key self.new }
+    {
+        self.wires.take_frame(connection);
+        let until = self.latest + self.patience as u64;
+        if self.hearers.add(connection, Hearing { key, until }).is_err() {
+            self.wires.close(connection);
+        }
+    }
+
+    // Answers the frame that is due that memory was refused. That rests on nothing.
+    fn lack(&mut self, connection: ConnectionNumber)
+        requires sound { IsSound self.old }
+        requires due { HasDue self.old connection }
+        ensures sound { IsSound self.new }
+        ensures lacks { LacksIt self.old connection self.new }
+    {
+        self.answer_by(connection, 0, no_memory_body());
+    }
+
+    // Answers the frame that is due by an answer, if that finds memory.
+    fn answer(&mut self, connection: ConnectionNumber, answer: &Answer)
+        requires sound { IsSound self.old }
+        requires due { HasDue self.old connection }
+        requires fits { FitsAnswer answer.now }
+        ensures sound { IsSound self.new }
+        ensures answers { SaysText self.old connection answer.now self.new }
+    {
+        match encode_answer(self.alloc, answer) {
+            Ok(text) => {
+                let entries = rests_on(answer, self.machine.length() as u64);
+                self.answer_by(connection, entries, text.as_bytes());
+            }
+            Err(_) => self.lack(connection),
+        }
+    }
+
+    // Answers the frame that is due by what was said of its step, or lets its connection wait.
+    fn say(&mut self, connection: ConnectionNumber, said: Said)
+        requires sound { IsSound self.old }
+        requires due { HasDue self.old connection }
+        requires may_say { (a : Answered) × Says (state_in self.old.machine) said a × MaySay self.old a }
+        ensures sound { IsSound self.new }
+        ensures says { (a : Answered) → Says (state_in self.old.machine) said a
+            → SaysIt self.old connection a self.new }
+    {
+        match answer_of(self.alloc, &self.machine, said) {
+            Ok(Answer::Waiting { key }) => self.wait(connection, key),
+            Ok(answer) => self.answer(connection, &answer),
+            Err(_) => self.lack(connection),
+        }
+    }
+
+    // Makes the step of a message, in room for its entry.
+    fn step(&mut self, message: Message) -> Said
+        requires steady { IsSteady self.old }
+        requires fits { FitsMessage message }
+        requires room { vec_len self.old.entries < vec_capacity self.old.entries }
+        ensures sound { IsSound self.new }
+        ensures steps { StepsIt self.old message result self.new }
+        ensures still { StillGoes self.old self.new }
+    {
+        let Heard { entry, said } = self.machine.hear(&self.limits, self.latest, message);
+        if let Some(entry) = entry {
+            self.entries.push_reserved(entry);
+        }
+        said
+    }
+
+    // Makes the step of the frame that is due, answers it, and tells all whom it settled.
+    fn hear(&mut self, connection: ConnectionNumber, message: Message)
+        requires steady { IsSteady self.old }
+        requires asked { (body : List ℕ) × IsAsked self.old connection body × IsMessageBody body message }
+        ensures steady { IsSteady self.new }
+        ensures strides { Strides self.old connection self.new }
+    {
+        if self.entries.reserve(1).is_err() {
+            self.lack(connection);
+            return;
+        }
+        let said = self.step(message);
+        self.say(connection, said);
+        self.tell_settled();
+    }
+
+    // The message of the frame that is due on a connection, if one is.
+    fn due_message(&self, connection: ConnectionNumber) -> Option<Result<Message, TextFault>>
+        ensures some { IfSome result (IsMessageAt self.now connection) }
+        ensures none { IfNone result (¬ HasDue self.now connection) }
+    {
+        let body = self.wires.get(connection)?.next()?;
+        Some(decode_message(self.alloc, body))
+    }
+
+    // Answers the frame that is due on a connection, and tells all whom that settles, if one is due.
+    pub(crate) fn ask(&mut self, connection: ConnectionNumber) -> bool
+        requires { IsSteady self.old }
+        ensures steady { IsSteady self.new }
+        ensures strides { OnTrue result (Strides self.old connection self.new) }
+        ensures same { OnFalse result (self.new ≡ self.old) }
+        ensures none { OnFalse result (¬ HasDue self.new connection) }
+    {
+        match self.due_message(connection) {
+            None => return false,
+            Some(Ok(message)) => self.hear(connection, message),
+            Some(Err(TextFault::NoMemory)) => self.lack(connection),
+            Some(Err(_)) => self.answer_by(connection, 0, bad_text_body()),
+        }
+        true
+    }
+}

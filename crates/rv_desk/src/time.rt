@@ -1,0 +1,36 @@
+//! Time goes on.
+ghost use Rattle.std.specs.Prelude.{◌≡◌, [], vec_len};
+ghost use Rattle.rv_desk.specs.Fields.{IsReady, IsSound, IsSteady, desk_state, desk_terms};
+ghost use Rattle.rv_desk.specs.Going.{ElapsesIt, PassesIt, StillGoes};
+
+use crate::desk::Desk;
+use rv_machine::TickMade;
+
+impl Desk {
+    // All that is due by a moment is ended, in room for the entry of that.
+    fn elapse(&mut self, now: u64)
+        requires ready { IsReady self.old }
+        requires room { self.old.entries.items ≡ [] }
+        ensures sound { IsSound self.new }
+        ensures elapses { ElapsesIt self.old now self.new }
+        ensures still { StillGoes self.old self.new }
+    {
+        let TickMade { moment, entry } = self.machine.elapse(now.max(self.latest));
+        self.latest = moment;
+        if let Some(entry) = entry {
+            self.entries.push_reserved(entry);
+        }
+    }
+
+    /// Time goes on to a moment: all whom that ends are told, and then those that have waited as long as they may.
+    pub fn pass(&mut self, now: u64)
+        requires ready { IsReady self.old }
+        requires begun { self.old.entries.items ≡ [] }
+        ensures steady { IsSteady self.new }
+        ensures passes { PassesIt self.old now self.new }
+    {
+        self.elapse(now);
+        self.tell_settled();
+        self.tell_overdue();
+    }
+}

@@ -1,0 +1,69 @@
+//! A connection's turn: it goes on until it stops.
+ghost use Rattle.std.specs.Prelude.{◌≡◌, ◌<◌, ◌++◌, length, option_to_list};
+ghost use Rattle.rv_desk.specs.Fields.{IsSteady, desk_state};
+ghost use Rattle.rv_desk.specs.Rest.{HasStopped, TakesNoMore};
+ghost use Rattle.rv_desk.specs.Going.{Feeds, Finishes, TakesTurn};
+
+use crate::desk::Desk;
+use rv_hearers::ConnectionNumber;
+
+impl Desk {
+    // Takes bytes of a piece, as far as an open connection takes them. If memory is refused it is closed.
+    fn feed(&mut self, connection: ConnectionNumber, piece: &[u8]) -> usize
+        requires { IsSteady self.old }
+        ensures steady { IsSteady self.new }
+        ensures feeds { Feeds self.old connection piece.now result self.new }
+        ensures stops { result < length piece.now → TakesNoMore (desk_state self.new) connection }
+    {
+        if piece.is_empty() || self.wires.get(connection).is_none() {
+            return 0;
+        }
+        match self.wires.take_in(connection, piece) {
+            Ok(count) => count,
+            Err(_) => {
+                self.close(connection);
+                0
+            }
+        }
+    }
+
+    // Closes a connection of which nothing is left to do.
+    fn finish(&mut self, connection: ConnectionNumber)
+        requires { IsSteady self.old }
+        ensures steady { IsSteady self.new }
+        ensures finishes { Finishes self.old connection self.new }
+    {
+        let finished = match self.wires.get(connection) {
+            Some(wire) => wire.is_finished(),
+            None => false,
+        };
+        if finished {
+            self.close(connection);
+        }
+    }
+
+    /// A connection goes on until it stops: its frames are answered one by one, and bytes of a piece taken behind
+    /// them. It gives how many bytes were taken.
+    pub fn turn(&mut self, connection: ConnectionNumber, piece: &[u8]) -> usize
+        requires { IsSteady self.old }
+        ensures steady { IsSteady self.new }
+        ensures turn { TakesTurn self.old connection piece.now result self.new }
+        ensures stopped { HasStopped (desk_state self.new) connection }
+        ensures stops { result < length piece.now → TakesNoMore (desk_state self.new) connection }
+    {
+        let mut taken = self.feed(connection, piece);
+        while self.ask(connection) {
+            taken += self.feed(connection, &piece[taken..]);
+        }
+        self.finish(connection);
+        taken
+    }
+
+    /// The first of those that were told and didn't go on yet.
+    pub fn next_freed(&mut self) -> Option<ConnectionNumber>
+        ensures first { self.old.freed.items ≡ option_to_list result ++ self.new.freed.items }
+        ensures rest { self.new ≡ record self.old { freed = self.new.freed } }
+    {
+        self.freed.pop_front()
+    }
+}

@@ -1,0 +1,5 @@
+-- What a reader must agree with: all that the public contracts cite.
+pub mod Connections
+pub mod Wires
+-- What the fields hold: the model, private clauses and proofs cite it.
+pub mod Fields

@@ -1,0 +1,151 @@
+//! All open connections of a hub.
+ghost use Rattle.rv_wires.specs.Fields.{IsSoundSlots};
+
+use crate::slots::Slots;
+use rv_connection::{NoMemory, Wire};
+use rv_hearers::ConnectionNumber;
+use std::alloc::Global;
+
+/// All open connections, each under its number, with how many entries are written.
+///
+/// Contracts see of each number the connection's bytes, if it is open (`wires_in`). A number is free exactly
+/// while no connection is open under it. All calls but `release` take constant time, or time logarithmic in
+/// the number of connections that hold something back.
+#[derive(Drop)]
+pub struct Wires {
+    slots: Slots,
+    ghost sound: { IsSoundSlots slots },
+}
+
+impl Wires {
+    ghost use Rattle.std.specs.Prelude.{◌≡◌, ◌≤◌, true, length, IfOk, IsSome, OnErr, OnOk};
+    ghost use Rattle.std.specs.Option.{option_copied};
+    ghost use Rattle.rv_frame.specs.Cut.{IsFrameBody};
+    ghost use Rattle.rv_connection.specs.Traffic.{IsDue};
+    ghost use Rattle.rv_connection.specs.Steps.{AnswersBy, TakesIn, input_ended, left_by, taken};
+    ghost use Rattle.rv_wires.specs.Connections.{ChangesWire, HasWire, IsTotalHeld, Opens, ReleasesAll};
+    ghost use Rattle.rv_wires.specs.Connections.{SetsWire, none_open};
+    ghost use Rattle.rv_wires.specs.Wires.{wires_in};
+
+    /// No connection is open, and so many entries are written. It takes no memory yet.
+    pub fn new(alloc: Global, written: u64) -> Wires
+        ensures { wires_in result ≡ none_open written }
+    {
+        Wires {
+            slots: Slots::empty(alloc, written),
+        }
+    }
+
+    /// How many entries are written.
+    pub fn written(&self) -> u64
+        ensures { result ≡ (wires_in self.now).written }
+    {
+        self.slots.written
+    }
+
+    /// Opens a connection, under a number that is free. If memory for it is refused nothing changes.
+    pub fn open(&mut self) -> Result<ConnectionNumber, NoMemory>
+        ensures opened { IfOk result (λ connection.
+            Opens (wires_in self.old) connection (wires_in self.new)) }
+        ensures refused { OnErr result (wires_in self.new ≡ wires_in self.old) }
+    {
+        self.slots.open()
+    }
+
+    /// The connection under a number, if it is open.
+    pub fn get(&self, connection: ConnectionNumber) -> Option<&Wire>
+        ensures { option_copied result ≡ (wires_in self.now).wires connection }
+    {
+        self.slots.get(connection)
+    }
+
+    /// Takes bytes of a piece of a connection's input, and tells how many (`Wire::take_in`). If memory for
+    /// them is refused nothing changes.
+    pub fn take_in(
+        &mut self,
+        connection: ConnectionNumber,
+        piece: &[u8],
+    ) -> Result<usize, NoMemory>
+        requires { IsSome ((wires_in self.old).wires connection) }
+        ensures takes { IfOk result (λ count. ChangesWire (wires_in self.old) connection
+            (λ wire after. TakesIn wire piece.now count after) (wires_in self.new)) }
+        ensures refused { OnErr result (wires_in self.new ≡ wires_in self.old) }
+    {
+        self.slots.take_in(connection, piece)
+    }
+
+    /// Takes the unread frame of a connection, whose answer is then owed.
+    pub fn take_frame(&mut self, connection: ConnectionNumber)
+        requires { HasWire (wires_in self.old) connection IsDue }
+        ensures { ChangesWire (wires_in self.old) connection (λ wire after. after ≡ taken wire)
+            (wires_in self.new) }
+    {
+        self.slots.take_frame(connection)
+    }
+
+    /// Gives the answer that a connection is owed, by its body, behind all that is held for it. It rests on so
+    /// many entries. If memory for it is refused nothing changes.
+    pub fn answer(
+        &mut self,
+        connection: ConnectionNumber,
+        entries: u64,
+        body: &[u8],
+    ) -> Result<(), NoMemory>
+        requires owes { HasWire (wires_in self.old) connection (λ wire. wire.owes ≡ true) }
+        requires fits { IsFrameBody body.now }
+        ensures answers { OnOk result (ChangesWire (wires_in self.old) connection
+            (λ wire after. AnswersBy (wires_in self.old).written wire entries body.now after)
+            (wires_in self.new)) }
+        ensures refused { OnErr result (wires_in self.new ≡ wires_in self.old) }
+    {
+        self.slots.answer(connection, entries, body)
+    }
+
+    /// The input of a connection has ended.
+    pub fn end_input(&mut self, connection: ConnectionNumber)
+        requires { IsSome ((wires_in self.old).wires connection) }
+        ensures { ChangesWire (wires_in self.old) connection (λ wire after. after ≡ input_ended wire)
+            (wires_in self.new) }
+    {
+        self.slots.end_input(connection)
+    }
+
+    /// So many of the bytes of a connection that may leave have left.
+    pub fn took(&mut self, connection: ConnectionNumber, count: usize)
+        requires { HasWire (wires_in self.old) connection (λ wire. count ≤ length wire.ready) }
+        ensures { ChangesWire (wires_in self.old) connection (λ wire after. after ≡ left_by wire count)
+            (wires_in self.new) }
+    {
+        self.slots.took(connection, count)
+    }
+
+    /// So many entries are written from now on: all answers go that rest on no more. It takes time for the
+    /// connections that it releases, and none for the others. It takes no memory that would be missed: where
+    /// a growth is refused, the next call looks at a connection in vain.
+    pub fn release(&mut self, written: u64)
+        ensures { ReleasesAll (wires_in self.old) written (wires_in self.new) }
+    {
+        self.slots.release(written)
+    }
+
+    /// The connections of which bytes may leave since the last `release`, and might not before it.
+    pub fn released(&self) -> &[ConnectionNumber]
+        ensures { result.now ≡ (wires_in self.now).released }
+    {
+        &self.slots.released
+    }
+
+    /// Closes a connection: nothing of it is held any more, and its number is free.
+    pub fn close(&mut self, connection: ConnectionNumber)
+        ensures { SetsWire (wires_in self.old) connection None (wires_in self.new) }
+    {
+        self.slots.close(connection)
+    }
+
+    /// How many bytes of answers are held for all connections.
+    pub fn held(&self) -> u128
+        ensures { IsTotalHeld (wires_in self.now).wires result }
+    {
+        self.slots.held
+    }
+}
