@@ -6,10 +6,12 @@ it stands an event a line, its moment first: `AT opened`, `AT came N HEX` (`-` f
 
 Each line but a hub's is told by lines. The first is `ok RESULT`, or `refused WHY`, or `shown`. Then `+ ENTRY` for each entry,
 as an account line has it; a line for each connection that changed (or, of `show`, that is open): `N open WAITS UNREAD HELD
-OFFERS HEX`, with 0 or 1 for whether it waits and may offer, and with the bytes to hand out; or `N closed`. At last
+OFFERS BYTES`, with 0 or 1 for whether it waits and may offer, and with the bytes to hand out, in hexadecimal digits, or where
+they are over 2,000 as `COUNT:HIGH.LOW` by the two halves of their Adler-32 sum; or `N closed`. At last
 `= HELD MOMENT COUNT KEYS`: all bytes held; the next moment, or `-`; how many requests wait that no connection waits for, and
 their keys by client, as `CLIENT.INCARNATION.NUMBER`.
 """
+import zlib
 from collections.abc import Iterable, Iterator, Mapping
 from dataclasses import dataclass
 
@@ -19,6 +21,7 @@ from tests.model.hub_events import Came, Ended, Event, Gone, Opened, Passed, Ref
 from tests.model.lines import entry_line
 
 SHOW = b"show"
+MOST_SHOWN = 2_000
 
 
 def hub_line(terms: Terms) -> bytes:
@@ -80,6 +83,14 @@ class Told:
         return whole and tuple(lines[:count]) == self.head and lines[-1:] == [self.last]
 
 
+def told_bytes(octets: bytes) -> str:
+    """Bytes to hand out, or where they are many how many they are, and their sum."""
+    if len(octets) <= MOST_SHOWN:
+        return in_hex(octets)
+    high, low = divmod(zlib.adler32(octets), 2**16)
+    return f"{len(octets)}:{high}.{low}"
+
+
 def told(hub: Hub, came: Outcome | Refusal) -> Told:
     """What has to be told of an event of a hub."""
     if isinstance(came, Refusal):
@@ -114,7 +125,7 @@ def view_line(number: int, view: View | None) -> bytes:
     """The line of a connection."""
     if view is None:
         return b"%d closed" % number
-    words = [number, "open", int(view.waits), view.unread, view.held, int(view.may_offer), in_hex(view.ready)]
+    words = [number, "open", int(view.waits), view.unread, view.held, int(view.may_offer), told_bytes(view.ready)]
     return " ".join(map(str, words)).encode()
 
 

@@ -13,7 +13,7 @@ from tests.model.hub_talk import LONG_ITEM, MANY_PEEKS, Talk
 from tests.model.limits import BOOK, Limits
 from tests.model.scripts import PACES
 
-SIZES = [1, 2, 2, 3, 3, 5, 10, 30, 200]
+SIZES = [1, 2, 3, 3, 5, 5, 10, 30, 200]
 PATIENCES = [1, 3, 20, 500, 10_000]
 LIMITS = [BOOK, BOOK, SMALL, Limits(2**53 - 1, 65_536, 100_000)]
 # The greatest moment that a line tells.
@@ -47,16 +47,16 @@ class HubScript:
         limits, patience = chance.choice(LIMITS), chance.choice(PATIENCES)
         self.hub = kind(Terms(limits, patience, chance.random() < 0.6))
         self.size = chance.choice(SIZES)
-        self.talk = Talk(chance, self.hub, chance.choice([1, 2, 3, 5, max(5, self.size)]))
+        self.talk = Talk(chance, self.hub, chance.choice([2, 3, 5, max(5, self.size), max(5, self.size)]))
         self.peers: dict[int, Peer] = {}
         # The next events, of a scene that has begun: meanwhile no time goes on.
         self.plan: deque[Callable[[], Event]] = deque()
         self.now = 0
         self.pace = chance.choice(PACES)
-        self.leaps, self.hunger = chance.random() < 0.05, chance.choice([0, 0, 2])
+        self.leaps, self.hunger = chance.random() < 0.05, chance.choice([0, 1, 4])
         # How eagerly peers take what is offered, and how late it is told that entries are written.
         self.thirst, self.delay = chance.choice([0.02, 0.3, 1]), chance.choice([0, 0.5, 0.95])
-        self.ends, self.scenes = chance.choice([0.1, 0.5, 2]), chance.choice([0, 0.05, 0.2])
+        self.ends, self.scenes = chance.choice([0.1, 0.5, 2]), chance.choice([0, 0.1, 0.4])
 
     def odds(self, likelihood: float) -> bool:
         """True so often."""
@@ -118,7 +118,9 @@ class HubScript:
 
     def some_peers(self, most: int) -> list[int]:
         """Some connections that may offer, and of which nothing is on its way."""
-        free = [n for n, peer in self.peers.items() if self.hub.connections[n].may_offer and not peer.said]
+        free = [n for n in self.peers if self.hub.connections[n].may_offer and not self.hub.connections[n].unread]
+        for number in free:
+            self.peers[number].said = b""
         return self.chance.sample(free, min(len(free), most))
 
     def says(self, number: int, octets: bytes) -> None:
