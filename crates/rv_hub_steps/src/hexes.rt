@@ -1,8 +1,11 @@
-//! Bytes as hexadecimal digits, a lone `-` for none.
+//! Bytes as hexadecimal digits, a lone `-` for none; or as their count and sum.
 ghost use Rattle.std.specs.Prelude.{◌<◌, IfSome};
 
 use rv_text::NoMemory;
 use std::alloc::Global;
+
+// The greatest prime number below 2^16.
+const ADLER: u32 = 65_521;
 
 const DIGITS: &[u8; 16] = b"0123456789abcdef";
 
@@ -51,4 +54,15 @@ pub(crate) fn written_hex(alloc: Global, bytes: &[u8]) -> Result<Vec<u8>, NoMemo
         text.push(DIGITS[(*byte % 16) as usize])?;
     }
     Ok(text)
+}
+
+/// How many bytes there are, and the two halves of their Adler-32 sum.
+pub(crate) fn written_sum(alloc: Global, bytes: &[u8]) -> Result<String, NoMemory> {
+    let (mut low, mut high) = (1u32, 0u32);
+    for byte in bytes {
+        low = low.wrapping_add(*byte as u32) % ADLER;
+        high = high.wrapping_add(low) % ADLER;
+    }
+    let count = bytes.len();
+    format!(in alloc; "{count}:{high}.{low}")
 }

@@ -9,10 +9,11 @@
 //!
 //! Each event is told in lines, `ok RESULT` or `refused WHY` first. Then come `+ ENTRY` for each entry, as
 //! an account has it, and for each connection that changed `N closed` or `N open WAITS UNREAD HELD OFFERS
-//! HEX`: 0 or 1 for whether it waits and may offer, and the bytes to hand out. The last is `= HELD MOMENT
-//! COUNT KEYS`: the bytes held for all; the next moment, or `-`; how many requests wait for which no
-//! connection does, and their keys by client, as `CLIENT.INCARNATION.NUMBER`. `show` is told so too: by
-//! `shown`, all open connections, and the last line.
+//! BYTES`: 0 or 1 for whether it waits and may offer, and the bytes to hand out, in digits, or where they
+//! are over 2,000 as `COUNT:HIGH.LOW`, by the halves of their Adler-32 sum. The last is `= HELD MOMENT COUNT
+//! KEYS`: the bytes held for all; the next moment, or `-`; how many requests wait for which no connection
+//! does, and their keys by client, as `CLIENT.INCARNATION.NUMBER`. `show` is told so too: by `shown`, all
+//! open connections, and the last line.
 #![tactic(auto)]
 
 mod hexes;

@@ -1,11 +1,14 @@
 //! Prints what a hub did, and what it is.
-use crate::hexes::written_hex;
+use crate::hexes::{written_hex, written_sum};
 use rv_connection::Wire;
 use rv_hearers::ConnectionNumber;
 use rv_hub::{EventRefusal, Hub};
 use rv_lines::entry_line;
 use std::alloc::Global;
 use std::io::Write;
+
+// More bytes to hand out are told by their sum.
+const MOST_SHOWN: usize = 2_000;
 
 // The word of a refusal.
 fn word_of(refusal: EventRefusal) -> &'static str {
@@ -89,9 +92,18 @@ fn tell_connection<W: Write>(
     let (unread, held) = (wire.unread_count(), wire.held());
     let line = format!(in alloc; "{connection} open {waits} {unread} {held} {offers} ")?;
     output.write_all(line.as_bytes())?;
-    let ready = written_hex(alloc, wire.ready())?;
-    output.write_all(&ready)?;
+    tell_bytes(alloc, output, wire.ready())?;
     output.write_all(b"\n")?;
+    Ok(())
+}
+
+// Prints bytes to hand out; where they are many, how many and their sum.
+fn tell_bytes<W: Write>(alloc: Global, output: &mut W, bytes: &[u8]) -> anyhow::Result<()> {
+    if bytes.len() > MOST_SHOWN {
+        output.write_all(written_sum(alloc, bytes)?.as_bytes())?;
+    } else {
+        output.write_all(&written_hex(alloc, bytes)?)?;
+    }
     Ok(())
 }
 
