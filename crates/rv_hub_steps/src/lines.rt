@@ -2,7 +2,7 @@
 use crate::hexes::read_hex;
 use rv_hearers::ConnectionNumber;
 use rv_hub::HubEvent;
-use rv_lines::{cut_at, read_between, read_number};
+use rv_lines::{cut_at, read_number};
 use rv_rules::Limits;
 use rv_text::NoMemory;
 use std::alloc::Global;
@@ -98,7 +98,7 @@ pub(crate) fn read_terms(line: &[u8]) -> Option<Terms> {
     let (patience, journal) = two_words(rest)?;
     Some(Terms {
         limits: Limits::new(number(entries)?, number(clients)?, read_bound(bound)?)?,
-        patience: read_between(patience, 1, u32::MAX as u64)? as u32,
+        patience: u32::try_from(read_number(patience)?).ok()?,
         has_journal: read_journal(journal)?,
     })
 }

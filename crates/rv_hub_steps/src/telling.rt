@@ -131,7 +131,10 @@ fn tell_unheard<W: Write>(
     hub: &Hub,
 ) -> anyhow::Result<()> {
     let mut after = None;
-    while let Some((client, session)) = hub.machine().next_client(after) {
+    for _ in 0..hub.machine().clients() {
+        let Some((client, session)) = hub.machine().next_client(after) else {
+            return Ok(());
+        };
         if hub.is_unheard(client) {
             let line = format!(in alloc; " {client}.{}.{}", session.incarnation, session.last)?;
             output.write_all(line.as_bytes())?;
