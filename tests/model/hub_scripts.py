@@ -203,13 +203,15 @@ class HubScript:
         return Written(self.chance.choice([most, most, most, self.chance.randint(least, most)]))
 
     def ended(self) -> Event:
-        """A peer says no more, mostly when all is taken that it said."""
-        number = self.one_of([n for n, peer in self.peers.items() if not peer.said or self.odds(0.2)])
+        """A peer says no more, mostly when all is taken that it said, or while it waits."""
+        quiet = [n for n, peer in self.peers.items() if not peer.said or self.hub.connections[n].wait or self.odds(0.2)]
+        number = self.one_of(quiet)
         return Passed() if number is None else Ended(number)
 
     def gone(self) -> Event:
-        """A peer goes."""
-        return Gone(self.chance.choice(list(self.peers)))
+        """A peer goes, as often as not one that waits."""
+        number = self.one_of([*self.hub.waits()]) if self.odds(0.5) else None
+        return Gone(self.chance.choice(list(self.peers)) if number is None else number)
 
     def odd_event(self) -> Event:
         """An event that mostly can't be."""
