@@ -114,10 +114,10 @@ tells_so terms s t connection deed hearing there waits tells does = absurd tells
 -- ---- all of them
 
 pub record TellsLateSoFar (old now : Desk) : Type 0 where
-  done : List Deed
-  goes : GoesTelling old done now
-  waits : HearersWait (desk_state now)
-  leads : (rest : List Deed) (final : DeskState) → TellsOverdue (desk_terms old) (desk_state now) rest final
+  pub done : List Deed
+  pub goes : GoesTelling old done now
+  pub waits : HearersWait (desk_state now)
+  pub leads : (rest : List Deed) (final : DeskState) → TellsOverdue (desk_terms old) (desk_state now) rest final
       → TellsOverdue (desk_terms old) (desk_state old) (done ++ rest) final
 
 pub late_begun : (d : Desk) → HearersWait (desk_state d) → TellsLateSoFar d d

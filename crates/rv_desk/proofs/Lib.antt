@@ -7,3 +7,12 @@ pub mod Late
 pub mod Done
 pub mod Stepped
 pub mod Texts
+pub mod Answering
+pub mod Saying
+pub mod Quiet
+pub mod Striding
+pub mod Turning
+pub mod Passed
+pub mod Opening
+pub mod OneBook
+pub mod Others

@@ -116,15 +116,16 @@ pub record TellsKeysSoFar (old : Desk) (keys : List Key) (at : ℕ) (now : Desk)
 pub tells_no_key : (d : Desk) (keys : List Key) → TellsKeysSoFar d keys 0 d
 tells_no_key d keys = record { done = []; goes = goes_none d; leads = λ rest final tells. tells }
 
-pub tells_next_key : (old now new : Desk) (keys : List Key) (at : ℕ) (key : Key) → at < length keys
-    → get_or keys at key ≡ key → TellsKeysSoFar old keys at now → TellsIts now key.client new
+pub tells_next_key : (old now new : Desk) (list keys : List Key) (at : ℕ) (d : Key) → list ≡ keys → at < length list
+    → TellsKeysSoFar old keys at now → TellsIts now (get_or list at d).client new
     → TellsKeysSoFar old keys (at + 1) new
-tells_next_key old now new keys at key within is far its =
+tells_next_key old now new list keys at d same within far its =
+    let key = get_or list at d in
     let tells = subst (λ (terms : DeskTerms). TellsClient terms (desk_state now) key.client its.deeds (desk_state new))
         (same_terms old now far.done far.goes) its.tells in
     let next : suc at ≡ at + 1 = omega arith in
-    let parts : drop at keys ≡ key ∷ drop (at + 1) keys = drop-cons keys at key within
-        ∙ ap (λ k. k ∷ drop (suc at) keys) is ∙ ap (λ n. key ∷ drop n keys) next in
+    let parts : drop at keys ≡ key ∷ drop (at + 1) keys = ap (λ l. drop at l) (sym same)
+        ∙ drop-cons list at d within ∙ ap (λ n. key ∷ drop n list) next ∙ ap (λ l. key ∷ drop (at + 1) l) same in
     record {
       done = far.done ++ its.deeds;
       goes = goes_on old now new far.done its.deeds far.goes its.goes;

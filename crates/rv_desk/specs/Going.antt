@@ -6,9 +6,10 @@ use Rattle.rv_text.specs.declared.message.Key.{Key}
 use Rattle.rv_text.specs.declared.message.Message.{Message}
 use Rattle.rv_text.specs.declared.answer.Answer.{Answer}
 use Rattle.rv_text.specs.declared.answer.Answer.TheVariants as answer
-use Rattle.rv_text.specs.declared.answer.Refusal.TheVariants.{NoMemory}
+use Rattle.rv_text.specs.declared.answer.Refusal.TheVariants.{BadText, NoMemory}
 use Rattle.rv_text.specs.Bodies.{Decodes, IsMessageBody, answer_text}
 use Rattle.rv_json.specs.declared.fault.TextFault.{TextFault}
+use Rattle.rv_json.specs.declared.fault.TextFault.TheVariants as fault
 use Rattle.rv_text.specs.Limits.{FitsAnswer, FitsMessage}
 use Rattle.rv_account.specs.declared.entry.Entry.{Entry}
 use Rattle.rv_state.specs.Moves.{Move, StateNextAtUnder, ticked_at}
@@ -30,7 +31,7 @@ use Rattle.rv_desk.specs.Telling.{IsTellable, IsTold, WaitsOn}
 use Rattle.rv_desk.specs.View.{moment_now}
 use Rattle.rv_desk.specs.Fields.{desk_state, desk_terms}
 use Rattle.rv_desk.specs.Deeds.{AnswersNow, AnswersOrWaits, Deed, Does, DoesClose, IsDueWith, WaitsNow}
-use Rattle.rv_desk.specs.Deeds.{Elapsed, bytes_by, bytes_in, entries_of, rests_on, told_in}
+use Rattle.rv_desk.specs.Deeds.{Elapsed, bytes_in, entries_of, rests_on, told_in}
 use Rattle.rv_desk.specs.Order.{IsOwnDeed, IsStride, RunsStrides, TellsClient, TellsKeys, TellsOne, TellsOverdue}
 use Rattle.rv_desk.specs.Order.{IsTurn, deeds_of}
 
@@ -133,6 +134,12 @@ pub record IsMessageAt (d : Desk) (connection : ℕ) (read : Result Message Text
   pub asked : IsAsked d connection body
   pub reads : Decodes Message IsMessageBody body read
 
+-- the text of the answer to a frame of which no message was read
+abbrev pub fault_text : TextFault → List ℕ
+fault_text fault.NoMemory = answer_text (answer.Refused NoMemory)
+fault_text fault.NotJson = answer_text (answer.Refused BadText)
+fault_text fault.NotMessage = answer_text (answer.Refused BadText)
+
 -- that frame was taken: nothing is unread on the connection, and less work is left
 pub record TakesFrame (old : Desk) (connection : ℕ) (new : Desk) : Type 0 where
   pub rest : new ≡ record old { wires = new.wires; hearers = new.hearers }
@@ -224,7 +231,7 @@ pub record Strides (old : Desk) (connection : ℕ) (new : Desk) : Type 0 where
   pub tells : List Deed
   pub stride : IsStride (desk_terms old) (desk_state old) deed tells (desk_state new)
   pub own : IsOwnDeed connection deed
-  pub bytes : bytes_by deed ≡ []
+  pub bytes : bytes_in (deed ∷ tells) ≡ []
   pub goes : Goes old (deed ∷ tells) new
   pub work : work_left new + 2 ≤ work_left old
   pub emptied : unread_at new connection ≡ 0

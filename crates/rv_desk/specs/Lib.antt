@@ -4,6 +4,7 @@ pub mod Telling
 pub mod Deeds
 pub mod Order
 pub mod Rest
+pub mod Runs
 -- What the fields hold: the public contracts cite it as a whole, `IsSound` and `IsSteady`.
 pub mod Fields
 -- What private clauses and proofs cite.

@@ -13,7 +13,7 @@ ghost use Rattle.rv_desk.specs.Deeds.{rests_on};
 ghost use Rattle.rv_desk.specs.Telling.{WaitsOn};
 ghost use Rattle.rv_desk.specs.Fields.{IsSound, IsSteady, desk_state};
 ghost use Rattle.rv_desk.specs.Going.{AnswersIt, HasDue, IsAsked, IsMessageAt, LacksIt, MaySay, SaysIt, SaysText};
-ghost use Rattle.rv_desk.specs.Going.{StepsIt, StillGoes, Strides, WaitsIt};
+ghost use Rattle.rv_desk.specs.Going.{StepsIt, StillGoes, Strides, WaitsIt, fault_text};
 
 use crate::desk::Desk;
 use crate::telling::reply_to;
@@ -43,6 +43,19 @@ fn answer_of(alloc: Global, machine: &Machine, said: Said) -> Result<Answer, NoM
     }
 }
 
+// The body of the answer to a frame of which no message was read.
+#[tactic(auto, unfolding(rv_text::specs::Bodies::refused_text))]
+fn fault_body(fault: TextFault) -> &'static [u8]
+    ensures text { result.now ≡ fault_text fault }
+    ensures length { HasBodyLength result.now }
+{
+    match fault {
+        TextFault::NoMemory => no_memory_body(),
+        TextFault::NotJson => bad_text_body(),
+        TextFault::NotMessage => bad_text_body(),
+    }
+}
+
 // How many entries an answer to a step rests on: all, but for want of memory, which rests on none.
 fn rests_on(answer: &Answer, entries: u64) -> u64
     ensures { result ≡ rests_on answer.now entries }
@@ -64,8 +77,9 @@ impl Desk {
         ensures answers { AnswersIt self.old connection entries body.now self.new }
     {
         self.wires.take_frame(connection);
-        if self.wires.answer(connection, entries, body).is_err() {
-            self.wires.close(connection);
+        match self.wires.answer(connection, entries, body) {
+            Ok(()) => {}
+            Err(_) => self.wires.close(connection),
         }
     }
 
@@ -80,8 +94,9 @@ impl Desk {
     {
         self.wires.take_frame(connection);
         let until = self.latest + self.patience as u64;
-        if self.hearers.add(connection, Hearing { key, until }).is_err() {
-            self.wires.close(connection);
+        match self.hearers.add(connection, Hearing { key, until }) {
+            Ok(()) => {}
+            Err(_) => self.wires.close(connection),
         }
     }
 
@@ -112,7 +127,23 @@ impl Desk {
         }
     }
 
-    // Answers the frame that is due by what was said of its step, or lets its connection wait.
+    // Answers the frame that is due by the answer to its step, or lets its connection wait.
+    fn say_answer(&mut self, connection: ConnectionNumber, said: &Answer)
+        requires sound { IsSound self.old }
+        requires due { HasDue self.old connection }
+        requires may_say { MaySay self.old said.now }
+        ensures sound { IsSound self.new }
+        ensures says { SaysIt self.old connection said.now self.new }
+    {
+        match said {
+            Answer::Waiting { key } => self.wait(connection, *key),
+            Answer::Replied { .. } => self.answer(connection, said),
+            Answer::Welcome { .. } => self.answer(connection, said),
+            Answer::Refused(_) => self.answer(connection, said),
+        }
+    }
+
+    // The same by what was said of the step.
     fn say(&mut self, connection: ConnectionNumber, said: Said)
         requires sound { IsSound self.old }
         requires due { HasDue self.old connection }
@@ -122,8 +153,7 @@ impl Desk {
             → SaysIt self.old connection a self.new }
     {
         match answer_of(self.alloc, &self.machine, said) {
-            Ok(Answer::Waiting { key }) => self.wait(connection, key),
-            Ok(answer) => self.answer(connection, &answer),
+            Ok(said) => self.say_answer(connection, &said),
             Err(_) => self.lack(connection),
         }
     }
@@ -138,10 +168,13 @@ impl Desk {
         ensures still { StillGoes self.old self.new }
     {
         let Heard { entry, said } = self.machine.hear(&self.limits, self.latest, message);
-        if let Some(entry) = entry {
-            self.entries.push_reserved(entry);
+        match entry {
+            Some(entry) => {
+                self.entries.push_reserved(entry);
+                said
+            }
+            None => said,
         }
-        said
     }
 
     // Makes the step of the frame that is due, answers it, and tells all whom it settled.
@@ -151,10 +184,20 @@ impl Desk {
         ensures steady { IsSteady self.new }
         ensures strides { Strides self.old connection self.new }
     {
-        if self.entries.reserve(1).is_err() {
-            self.lack(connection);
-            return;
+        match self.entries.reserve(1) {
+            Ok(()) => self.hear_in_room(connection, message),
+            Err(_) => self.lack(connection),
         }
+    }
+
+    // The same, where there is room for an entry.
+    fn hear_in_room(&mut self, connection: ConnectionNumber, message: Message)
+        requires steady { IsSteady self.old }
+        requires asked { (body : List ℕ) × IsAsked self.old connection body × IsMessageBody body message }
+        requires room { vec_len self.old.entries < vec_capacity self.old.entries }
+        ensures steady { IsSteady self.new }
+        ensures strides { Strides self.old connection self.new }
+    {
         let said = self.step(message);
         self.say(connection, said);
         self.tell_settled();
@@ -165,8 +208,22 @@ impl Desk {
         ensures some { IfSome result (IsMessageAt self.now connection) }
         ensures none { IfNone result (¬ HasDue self.now connection) }
     {
-        let body = self.wires.get(connection)?.next()?;
+        let wire = self.wires.get(connection)?;
+        let body = wire.next()?;
         Some(decode_message(self.alloc, body))
+    }
+
+    // Answers the frame that is due, by what it was read as, and tells all whom that settles.
+    fn take_up(&mut self, connection: ConnectionNumber, read: Result<Message, TextFault>)
+        requires steady { IsSteady self.old }
+        requires message { IsMessageAt self.old connection read }
+        ensures steady { IsSteady self.new }
+        ensures strides { Strides self.old connection self.new }
+    {
+        match read {
+            Ok(message) => self.hear(connection, message),
+            Err(fault) => self.answer_by(connection, 0, fault_body(fault)),
+        }
     }
 
     // Answers the frame that is due on a connection, and tells all whom that settles, if one is due.
@@ -178,11 +235,11 @@ impl Desk {
         ensures none { OnFalse result (¬ HasDue self.new connection) }
     {
         match self.due_message(connection) {
-            None => return false,
-            Some(Ok(message)) => self.hear(connection, message),
-            Some(Err(TextFault::NoMemory)) => self.lack(connection),
-            Some(Err(_)) => self.answer_by(connection, 0, bad_text_body()),
+            None => false,
+            Some(read) => {
+                self.take_up(connection, read);
+                true
+            }
         }
-        true
     }
 }

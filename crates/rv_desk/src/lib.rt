@@ -4,6 +4,7 @@
 
 mod asking;
 mod desk;
+pub mod laws;
 mod telling;
 mod time;
 mod turns;

@@ -131,6 +131,7 @@ impl Desk {
         requires waits { HearersWait (desk_state self.old) }
         ensures sound { IsSound self.new }
         ensures tells { TellsLate self.old self.new }
+        ensures waits { HearersWait (desk_state self.new) }
         ensures in_time { HearersInTime (desk_state self.new) }
     {
         while let Some(connection) = self.overdue() {

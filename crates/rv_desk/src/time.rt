@@ -17,8 +17,9 @@ impl Desk {
     {
         let TickMade { moment, entry } = self.machine.elapse(now.max(self.latest));
         self.latest = moment;
-        if let Some(entry) = entry {
-            self.entries.push_reserved(entry);
+        match entry {
+            Some(entry) => self.entries.push_reserved(entry),
+            None => {}
         }
     }
 

@@ -1,4 +1,12 @@
 //! Events, one at a time.
+ghost use Rattle.std.specs.Prelude.{◌≡◌, ◌⊎◌, IfErr, IfOk, IsErrOf, OnErr};
+ghost use Rattle.rv_desk.specs.View.{begun};
+ghost use Rattle.rv_desk.specs.Fields.{desk_terms};
+ghost use Rattle.rv_hub.specs.declared.events.EventRefusal.{EventRefusal as Refused};
+ghost use Rattle.rv_hub.specs.Events.{EventCannotBe};
+ghost use Rattle.rv_hub.specs.Fields.{IsHub, hub_state};
+ghost use Rattle.rv_hub.specs.Turns.{TakesEvent, TakesPiece};
+
 use crate::events::{EventRefusal, HubEvent};
 use crate::hub::Hub;
 use rv_hearers::ConnectionNumber;
@@ -104,7 +112,19 @@ impl Hub {
 
     /// Takes an event that came at a moment in milliseconds. It gives the number of a connection that was opened,
     /// or how many bytes of a piece were taken, else 0. An event that can't be changes nothing.
-    pub fn handle(&mut self, now: u64, event: HubEvent<'_>) -> Result<usize, EventRefusal> {
+    pub fn handle(&mut self, now: u64, event: HubEvent<'_>) -> Result<usize, EventRefusal>
+        requires { IsHub self.old }
+        ensures hub { IsHub self.new }
+        ensures takes { IfOk result (λ given. TakesEvent self.old.has_journal (desk_terms self.old.desk)
+            (hub_state self.old) now event.entry self.new.desk.entries.items given (hub_state self.new)) }
+        ensures piece { IfOk result (λ given. TakesPiece event.entry given (hub_state self.new)) }
+        ensures same_terms { desk_terms self.new.desk ≡ desk_terms self.old.desk }
+        ensures same_journal { self.new.has_journal ≡ self.old.has_journal }
+        ensures refused { IfErr result (λ why. (why ≡ EventRefusal.NoMemory)
+            ⊎ EventCannotBe (hub_state self.old) event.entry why) }
+        ensures cannot { (why : Refused) → EventCannotBe (hub_state self.old) event.entry why → IsErrOf result why }
+        ensures unchanged { OnErr result (hub_state self.new ≡ begun (hub_state self.old)) }
+    {
         self.desk.begin();
         self.check(&event)?;
         let opened = self.admit(&event)?;

@@ -15,3 +15,6 @@ loop-connection-preserved c = (
 pub returns-clause-tells : goal.returns-clause-tells
 returns-clause-tells c =
     late_all c.args.self.now c.loop-connection.self c.loop-connection.invariant.1 c.in_default.ensures.none
+
+pub returns-clause-waits : goal.returns-clause-waits
+returns-clause-waits c = c.loop-connection.invariant.1.waits
