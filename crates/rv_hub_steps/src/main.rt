@@ -55,11 +55,7 @@ fn main(rt: HostRuntime) -> anyhow::Result<ExitCode> {
 }
 
 // Runs one hub after another. Tells whether each line said something.
-fn run_all<W: Write>(
-    alloc: Global,
-    output: &mut W,
-    input: &[u8],
-) -> anyhow::Result<bool> {
+fn run_all<W: Write>(alloc: Global, output: &mut W, input: &[u8]) -> anyhow::Result<bool> {
     let mut running = None;
     let mut rest = input;
     while let Some((line, after)) = first_line(rest) {

@@ -108,11 +108,7 @@ fn tell_bytes<W: Write>(alloc: Global, output: &mut W, bytes: &[u8]) -> anyhow::
 }
 
 // Prints what is asked of the whole hub.
-fn tell_totals<W: Write>(
-    alloc: Global,
-    output: &mut W,
-    hub: &Hub,
-) -> anyhow::Result<()> {
+fn tell_totals<W: Write>(alloc: Global, output: &mut W, hub: &Hub) -> anyhow::Result<()> {
     let (held, count) = (hub.held(), hub.unheard());
     let line = match hub.next_moment() {
         Some(moment) => format!(in alloc; "= {held} {moment} {count}")?,
@@ -125,11 +121,7 @@ fn tell_totals<W: Write>(
 }
 
 // Prints the keys of the requests that wait for which no connection does, by client.
-fn tell_unheard<W: Write>(
-    alloc: Global,
-    output: &mut W,
-    hub: &Hub,
-) -> anyhow::Result<()> {
+fn tell_unheard<W: Write>(alloc: Global, output: &mut W, hub: &Hub) -> anyhow::Result<()> {
     let mut after = None;
     for _ in 0..hub.machine().clients() {
         let Some((client, session)) = hub.machine().next_client(after) else {
