@@ -54,7 +54,7 @@ impl LineEvent {
 
 /// An event with its moment.
 #[derive(Drop)]
-pub(crate) struct Line {
+pub(crate) struct TimedEvent {
     /// The moment.
     pub(crate) moment: u64,
     /// The event.
@@ -120,7 +120,7 @@ fn read_journal(word: &[u8]) -> Option<bool> {
 }
 
 /// The event that a line says, if it says one.
-pub(crate) fn read_event(alloc: Global, line: &[u8]) -> Result<Option<Line>, NoMemory> {
+pub(crate) fn read_event(alloc: Global, line: &[u8]) -> Result<Option<TimedEvent>, NoMemory> {
     let (moment, words) = first_word(line);
     let (word, rest) = first_word(words);
     let event = if word == b"came".as_slice() {
@@ -132,8 +132,8 @@ pub(crate) fn read_event(alloc: Global, line: &[u8]) -> Result<Option<Line>, NoM
 }
 
 // A moment and an event, if both are there.
-fn line_of(moment: Option<u64>, event: Option<LineEvent>) -> Option<Line> {
-    Some(Line {
+fn line_of(moment: Option<u64>, event: Option<LineEvent>) -> Option<TimedEvent> {
+    Some(TimedEvent {
         moment: moment?,
         event: event?,
     })

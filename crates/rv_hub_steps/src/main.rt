@@ -20,7 +20,7 @@ mod hexes;
 mod lines;
 mod telling;
 
-use lines::{Line, LineEvent, Terms, read_event, read_terms};
+use lines::{LineEvent, Terms, TimedEvent, read_event, read_terms};
 use rv_frame::Source;
 use rv_hub::{EventRefusal, Hub};
 use rv_lines::first_line;
@@ -34,7 +34,7 @@ use telling::{show, tell};
 
 // A hub, and how many numbers its connections have had.
 #[derive(Drop)]
-struct Running {
+struct TestedHub {
     hub: Hub,
     numbers: usize,
 }
@@ -56,10 +56,10 @@ fn main(rt: HostRuntime) -> anyhow::Result<ExitCode> {
 
 // Runs one hub after another. Tells whether each line said something.
 fn run_all<W: Write>(alloc: Global, output: &mut W, input: &[u8]) -> anyhow::Result<bool> {
-    let mut running = None;
+    let mut tested = None;
     let mut rest = input;
     while let Some((line, after)) = first_line(rest) {
-        if !follow(alloc, output, &mut running, line)? {
+        if !follow(alloc, output, &mut tested, line)? {
             return Ok(false);
         }
         rest = after;
@@ -71,21 +71,21 @@ fn run_all<W: Write>(alloc: Global, output: &mut W, input: &[u8]) -> anyhow::Res
 fn follow<W: Write>(
     alloc: Global,
     output: &mut W,
-    running: &mut Option<Running>,
+    tested: &mut Option<TestedHub>,
     line: &[u8],
 ) -> anyhow::Result<bool> {
     if let Some(terms) = read_terms(line) {
-        *running = Some(begin(alloc, terms)?);
+        *tested = Some(begin(alloc, terms)?);
         return Ok(true);
     }
-    match running {
-        Some(running) => answer(alloc, output, running, line),
+    match tested {
+        Some(tested) => answer(alloc, output, tested, line),
         None => Ok(false),
     }
 }
 
 // Begins a hub.
-fn begin(alloc: Global, terms: Terms) -> Result<Running, NoMemory> {
+fn begin(alloc: Global, terms: Terms) -> Result<TestedHub, NoMemory> {
     let machine = Machine::open(alloc, EPOCH, 0)?;
     let Terms {
         limits,
@@ -93,32 +93,32 @@ fn begin(alloc: Global, terms: Terms) -> Result<Running, NoMemory> {
         has_journal,
     } = terms;
     let hub = Hub::new(alloc, machine, limits, patience, has_journal)?;
-    Ok(Running { hub, numbers: 0 })
+    Ok(TestedHub { hub, numbers: 0 })
 }
 
 // Does what a line says of the hub that there is.
 fn answer<W: Write>(
     alloc: Global,
     output: &mut W,
-    running: &mut Running,
+    tested: &mut TestedHub,
     line: &[u8],
 ) -> anyhow::Result<bool> {
     if line == b"show".as_slice() {
-        show(alloc, output, &running.hub, running.numbers)?;
+        show(alloc, output, &tested.hub, tested.numbers)?;
         return Ok(true);
     }
     match read_event(alloc, line)? {
-        Some(Line { moment, event }) => {
-            let came = running.hub.handle(moment, event.of_hub());
-            running.count(&event, &came);
-            tell(alloc, output, &running.hub, came)?;
+        Some(TimedEvent { moment, event }) => {
+            let came = tested.hub.handle(moment, event.of_hub());
+            tested.count(&event, &came);
+            tell(alloc, output, &tested.hub, came)?;
             Ok(true)
         }
         None => Ok(false),
     }
 }
 
-impl Running {
+impl TestedHub {
     // Counts the number of a connection that was opened.
     fn count(&mut self, event: &LineEvent, came: &Result<usize, EventRefusal>) {
         if let (LineEvent::Opened, Ok(connection)) = (event, came) {
