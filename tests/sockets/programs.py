@@ -6,6 +6,7 @@ import random
 import re
 import socket
 import subprocess
+import tempfile
 import threading
 import time
 
@@ -124,17 +125,25 @@ class Server(Process):
         self.made, self.lock = 0, threading.Lock()
         for _ in range(TRIES):
             self.port = free_port()
-            super().__init__([program, "serve", "--listen", f"127.0.0.1:{self.port}", "--epoch", str(epoch),
-                              "--workers", str(workers), "--connections", str(connections)], **more)
+            super().__init__(self.words_of(workers), **more)
             if not self.taken():
                 return
             self.kill()
         raise Wrong("no port is free")
 
+    def words_of(self, workers):
+        """The words that start it at its port."""
+        return [self.program, "serve", "--listen", f"127.0.0.1:{self.port}", "--epoch", str(self.epoch),
+                "--workers", str(workers), "--connections", str(self.connections)]
+
     def taken(self):
         """Whether somebody took the port before the server did: it has not begun to listen, and soon ends."""
         until("the server listens, or ends", lambda: listens_at(self.process.pid, self.port) or not self.runs())
-        return not self.runs() and self.status() == 1 and self.said == b"address fault\n"
+        return not self.runs() and self.status() == 1 and self.is_refused()
+
+    def is_refused(self):
+        """Whether it says that it can't listen."""
+        return self.said == b"address fault\n"
 
     def connect(self, receive=None):
         """A connection to the server; `receive` is how many bytes the system is to keep for the client, at least."""
@@ -217,6 +226,57 @@ class Server(Process):
         ran = subprocess.run([self.program, "audit"], input=self.printed, capture_output=True, timeout=4 * PATIENCE)
         told = (ran.stdout, ran.stderr, ran.returncode)
         demand(told == (b"legal\n", b"", 0), f"rv audit says {told} of the account")
+
+
+class Host(Server):
+    """A server that stays until it is killed, with its account in a file. It has no workers, and no end of its own."""
+
+    def __init__(self, program, workers, connections, epoch=1, **more):
+        self.folder = tempfile.TemporaryDirectory()
+        super().__init__(program, workers, connections, epoch, **more)
+
+    def account_path(self):
+        """The file of its account: one for each port, since it takes none that is there."""
+        return pathlib.Path(self.folder.name) / f"account-{self.port}"
+
+    def words_of(self, workers):
+        return [*self.program.split(), "host", "--listen", f"127.0.0.1:{self.port}", "--epoch", str(self.epoch),
+                "--account", str(self.account_path()), "--quiet"]
+
+    def is_refused(self):
+        return b"address in use" in self.said
+
+    def __exit__(self, *_):
+        self.kill()
+        self.folder.cleanup()
+
+    def use_up(self):
+        """Nothing is left to use up: it runs, and serves one more."""
+        with self.connect() as peer:
+            peer.end()
+            demand(not peer.more(), f"a connection that asked nothing was answered {peer.got!r}")
+        demand(self.runs(), f"host ended with {self.said!r}")
+
+    def ended(self, patience=PATIENCE):
+        """Its account once it is killed: all that was told stands there, since it is written before."""
+        demand(self.runs(), f"host ended with {self.said!r}")
+        self.kill()
+        demand(self.said == b"", f"host said {self.said!r}")
+        self.printed = self.account_path().read_bytes()
+        self.printed = self.printed[:self.printed.rfind(b"\n") + 1]
+        account = read_account(self.printed)
+        demand(account.epoch == self.epoch and account.opened == 0, "the account's first line is another")
+        return account
+
+
+# The servers by their commands; a test that both are for asks `server` for one.
+COMMANDS = {"serve": Server, "host": Host}
+COMMAND = os.environ.get("RV_COMMAND", "serve")
+
+
+def server(program, workers, connections, epoch=1, **more):
+    """A server of the command that is tested."""
+    return COMMANDS[COMMAND](program, workers, connections, epoch, **more)
 
 
 class Caller(Process):

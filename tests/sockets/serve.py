@@ -17,7 +17,7 @@ import time
 
 ROOT = pathlib.Path(__file__).resolve().parents[2]
 sys.dont_write_bytecode, sys.path[0] = True, str(ROOT)
-from tests.sockets import calls, crowds, hostile, ledgers, pieces, plain, times  # noqa: E402
+from tests.sockets import calls, crowds, hostile, ledgers, pieces, plain, programs, times  # noqa: E402
 from tests.sockets.cases import Count, came_of_double  # noqa: E402
 
 # The cases that are as they are, and those that are random.
@@ -77,7 +77,8 @@ def name_of(case):
 def run(program, asked, count):
     """Runs all cases once, and the random ones again for as long as is asked."""
     ends = time.monotonic() + asked.seconds
-    for case in ONCE:
+    programs.COMMAND = asked.command
+    for case in ONCE if asked.command == "serve" else []:
         count.run(name_of(case), case, program)
     seed = asked.seed
     while True:
@@ -99,6 +100,8 @@ def main():
     parser.add_argument("program", nargs="?", default="crates/rv_app/out/rv_app")
     parser.add_argument("--seconds", type=float, default=0, help="how long the random cases are run again; default: once")
     parser.add_argument("--seed", type=int, default=random.randrange(10**6), help="default: any")
+    parser.add_argument("--command", choices=programs.COMMANDS, default="serve",
+                        help="which server is tested; all but `serve` by the random cases alone")
     parser.add_argument("--only", default="", help="only the cases with these words in their name")
     parser.add_argument("--verbose", action="store_true", help="tell also what passed, with its seconds")
     parser.add_argument("--selftest", action="store_true", help="test the cases themselves, on servers that are wrong")
