@@ -6,7 +6,8 @@ import struct
 import tempfile
 
 from tests.faults import preload
-from tests.sockets.programs import Server
+from tests.sockets import programs
+from tests.sockets.programs import Host, Server
 from tests.sockets.wire import Peer
 
 # What happens by odds, and the other numbers, in the order of the page; then how often each of the odds happened, and how
@@ -97,3 +98,23 @@ class HostileServer(Server):
         with contextlib.suppress(ConnectionError):
             # The accept that waits already is not refused.
             self.connect().close()
+
+
+class HostileHost(Host):
+    """The same of a server that stays."""
+
+    peer = LossyPeer
+
+    def __init__(self, program, system, workers, connections=CONNECTIONS, epoch=1, **more):
+        self.system = system
+        super().__init__(program, workers, connections, epoch, env=system.env, **more)
+
+    def no_more(self):
+        """All becomes calm, and it serves on."""
+        self.system.be()
+        self.use_up()
+
+
+def hostile_server(program, system, workers, **more):
+    """A server of the command that is tested, in a system of its own."""
+    return {"serve": HostileServer, "host": HostileHost}[programs.COMMAND](program, system, workers, **more)

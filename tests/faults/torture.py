@@ -20,6 +20,7 @@ ROOT = pathlib.Path(__file__).resolve().parents[2]
 sys.dont_write_bytecode, sys.path[0] = True, str(ROOT)
 from tests.faults import callers, crowds, exchanges, limits, memory, mutants, silence, turns  # noqa: E402
 from tests.faults.system import systems  # noqa: E402
+from tests.sockets import programs  # noqa: E402
 from tests.sockets.cases import Count, came_of, came_of_double  # noqa: E402
 
 # The cases that are as they are; those of them that mostly wait; those that are random, and those that have so many spoilt
@@ -57,14 +58,16 @@ def name_of(case):
 
 def run(program, asked, count):
     """Runs all cases once, and the random ones again for as long as is asked."""
-    ends, seed = time.monotonic() + asked.seconds, asked.seed
-    run_waiting(program, count)
-    for case in ONCE:
+    ends, seed, programs.COMMAND = time.monotonic() + asked.seconds, asked.seed, asked.command
+    is_serve = asked.command == "serve"
+    if is_serve:
+        run_waiting(program, count)
+    for case in ONCE if is_serve else []:
         count.run(name_of(case), case, program)
     while True:
-        for case in RANDOM:
+        for case in RANDOM if is_serve else crowds.CASES:
             count.run(f"{name_of(case)}, seed {seed}", case, program, seed)
-        for case in SPOILT:
+        for case in SPOILT if is_serve else []:
             count.run(f"{name_of(case)}, seed {seed}", case, program, seed, asked.mutants)
         seed += 1
         if time.monotonic() >= ends:
@@ -99,6 +102,8 @@ def main():
     parser.add_argument("--seed", type=int, default=random.randrange(10**6), help="default: any")
     parser.add_argument("--mutants", type=int, default=10_000, help="how many of each kind a round has")
     parser.add_argument("--only", default="", help="only the cases with these words in their name")
+    parser.add_argument("--command", choices=programs.COMMANDS, default="serve",
+                        help="which server is tested; all but `serve` by crowds alone")
     parser.add_argument("--selftest", action="store_true", help="test the cases themselves, on servers that are wrong")
     parser.add_argument("--verbose", action="store_true", help="tell also what passed, with its seconds")
     asked = parser.parse_args()

@@ -1,6 +1,7 @@
 //! How often something came, which is told once a minute.
 ghost use Rattle.std.specs.Prelude.{◌≡◌, ◌+◌, ◌<◌, ℕ, IfNone, IfSome, None, min};
-ghost use Rattle.rv_log.specs.Tallies.{IsToBeTold, greatest_count, nothing_counted, told_at};
+ghost use Rattle.std.specs.Bool.{OnFalse, OnTrue};
+ghost use Rattle.rv_log.specs.Tallies.{IsToBeTold, IsUntold, greatest_count, nothing_counted, told_at};
 
 // It is told once in so many milliseconds.
 const PAUSE: u64 = 60_000;
@@ -31,7 +32,10 @@ impl Tally {
     }
 
     // Whether a minute is over since it was told.
-    fn may_tell(&self, now: u64) -> bool {
+    fn may_tell(&self, now: u64) -> bool
+        ensures yes { OnTrue result (IsUntold self.now.told now) }
+        ensures no { OnFalse result (¬ IsUntold self.now.told now) }
+    {
         match self.told {
             Some(told) => now.saturating_sub(told) >= PAUSE,
             None => true,
@@ -45,7 +49,10 @@ impl Tally {
             × (self.new ≡ told_at now)) }
         ensures none { IfNone result ((¬ IsToBeTold self.old now) × (self.new ≡ self.old)) }
     {
-        if self.count == 0 || !self.may_tell(now) {
+        if self.count == 0 {
+            return None;
+        }
+        if !self.may_tell(now) {
             return None;
         }
         let count = self.count;
