@@ -1,7 +1,8 @@
 """A hub: thousands of connections over one book, without threads, clocks or sockets.
 
-Each event first lets time go on. Then the frames of its connection are answered one by one, and behind each step whoever
-it settled is told before the next step; then those go on that were told, in that order.
+Each event does its own deed, by which no frame is answered, and lets time go on. Then the frames of its connection are answered
+one by one, and behind each step whoever it settled is told before the next step; then those go on that were told, in that
+order.
 """
 from collections import deque
 from collections.abc import Iterable
@@ -59,8 +60,9 @@ class Hub:
             return refusal
         self.entries, self.before = [], {}
         self.piece, self.piece_of = b"", None
+        result = self.deed(event)
         self.let_time_pass(moment)
-        result = self.act(event)
+        self.act(event)
         while self.freed:
             self.turn(self.freed.popleft())
         if isinstance(event, Came):
@@ -125,26 +127,28 @@ class Hub:
             return Refusal.FALLS
         return Refusal.NOT_MADE if entries > self.state.length else None
 
-    def act(self, event: Event) -> int:
-        """What the event itself does, and its connection until it stops."""
+    def deed(self, event: Event) -> int:
+        """What the event itself does, before time goes on: no frame is answered by it."""
         match event:
             case Opened():
                 return self.open()
             case Came(number, piece):
                 self.piece, self.piece_of = piece, number
-                self.turn(number)
             case Ended(number):
                 self.touch(number).ended = True
-                self.turn(number)
             case Gone(number):
                 self.close(number)
             case Took(number, count):
                 self.touch(number).took(count)
-                self.turn(number)
             case Written(entries):
                 self.touch_all(self.connections)
                 self.told_written = entries
         return 0
+
+    def act(self, event: Event) -> None:
+        """The event's connection goes on until it stops."""
+        if isinstance(event, Came | Ended | Took):
+            self.turn(event.connection)
 
     def open(self) -> int:
         """Opens a connection, of the number that was let go last, or the next that there never was."""

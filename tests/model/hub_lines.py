@@ -1,10 +1,10 @@
 """The lines of a hub's driver: of events, and of what came of each.
 
-A line `hub ENTRIES CLIENTS OPEN|none PATIENCE journal|none` begins a hub, over a book of epoch 1 without entries. Behind
-it stands an event a line, its moment first: `AT opened`, `AT came N HEX` (`-` for no bytes), `AT ended N`, `AT gone N`,
-`AT took N COUNT`, `AT written COUNT`, `AT passed`; and `show`, which is no event.
+The driver's words `ENTRIES CLIENTS OPEN|none PATIENCE journal|none` say how its hub begins, over a book of epoch 1 without
+entries. An event is a line, its moment first: `AT opened`, `AT came N HEX` (`-` for no bytes), `AT ended N`, `AT gone N`,
+`AT took N COUNT`, `AT written COUNT`, `AT passed`; `show COUNT`, which is no event, looks at the connections of so many numbers.
 
-Each line but a hub's is told by lines. The first is `ok RESULT`, or `refused WHY`, or `shown`. Then `+ ENTRY` for each entry,
+Each line is told by lines. The first is `ok RESULT`, or `refused WHY`, or `shown`. Then `+ ENTRY` for each entry,
 as an account line has it; a line for each connection that changed (or, of `show`, that is open): `N open WAITS UNREAD HELD
 OFFERS BYTES`, with 0 or 1 for whether it waits and may offer, and with the bytes to hand out, in hexadecimal digits, or where
 they are over 2,000 as `COUNT:HIGH.LOW` by the two halves of their Adler-32 sum; or `N closed`. At last
@@ -20,16 +20,17 @@ from tests.model.hub_connection import View
 from tests.model.hub_events import Came, Ended, Event, Gone, Opened, Passed, Refusal, Terms, Took, Written
 from tests.model.lines import entry_line
 
-SHOW = b"show"
+# No connection has a greater number.
+SHOW = b"show 1000"
 MOST_SHOWN = 2_000
 
 
-def hub_line(terms: Terms) -> bytes:
-    """The line that begins a hub."""
+def hub_words(terms: Terms) -> list[str]:
+    """The words with which a hub begins."""
     limits = terms.limits
     bound = "none" if limits.open_places is None else limits.open_places
     journal = "journal" if terms.has_journal else "none"
-    return f"hub {limits.entries} {limits.clients} {bound} {terms.patience} {journal}".encode()
+    return [str(word) for word in (limits.entries, limits.clients, bound, terms.patience, journal)]
 
 
 def event_line(moment: int, event: Event) -> bytes:

@@ -39,6 +39,20 @@ GROWTHS_ROW = TWO + f"""
     @20 0 ended =>
     @20 1 gone =>
     """
+# Whoever waits ends, takes and goes just as the time of its request is over.
+LATE_ROW = THREE + """
+    0 says hello 1/1; 1#1 take 3 20; 1#2 count 3 =>
+    1 says hello 2/1; 2#1 take 4 40 =>
+    2 says hello 3/1; 3#1 take 5 60 =>
+    written 6 =>
+    @20 0 ended =>
+    @40 1 takes =>
+    1 says 2#2 take 4 20 =>
+    @60 2 gone =>
+    opened =>
+    @80 2 says 3#1 take 5 60; 3#2 take 5 20 =>
+    @100 opened =>
+    """
 
 # Name, terms, lines.
 ROWS = [
@@ -143,8 +157,14 @@ ROWS = [
         0 takes 1 => 0: 1#110 peeked {LONG}
         """),
 ]
-# Those of few messages, and the transfer.
-SHORT_ROWS = [*ROWS[:-1], ("a transfer and all beside it", JOURNAL, GROWTHS_ROW)]
+# Those in which each growth is refused in turn.
+GROWTHS_ROWS = [
+    ("a transfer and all beside it", JOURNAL, GROWTHS_ROW),
+    ("whoever's time is over ends, takes or goes", JOURNAL, LATE_ROW),
+    ("the same without a journal", TEN_SECONDS, LATE_ROW),
+]
+# Those of few messages, and these.
+SHORT_ROWS = [*ROWS[:-1], *GROWTHS_ROWS]
 
 
 @dataclass(frozen=True)

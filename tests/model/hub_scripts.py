@@ -8,7 +8,7 @@ from tests.model.account import MAX_MOMENT
 from tests.model.bounded import SMALL
 from tests.model.hub import Hub, Outcome
 from tests.model.hub_events import Came, Ended, Event, Gone, Opened, Passed, Refusal, Terms, Took, Written
-from tests.model.hub_lines import SHOW, Told, event_line, hub_line, shown, told
+from tests.model.hub_lines import SHOW, Told, event_line, shown, told
 from tests.model.hub_talk import LONG_ITEM, MANY_PEEKS, Talk
 from tests.model.limits import BOOK, Limits
 from tests.model.scripts import PACES
@@ -33,10 +33,18 @@ class Peer:
 
 @dataclass(frozen=True)
 class Line:
-    """A line for the driver, and what it has to tell of it; of a hub's line nothing."""
+    """A line for the driver, and what it has to tell of it."""
 
     line: bytes
-    told: Told | None
+    told: Told
+
+
+@dataclass(frozen=True)
+class Script:
+    """How a hub begins, and its lines."""
+
+    terms: Terms
+    lines: list[Line]
 
 
 class HubScript:
@@ -228,8 +236,8 @@ class HubScript:
         return self.chance.choice(numbers) if numbers else None
 
 
-def make_hub_script(chance: random.Random, count: int) -> list[Line]:
-    """The line of a hub, and so many lines of events; the last shows all."""
+def make_hub_script(chance: random.Random, count: int) -> Script:
+    """A hub's script of so many lines of events, of which the last shows all."""
     script = HubScript(chance)
-    lines = [Line(hub_line(script.hub.terms), None), *(script.line() for _ in range(count))]
-    return [*lines, Line(SHOW, shown(script.hub))]
+    lines = [script.line() for _ in range(count)]
+    return Script(script.hub.terms, [*lines, Line(SHOW, shown(script.hub))])

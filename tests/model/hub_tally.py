@@ -3,6 +3,7 @@ from collections import Counter
 
 from tests.model.hub_connection import MOST_HELD
 from tests.model.hub_events import Refusal
+from tests.model.hub_lines import SHOW
 from tests.model.hub_scripts import Line
 
 KINDS = ["opened", "came", "ended", "gone", "took", "written", "passed", "show"]
@@ -21,12 +22,11 @@ class Tally:
         self.events = 0
         self.met: Counter[str] = Counter()
 
-    def add(self, script: list[Line]) -> None:
-        """One script more."""
-        for line in script[1:]:
+    def add(self, lines: list[Line]) -> None:
+        """The lines of one script more."""
+        for line in lines:
             self.events += 1
-            words = line.line.split()
-            self.met[words[-1 if len(words) == 1 else 1].decode()] += 1
+            self.met["show" if line.line == SHOW else line.line.split()[1].decode()] += 1
             self.add_told(line)
 
     def add_told(self, line: Line) -> None:

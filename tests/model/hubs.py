@@ -17,17 +17,17 @@ ROOT = pathlib.Path(__file__).resolve().parents[2]
 sys.dont_write_bytecode, sys.path[0] = True, str(ROOT)
 from tests.model.hub_lacking import lacking_fault  # noqa: E402
 from tests.model.hub_laws import hub_fault  # noqa: E402
-from tests.model.hub_lines import blocks_of  # noqa: E402
+from tests.model.hub_lines import blocks_of, hub_words  # noqa: E402
 from tests.model.hub_rows import SHORT_ROWS, events_of, hub_row_faults  # noqa: E402
-from tests.model.hub_scripts import Line, make_hub_script  # noqa: E402
+from tests.model.hub_scripts import Script, make_hub_script  # noqa: E402
 from tests.model.hub_tally import Tally  # noqa: E402
 from tests.model.wrong_hubs import wrong_hub_faults  # noqa: E402
 
 PROGRAM = "crates/rv_hub_steps/out/rv_hub_steps"
 # A run of so many events has to meet all that is counted.
 FULL_RUN = 20_000
-# How many scripts the program is given at once, and how many events a script has at most.
-SCRIPTS, EVENTS = 20, 120
+# How many events a script has at most.
+EVENTS = 120
 
 
 def selftest() -> bool:
@@ -43,20 +43,19 @@ def selftest() -> bool:
     return failed == 0
 
 
-def told_by(program: str, scripts: list[list[Line]]) -> Iterator[list[bytes]]:
+def told_by(program: str, script: Script) -> Iterator[list[bytes]]:
     """What the program tells of each line, in lines."""
-    text = b"".join(line.line + b"\n" for script in scripts for line in script)
-    ran = subprocess.run([program], input=text, capture_output=True)
+    text = b"".join(line.line + b"\n" for line in script.lines)
+    ran = subprocess.run([program, *hub_words(script.terms)], input=text, capture_output=True)
     if ran.returncode or ran.stderr:
         print(f"{program} ended with status {ran.returncode} and said {ran.stderr!r}")
     return blocks_of(ran.stdout.splitlines())
 
 
-def is_same(script: list[Line], told: Iterator[list[bytes]], name: str) -> bool:
+def is_same(program: str, script: Script, name: str) -> bool:
     """Whether the program tells of each line of a script what it has to; the first difference is shown."""
-    for number, line in enumerate(script, 1):
-        if line.told is None:
-            continue
+    told = told_by(program, script)
+    for number, line in enumerate(script.lines, 1):
         got = next(told, [])
         if not line.told.is_told_by(got):
             print(f"FAILED: {name}, line {number}: {show(line.line)}")
@@ -74,18 +73,15 @@ def show(text: bytes) -> str:
 
 def compare(program: str, seed: int, count: int) -> bool:
     """Compares so many events; ends at the first difference."""
-    tally, first = Tally(), 0
+    tally, scripts = Tally(), 0
     while tally.events < count:
-        numbers = range(first, first + SCRIPTS)
-        chances = [random.Random(f"{seed} {number}") for number in numbers]
-        scripts = [make_hub_script(chance, chance.randint(10, EVENTS)) for chance in chances]
-        told = told_by(program, scripts)
-        for number, script in zip(numbers, scripts):
-            if not is_same(script, told, f"seed {seed}, script {number}"):
-                return False
-            tally.add(script)
-        first += SCRIPTS
-    print(f"seed {seed}: {first} hubs, {tally.told()}: each as the model has it")
+        chance = random.Random(f"{seed} {scripts}")
+        script = make_hub_script(chance, chance.randint(10, EVENTS))
+        if not is_same(program, script, f"seed {seed}, script {scripts}"):
+            return False
+        tally.add(script.lines)
+        scripts += 1
+    print(f"seed {seed}: {scripts} hubs, {tally.told()}: each as the model has it")
     lacks = tally.lacking() if count >= FULL_RUN else []
     if lacks:
         print(f"FAILED: seed {seed}: there was none of {', '.join(lacks)}")

@@ -168,10 +168,9 @@ class KeepsWaits(KeepsAnswers):
 class LosesPieces(Hub):
     """What is left of a piece is lost where its connection goes on later in the same event."""
 
-    def act(self, event: Event) -> int:
-        result = super().act(event)
+    def act(self, event: Event) -> None:
+        super().act(event)
         self.piece_of = None
-        return result
 
 
 class HalfWaitingConnection(Connection):
@@ -231,10 +230,10 @@ class GoesByNumber(Hub):
 class FreedFirst(Hub):
     """Those whom time freed go on before the event's connection."""
 
-    def act(self, event: Event) -> int:
+    def act(self, event: Event) -> None:
         while self.freed:
             self.turn(self.freed.popleft())
-        return super().act(event)
+        super().act(event)
 
 
 class FreedAtOnce(Hub):
@@ -376,10 +375,9 @@ class TimeBehind(Hub):
     def let_time_pass(self, moment: int) -> None:
         pass
 
-    def act(self, event: Event) -> int:
-        result = super().act(event)
+    def act(self, event: Event) -> None:
+        super().act(event)
         super().let_time_pass(self.handed)
-        return result
 
 
 class TakesOfAll(Hub):
