@@ -1,6 +1,7 @@
 -- The next moment at which time has to go on, and who has waited as long as it may.
 use Rattle.std.proofs.Common.{inl, inr, ◌≡◌, ◌<◌, ◌≤◌, ◌⊎◌, [], ℕ, Bool, true, false, Some, IfSome, refl, sym}
-use Rattle.std.proofs.Common.{subst, arith}
+use Rattle.std.proofs.Common.{subst, arith, nat_le}
+use Rattle.std.proofs.lemmas.Bool.Decides.{nat_tests}
 use Rattle.std.specs.Bool.{then_some}
 use Rattle.std.specs.Prelude.{min}
 use Rattle.std.proofs.lemmas.Bool.{cases_lt}
@@ -62,6 +63,7 @@ next_overdue s until connection next late = record {
 }
 
 pub late_found : (s : DeskState) (until connection : ℕ) (late : Bool) → IsNextUntil s.hears until connection
-    → (late ≡ true → until ≤ s.now) → IfSome (then_some late connection) (IsNextOverdue s)
-late_found s until connection true next is = next_overdue s until connection next (is refl)
+    → nat_le until s.now ≡ late → IfSome (then_some late connection) (IsNextOverdue s)
+late_found s until connection true next is =
+    next_overdue s until connection next (grind (arith, nat_tests))
 late_found s until connection false next is = tt

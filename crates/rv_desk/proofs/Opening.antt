@@ -1,5 +1,6 @@
 -- A connection is opened, ended, let go or closed, and entries are written: the desk stays as it has to be.
-use Rattle.std.proofs.Common.{inl, inr, ◌≡◌, ◌≢◌, ◌+◌, ◌≤◌, ◌∙◌, ℕ, List, None, Option, Some, refl, sym, ap}
+use Rattle.std.proofs.Common.{inl, inr, ◌≡◌, ◌≢◌, ◌+◌, ◌<◌, ◌≤◌, ◌∙◌, ℕ, List, None, Option, Some, refl, sym}
+use Rattle.std.proofs.Common.{ap}
 use Rattle.std.proofs.Common.{subst, arith, length, true, false, Ok, Err, Result, IfOk, OnErr}
 use Rattle.std.specs.Global.{Vec}
 use Rattle.std.specs.Prelude.{IsSome, IsSomeAnd, vec_capacity}
