@@ -1,17 +1,12 @@
 -- The frame that is due is taken and answered, or its connection closed.
-use Rattle.std.proofs.Common.{inl, inr, ◌≡◌, ◌≢◌, ◌+◌, ◌<◌, ◌≤◌, ◌∙◌, ◌++◌, ◌∷◌, ◌⊎◌, ℕ, List, [], None}
+use Rattle.std.proofs.Common.{inl, inr, ◌≡◌, ◌+◌, ◌≤◌, ◌∙◌, ℕ, List, None}
 use Rattle.std.proofs.Common.{Option, Some, refl, sym, ap, subst, arith}
-use Rattle.std.proofs.Common.{Bool, false, length, true, cond}
-use Rattle.std.specs.Prelude.{Contains, IsSome, ◌↔◌, is_some}
+use Rattle.std.proofs.Common.{length}
+use Rattle.std.specs.Prelude.{IsSome}
 use Rattle.std.proofs.lemmas.Bool.{cases_eq, false≢true}
 use Rattle.std.proofs.lemmas.List.{length-append}
-use Rattle.std.proofs.lemmas.Option.{none-some}
 use Rattle.rv_text.specs.declared.message.Key.{Key}
-use Rattle.rv_text.specs.declared.answer.Answer.{Answer}
-use Rattle.rv_text.specs.declared.answer.Answer.TheVariants as answer
-use Rattle.rv_text.specs.declared.answer.Refusal.TheVariants.{NoMemory}
-use Rattle.rv_text.specs.Bodies.{answer_text}
-use Rattle.rv_frame.specs.Cut.{frame_bytes, length_bytes}
+use Rattle.rv_frame.specs.Cut.{length_bytes}
 use Rattle.rv_machine.specs.Machines.{state_in}
 use Rattle.rv_connection.specs.Traffic.{IsDue, Traffic}
 use Rattle.rv_connection.specs.Steps.{AnswersBy, taken}
@@ -21,18 +16,16 @@ use Rattle.rv_hearers.specs.declared.hearers.Hearers.{Hearers}
 use Rattle.rv_hearers.specs.declared.tables.Hearing.{Hearing}
 use Rattle.rv_hearers.specs.Hearing.{SetsHearing, WhoHears}
 use Rattle.rv_hearers.specs.Hearers.{hearers_count, hearers_of}
-use Rattle.rv_wires.specs.Connections.{ChangesWire, HasWire, SetsWire, WiresState}
+use Rattle.rv_wires.specs.Connections.{ChangesWire, SetsWire, WiresState}
 use Rattle.rv_wires.specs.Wires.{tally_in, wires_in}
 use Rattle.rv_wires.specs.declared.wires.Wires.{Wires}
 use Rattle.rv_desk.specs.declared.desk.HubDesk.{HubDesk}
-use Rattle.rv_desk.specs.View.{ChangesBytes, DeskState}
 use Rattle.rv_desk.specs.Telling.{IsTellable}
-use Rattle.rv_desk.specs.Deeds.{AnswersNow, AnswersOrWaits, DoesClose, IsDueWith, WaitsNow, rests_on}
-use Rattle.rv_desk.specs.Rest.{HearersOwe, OwersHear}
-use Rattle.rv_desk.specs.Fields.{IsDeskSound, desk_state, desk_terms}
-use Rattle.rv_desk.specs.Going.{AnswersIt, HasDue, IsFrameDue, LacksIt, NotesOne, SaysIt, SaysText}
-use Rattle.rv_desk.specs.Going.{TakesDueFrame, WaitsIt}
-use Rattle.rv_desk.specs.Going.{unread_at, unread_of, unread_total, work_left}
+use Rattle.rv_desk.specs.Deeds.{DoesClose}
+use Rattle.rv_desk.specs.Fields.{IsDeskSound, desk_state}
+use Rattle.rv_desk.specs.Going.{AnswersIt, HasDue, NotesOne}
+use Rattle.rv_desk.specs.Going.{WaitsIt}
+use Rattle.rv_desk.specs.Going.{unread_at, unread_of, unread_total}
 use Rattle.rv_desk.proofs.Noting.{closed_unread, lists_again, notes_behind, same_unread}
 use Rattle.rv_desk.proofs.Owing.{Agree, hears_kept, owes_kept}
 use Rattle.rv_desk.proofs.ToldOne.{not_open, not_owing, owing_waits}

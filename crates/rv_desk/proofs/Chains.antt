@@ -1,5 +1,5 @@
 -- Deeds one after another.
-use Rattle.std.proofs.Common.{◌≡◌, List, [], ◌∷◌, ◌++◌, subst}
+use Rattle.std.proofs.Common.{List, [], ◌∷◌, ◌++◌, subst}
 use Rattle.rv_desk.specs.View.{DeskState, DeskTerms}
 use Rattle.rv_desk.specs.Deeds.{Deed, DoesAll}
 use Rattle.rv_desk.specs.Order.{RunsStrides}

@@ -1,14 +1,13 @@
 -- Behind a telling nobody waits any longer who was to be told, and nobody begins to.
-use Rattle.std.proofs.Common.{◌≡◌, ◌≢◌, ◌<◌, ◌∙◌, ℕ, zero, suc, List, [], ◌∷◌, ◌++◌, None, Option, Some, refl}
+use Rattle.std.proofs.Common.{◌≡◌, ◌∙◌, ℕ, zero, suc, List, [], ◌∷◌, Some}
 use Rattle.std.proofs.Common.{sym, ap, subst, arith}
-use Rattle.std.proofs.Common.{length}
 use Rattle.std.specs.Prelude.{Contains, slice_get}
 use Rattle.std.proofs.lemmas.Option.{none-some}
 use Rattle.rv_text.specs.declared.message.Key.{Key}
 use Rattle.rv_hearers.specs.declared.tables.Hearing.{Hearing}
 use Rattle.rv_hearers.specs.Hearing.{HearsOf, WhoHears}
 use Rattle.rv_desk.specs.View.{DeskState, DeskTerms}
-use Rattle.rv_desk.specs.Deeds.{Deed, Does, DoesAll}
+use Rattle.rv_desk.specs.Deeds.{Deed, DoesAll}
 use Rattle.rv_desk.specs.Order.{TellsClient, TellsEach, TellsKeys}
 use Rattle.rv_desk.proofs.Rows.{is_other}
 use Rattle.rv_desk.proofs.ToldOne.{fewer_hear}

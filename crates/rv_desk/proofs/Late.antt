@@ -1,28 +1,26 @@
 -- Who has waited as long as it may: the first of them before the others.
-use Rattle.std.proofs.Common.{inl, inr, ◌≡◌, ◌≢◌, ◌+◌, ◌<◌, ◌≤◌, ◌∙◌, ◌++◌, ◌∷◌, ◌⊎◌, ℕ, List, [], None}
-use Rattle.std.proofs.Common.{Option, Some, refl, sym, ap, subst, arith}
-use Rattle.std.proofs.Common.{append_assoc, length}
-use Rattle.std.specs.Prelude.{All, AllPairs, Contains, slice_index_or}
+use Rattle.std.proofs.Common.{inl, inr, ◌≡◌, ◌<◌, ◌≤◌, ◌∙◌, ◌++◌, ◌∷◌, ◌⊎◌, ℕ, List, [], None}
+use Rattle.std.proofs.Common.{Some, refl, sym, ap, subst, arith}
+use Rattle.std.proofs.Common.{append_assoc}
+use Rattle.std.specs.Prelude.{slice_index_or}
 use Rattle.std.proofs.lemmas.Bool.{cases_eq}
 use Rattle.std.proofs.lemmas.List.{append-nil}
 use Rattle.std.proofs.lemmas.List.Elements.{All-cons, All-nil}
 use Rattle.std.proofs.lemmas.List.Kept.{AllPairs-cons}
-use Rattle.std.proofs.lemmas.Option.{none-some}
 use Rattle.rv_text.specs.declared.message.Key.{Key}
 use Rattle.rv_text.specs.declared.answer.Answer.{Answer}
 use Rattle.rv_text.specs.declared.answer.Answer.TheVariants as answer
-use Rattle.rv_session.specs.declared.client.LastRequest.{LastRequest}
 use Rattle.rv_session.specs.declared.client.ClientState.{ClientState}
-use Rattle.rv_state.specs.State.{State, client_at}
+use Rattle.rv_state.specs.State.{State}
 use Rattle.rv_state.specs.Moves.{answer_told, told_again}
 use Rattle.rv_hearers.specs.declared.tables.Hearing.{Hearing}
 use Rattle.rv_hearers.specs.Hearing.{SetsHearing, WhoHears}
 use Rattle.rv_desk.specs.declared.desk.HubDesk.{HubDesk}
 use Rattle.rv_desk.specs.View.{DeskState, DeskTerms}
 use Rattle.rv_desk.specs.Telling.{IsToldAgain, WaitsOn}
-use Rattle.rv_desk.specs.Deeds.{Deed, Does, DoesAll}
+use Rattle.rv_desk.specs.Deeds.{Deed, Does}
 use Rattle.rv_desk.specs.Deeds.{Closed, Told}
-use Rattle.rv_desk.specs.Order.{AreOverdue, TellsOneHearer, TellsOverdue, TellsStillWaiting, WaitsSooner}
+use Rattle.rv_desk.specs.Order.{AreOverdue, TellsOneHearer, TellsOverdue, WaitsSooner}
 use Rattle.rv_desk.specs.Rest.{HearersInTime, HearersWait}
 use Rattle.rv_desk.specs.Fields.{desk_state, desk_terms}
 use Rattle.rv_desk.specs.Going.{GoesTelling, IsNextOverdue, TellsIt, TellsLate}

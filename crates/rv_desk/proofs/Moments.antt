@@ -1,5 +1,5 @@
 -- The next moment at which time has to go on, and who has waited as long as it may.
-use Rattle.std.proofs.Common.{inl, inr, ◌≡◌, ◌<◌, ◌≤◌, ◌⊎◌, [], ℕ, Bool, true, false, Some, IfSome, refl, sym}
+use Rattle.std.proofs.Common.{inl, inr, ◌≡◌, ◌<◌, ◌≤◌, ◌⊎◌, [], ℕ, Bool, true, false, Some, IfSome, sym}
 use Rattle.std.proofs.Common.{subst, arith, nat_le}
 use Rattle.std.proofs.lemmas.Bool.Decides.{nat_tests}
 use Rattle.std.specs.Bool.{then_some}

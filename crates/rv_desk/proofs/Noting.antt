@@ -1,7 +1,7 @@
 -- One connection changed: it is listed with those that did, and the sum of unread bytes moves as its own.
 use Rattle.std.proofs.Common.{inl, inr, ◌≡◌, ◌≤◌, ◌+◌, ◌∙◌, ℕ, List, None, Option, Some, length, refl, sym}
 use Rattle.std.proofs.Common.{ap, subst, arith}
-use Rattle.std.specs.Prelude.{Contains, IsSome, ◌↔◌, ◌⊎◌}
+use Rattle.std.specs.Prelude.{IsSome}
 use Rattle.rv_connection.specs.Traffic.{Traffic}
 use Rattle.rv_wires.specs.Connections.{AllHeldBack, ListsOne, Notes, Tally, WiresState}
 use Rattle.rv_wires.specs.Wires.{tally_in, wires_in}

@@ -1,14 +1,13 @@
 -- Each deed is a cause of the book's state, or leaves it.
-use Rattle.std.proofs.Common.{◌≡◌, ◌≤◌, ◌∙◌, ◌++◌, ◌∷◌, [], ℕ, List, None, Option, Some, ap, refl, subst, sym}
+use Rattle.std.proofs.Common.{◌≡◌, ◌∙◌, ◌++◌, ◌∷◌, [], ℕ, List, None, Some, ap, refl, subst, sym}
 use Rattle.std.specs.Prelude.{flat_map}
-use Rattle.rv_text.specs.declared.message.Message.{Message}
 use Rattle.rv_text.specs.declared.answer.Answer.{Answer}
 use Rattle.rv_text.specs.declared.answer.Answer.TheVariants as answer
 use Rattle.rv_account.specs.declared.entry.Entry.{Entry}
 use Rattle.rv_rules.specs.StepLimits.{StepLimits}
 use Rattle.rv_state.specs.State.{State}
 use Rattle.rv_desk.specs.View.{DeskState, DeskTerms}
-use Rattle.rv_desk.specs.Deeds.{AnswersOrWaits, Deed, Does, DoesAll, MakesStep, Stepped, entries_of_deed}
+use Rattle.rv_desk.specs.Deeds.{AnswersOrWaits, Deed, Does, MakesStep, Stepped, entries_of_deed}
 use Rattle.rv_desk.specs.Deeds.{Asked, Closed, Elapsed, EndedInput, Lacked, Left, Lost, Opened, ReadNothing}
 use Rattle.rv_desk.specs.Deeds.{Told, TookIn, Wrote}
 use Rattle.rv_desk.specs.Runs.{Cause, Heard, DeedsAreOneRun, RunsBook, Time}

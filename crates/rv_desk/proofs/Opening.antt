@@ -1,9 +1,9 @@
 -- A connection is opened, ended, let go or closed, and entries are written: the desk stays as it has to be.
-use Rattle.std.proofs.Common.{inl, inr, ◌≡◌, ◌≢◌, ◌+◌, ◌<◌, ◌≤◌, ◌∙◌, ℕ, List, None, Option, Some, refl, sym}
+use Rattle.std.proofs.Common.{◌≡◌, ◌<◌, ◌≤◌, ◌∙◌, ℕ, None, Option, Some, refl, sym}
 use Rattle.std.proofs.Common.{ap}
-use Rattle.std.proofs.Common.{subst, arith, length, true, false, Ok, Err, Result, IfOk, OnErr}
+use Rattle.std.proofs.Common.{[], subst, arith, length, false, Ok, Err, Result, IfOk, OnErr}
 use Rattle.std.specs.Global.{Vec}
-use Rattle.std.specs.Prelude.{IsSome, IsSomeAnd, vec_capacity}
+use Rattle.std.specs.Prelude.{IsSome, vec_capacity}
 use Rattle.std.proofs.lemmas.Bool.{false≢true}
 use Rattle.std.proofs.lemmas.Option.{none-some}
 use Rattle.rv_rules.specs.StepLimits.{AreStepLimits}
@@ -13,7 +13,7 @@ use Rattle.rv_machine.specs.declared.machine.Machine.{Machine}
 use Rattle.rv_resume.specs.Resuming.{CanResume}
 use Rattle.rv_account.specs.declared.entry.Entry.{Entry}
 use Rattle.rv_connection.specs.Traffic.{Traffic}
-use Rattle.rv_connection.specs.Steps.{Releases, fresh_traffic, input_ended, left_by}
+use Rattle.rv_connection.specs.Steps.{fresh_traffic, input_ended, left_by}
 use Rattle.rv_hearers.specs.declared.hearers.Hearers.{Hearers}
 use Rattle.rv_hearers.specs.declared.tables.Hearing.{Hearing}
 use Rattle.rv_hearers.specs.Hearing.{SetsHearing, WhoHears, nobody}
@@ -23,12 +23,11 @@ use Rattle.rv_wires.specs.Connections.{WiresState, none_open}
 use Rattle.rv_wires.specs.Wires.{wires_in}
 use Rattle.rv_wires.specs.declared.wires.Wires.{Wires}
 use Rattle.rv_desk.specs.declared.desk.HubDesk.{HubDesk}
-use Rattle.rv_desk.specs.View.{ChangesBytes, DeskState}
-use Rattle.rv_desk.specs.Deeds.{DoesClose, DoesOpen, DoesWrite}
-use Rattle.rv_desk.specs.Rest.{HearersOwe, OwersHear}
+use Rattle.rv_desk.specs.View.{ChangesBytes}
+use Rattle.rv_desk.specs.Deeds.{DoesClose}
 use Rattle.rv_desk.specs.Fields.{IsBook, IsDeskReady, IsDeskSound, IsSteady, desk_state, desk_terms}
 use Rattle.rv_desk.specs.Going.{NotesOne}
-use Rattle.rv_desk.proofs.Answering.{hears_same, not_some, some_is, sound_wire}
+use Rattle.rv_desk.proofs.Answering.{not_some, some_is, sound_wire}
 use Rattle.rv_desk.proofs.Owing.{Agree, hears_kept, owes_kept}
 use Rattle.rv_desk.proofs.ToldOne.{fewer_hear, not_open, not_owing}
 use Rattle.rv_desk.proofs.Turning.{same_sound, sound_same}

@@ -1,11 +1,11 @@
 -- Whoever waits owes an answer, and whoever owes one waits: what a change at one connection keeps.
-use Rattle.std.proofs.Common.{inl, inr, ◌≡◌, ◌≢◌, ◌∙◌, ℕ, None, Option, Some, refl, sym, ap, subst, true}
+use Rattle.std.proofs.Common.{inl, inr, ◌≡◌, ◌∙◌, ℕ, Option, Some, sym, ap, subst, true}
 use Rattle.std.specs.Prelude.{IsSome}
 use Rattle.std.proofs.lemmas.Bool.{cases_eq}
 use Rattle.rv_connection.specs.Traffic.{Traffic}
 use Rattle.rv_hearers.specs.declared.tables.Hearing.{Hearing}
-use Rattle.rv_hearers.specs.Hearing.{SetsHearing, WhoHears}
-use Rattle.rv_wires.specs.Connections.{HasWire, SetsWire, WiresState}
+use Rattle.rv_hearers.specs.Hearing.{SetsHearing}
+use Rattle.rv_wires.specs.Connections.{SetsWire}
 use Rattle.rv_desk.specs.View.{DeskState}
 use Rattle.rv_desk.specs.Rest.{HearersOwe, OwersHear}
 

@@ -1,16 +1,15 @@
 -- Time goes on: what it leaves of a desk, and all whom it ends are told.
-use Rattle.std.proofs.Common.{inl, inr, ◌≡◌, ◌+◌, ◌<◌, ◌≤◌, ◌∙◌, ◌++◌, ◌∷◌, ◌⊎◌, ℕ, List, [], None, Option}
-use Rattle.std.proofs.Common.{Some, refl, sym, ap, subst, arith}
-use Rattle.std.proofs.Common.{append_assoc, max, min}
-use Rattle.std.specs.Prelude.{flat_map, map, option_to_list, slice_get, vec_capacity}
+use Rattle.std.proofs.Common.{inl, inr, ◌≡◌, ◌≤◌, ◌∙◌, ◌++◌, ◌∷◌, ◌⊎◌, ℕ, List, []}
+use Rattle.std.proofs.Common.{refl, sym, ap, subst, arith}
+use Rattle.std.proofs.Common.{append_assoc, max}
+use Rattle.std.specs.Prelude.{flat_map, option_to_list, vec_capacity}
 use Rattle.std.specs.Global.{Vec}
 use Rattle.std.proofs.lemmas.List.{append-nil}
 use Rattle.std.proofs.lemmas.Grind.{flat_map-append}
-use Rattle.rv_text.specs.declared.message.Key.{Key}
 use Rattle.rv_account.specs.declared.entry.Entry.{Entry}
 use Rattle.rv_rules.specs.Steps.{max_moment}
 use Rattle.rv_state.specs.State.{State}
-use Rattle.rv_state.specs.After.{Settled, due_at}
+use Rattle.rv_state.specs.After.{due_at}
 use Rattle.rv_state.specs.Moves.{state_moment, ticked_at}
 use Rattle.rv_resume.specs.Resuming.{CanResume}
 use Rattle.rv_machine.specs.declared.machine.Machine.{Machine}
@@ -22,14 +21,13 @@ use Rattle.rv_waiting.specs.Waiting.{WaitsOn}
 use Rattle.rv_waiting.proofs.WaitingLaws.{ticks_last}
 use Rattle.rv_hearers.specs.declared.tables.Hearing.{Hearing}
 use Rattle.rv_desk.specs.declared.desk.HubDesk.{HubDesk}
-use Rattle.rv_desk.specs.View.{DeskState, DeskTerms, moment_now}
+use Rattle.rv_desk.specs.View.{moment_now}
 use Rattle.rv_desk.specs.Telling.{IsTellable}
-use Rattle.rv_desk.specs.Deeds.{Deed, DoesAll, entries_of_deed, told_of_deed, told_in_deeds}
-use Rattle.rv_desk.specs.Deeds.{Elapsed}
+use Rattle.rv_desk.specs.Deeds.{Deed, entries_of_deed, told_of_deed, told_in_deeds}
 use Rattle.rv_desk.specs.Order.{TellsKeys, TellsOverdue, TellsStillWaiting}
 use Rattle.rv_desk.specs.Rest.{HearersInTime, HearersWait}
 use Rattle.rv_desk.specs.Fields.{IsDeskReady, IsDeskSound, IsSteady, desk_state, desk_terms}
-use Rattle.rv_desk.specs.Going.{ElapsesIt, Goes, GoesTelling, HearersWaitOr, IsAmongKeys, PassesIt, StillGoes}
+use Rattle.rv_desk.specs.Going.{ElapsesIt, IsAmongKeys, PassesIt, StillGoes}
 use Rattle.rv_desk.specs.Going.{TellsLate, TellsThem}
 use Rattle.rv_desk.proofs.Quiet.{keys_quiet}
 use Rattle.rv_desk.proofs.Stepped.{sound_with, tellable_after, waits_or_listed}

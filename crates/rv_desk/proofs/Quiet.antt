@@ -1,5 +1,5 @@
 -- What a telling leaves: it makes no entry, takes no bytes in, and leaves no more unread.
-use Rattle.std.proofs.Common.{inl, inr, ◌≡◌, ◌≤◌, ◌∙◌, ◌++◌, ◌∷◌, ℕ, List, [], None, Option, Some, refl, sym}
+use Rattle.std.proofs.Common.{inl, inr, ◌≡◌, ◌≤◌, ◌∙◌, ◌++◌, ◌∷◌, ℕ, List, [], None, Option, Some, refl}
 use Rattle.std.proofs.Common.{ap, subst, arith}
 use Rattle.std.proofs.Common.{length}
 use Rattle.std.specs.Prelude.{flat_map}
@@ -12,7 +12,7 @@ use Rattle.rv_desk.specs.Going.{unread_of}
 use Rattle.rv_desk.specs.View.{DeskState, DeskTerms}
 use Rattle.rv_desk.specs.Deeds.{Deed, Does, DoesAll, bytes_by, bytes_in, entries_of_deed}
 use Rattle.rv_desk.specs.Deeds.{Closed, Told}
-use Rattle.rv_desk.specs.Order.{TellsClient, TellsEach, TellsKeys, TellsOneHearer}
+use Rattle.rv_desk.specs.Order.{TellsEach, TellsKeys, TellsOneHearer}
 
 one_quiet : (connection : ℕ) (deed : Deed) → TellsOneHearer connection deed
     → (entries_of_deed deed ≡ []) × (bytes_by deed ≡ [])

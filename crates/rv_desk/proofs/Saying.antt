@@ -1,10 +1,9 @@
 -- What is said of a step is answered, or lets its connection wait.
-use Rattle.std.proofs.Common.{inl, inr, ◌≡◌, ◌∙◌, ◌⊎◌, ℕ, List, Option, Some, refl, sym, ap, subst}
+use Rattle.std.proofs.Common.{inl, inr, ◌≡◌, ◌∙◌, ℕ, List, sym, ap, subst}
 use Rattle.rv_text.specs.declared.message.Key.{Key}
 use Rattle.rv_text.specs.declared.answer.Answer.{Answer}
 use Rattle.rv_text.specs.declared.answer.Answer.TheVariants as answer
 use Rattle.rv_text.specs.declared.answer.Refusal.{Refusal}
-use Rattle.rv_text.specs.declared.answer.Refusal.TheVariants.{NoMemory}
 use Rattle.rv_text.specs.declared.answer.Reply.{Reply}
 use Rattle.rv_text.specs.declared.version.Version.{Version}
 use Rattle.rv_text.specs.Bodies.{answer_text}
@@ -15,10 +14,9 @@ use Rattle.rv_machine.specs.declared.machine.Said.{Said}
 use Rattle.rv_machine.specs.declared.machine.Said.TheVariants as said
 use Rattle.rv_machine.specs.Machines.{Says, state_in}
 use Rattle.rv_desk.specs.declared.desk.HubDesk.{HubDesk}
-use Rattle.rv_desk.specs.View.{DeskState}
-use Rattle.rv_desk.specs.Deeds.{AnswersNow, DoesClose, rests_on}
-use Rattle.rv_desk.specs.Fields.{desk_state, desk_terms}
-use Rattle.rv_desk.specs.Going.{AnswersIt, IsFrameDue, LacksIt, SaysIt, SaysText, WaitsIt}
+use Rattle.rv_desk.specs.Deeds.{AnswersNow, rests_on}
+use Rattle.rv_desk.specs.Fields.{desk_state}
+use Rattle.rv_desk.specs.Going.{AnswersIt, LacksIt, SaysIt, SaysText, WaitsIt}
 use Rattle.rv_desk.proofs.Answering.{some_is}
 
 -- one answer is said of a step

@@ -1,12 +1,10 @@
 -- What a step of the machine leaves of a desk.
-use Rattle.std.proofs.Common.{inl, inr, ◌≡◌, ◌≤◌, ◌<◌, ◌∙◌, ◌++◌, ◌⊎◌, ℕ, List, [], None, Option, Some, refl}
+use Rattle.std.proofs.Common.{inl, inr, ◌≡◌, ◌≤◌, ◌∙◌, ◌++◌, ◌⊎◌, ℕ, List, [], Some, refl}
 use Rattle.std.proofs.Common.{sym, ap, subst}
-use Rattle.std.specs.Prelude.{map, option_to_list, slice_get, vec_capacity}
+use Rattle.std.specs.Prelude.{option_to_list, vec_capacity}
 use Rattle.std.specs.Global.{Vec}
 use Rattle.rv_text.specs.declared.message.Key.{Key}
 use Rattle.rv_text.specs.declared.message.Message.{Message}
-use Rattle.rv_text.specs.declared.answer.Answer.{Answer}
-use Rattle.rv_text.specs.declared.answer.Answer.TheVariants as answer
 use Rattle.rv_text.specs.Limits.{FitsMessage}
 use Rattle.rv_account.specs.declared.entry.Entry.{Entry}
 use Rattle.rv_state.specs.State.{State}
@@ -14,18 +12,16 @@ use Rattle.rv_state.specs.After.{Settled, due_at}
 use Rattle.rv_resume.specs.Resuming.{CanResume}
 use Rattle.rv_machine.specs.declared.machine.Machine.{Machine}
 use Rattle.rv_machine.specs.declared.steps.Heard.{Heard}
-use Rattle.rv_machine.specs.declared.steps.TickMade.{TickMade}
 use Rattle.rv_machine.specs.Machines.{IsWhole, keys_settled, state_in}
 use Rattle.rv_machine.specs.Numbering.{AreNumbered}
-use Rattle.rv_machine.specs.Stepping.{IsHearing, IsTick}
+use Rattle.rv_machine.specs.Stepping.{IsHearing}
 use Rattle.rv_hearers.specs.declared.tables.Hearing.{Hearing}
 use Rattle.rv_hearers.specs.Hearers.{hearers_of}
 use Rattle.rv_desk.specs.declared.desk.HubDesk.{HubDesk}
 use Rattle.rv_desk.specs.Telling.{IsTellable, WaitsOn}
-use Rattle.rv_desk.specs.Fields.{IsBook, IsDeskSound, IsSteady, desk_state, desk_terms}
-use Rattle.rv_desk.specs.Going.{IsAmongKeys, MaySay, StepsIt, StillGoes}
-use Rattle.rv_waiting.specs.Waiting.{IsOver}
-use Rattle.rv_waiting.specs.Laws.{AnswersWell, LeavesNoneDue}
+use Rattle.rv_desk.specs.Fields.{IsBook, IsDeskSound, IsSteady, desk_terms}
+use Rattle.rv_desk.specs.Going.{IsAmongKeys, StepsIt, StillGoes}
+use Rattle.rv_waiting.specs.Laws.{LeavesNoneDue}
 use Rattle.rv_waiting.proofs.WaitingLaws.{moves_answer, moves_last, waiting_fits}
 
 -- a request that waited can be told behind the step

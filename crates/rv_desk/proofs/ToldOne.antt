@@ -1,30 +1,25 @@
 -- One that waits is told, or closed where memory is refused.
-use Rattle.std.proofs.Common.{◌≡◌, ◌≢◌, ◌+◌, ◌<◌, ◌≤◌, ◌∙◌, ◌++◌, ◌∷◌, ℕ, List, [], None, Option, Some, refl}
+use Rattle.std.proofs.Common.{◌≡◌, ◌+◌, ◌<◌, ◌∙◌, ◌∷◌, ℕ, [], None, Option, Some, refl}
 use Rattle.std.proofs.Common.{sym, ap, subst, arith}
 use Rattle.std.proofs.Common.{Bool, false, length, true}
 use Rattle.std.proofs.lemmas.Bool.{false≢true}
 use Rattle.std.proofs.lemmas.List.{append-nil, length-append}
 use Rattle.std.proofs.lemmas.Option.{none-some}
-use Rattle.rv_text.specs.declared.message.Key.{Key}
-use Rattle.rv_text.specs.Bodies.{answer_text}
 use Rattle.rv_rules.specs.StepLimits.{AreStepLimits}
 use Rattle.rv_machine.specs.Machines.{state_in}
 use Rattle.rv_connection.specs.Traffic.{Traffic}
-use Rattle.rv_connection.specs.Steps.{AnswersBy}
 use Rattle.rv_hearers.specs.declared.hearers.Hearers.{Hearers}
 use Rattle.rv_hearers.specs.declared.tables.Hearing.{Hearing}
 use Rattle.rv_hearers.specs.Hearing.{SetsHearing, WhoHears}
 use Rattle.rv_hearers.specs.Hearers.{hearers_count, hearers_of}
-use Rattle.rv_wires.specs.Connections.{ChangesWire, HasWire, SetsWire}
-use Rattle.rv_wires.specs.Wires.{tally_in, wires_in}
-use Rattle.rv_wires.specs.declared.wires.Wires.{Wires}
+use Rattle.rv_wires.specs.Connections.{HasWire, SetsWire}
+use Rattle.rv_wires.specs.Wires.{wires_in}
 use Rattle.rv_desk.specs.declared.desk.HubDesk.{HubDesk}
-use Rattle.rv_desk.specs.View.{DeskState}
 use Rattle.rv_desk.specs.Telling.{IsTellable}
-use Rattle.rv_desk.specs.Deeds.{Closed, DoesClose, DoesTell, Told}
+use Rattle.rv_desk.specs.Deeds.{Closed, Told}
 use Rattle.rv_desk.specs.Rest.{HearersOwe, OwersHear}
 use Rattle.rv_desk.specs.Fields.{IsBook, IsDeskSound, desk_state, desk_terms}
-use Rattle.rv_desk.specs.Going.{GivesTold, GoesTelling, IsSameDesk, MayGive, NotesOne, TellsIt}
+use Rattle.rv_desk.specs.Going.{GivesTold, IsSameDesk, MayGive, NotesOne, TellsIt}
 use Rattle.rv_desk.proofs.Rows.{is_other}
 use Rattle.rv_desk.proofs.Owing.{Agree, hears_kept, owes_kept}
 use Rattle.rv_desk.proofs.Noting.{closed_unread, notes_behind, same_unread}

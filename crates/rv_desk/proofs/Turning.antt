@@ -1,7 +1,7 @@
 -- A connection goes on until it stops.
-use Rattle.std.proofs.Common.{inl, inr, ◌≡◌, ◌≢◌, ◌+◌, ◌-◌, ◌<◌, ◌≤◌, ◌∙◌, ◌++◌, ◌∷◌, ◌⊎◌, ℕ, List, [], None}
+use Rattle.std.proofs.Common.{inl, inr, ◌≡◌, ◌+◌, ◌-◌, ◌<◌, ◌≤◌, ◌∙◌, ◌++◌, ◌∷◌, ◌⊎◌, ℕ, List, [], None}
 use Rattle.std.proofs.Common.{Option, Some, refl, sym, ap, subst, arith}
-use Rattle.std.proofs.Common.{append_assoc, drop, length, take, true}
+use Rattle.std.proofs.Common.{append_assoc, drop, length, take}
 use Rattle.std.proofs.Common.{Bool, false, not}
 use Rattle.std.specs.Prelude.{All, IsSome, flat_map, is_some}
 use Rattle.std.proofs.lemmas.Bool.{false≢true}
@@ -10,15 +10,14 @@ use Rattle.std.proofs.lemmas.List.{append-nil, length-append, length-drop, lengt
 use Rattle.std.proofs.lemmas.List.Elements.{All-append, All-cons, All-nil}
 use Rattle.std.proofs.lemmas.Grind.{flat_map-append}
 use Rattle.std.proofs.lemmas.Option.{none-some}
-use Rattle.rv_connection.specs.Traffic.{IsBad, IsDue, IsWholeFrame, Traffic}
+use Rattle.rv_connection.specs.Traffic.{IsBad, IsWholeFrame, Traffic}
 use Rattle.rv_connection.specs.Steps.{TakesIn}
-use Rattle.rv_hearers.specs.declared.tables.Hearing.{Hearing}
 use Rattle.rv_hearers.specs.Hearers.{hearers_count, hearers_of}
 use Rattle.rv_wires.specs.Connections.{ChangesWire, SetsWire, Tally, WiresState}
 use Rattle.rv_wires.specs.Wires.{tally_in, wires_in}
 use Rattle.rv_wires.specs.declared.wires.Wires.{Wires}
 use Rattle.rv_desk.specs.declared.desk.HubDesk.{HubDesk}
-use Rattle.rv_desk.specs.View.{ChangesBytes, DeskState, DeskTerms}
+use Rattle.rv_desk.specs.View.{DeskState, DeskTerms}
 use Rattle.rv_desk.specs.Deeds.{Deed, DoesClose, bytes_by, bytes_in, entries_of_deed, told_of_deed}
 use Rattle.rv_desk.specs.Deeds.{told_in_deeds}
 use Rattle.rv_desk.specs.Deeds.{Closed, TookIn}

@@ -5,25 +5,24 @@ use Rattle.std.proofs.Common.{true, false, not}
 use Rattle.std.proofs.Common.{List, [], None, Option, Some, Contains, length, nat_eq, refl, sym, ap, subst}
 use Rattle.std.proofs.Common.{arith}
 use Rattle.std.proofs.Common.{cond, length-append}
-use Rattle.std.specs.Prelude.{◌&&◌, ◌↔◌, filter, is_some, slice_get}
+use Rattle.std.specs.Prelude.{◌&&◌, filter, is_some, slice_get}
 use Rattle.std.specs.Cmp.{nat_eq_equiv}
-use Rattle.std.specs.List.{AllPairs, list_any}
+use Rattle.std.specs.List.{list_any}
 use Rattle.std.proofs.lemmas.Bool.{eqb-true, false≢true}
 use Rattle.std.proofs.lemmas.List.Elements.{Contains-append_left, Contains-push, Contains-push_cases}
 use Rattle.std.proofs.lemmas.List.Filters.{length-filter_both}
 use Rattle.std.proofs.lemmas.List.Kept.{AllPairs-filter}
 use Rattle.std.proofs.lemmas.Map.Views.{Contains-from_any, any-filter_same, list_any-from_Contains}
 use Rattle.std.proofs.lemmas.Option.{none-some}
-use Rattle.rv_text.specs.declared.call.Call.{Call}
 use Rattle.rv_session.specs.Clients.{place_waiting}
 use Rattle.rv_session.specs.declared.client.LastRequest.TheVariants.{Waits}
 use Rattle.rv_state.specs.State.{ClientState, OpenPlace, State, Waiter, client_at, waiting_count}
 use Rattle.rv_resume.specs.Resuming.{CanResume}
 use Rattle.rv_waiting.specs.Waiting.{WaitsOn}
 use Rattle.rv_hearers.specs.declared.tables.Hearing.{Hearing}
-use Rattle.rv_hearers.specs.Hearing.{AreHeard, CountsHeard, HasHearer, WhoHears}
+use Rattle.rv_hearers.specs.Hearing.{AreHeard, CountsHeard, WhoHears}
 use Rattle.rv_hearers.proofs.Numbering.{Once, no_longer, once_pushed}
-use Rattle.rv_desk.specs.Telling.{AreUnheard, CountsUnheard, DoesWait, IsUnheard}
+use Rattle.rv_desk.specs.Telling.{AreUnheard, CountsUnheard, DoesWait}
 use Rattle.rv_desk.proofs.Answering.{some_is}
 
 -- ---- the clients of those that wait at open places

@@ -1,5 +1,5 @@
 -- What the fields of a desk hold.
-use Rattle.std.specs.Prelude.{ℕ, ◌≡◌, ◌<◌, ◌≤◌, ◌+◌, [], Some, length, vec_capacity, vec_len}
+use Rattle.std.specs.Prelude.{ℕ, ◌≡◌, ◌<◌, ◌≤◌, [], Some, vec_capacity}
 use Rattle.rv_rules.specs.Steps.{max_moment}
 use Rattle.rv_rules.specs.StepLimits.{AreStepLimits}
 use Rattle.rv_state.specs.After.{due_at}

@@ -1,5 +1,5 @@
 -- What the calls on a desk leave: their deeds, the entries that these made, and who is free to go on.
-use Rattle.std.specs.Prelude.{ℕ, ◌≡◌, ◌+◌, ◌-◌, ◌<◌, ◌≤◌, ◌⊎◌, List, [], ◌∷◌, ◌++◌, All, None, Option, Some}
+use Rattle.std.specs.Prelude.{ℕ, ◌≡◌, ◌+◌, ◌<◌, ◌≤◌, ◌⊎◌, List, [], ◌∷◌, ◌++◌, All, Option, Some}
 use Rattle.std.specs.Prelude.{slice_get}
 use Rattle.std.specs.Prelude.{Result, flat_map, length, take, true, vec_capacity}
 use Rattle.rv_json.specs.Bodies.{HasBodyLength}
@@ -11,7 +11,7 @@ use Rattle.rv_text.specs.declared.answer.Refusal.TheVariants.{BadText, NoMemory}
 use Rattle.rv_text.specs.Bodies.{Decodes, IsMessageBody, answer_text}
 use Rattle.rv_json.specs.declared.fault.TextFault.{TextFault}
 use Rattle.rv_json.specs.declared.fault.TextFault.TheVariants as fault
-use Rattle.rv_text.specs.Limits.{FitsAnswer, FitsMessage}
+use Rattle.rv_text.specs.Limits.{FitsAnswer}
 use Rattle.rv_account.specs.declared.entry.Entry.{Entry}
 use Rattle.rv_state.specs.Moves.{Move, StateNextAtUnder, ticked_at}
 use Rattle.rv_state.specs.After.{due_at}
@@ -20,15 +20,14 @@ use Rattle.rv_machine.specs.declared.machine.Said.{Said}
 use Rattle.rv_machine.specs.Machines.{Says, keys_settled, state_in}
 use Rattle.rv_resume.specs.Resuming.{CanResume}
 use Rattle.rv_connection.specs.Traffic.{IsDue, IsFinished, Traffic}
-use Rattle.rv_connection.specs.Steps.{AnswersBy, taken}
+use Rattle.rv_connection.specs.Steps.{AnswersBy}
 use Rattle.rv_hearers.specs.declared.tables.Hearing.{Hearing}
-use Rattle.rv_hearers.specs.Hearing.{SetsHearing}
-use Rattle.rv_hearers.specs.Hearers.{hearers_count, hearers_of}
+use Rattle.rv_hearers.specs.Hearers.{hearers_count}
 use Rattle.rv_wires.specs.Connections.{ChangesWire, HasWire, Notes, count_at, unread_count}
 use Rattle.rv_wires.specs.Wires.{tally_in, wires_in}
 use Rattle.rv_wires.specs.declared.wires.Wires.{Wires}
 use Rattle.rv_desk.specs.declared.desk.HubDesk.{HubDesk}
-use Rattle.rv_desk.specs.View.{ChangesBytes, DeskState, DeskTerms}
+use Rattle.rv_desk.specs.View.{DeskState, DeskTerms}
 use Rattle.rv_desk.specs.Telling.{IsTellable, IsToldAgain, WaitsOn}
 use Rattle.rv_desk.specs.View.{moment_now}
 use Rattle.rv_desk.specs.Fields.{desk_state, desk_terms}

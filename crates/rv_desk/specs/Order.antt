@@ -1,7 +1,6 @@
 -- The order in which the deeds of a desk come.
 use Rattle.std.specs.Prelude.{ℕ, ◌≡◌, ◌<◌, ◌≤◌, ◌⊎◌, List, [], ◌∷◌, ◌++◌, All, AllPairs, Contains, Some}
 use Rattle.std.specs.Prelude.{flat_map, length, take}
-use Rattle.rv_connection.specs.Traffic.{IsDue, IsFinished, Traffic}
 use Rattle.rv_text.specs.declared.message.Key.{Key}
 use Rattle.rv_text.specs.declared.answer.Answer.TheVariants as answer
 use Rattle.rv_hearers.specs.declared.tables.Hearing.{Hearing}

@@ -1,5 +1,5 @@
 -- What holds of a desk behind each deed, and where a connection stops.
-use Rattle.std.specs.Prelude.{ℕ, ◌≡◌, ◌<◌, ◌≤◌, ◌⊎◌, [], true, IsSome, Some, length}
+use Rattle.std.specs.Prelude.{ℕ, ◌≡◌, ◌<◌, ◌≤◌, ◌⊎◌, [], true, IsSome, Some}
 use Rattle.rv_state.specs.After.{due_at}
 use Rattle.rv_connection.specs.Traffic.{IsBad, IsDue, IsFinished, IsWholeFrame, Traffic}
 use Rattle.rv_hearers.specs.declared.tables.Hearing.{Hearing}

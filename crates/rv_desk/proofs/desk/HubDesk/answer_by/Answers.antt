@@ -1,6 +1,5 @@
 -- The frame is taken, and its answer stands behind all, or the connection is closed.
-use Rattle.std.proofs.Common.{◌≡◌, ◌≤◌, ◌+◌, arith, refl}
-use Rattle.rv_desk.proofs.Answering.{FrameTaken, answered_it, not_answered}
+use Rattle.rv_desk.proofs.Answering.{answered_it, not_answered}
 use Rattle.rv_desk.proofs.Noting.{still_open}
 use Rattle.rv_desk.proofs.desk.HubDesk.answer_by.Goals as goal
 

@@ -1,6 +1,5 @@
 -- What changed and the entries are let go.
-use Rattle.std.proofs.Common.{◌≡◌, ◌≤◌, arith}
-use Rattle.std.specs.Prelude.{vec_capacity}
+use Rattle.std.proofs.Common.{arith}
 use Rattle.rv_desk.proofs.Opening.{begun_ready}
 use Rattle.rv_desk.proofs.desk.HubDesk.begin.Goals as goal
 

@@ -1,6 +1,6 @@
 -- The machine's tick is the time.
-use Rattle.std.proofs.Common.{◌≡◌, ◌≤◌, ◌∙◌, ◌++◌, List, [], Option, arith, ap, refl, sym}
-use Rattle.std.specs.Prelude.{option_to_list, vec_capacity}
+use Rattle.std.proofs.Common.{◌∙◌, ◌++◌, Option, arith, ap, refl, sym}
+use Rattle.std.specs.Prelude.{option_to_list}
 use Rattle.std.proofs.lemmas.List.{append-nil}
 use Rattle.rv_account.specs.declared.entry.Entry.{Entry}
 use Rattle.rv_machine.specs.Machines.{state_in}

@@ -1,7 +1,6 @@
 -- Bytes are taken, or it is closed.
 use Rattle.std.proofs.Common.{refl}
 use Rattle.std.specs.Option.{option_copied}
-use Rattle.rv_wires.specs.Wires.{wires_in}
 use Rattle.rv_desk.proofs.Noting.{still_some}
 use Rattle.rv_desk.proofs.Turning.{fed_closed, fed_some, open_by, same_sound, same_steady}
 use Rattle.rv_desk.proofs.desk.HubDesk.feed.Goals as goal

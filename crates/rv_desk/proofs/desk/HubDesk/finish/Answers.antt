@@ -1,5 +1,5 @@
 -- Nothing changes where it isn't closed.
-use Rattle.std.proofs.Common.{◌≡◌, subst, sym}
+use Rattle.std.proofs.Common.{subst, sym}
 use Rattle.rv_desk.specs.Fields.{IsSteady}
 use Rattle.rv_desk.proofs.desk.HubDesk.finish.Goals as goal
 use Rattle.rv_desk.proofs.desk.HubDesk.finish.Goals.{in-None, in-Some}

@@ -1,5 +1,4 @@
 -- Where there is no room for an entry no step is made.
-use Rattle.std.proofs.Common.{List, ℕ}
 use Rattle.rv_text.specs.declared.answer.Answer.TheVariants as answer
 use Rattle.rv_text.specs.declared.answer.Refusal.TheVariants.{NoMemory}
 use Rattle.rv_text.specs.Bodies.{answer_text}

@@ -1,5 +1,5 @@
 -- The body is the one for want of memory.
-use Rattle.std.proofs.Common.{List, ℕ, subst}
+use Rattle.std.proofs.Common.{subst}
 use Rattle.rv_text.specs.Bodies.{refused_text}
 use Rattle.rv_desk.specs.Going.{AnswersIt}
 use Rattle.rv_desk.proofs.desk.HubDesk.lack.Goals as goal

@@ -1,5 +1,5 @@
 -- Nobody waits, and no connection is open.
-use Rattle.std.proofs.Common.{◌≡◌, ◌<◌, ◌≤◌, arith}
+use Rattle.std.proofs.Common.{arith}
 use Rattle.rv_desk.proofs.Opening.{book_at, new_ready}
 use Rattle.rv_desk.proofs.desk.HubDesk.new.Goals as goal
 

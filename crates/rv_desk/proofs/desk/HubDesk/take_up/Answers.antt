@@ -1,5 +1,5 @@
 -- By what it was read as.
-use Rattle.std.proofs.Common.{List, ℕ, IfOk, Result, subst}
+use Rattle.std.proofs.Common.{IfOk, Result, subst}
 use Rattle.rv_json.specs.declared.fault.TextFault.{TextFault}
 use Rattle.rv_text.specs.declared.message.Message.{Message}
 use Rattle.rv_text.specs.Bodies.{IsMessageBody}

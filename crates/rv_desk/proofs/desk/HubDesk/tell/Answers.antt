@@ -1,8 +1,5 @@
 -- One that waited is told, or closed.
-use Rattle.std.proofs.Common.{◌≡◌, ◌+◌, ◌≤◌, ◌∙◌, ℕ, Option, Some, arith, refl, sym}
-use Rattle.rv_hearers.specs.Hearers.{hearers_count, hearers_of}
-use Rattle.rv_desk.specs.Fields.{IsDeskSound}
-use Rattle.rv_desk.specs.Going.{TellsIt}
+use Rattle.std.proofs.Common.{◌∙◌, refl, sym}
 use Rattle.rv_desk.proofs.Noting.{still_open}
 use Rattle.rv_desk.proofs.Texts.{fewer_by}
 use Rattle.rv_desk.proofs.ToldOne.{closed_it, may_give, told_it}

@@ -1,5 +1,5 @@
 -- Those of one key more are told.
-use Rattle.std.proofs.Common.{◌≡◌, ◌+◌, ◌≤◌, ◌<◌, ◌∙◌, ℕ, arith, drop, length, refl, sym, ap}
+use Rattle.std.proofs.Common.{◌∙◌, arith, length, sym, ap}
 use Rattle.std.proofs.lemmas.List.{drop_all}
 use Rattle.rv_desk.specs.declared.desk.HubDesk.{HubDesk}
 use Rattle.rv_desk.proofs.Tellings.{tells_keys, tells_next_key}

@@ -1,6 +1,6 @@
 -- Bytes, and a frame, one after another.
-use Rattle.std.proofs.Common.{◌≡◌, ◌+◌, ◌-◌, ◌<◌, ◌≤◌, ℕ, List, arith, drop, length, subst, sym, take}
-use Rattle.std.proofs.lemmas.List.{length-drop, take_rest}
+use Rattle.std.proofs.Common.{◌<◌, length, subst, sym}
+use Rattle.std.proofs.lemmas.List.{take_rest}
 use Rattle.rv_desk.specs.Going.{FeedsPiece}
 use Rattle.rv_desk.specs.Rest.{TakesNoMore}
 use Rattle.rv_desk.specs.Fields.{desk_state}

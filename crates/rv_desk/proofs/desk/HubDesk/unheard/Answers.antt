@@ -1,5 +1,5 @@
 -- All that wait less those of which some connection hears.
-use Rattle.std.proofs.Common.{◌≡◌, ◌+◌, ◌-◌, ◌≤◌, arith, subst, sym}
+use Rattle.std.proofs.Common.{◌-◌, ◌≤◌, arith, subst, sym}
 use Rattle.rv_machine.specs.Machines.{state_in}
 use Rattle.rv_hearers.specs.Hearers.{hearers_of}
 use Rattle.rv_desk.proofs.Unheard.{counts_unheard, heard_at_most}

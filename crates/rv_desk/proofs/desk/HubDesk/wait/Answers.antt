@@ -1,6 +1,5 @@
 -- The frame is taken, and its connection waits, or is closed.
-use Rattle.std.proofs.Common.{◌≡◌, ◌≤◌, ◌+◌, arith, refl}
-use Rattle.rv_desk.proofs.Answering.{FrameTaken, not_waited, waited_it}
+use Rattle.rv_desk.proofs.Answering.{not_waited, waited_it}
 use Rattle.rv_desk.proofs.Noting.{is_some_of}
 use Rattle.rv_desk.proofs.desk.HubDesk.wait.Goals as goal
 
