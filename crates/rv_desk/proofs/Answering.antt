@@ -1,7 +1,6 @@
 -- The frame that is due is taken and answered, or its connection closed.
-use Rattle.std.proofs.Common.{inl, inr, ◌≡◌, ◌+◌, ◌≤◌, ◌∙◌, ℕ, List, None}
-use Rattle.std.proofs.Common.{Option, Some, refl, sym, ap, subst, arith}
-use Rattle.std.proofs.Common.{length}
+use Rattle.std.proofs.Common.{inl, inr, ◌≡◌, ◌+◌, ◌≤◌, ◌∙◌, ℕ, List, None, Option, Some, refl, sym, ap, subst}
+use Rattle.std.proofs.Common.{arith, length}
 use Rattle.std.specs.Prelude.{IsSome}
 use Rattle.std.proofs.lemmas.Bool.{cases_eq, false≢true}
 use Rattle.std.proofs.lemmas.List.{length-append}
@@ -23,9 +22,7 @@ use Rattle.rv_desk.specs.declared.desk.HubDesk.{HubDesk}
 use Rattle.rv_desk.specs.Telling.{IsTellable}
 use Rattle.rv_desk.specs.Deeds.{DoesClose}
 use Rattle.rv_desk.specs.Fields.{IsDeskSound, desk_state}
-use Rattle.rv_desk.specs.Going.{AnswersIt, HasDue, NotesOne}
-use Rattle.rv_desk.specs.Going.{WaitsIt}
-use Rattle.rv_desk.specs.Going.{unread_at, unread_of, unread_total}
+use Rattle.rv_desk.specs.Going.{AnswersIt, HasDue, NotesOne, WaitsIt, unread_at, unread_of, unread_total}
 use Rattle.rv_desk.proofs.Noting.{closed_unread, lists_again, notes_behind, same_unread}
 use Rattle.rv_desk.proofs.Owing.{Agree, hears_kept, owes_kept}
 use Rattle.rv_desk.proofs.ToldOne.{not_open, not_owing, owing_waits}

@@ -1,6 +1,5 @@
 -- Behind a telling nobody waits any longer who was to be told, and nobody begins to.
-use Rattle.std.proofs.Common.{◌≡◌, ◌∙◌, ℕ, zero, suc, List, [], ◌∷◌, Some}
-use Rattle.std.proofs.Common.{sym, ap, subst, arith}
+use Rattle.std.proofs.Common.{◌≡◌, ◌∙◌, ℕ, zero, suc, List, [], ◌∷◌, Some, sym, ap, subst, arith}
 use Rattle.std.specs.Prelude.{Contains, slice_get}
 use Rattle.std.proofs.lemmas.Option.{none-some}
 use Rattle.rv_text.specs.declared.message.Key.{Key}

@@ -1,7 +1,6 @@
 -- Who has waited as long as it may: the first of them before the others.
-use Rattle.std.proofs.Common.{inl, inr, ◌≡◌, ◌<◌, ◌≤◌, ◌∙◌, ◌++◌, ◌∷◌, ◌⊎◌, ℕ, List, [], None}
-use Rattle.std.proofs.Common.{Some, refl, sym, ap, subst, arith}
-use Rattle.std.proofs.Common.{append_assoc}
+use Rattle.std.proofs.Common.{inl, inr, ◌≡◌, ◌<◌, ◌≤◌, ◌∙◌, ◌++◌, ◌∷◌, ◌⊎◌, ℕ, List, [], None, Some, refl}
+use Rattle.std.proofs.Common.{sym, ap, subst, arith, append_assoc}
 use Rattle.std.specs.Prelude.{slice_index_or}
 use Rattle.std.proofs.lemmas.Bool.{cases_eq}
 use Rattle.std.proofs.lemmas.List.{append-nil}
@@ -18,8 +17,7 @@ use Rattle.rv_hearers.specs.Hearing.{SetsHearing, WhoHears}
 use Rattle.rv_desk.specs.declared.desk.HubDesk.{HubDesk}
 use Rattle.rv_desk.specs.View.{DeskState, DeskTerms}
 use Rattle.rv_desk.specs.Telling.{IsToldAgain, WaitsOn}
-use Rattle.rv_desk.specs.Deeds.{Deed, Does}
-use Rattle.rv_desk.specs.Deeds.{Closed, Told}
+use Rattle.rv_desk.specs.Deeds.{Deed, Does, Closed, Told}
 use Rattle.rv_desk.specs.Order.{AreOverdue, TellsOneHearer, TellsOverdue, WaitsSooner}
 use Rattle.rv_desk.specs.Rest.{HearersInTime, HearersWait}
 use Rattle.rv_desk.specs.Fields.{desk_state, desk_terms}

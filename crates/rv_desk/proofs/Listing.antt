@@ -1,6 +1,6 @@
 -- Each deed lists the connection that it changes.
-use Rattle.std.proofs.Common.{inl, inr, ◌≡◌, ◌≤◌, ◌∙◌, ◌++◌, ◌∷◌, [], ℕ, List, None}
-use Rattle.std.proofs.Common.{Option, Some, ap, arith, refl, subst, sym}
+use Rattle.std.proofs.Common.{inl, inr, ◌≡◌, ◌≤◌, ◌∙◌, ◌++◌, ◌∷◌, [], ℕ, List, None, Option, Some, ap, arith}
+use Rattle.std.proofs.Common.{refl, subst, sym}
 use Rattle.std.specs.Prelude.{All, Contains}
 use Rattle.std.proofs.lemmas.Bool.{cases_eq}
 use Rattle.std.proofs.lemmas.List.{append-nil}
@@ -9,9 +9,8 @@ use Rattle.rv_text.specs.declared.answer.Answer.TheVariants as answer
 use Rattle.rv_connection.specs.Traffic.{AnswerByte, Traffic, bytes_of}
 use Rattle.rv_wires.specs.Connections.{ListsOne, ReleasesOpen, SetsWire}
 use Rattle.rv_desk.specs.View.{DeskState, DeskTerms}
-use Rattle.rv_desk.specs.Deeds.{AnswersOrWaits, Deed, Does}
-use Rattle.rv_desk.specs.Deeds.{Asked, Closed, Elapsed, EndedInput, Lacked, Left, Lost, Opened, ReadNothing}
-use Rattle.rv_desk.specs.Deeds.{Told, TookIn, Wrote}
+use Rattle.rv_desk.specs.Deeds.{AnswersOrWaits, Deed, Does, Asked, Closed, Elapsed, EndedInput, Lacked, Left}
+use Rattle.rv_desk.specs.Deeds.{Lost, Opened, ReadNothing, Told, TookIn, Wrote}
 use Rattle.rv_desk.specs.Runs.{DeedsAreListed, ListsChanged}
 
 -- one connection's bytes were set, and it is listed

@@ -7,9 +7,9 @@ use Rattle.rv_account.specs.declared.entry.Entry.{Entry}
 use Rattle.rv_rules.specs.StepLimits.{StepLimits}
 use Rattle.rv_state.specs.State.{State}
 use Rattle.rv_desk.specs.View.{DeskState, DeskTerms}
-use Rattle.rv_desk.specs.Deeds.{AnswersOrWaits, Deed, Does, MakesStep, Stepped, entries_of_deed}
-use Rattle.rv_desk.specs.Deeds.{Asked, Closed, Elapsed, EndedInput, Lacked, Left, Lost, Opened, ReadNothing}
-use Rattle.rv_desk.specs.Deeds.{Told, TookIn, Wrote}
+use Rattle.rv_desk.specs.Deeds.{AnswersOrWaits, Deed, Does, MakesStep, Stepped, entries_of_deed, Asked}
+use Rattle.rv_desk.specs.Deeds.{Closed, Elapsed, EndedInput, Lacked, Left, Lost, Opened, ReadNothing, Told}
+use Rattle.rv_desk.specs.Deeds.{TookIn, Wrote}
 use Rattle.rv_desk.specs.Runs.{Cause, Heard, DeedsAreOneRun, RunsBook, Time}
 
 -- a run at equal ends

@@ -1,7 +1,6 @@
 -- A connection is opened, ended, let go or closed, and entries are written: the desk stays as it has to be.
-use Rattle.std.proofs.Common.{◌≡◌, ◌<◌, ◌≤◌, ◌∙◌, ℕ, None, Option, Some, refl, sym}
-use Rattle.std.proofs.Common.{ap}
-use Rattle.std.proofs.Common.{[], subst, arith, length, false, Ok, Err, Result, IfOk, OnErr}
+use Rattle.std.proofs.Common.{◌≡◌, ◌<◌, ◌≤◌, ◌∙◌, ℕ, None, Option, Some, refl, sym, ap, [], subst, arith}
+use Rattle.std.proofs.Common.{length, false, Ok, Err, Result, IfOk, OnErr}
 use Rattle.std.specs.Global.{Vec}
 use Rattle.std.specs.Prelude.{IsSome, vec_capacity}
 use Rattle.std.proofs.lemmas.Bool.{false≢true}

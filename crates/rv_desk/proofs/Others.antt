@@ -1,6 +1,6 @@
 -- What a turn leaves of the other connections: they stay as they are, or are closed, or told.
-use Rattle.std.proofs.Common.{inl, inr, ◌≡◌, ◌≢◌, ◌∙◌, ◌++◌, ◌∷◌, ℕ, suc, List, [], None}
-use Rattle.std.proofs.Common.{Some, refl, sym, ap, subst, arith}
+use Rattle.std.proofs.Common.{inl, inr, ◌≡◌, ◌≢◌, ◌∙◌, ◌++◌, ◌∷◌, ℕ, suc, List, [], None, Some, refl, sym, ap}
+use Rattle.std.proofs.Common.{subst, arith}
 use Rattle.std.specs.Prelude.{All}
 use Rattle.std.proofs.lemmas.Bool.{cases_eq}
 use Rattle.std.proofs.lemmas.Grind.{flat_map-append}
@@ -11,8 +11,7 @@ use Rattle.rv_text.specs.declared.answer.Answer.TheVariants as answer
 use Rattle.rv_desk.specs.View.{DeskState, DeskTerms}
 use Rattle.rv_desk.specs.Deeds.{AnswersOrWaits, Deed, Does, DoesAll, settled_by, told_of_deed, told_in_deeds}
 use Rattle.rv_desk.specs.Deeds.{Asked, Closed, Lacked, Lost, ReadNothing, Told, TookIn}
-use Rattle.rv_desk.specs.Order.{IsOwnDeed, RunsStrides, TellsEach, TellsKeys, TellsOneHearer}
-use Rattle.rv_desk.specs.Order.{deeds_of}
+use Rattle.rv_desk.specs.Order.{IsOwnDeed, RunsStrides, TellsEach, TellsKeys, TellsOneHearer, deeds_of}
 use Rattle.rv_desk.specs.Runs.{StaysOrTold, OthersStay}
 use Rattle.rv_desk.proofs.Rows.{there_first}
 

@@ -1,7 +1,6 @@
 -- Time goes on: what it leaves of a desk, and all whom it ends are told.
-use Rattle.std.proofs.Common.{inl, inr, ◌≡◌, ◌≤◌, ◌∙◌, ◌++◌, ◌∷◌, ◌⊎◌, ℕ, List, []}
-use Rattle.std.proofs.Common.{refl, sym, ap, subst, arith}
-use Rattle.std.proofs.Common.{append_assoc, max}
+use Rattle.std.proofs.Common.{inl, inr, ◌≡◌, ◌≤◌, ◌∙◌, ◌++◌, ◌∷◌, ◌⊎◌, ℕ, List, [], refl, sym, ap, subst}
+use Rattle.std.proofs.Common.{arith, append_assoc, max}
 use Rattle.std.specs.Prelude.{flat_map, option_to_list, vec_capacity}
 use Rattle.std.specs.Global.{Vec}
 use Rattle.std.proofs.lemmas.List.{append-nil}
@@ -27,8 +26,7 @@ use Rattle.rv_desk.specs.Deeds.{Deed, entries_of_deed, told_of_deed, told_in_dee
 use Rattle.rv_desk.specs.Order.{TellsKeys, TellsOverdue, TellsStillWaiting}
 use Rattle.rv_desk.specs.Rest.{HearersInTime, HearersWait}
 use Rattle.rv_desk.specs.Fields.{IsDeskReady, IsDeskSound, IsSteady, desk_state, desk_terms}
-use Rattle.rv_desk.specs.Going.{ElapsesIt, IsAmongKeys, PassesIt, StillGoes}
-use Rattle.rv_desk.specs.Going.{TellsLate, TellsThem}
+use Rattle.rv_desk.specs.Going.{ElapsesIt, IsAmongKeys, PassesIt, StillGoes, TellsLate, TellsThem}
 use Rattle.rv_desk.proofs.Quiet.{keys_quiet}
 use Rattle.rv_desk.proofs.Stepped.{sound_with, tellable_after, waits_or_listed}
 use Rattle.rv_desk.proofs.Striding.{settled_told}

@@ -1,7 +1,6 @@
 -- What a telling leaves: it makes no entry, takes no bytes in, and leaves no more unread.
-use Rattle.std.proofs.Common.{inl, inr, ◌≡◌, ◌≤◌, ◌∙◌, ◌++◌, ◌∷◌, ℕ, List, [], None, Option, Some, refl}
-use Rattle.std.proofs.Common.{ap, subst, arith}
-use Rattle.std.proofs.Common.{length}
+use Rattle.std.proofs.Common.{inl, inr, ◌≡◌, ◌≤◌, ◌∙◌, ◌++◌, ◌∷◌, ℕ, List, [], None, Option, Some, refl, ap}
+use Rattle.std.proofs.Common.{subst, arith, length}
 use Rattle.std.specs.Prelude.{flat_map}
 use Rattle.std.proofs.lemmas.Bool.{cases_eq}
 use Rattle.std.proofs.lemmas.Grind.{flat_map-append}
@@ -10,8 +9,7 @@ use Rattle.rv_connection.specs.Traffic.{Traffic}
 use Rattle.rv_wires.specs.Connections.{SetsWire, WiresState}
 use Rattle.rv_desk.specs.Going.{unread_of}
 use Rattle.rv_desk.specs.View.{DeskState, DeskTerms}
-use Rattle.rv_desk.specs.Deeds.{Deed, Does, DoesAll, bytes_by, bytes_in, entries_of_deed}
-use Rattle.rv_desk.specs.Deeds.{Closed, Told}
+use Rattle.rv_desk.specs.Deeds.{Deed, Does, DoesAll, bytes_by, bytes_in, entries_of_deed, Closed, Told}
 use Rattle.rv_desk.specs.Order.{TellsEach, TellsKeys, TellsOneHearer}
 
 one_quiet : (connection : ℕ) (deed : Deed) → TellsOneHearer connection deed

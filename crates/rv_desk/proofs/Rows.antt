@@ -1,6 +1,5 @@
 -- The list of those that wait for a request of a client: the first of them before the others.
-use Rattle.std.proofs.Common.{inl, inr, ◌≡◌, ◌≢◌, ◌<◌, ◌∙◌, ℕ, suc, List, [], ◌∷◌, None, Some}
-use Rattle.std.proofs.Common.{sym, ap, arith}
+use Rattle.std.proofs.Common.{inl, inr, ◌≡◌, ◌≢◌, ◌<◌, ◌∙◌, ℕ, suc, List, [], ◌∷◌, None, Some, sym, ap, arith}
 use Rattle.std.specs.Prelude.{All, Contains, slice_index_or}
 use Rattle.std.proofs.lemmas.Bool.{cases_lt}
 use Rattle.std.proofs.lemmas.Option.{none-some}

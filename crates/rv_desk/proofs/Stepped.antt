@@ -1,6 +1,5 @@
 -- What a step of the machine leaves of a desk.
-use Rattle.std.proofs.Common.{inl, inr, ◌≡◌, ◌≤◌, ◌∙◌, ◌++◌, ◌⊎◌, ℕ, List, [], Some, refl}
-use Rattle.std.proofs.Common.{sym, ap, subst}
+use Rattle.std.proofs.Common.{inl, inr, ◌≡◌, ◌≤◌, ◌∙◌, ◌++◌, ◌⊎◌, ℕ, List, [], Some, refl, sym, ap, subst}
 use Rattle.std.specs.Prelude.{option_to_list, vec_capacity}
 use Rattle.std.specs.Global.{Vec}
 use Rattle.rv_text.specs.declared.message.Key.{Key}

@@ -1,7 +1,6 @@
 -- A frame is answered, and behind it all are told whom it settled.
-use Rattle.std.proofs.Common.{inl, inr, ◌≡◌, ◌+◌, ◌<◌, ◌≤◌, ◌∙◌, ◌++◌, ◌∷◌, ◌⊎◌, ℕ, List, [], None}
-use Rattle.std.proofs.Common.{Some, refl, sym, ap, subst, arith}
-use Rattle.std.proofs.Common.{Err, Ok, Result}
+use Rattle.std.proofs.Common.{inl, inr, ◌≡◌, ◌+◌, ◌<◌, ◌≤◌, ◌∙◌, ◌++◌, ◌∷◌, ◌⊎◌, ℕ, List, [], None, Some}
+use Rattle.std.proofs.Common.{refl, sym, ap, subst, arith, Err, Ok, Result}
 use Rattle.std.specs.Prelude.{flat_map, vec_capacity}
 use Rattle.std.specs.Global.{Vec}
 use Rattle.std.proofs.lemmas.Bool.{cases_eq}
@@ -25,17 +24,15 @@ use Rattle.rv_hearers.specs.Hearing.{SetsHearing, WhoHears}
 use Rattle.rv_desk.specs.declared.desk.HubDesk.{HubDesk}
 use Rattle.rv_desk.specs.View.{DeskState, DeskTerms}
 use Rattle.rv_wires.specs.Connections.{HasWire}
-use Rattle.rv_desk.specs.Deeds.{AnswersNow, Deed, Does, DoesClose, IsDueWith, MakesStep}
-use Rattle.rv_desk.specs.Deeds.{Stepped}
-use Rattle.rv_desk.specs.Deeds.{bytes_by, bytes_in, entries_of_deed, settled_by, told_of_deed, told_in_deeds}
-use Rattle.rv_desk.specs.Deeds.{Asked, Closed, Lacked, Lost, ReadNothing}
+use Rattle.rv_desk.specs.Deeds.{AnswersNow, Deed, Does, DoesClose, IsDueWith, MakesStep, Stepped, bytes_by}
+use Rattle.rv_desk.specs.Deeds.{bytes_in, entries_of_deed, settled_by, told_of_deed, told_in_deeds, Asked}
+use Rattle.rv_desk.specs.Deeds.{Closed, Lacked, Lost, ReadNothing}
 use Rattle.rv_desk.specs.Order.{IsOwnDeed, TellsKeys}
 use Rattle.rv_desk.specs.Rest.{HearersInTime, HearersWait}
 use Rattle.rv_desk.specs.Fields.{IsDeskSound, IsSteady, desk_state, desk_terms}
-use Rattle.rv_desk.specs.Going.{GoesTelling, HearersWaitOr, IsFrameDue, IsAmongKeys, MaySay}
-use Rattle.rv_desk.specs.Going.{SaysOrLacks, SaysIt, StepsIt, StillGoes}
-use Rattle.rv_desk.specs.Going.{Strides, TakesDueFrame, TellsThem, fault_answer, unread_at}
-use Rattle.rv_desk.specs.Going.{work_left}
+use Rattle.rv_desk.specs.Going.{GoesTelling, HearersWaitOr, IsFrameDue, IsAmongKeys, MaySay, SaysOrLacks}
+use Rattle.rv_desk.specs.Going.{SaysIt, StepsIt, StillGoes, Strides, TakesDueFrame, TellsThem, fault_answer}
+use Rattle.rv_desk.specs.Going.{unread_at, work_left}
 use Rattle.rv_desk.proofs.Answering.{some_is}
 use Rattle.rv_desk.proofs.Done.{keys_done, keys_fewer}
 use Rattle.rv_desk.proofs.Quiet.{keys_quiet, keys_unread}

@@ -1,15 +1,13 @@
 -- Whoever waits is told one after another: what each telling adds to those before it.
-use Rattle.std.proofs.Common.{◌≡◌, ◌+◌, ◌<◌, ◌∙◌, ◌++◌, ◌∷◌, ℕ, suc, List, [], None}
-use Rattle.std.proofs.Common.{refl, sym, ap, subst, arith}
-use Rattle.std.proofs.Common.{append_assoc, drop, drop-cons, length, get_or}
+use Rattle.std.proofs.Common.{◌≡◌, ◌+◌, ◌<◌, ◌∙◌, ◌++◌, ◌∷◌, ℕ, suc, List, [], None, refl, sym, ap, subst}
+use Rattle.std.proofs.Common.{arith, append_assoc, drop, drop-cons, length, get_or}
 use Rattle.std.proofs.lemmas.List.{append-nil}
 use Rattle.std.proofs.lemmas.Grind.{flat_map-append}
 use Rattle.rv_text.specs.declared.message.Key.{Key}
 use Rattle.rv_hearers.specs.Hearing.{HearsOf, IsFirstHearer, SetsHearing}
 use Rattle.rv_desk.specs.declared.desk.HubDesk.{HubDesk}
 use Rattle.rv_desk.specs.View.{DeskState, DeskTerms}
-use Rattle.rv_desk.specs.Deeds.{Deed, Does, told_of_deed, told_in_deeds}
-use Rattle.rv_desk.specs.Deeds.{Closed, Told}
+use Rattle.rv_desk.specs.Deeds.{Deed, Does, told_of_deed, told_in_deeds, Closed, Told}
 use Rattle.rv_desk.specs.Order.{TellsClient, TellsKeys, TellsOneHearer}
 use Rattle.rv_desk.specs.Fields.{desk_state, desk_terms}
 use Rattle.rv_desk.specs.Going.{GoesTelling, TellsIt, TellsIts, TellsThem}

@@ -1,7 +1,6 @@
 -- A connection goes on until it stops.
 use Rattle.std.proofs.Common.{inl, inr, ◌≡◌, ◌+◌, ◌-◌, ◌<◌, ◌≤◌, ◌∙◌, ◌++◌, ◌∷◌, ◌⊎◌, ℕ, List, [], None}
-use Rattle.std.proofs.Common.{Option, Some, refl, sym, ap, subst, arith}
-use Rattle.std.proofs.Common.{append_assoc, drop, length, take}
+use Rattle.std.proofs.Common.{Option, Some, refl, sym, ap, subst, arith, append_assoc, drop, length, take}
 use Rattle.std.proofs.Common.{Bool, false, not}
 use Rattle.std.specs.Prelude.{All, IsSome, flat_map, is_some}
 use Rattle.std.proofs.lemmas.Bool.{false≢true}
@@ -19,15 +18,12 @@ use Rattle.rv_wires.specs.declared.wires.Wires.{Wires}
 use Rattle.rv_desk.specs.declared.desk.HubDesk.{HubDesk}
 use Rattle.rv_desk.specs.View.{DeskState, DeskTerms}
 use Rattle.rv_desk.specs.Deeds.{Deed, DoesClose, bytes_by, bytes_in, entries_of_deed, told_of_deed}
-use Rattle.rv_desk.specs.Deeds.{told_in_deeds}
-use Rattle.rv_desk.specs.Deeds.{Closed, TookIn}
+use Rattle.rv_desk.specs.Deeds.{told_in_deeds, Closed, TookIn}
 use Rattle.rv_desk.specs.Order.{IsOwnDeed, IsStride, RunsStrides, deeds_of}
 use Rattle.rv_desk.specs.Rest.{HasComeToStop, TakesNoMore}
 use Rattle.rv_desk.specs.Fields.{IsDeskSound, IsSteady, desk_state, desk_terms}
 use Rattle.rv_desk.specs.Going.{FeedsPiece, Finishes, Goes, HasDue, NotesOne, Strides, TakesItsTurn}
-use Rattle.rv_desk.specs.Going.{unread_at}
-use Rattle.rv_desk.specs.Going.{unread_of, unread_total}
-use Rattle.rv_desk.specs.Going.{work_left}
+use Rattle.rv_desk.specs.Going.{unread_at, unread_of, unread_total, work_left}
 use Rattle.rv_desk.proofs.Answering.{some_is, sound_wire}
 use Rattle.rv_desk.proofs.Chains.{runs_append}
 use Rattle.rv_desk.proofs.Owing.{Agree}

@@ -1,10 +1,8 @@
 -- How many requests wait for which no connection does: all that wait less those of which some connection
 -- hears.
 use Rattle.std.proofs.Common.{inl, inr, ◌≡◌, ◌≢◌, ◌<◌, ◌≤◌, ◌+◌, ◌∙◌, ◌++◌, ◌∷◌, ◌⊎◌, ℕ, zero, suc, Bool}
-use Rattle.std.proofs.Common.{true, false, not}
-use Rattle.std.proofs.Common.{List, [], None, Option, Some, Contains, length, nat_eq, refl, sym, ap, subst}
-use Rattle.std.proofs.Common.{arith}
-use Rattle.std.proofs.Common.{cond, length-append}
+use Rattle.std.proofs.Common.{true, false, not, List, [], None, Option, Some, Contains, length, nat_eq, refl}
+use Rattle.std.proofs.Common.{sym, ap, subst, arith, cond, length-append}
 use Rattle.std.specs.Prelude.{◌&&◌, filter, is_some, slice_get}
 use Rattle.std.specs.Cmp.{nat_eq_equiv}
 use Rattle.std.specs.List.{list_any}

@@ -1,6 +1,6 @@
 -- The single deeds of a desk: each is one change of what contracts see.
-use Rattle.std.specs.Prelude.{ℕ, ◌≡◌, ◌+◌, ◌≤◌, ◌↔◌, ◌⊎◌, false, true, List, [], ◌∷◌, None, Option}
-use Rattle.std.specs.Prelude.{Contains, Some, flat_map, length}
+use Rattle.std.specs.Prelude.{ℕ, ◌≡◌, ◌+◌, ◌≤◌, ◌↔◌, ◌⊎◌, false, true, List, [], ◌∷◌, None, Option, Contains}
+use Rattle.std.specs.Prelude.{Some, flat_map, length}
 use Rattle.rv_text.specs.declared.message.Key.{Key}
 use Rattle.rv_text.specs.declared.message.Message.{Message}
 use Rattle.rv_text.specs.declared.answer.Answer.{Answer}

@@ -1,6 +1,5 @@
 -- What the calls on a desk leave: their deeds, the entries that these made, and who is free to go on.
-use Rattle.std.specs.Prelude.{ℕ, ◌≡◌, ◌+◌, ◌<◌, ◌≤◌, ◌⊎◌, List, [], ◌∷◌, ◌++◌, All, Option, Some}
-use Rattle.std.specs.Prelude.{slice_get}
+use Rattle.std.specs.Prelude.{ℕ, ◌≡◌, ◌+◌, ◌<◌, ◌≤◌, ◌⊎◌, List, [], ◌∷◌, ◌++◌, All, Option, Some, slice_get}
 use Rattle.std.specs.Prelude.{Result, flat_map, length, take, true, vec_capacity}
 use Rattle.rv_json.specs.Bodies.{HasBodyLength}
 use Rattle.rv_text.specs.declared.message.Key.{Key}
@@ -34,8 +33,7 @@ use Rattle.rv_desk.specs.Fields.{desk_state, desk_terms}
 use Rattle.rv_desk.specs.Deeds.{AnswersNow, AnswersOrWaits, Deed, Does, DoesClose, IsDueWith, WaitsNow}
 use Rattle.rv_desk.specs.Deeds.{Elapsed, bytes_in, entries_of_deed, rests_on, told_in_deeds}
 use Rattle.rv_desk.specs.Order.{IsOwnDeed, IsStride, RunsStrides, TellsClient, TellsKeys, TellsOneHearer}
-use Rattle.rv_desk.specs.Order.{TellsOverdue}
-use Rattle.rv_desk.specs.Order.{IsTurn, deeds_of}
+use Rattle.rv_desk.specs.Order.{TellsOverdue, IsTurn, deeds_of}
 
 -- how many bytes of a connection are unread, if it is open
 abbrev pub unread_of : Option Traffic → ℕ

@@ -6,8 +6,8 @@ use Rattle.rv_text.specs.declared.answer.Answer.TheVariants as answer
 use Rattle.rv_hearers.specs.declared.tables.Hearing.{Hearing}
 use Rattle.rv_desk.specs.View.{DeskState, DeskTerms}
 use Rattle.rv_desk.specs.Telling.{AreHearersOf}
-use Rattle.rv_desk.specs.Deeds.{Deed, Does, DoesAll, bytes_in, settled_by}
-use Rattle.rv_desk.specs.Deeds.{Asked, Closed, Lacked, Lost, ReadNothing, Told, TookIn}
+use Rattle.rv_desk.specs.Deeds.{Deed, Does, DoesAll, bytes_in, settled_by, Asked, Closed, Lacked, Lost}
+use Rattle.rv_desk.specs.Deeds.{ReadNothing, Told, TookIn}
 
 -- ---- telling
 

@@ -13,8 +13,7 @@ ghost use Rattle.rv_desk.specs.Deeds.{rests_on};
 ghost use Rattle.rv_desk.specs.Telling.{WaitsOn};
 ghost use Rattle.rv_desk.specs.Fields.{IsDeskSound, IsSteady, desk_state};
 ghost use Rattle.rv_desk.specs.Going.{AnswersIt, HasDue, IsFrameDue, IsMessageAt, LacksIt, MaySay, SaysIt};
-ghost use Rattle.rv_desk.specs.Going.{SaysText};
-ghost use Rattle.rv_desk.specs.Going.{StepsIt, StillGoes, Strides, WaitsIt, fault_answer};
+ghost use Rattle.rv_desk.specs.Going.{SaysText, StepsIt, StillGoes, Strides, WaitsIt, fault_answer};
 
 use crate::desk::HubDesk;
 use crate::telling::reply_to;

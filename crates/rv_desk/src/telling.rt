@@ -10,8 +10,7 @@ ghost use Rattle.rv_hearers.specs.Hearers.{hearers_of};
 ghost use Rattle.rv_desk.specs.Telling.{IsTellable, IsToldAgain};
 ghost use Rattle.rv_desk.specs.Fields.{IsDeskSound, desk_state};
 ghost use Rattle.rv_desk.specs.Going.{GivesTold, IsNextOverdue, IsSameDesk, IsToldText, MayGive, TellsIt};
-ghost use Rattle.rv_desk.specs.Going.{TellsIts, TellsLate};
-ghost use Rattle.rv_desk.specs.Going.{TellsThem};
+ghost use Rattle.rv_desk.specs.Going.{TellsIts, TellsLate, TellsThem};
 ghost use Rattle.rv_desk.specs.Rest.{HearersInTime, HearersWait};
 
 use crate::desk::HubDesk;
