@@ -1,0 +1,12 @@
+pub mod Listing
+pub mod Places
+pub mod Totals
+pub mod Changing
+pub mod Marks
+pub mod Sound
+pub mod Freeing
+pub mod Answered
+pub mod Released
+pub mod Reaching
+pub mod Leading
+pub mod Tallying
