@@ -1,0 +1,89 @@
+-- Behind a telling nobody waits any longer who was to be told, and nobody begins to.
+use Rattle.std.proofs.Common.{◌≡◌, ◌∙◌, ℕ, zero, suc, List, [], ◌∷◌, Some, sym, ap, subst, arith}
+use Rattle.std.specs.Prelude.{Contains, slice_get}
+use Rattle.std.proofs.lemmas.Option.{none-some}
+use Rattle.rv_text.specs.declared.message.Key.{Key}
+use Rattle.rv_hearers.specs.declared.tables.Hearing.{Hearing}
+use Rattle.rv_hearers.specs.Hearing.{HearsOf, WhoHears}
+use Rattle.rv_desk.specs.View.{DeskState, DeskTerms}
+use Rattle.rv_desk.specs.Deeds.{Deed, DoesAll}
+use Rattle.rv_desk.specs.Order.{TellsClient, TellsEach, TellsKeys}
+use Rattle.rv_desk.proofs.Rows.{is_other}
+use Rattle.rv_desk.proofs.ToldOne.{fewer_hear}
+use Rattle.rv_desk.proofs.Tellings.{tells_sets}
+
+-- an element of a list is its first or one of the others
+pub in_parts : (x : ℕ) (xs : List ℕ) (y : ℕ) → Contains (x ∷ xs) y → (x ≡ y → ⊥) → Contains xs y
+in_parts x xs y (zero, within, is) apart = absurd (apart is)
+in_parts x xs y (suc k, within, is) apart = (k, (let h = within in omega arith), is)
+
+pub each_done : (terms : DeskTerms) (s t : DeskState) (row : List ℕ) (deeds : List Deed) → TellsEach row deeds
+    → DoesAll terms s deeds t → (connection : ℕ) (hearing : Hearing) → t.hears connection ≡ Some hearing
+    → (s.hears connection ≡ Some hearing) × (Contains row connection → ⊥)
+each_done terms s t [] deeds none does connection hearing there =
+    let same = subst (λ ds. DoesAll terms s ds t) none does in (
+      ap (λ (u : DeskState). u.hears connection) (sym same) ∙ there,
+      λ among. (let within = among.1 in absurd (omega arith)),
+    )
+each_done terms s t (n ∷ row) [] none does connection hearing there = absurd none
+each_done terms s t (n ∷ row) (deed ∷ deeds) (tells, each) (mid, does, more) connection hearing there =
+    let later = each_done terms mid t row deeds each more connection hearing there in
+    let sets = tells_sets terms s mid n deed tells does in
+    let apart = is_other mid.hears n connection hearing sets.own later.0 in (
+      fewer_hear s.hears mid.hears n sets connection hearing later.0,
+      λ among. later.1 (in_parts n row connection among (λ same. apart (sym same))),
+    )
+
+pub client_done : (terms : DeskTerms) (s t : DeskState) (client : ℕ) (deeds : List Deed)
+    → TellsClient terms s client deeds t
+    → ((connection : ℕ) (hearing : Hearing) → t.hears connection ≡ Some hearing → s.hears connection ≡ Some
+    hearing)
+    × ((connection : ℕ) → ¬ HearsOf t.hears client connection)
+client_done terms s t client deeds tells = (
+  λ connection hearing there. (each_done terms s t tells.row deeds tells.each tells.does connection hearing
+      there).0,
+  λ connection hears.
+      let it = each_done terms s t tells.row deeds tells.each tells.does connection hears.hearing hears.there
+      in
+      it.1 (tells.hearers.all connection (record {
+        hearing = hears.hearing;
+        there = it.0;
+        same =
+            hears.same;
+      })),
+)
+
+-- nobody hears a client, once nobody did
+still_nobody : (was now : WhoHears) (client : ℕ)
+    → ((connection : ℕ) (hearing : Hearing) → now connection ≡ Some hearing → was connection ≡ Some hearing)
+    → ((connection : ℕ) → ¬ HearsOf was client connection) → (connection : ℕ)
+    → ¬ HearsOf now client connection
+still_nobody was now client fewer none connection hears =
+    none connection (record {
+      hearing = hears.hearing;
+      there = fewer connection hears.hearing hears.there;
+      same = hears.same;
+    })
+
+pub keys_fewer : (terms : DeskTerms) (s t : DeskState) (keys : List Key) (deeds : List Deed)
+    → TellsKeys terms s keys deeds t → (connection : ℕ) (hearing : Hearing)
+    → t.hears connection ≡ Some hearing
+    → s.hears connection ≡ Some hearing
+keys_fewer terms s t [] deeds (none, same) connection hearing there =
+    ap (λ (u : DeskState). u.hears connection) (sym same) ∙ there
+keys_fewer terms s t (key ∷ keys) deeds (first, rest, mid, parts, tells, more) connection hearing there =
+    (client_done terms s mid key.client first tells).0 connection hearing
+    (keys_fewer terms mid t keys rest more connection hearing there)
+
+pub keys_done : (terms : DeskTerms) (s t : DeskState) (keys : List Key) (deeds : List Deed)
+    → TellsKeys terms s keys deeds t → (i : ℕ) (key : Key) → slice_get keys i ≡ Some key
+    → (connection : ℕ) → ¬ HearsOf t.hears key.client connection
+keys_done terms s t [] deeds tells i key at connection hears = none-some key at
+keys_done terms s t (head ∷ keys) deeds (first, rest, mid, parts, tells, more) zero key at connection hears =
+    let same : head ≡ key = (cc) in
+    still_nobody mid.hears t.hears key.client (keys_fewer terms mid t keys rest more)
+    (subst (λ (k : Key). (n : ℕ) → ¬ HearsOf mid.hears k.client n) same
+    (client_done terms s mid head.client first tells).1) connection hears
+keys_done terms s t (head ∷ keys) deeds (first, rest, mid, parts, tells, more) (suc i) key at connection
+    hears =
+    keys_done terms mid t keys rest more i key at connection hears

@@ -1,0 +1,160 @@
+-- Whoever waits is told one after another: what each telling adds to those before it.
+use Rattle.std.proofs.Common.{◌≡◌, ◌+◌, ◌<◌, ◌∙◌, ◌++◌, ◌∷◌, ℕ, suc, List, [], None, refl, sym, ap, subst}
+use Rattle.std.proofs.Common.{arith, append_assoc, drop, drop-cons, length, get_or}
+use Rattle.std.proofs.lemmas.List.{append-nil}
+use Rattle.std.proofs.lemmas.Grind.{flat_map-append}
+use Rattle.rv_text.specs.declared.message.Key.{Key}
+use Rattle.rv_hearers.specs.Hearing.{HearsOf, IsFirstHearer, SetsHearing}
+use Rattle.rv_desk.specs.declared.desk.HubDesk.{HubDesk}
+use Rattle.rv_desk.specs.View.{DeskState, DeskTerms}
+use Rattle.rv_desk.specs.Deeds.{Deed, Does, told_of_deed, told_in_deeds, Closed, Told}
+use Rattle.rv_desk.specs.Order.{TellsClient, TellsKeys, TellsOneHearer}
+use Rattle.rv_desk.specs.Fields.{desk_state, desk_terms}
+use Rattle.rv_desk.specs.Going.{GoesTelling, TellsIt, TellsIts, TellsThem}
+use Rattle.rv_desk.proofs.Rows.{row_first, row_nobody}
+
+-- ---- one
+
+-- whoever is told, or closed, waits no more
+pub tells_sets : (terms : DeskTerms) (old new : DeskState) (connection : ℕ) (deed : Deed)
+    → TellsOneHearer connection deed
+    → Does terms old deed new → SetsHearing old.hears connection None new.hears
+tells_sets terms old new connection (Told n key said) same does =
+    subst (λ m. SetsHearing old.hears m None new.hears) same does.hears
+tells_sets terms old new connection (Closed n) same does =
+    subst (λ m. SetsHearing old.hears m None new.hears) same does.hears
+tells_sets terms old new connection deed tells does = absurd tells
+
+tells_first : (terms : DeskTerms) (old between final : DeskState) (client connection : ℕ) (deed : Deed)
+    (rest : List Deed) → IsFirstHearer old.hears client connection → TellsOneHearer connection deed
+    → Does terms old deed between → TellsClient terms between client rest final
+    → TellsClient terms old client (deed ∷ rest) final
+tells_first terms old between final client connection deed rest first tells does more = record {
+  row = connection ∷ more.row;
+  hearers = row_first old.hears between.hears client connection more.row first
+      (tells_sets terms old between connection deed tells does) more.hearers;
+  each = (tells, more.each);
+  does = (between, does, more.does);
+}
+
+-- ---- what goes on beside
+
+pub goes_none : (d : HubDesk) → GoesTelling d [] d
+goes_none d = record { rest = refl; freed = sym (append-nil d.freed.items); work = omega arith }
+
+pub goes_on : (one two three : HubDesk) (first second : List Deed) → GoesTelling one first two
+    → GoesTelling two second three → GoesTelling one (first ++ second) three
+goes_on one two three first second before behind =
+    let less = before.work in
+    let lesser = behind.work in
+    record {
+      rest = behind.rest
+          ∙ ap (λ (d : HubDesk). record d {
+            wires = three.wires;
+            hearers = three.hearers;
+            freed =
+                three.freed;
+          }) before.rest;
+      freed = behind.freed ∙ ap (λ l. l ++ told_in_deeds second) before.freed
+          ∙ append_assoc one.freed.items (told_in_deeds first) (told_in_deeds second)
+          ∙ ap (λ l. one.freed.items ++ l) (sym (flat_map-append told_of_deed first second));
+      work = omega arith;
+    }
+
+pub same_terms : (old new : HubDesk) (deeds : List Deed) → GoesTelling old deeds new
+    → desk_terms new ≡ desk_terms old
+same_terms old new deeds goes = ap desk_terms goes.rest
+
+-- ---- all of a client
+
+-- those that were told so far, and what it takes that all are
+pub record TellsSoFar (old : HubDesk) (client : ℕ) (now : HubDesk) : Type 0 where
+  pub done : List Deed
+  pub goes : GoesTelling old done now
+  pub leads : (rest : List Deed) (final : DeskState)
+      → TellsClient (desk_terms old) (desk_state now) client rest final
+      → TellsClient (desk_terms old) (desk_state old) client (done ++ rest) final
+
+pub tells_none : (d : HubDesk) (client : ℕ) → TellsSoFar d client d
+tells_none d client = record { done = []; goes = goes_none d; leads = λ rest final tells. tells }
+
+pub tells_next : (old now new : HubDesk) (client connection : ℕ) → TellsSoFar old client now
+    → IsFirstHearer (desk_state now).hears client connection → TellsIt now connection new
+    → TellsSoFar old client new
+tells_next old now new client connection far first it =
+    let does = subst (λ (terms : DeskTerms). Does terms (desk_state now) it.deed (desk_state new))
+    (same_terms old now far.done far.goes) it.does in
+    record {
+      done = far.done ++ it.deed ∷ [];
+      goes = goes_on old now new far.done (it.deed ∷ []) far.goes it.goes;
+      leads = λ rest final tells.
+          subst (λ l. TellsClient (desk_terms old) (desk_state old) client l final)
+          (sym (append_assoc far.done (it.deed ∷ []) rest))
+          (far.leads (it.deed ∷ rest) final
+          (tells_first (desk_terms old) (desk_state now) (desk_state new) final client connection it.deed rest
+          first
+          it.tells does tells));
+    }
+
+pub tells_all : (old new : HubDesk) (client : ℕ) → TellsSoFar old client new
+    → ((connection : ℕ) → ¬ HearsOf (desk_state new).hears client connection) → TellsIts old client new
+tells_all old new client far none = record {
+  deeds = far.done;
+  tells = subst (λ l. TellsClient (desk_terms old) (desk_state old) client l (desk_state new))
+      (append-nil far.done)
+      (far.leads [] (desk_state new) (record {
+        row = [];
+        hearers = row_nobody (desk_state new).hears client none;
+        each = refl;
+        does = refl;
+      }));
+  goes = far.goes;
+}
+
+-- ---- all of some keys
+
+pub record TellsKeysSoFar (old : HubDesk) (keys : List Key) (at : ℕ) (now : HubDesk) : Type 0 where
+  pub done : List Deed
+  pub goes : GoesTelling old done now
+  pub leads : (rest : List Deed) (final : DeskState)
+      → TellsKeys (desk_terms old) (desk_state now) (drop at keys) rest final
+      → TellsKeys (desk_terms old) (desk_state old) keys (done ++ rest) final
+
+pub tells_no_key : (d : HubDesk) (keys : List Key) → TellsKeysSoFar d keys 0 d
+tells_no_key d keys = record { done = []; goes = goes_none d; leads = λ rest final tells. tells }
+
+pub tells_next_key : (old now new : HubDesk) (list keys : List Key) (at : ℕ) (d : Key) → list ≡ keys
+    → at < length list
+    → TellsKeysSoFar old keys at now → TellsIts now (get_or list at d).client new
+    → TellsKeysSoFar old keys (at + 1) new
+tells_next_key old now new list keys at d same within far its =
+    let key = get_or list at d in
+    let tells = subst (λ (terms : DeskTerms). TellsClient terms (desk_state now) key.client its.deeds
+    (desk_state new))
+    (same_terms old now far.done far.goes) its.tells in
+    let next : suc at ≡ at + 1 = omega arith in
+    let parts : drop at keys ≡ key ∷ drop (at + 1) keys = ap (λ l. drop at l) (sym same)
+    ∙ drop-cons list at d within ∙ ap (λ n. key ∷ drop n list) next ∙ ap (λ l. key ∷ drop (at + 1) l) same in
+    record {
+      done = far.done ++ its.deeds;
+      goes = goes_on old now new far.done its.deeds far.goes its.goes;
+      leads = λ rest final more.
+          subst (λ l. TellsKeys (desk_terms old) (desk_state old) keys l final)
+          (sym (append_assoc far.done its.deeds rest))
+          (far.leads (its.deeds ++ rest) final
+          (subst (λ ks. TellsKeys (desk_terms old) (desk_state now) ks (its.deeds ++ rest) final) (sym parts)
+          (its.deeds, rest, desk_state new, refl, tells, more)));
+    }
+
+pub tells_keys : (old new : HubDesk) (keys : List Key) (at : ℕ) → drop at keys ≡ []
+    → TellsKeysSoFar old keys at new
+    → TellsThem old keys new
+tells_keys old new keys at none far = record {
+  deeds = far.done;
+  tells = subst (λ l. TellsKeys (desk_terms old) (desk_state old) keys l (desk_state new))
+      (append-nil far.done)
+      (far.leads [] (desk_state new)
+      (subst (λ ks. TellsKeys (desk_terms old) (desk_state new) ks [] (desk_state new)) (sym none)
+      (refl, refl)));
+  goes = far.goes;
+}

@@ -1,0 +1,32 @@
+-- Bytes are taken, or it is closed.
+use Rattle.std.proofs.Common.{refl}
+use Rattle.std.specs.Option.{option_copied}
+use Rattle.rv_desk.proofs.Noting.{still_some}
+use Rattle.rv_desk.proofs.Turning.{fed_closed, fed_some, open_by, same_sound, same_steady}
+use Rattle.rv_desk.proofs.desk.HubDesk.feed.Goals as goal
+
+pub returns-in-Ok-clause-feeds : goal.returns-in-Ok-clause-feeds
+returns-in-Ok-clause-feeds c =
+    (fed_some c.args.self.now c.take_in.new.self c.args.connection c.args.piece.now c.in-Ok.count c.requires
+    c.in-Ok.ensures.takes c.in-Ok.ensures.noted).1
+
+pub returns-in-Err-clause-feeds : goal.returns-in-Err-clause-feeds
+returns-in-Err-clause-feeds c =
+    (fed_closed c.args.self.now (record c.args.self.now { wires = c.take_in.new.self }) c.shut.new.self
+    c.args.connection c.args.piece.now refl c.in-Err.ensures.refused c.in-Err.ensures.kept
+    c.shut.ensures.closes
+    c.shut.ensures.rest c.shut.ensures.less).0
+
+pub shut-requires-clause-sound : goal.shut-requires-clause-sound
+shut-requires-clause-sound c =
+    same_sound c.args.self.now c.take_in.new.self c.requires.sound c.in-Err.ensures.refused
+
+pub shut-requires-clause-open_wire : goal.shut-requires-clause-open_wire
+shut-requires-clause-open_wire c =
+    still_some _ _ c.args.connection c.in-Err.ensures.refused
+    (open_by option_copied c.get.result _ c.is_none.result (λ x. refl) c.is_none.ensures c.if-is_none.false
+    c.get.ensures.found)
+
+pub returns-in-Err-clause-steady : goal.returns-in-Err-clause-steady
+returns-in-Err-clause-steady c =
+    c.shut.ensures.steady (same_steady c.args.self.now c.take_in.new.self c.requires c.in-Err.ensures.refused)
