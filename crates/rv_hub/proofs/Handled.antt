@@ -1,0 +1,121 @@
+-- An event as a whole, from its parts.
+use Rattle.std.proofs.Common.{inl, ◌≡◌, ◌∙◌, ℕ, List, Option}
+use Rattle.std.proofs.Common.{sym, subst}
+use Rattle.std.proofs.Common.{Bool, Err, IfErr, OnErr, Ok, Result, option_to_list}
+use Rattle.std.specs.Prelude.{Contains, IsErrAnd}
+use Rattle.std.specs.Option.{unwrap_or}
+use Rattle.rv_account.specs.declared.entry.Entry.{Entry}
+use Rattle.rv_desk.specs.declared.desk.HubDesk.{HubDesk}
+use Rattle.rv_desk.specs.View.{DeskState, DeskTerms, begun}
+use Rattle.rv_desk.specs.Deeds.{DoesAll}
+use Rattle.rv_desk.specs.Rest.{HasComeToStop}
+use Rattle.rv_desk.specs.Fields.{desk_state, desk_terms}
+use Rattle.rv_desk.proofs.Listing.{deeds_are_listed}
+use Rattle.rv_hub.specs.declared.events.EventRefusal.{EventRefusal}
+use Rattle.rv_hub.specs.declared.events.EventRefusal.TheVariants as refused
+use Rattle.rv_hub.specs.declared.events.HubEvent.{HubEvent}
+use Rattle.rv_hub.specs.declared.events.HubEvent.TheVariants as event
+use Rattle.rv_hub.specs.Events.{EventCan, EventCannotBe}
+use Rattle.rv_hub.specs.Turns.{EventRefused, EventGoesOn, IsAtRest, TakesEvent, goes_on_first, last_deeds}
+use Rattle.rv_hub.specs.Turns.{offer_in, own_deeds}
+use Rattle.rv_hub.specs.Steps.{ActsOwn, IsGoing, RunsOn}
+use Rattle.rv_hub.proofs.Longer.{IsWithin}
+use Rattle.rv_hub.proofs.Owning.{own_going}
+use Rattle.rv_hub.proofs.Resting.{can_begun, cannot_begun, gives_it, within_behind}
+use Rattle.rv_hub.proofs.Whole.{event_deeds, event_does}
+
+-- ---- where no connection has changed yet
+
+rest_begun : (journal : Bool) (s : DeskState) → IsAtRest journal s → IsAtRest journal (begun s)
+rest_begun journal s rest = record {
+  stopped = rest.stopped;
+  hearers_owe = rest.hearers_owe;
+  owers_hear = rest.owers_hear;
+  waits = rest.waits;
+  in_time = rest.in_time;
+  written = rest.written;
+  all_written = rest.all_written;
+}
+
+-- behind an event that is refused
+pub rest_same : (journal : Bool) (s t : DeskState) → t ≡ begun s → IsAtRest journal s → IsAtRest journal t
+rest_same journal s t same rest = subst (IsAtRest journal) (sym same) (rest_begun journal s rest)
+
+pub refused_check : (s t : DeskState) (what : HubEvent) (why : EventRefusal) → t ≡ begun s
+    → EventCannotBe t what why
+    → EventRefused s what why
+refused_check s t what why same cannot =
+    inl (cannot_begun s what why (subst (λ (u : DeskState). EventCannotBe u what why) same cannot))
+
+-- ---- an event that is taken
+
+pub going_on : (journal : Bool) (s : DeskState) (begins acts : HubDesk) (what : HubEvent) (opened : Option ℕ)
+    → IsAtRest journal s → desk_state begins ≡ begun s → ActsOwn begins what opened acts
+    → IsGoing (desk_state acts) (option_to_list (goes_on_first what))
+going_on journal s begins acts what opened rest same own =
+    own_going (desk_terms begins) (desk_state begins) (desk_state acts) what own.number
+    (λ c. subst (λ (t : DeskState). HasComeToStop t c) (sym same) (rest.stopped c)) own.does
+
+pub within_on : (journal : Bool) (s : DeskState) (begins acts runs : HubDesk) (what : HubEvent) (opened :
+    Option ℕ)
+    (handed taken : ℕ) → IsAtRest journal s → desk_state begins ≡ begun s → ActsOwn begins what opened acts
+    → RunsOn acts handed what (offer_in what) taken runs → IsWithin (desk_state runs)
+within_on journal s begins acts runs what opened handed taken rest same own goes =
+    within_behind begins acts runs what opened handed taken (subst IsWithin (sym same) rest.written) own goes
+
+pub takes_it : (journal : Bool) (before begins acts runs writes : HubDesk) (handed : ℕ) (what : HubEvent)
+    (opened : Option ℕ) (taken result : ℕ) → desk_state begins ≡ begun (desk_state before)
+    → desk_terms begins ≡ desk_terms before → EventCan (desk_state begins) what
+    → ActsOwn begins what opened acts
+    → desk_terms acts ≡ desk_terms begins → RunsOn acts handed what (offer_in what) taken runs
+    → DoesAll (desk_terms runs) (desk_state runs) (last_deeds journal (desk_state runs)) (desk_state writes)
+    → writes.entries.items ≡ runs.entries.items → result ≡ unwrap_or opened taken
+    → TakesEvent journal (desk_terms before) (desk_state before) handed what writes.entries.items result
+    (desk_state writes)
+takes_it journal before begins acts runs writes handed what opened taken result same terms can own kept goes
+    last
+    entries is =
+    let at_acts : desk_terms acts ≡ desk_terms before = kept ∙ terms in
+    let at_runs : desk_terms runs ≡ desk_terms before = goes.terms ∙ at_acts in
+    record {
+      can = can_begun (desk_state before) what (subst (λ (s : DeskState). EventCan s what) same can);
+      number = own.number;
+      after_own = desk_state acts;
+      own = subst (λ (t : DeskTerms). DoesAll t (begun (desk_state before)) (own_deeds what own.number)
+          (desk_state acts)) terms
+          (subst (λ (s : DeskState). DoesAll (desk_terms begins) s (own_deeds what own.number)
+          (desk_state acts)) same
+          own.does);
+      taken = taken;
+      after_turns = desk_state runs;
+      goes_on = subst (λ (t : DeskTerms). EventGoesOn t (desk_state acts) handed what writes.entries.items
+          taken
+          (desk_state runs)) at_acts
+          (subst (λ es. EventGoesOn (desk_terms acts) (desk_state acts) handed what es taken
+          (desk_state runs)) (sym entries)
+          goes.goes);
+      last = subst (λ (t : DeskTerms). DoesAll t (desk_state runs) (last_deeds journal (desk_state runs))
+          (desk_state writes)) at_runs last;
+      gives = gives_it what own.number taken result opened own.opened_is is;
+    }
+
+-- whoever isn't listed has the bytes that it had
+pub listed_it : (journal : Bool) (terms : DeskTerms) (s : DeskState) (handed : ℕ) (what : HubEvent)
+    (made : List Entry) (result : ℕ) (t : DeskState) → TakesEvent journal terms s handed what made result t
+    → (n : ℕ)
+    → ¬ Contains t.changed n → t.open_wires.wires n ≡ s.open_wires.wires n
+listed_it journal terms s handed what made result t takes n absent =
+    (deeds_are_listed terms (event_deeds journal terms s handed what made result t takes) (begun s) t
+    (event_does journal terms s handed what made result t takes).does).others n absent
+
+-- ---- the ways out where it is refused
+
+pub refused_by : (s : DeskState) (what : HubEvent) (r : Result ℕ EventRefusal) (why : EventRefusal)
+    → EventRefused s what why → IsErrAnd r (λ e. e ≡ why) → IfErr r (EventRefused s what)
+refused_by s what (Ok n) why refused is = absurd is
+refused_by s what (Err e) why refused is = subst (λ (x : EventRefusal). EventRefused s what x) (sym is)
+    refused
+
+pub on_err : (r : Result ℕ EventRefusal) (P : Type 0) → P → OnErr r P
+on_err (Ok n) P holds = tt
+on_err (Err e) P holds = holds

@@ -1,0 +1,14 @@
+pub mod Staying
+pub mod Rounds
+pub mod Whom
+pub mod Owning
+pub mod Flattened
+pub mod Longer
+pub mod Whole
+pub mod Acting
+pub mod Resting
+pub mod Handled
+pub mod Histories
+pub mod Accounts
+pub mod OneRun
+pub mod Checked

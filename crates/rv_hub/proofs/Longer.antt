@@ -1,0 +1,141 @@
+-- No deed makes the account shorter, and no more is written than it has entries.
+use Rattle.std.proofs.Common.{inl, inr, ◌≡◌, ◌≤◌, ◌+◌, ◌∙◌, ◌∷◌, ◌⊎◌, ℕ, List, [], None, Some}
+use Rattle.std.proofs.Common.{refl, sym, ap, subst, arith}
+use Rattle.std.proofs.Common.{length}
+use Rattle.std.specs.Prelude.{flat_map}
+use Rattle.std.proofs.lemmas.List.{append-nil, length-append}
+use Rattle.rv_text.specs.declared.message.Message.{Message}
+use Rattle.rv_text.specs.declared.answer.Answer.{Answer}
+use Rattle.rv_text.specs.declared.answer.Answer.TheVariants as answer
+use Rattle.rv_account.specs.declared.entry.Act.{Act}
+use Rattle.rv_account.specs.declared.entry.Act.TheVariants as act
+use Rattle.rv_account.specs.declared.entry.Entry.{Entry}
+use Rattle.rv_rules.specs.StepLimits.{StepLimits}
+use Rattle.rv_state.specs.After.{due_at, following}
+use Rattle.rv_state.specs.Moves.{Move, StateNextAtUnder, ticked_at, ticked_if}
+use Rattle.rv_state.specs.State.{OpenPlace, State}
+use Rattle.rv_resume.proofs.Counts.{length_acted}
+use Rattle.rv_machine.specs.Needing.{act_of}
+use Rattle.rv_machine.proofs.RoomTaken.{StaysOrEnters, move_kinds}
+use Rattle.rv_desk.specs.View.{DeskState, DeskTerms}
+use Rattle.rv_desk.specs.Deeds.{AnswersOrWaits, Deed, Does, DoesAll, entries_of_deed}
+use Rattle.rv_desk.specs.Runs.{Cause, Heard, RunsBook, Time}
+use Rattle.rv_desk.proofs.OneBook.{one_run}
+use Rattle.rv_desk.specs.Deeds.{Asked, Closed, Elapsed, EndedInput, Lacked, Left, Lost, Opened, ReadNothing}
+use Rattle.rv_desk.specs.Deeds.{Told, TookIn, Wrote}
+
+-- ---- the account
+
+counted_by : (s : State) (moment : ℕ) (does : Act) → (following s moment does).after.length ≡ s.length + 1
+counted_by s moment does = ap (λ n. n + 1) (length_acted s moment does)
+
+counted_tick : (s : State) (moment : ℕ) (due : List OpenPlace)
+    → (ticked_if s moment due).after.length ≡ s.length + length (ticked_if s moment due).entries
+counted_tick s moment [] = omega arith
+counted_tick s moment (first ∷ others) = counted_by s moment act.Tick
+
+by_kind : (s : State) (moment : ℕ) (m : Message) (move : Move) → StaysOrEnters s moment m move
+    → move.after.length ≡ s.length + length move.entries
+by_kind s moment m move (inl stays) =
+    let after : move.after.length ≡ s.length = ap (λ (x : Move). x.after.length) stays in
+    let none : length move.entries ≡ 0 = ap (λ (x : Move). length x.entries) stays in
+    omega arith
+by_kind s moment m move (inr enters) =
+    let after : move.after.length ≡ (following s moment (act_of m)).after.length =
+    ap (λ (x : Move). x.after.length) enters in
+    let one : length move.entries ≡ 1 = ap (λ (x : Move). length x.entries) enters in
+    let counted = counted_by s moment (act_of m) in
+    omega arith
+
+counted_move : (limits : StepLimits) (s : State) (moment : ℕ) (m : Message) (move : Move)
+    → StateNextAtUnder limits s moment m move → move.after.length ≡ s.length + length move.entries
+counted_move limits s moment m move moves = by_kind s moment m move (move_kinds limits s moment m move moves)
+
+pub counted_run : (limits : StepLimits) (now later : ℕ) (s t : State) (causes : List Cause) (entries :
+    List Entry)
+    → RunsBook limits now s causes entries later t → t.length ≡ s.length + length entries
+counted_run limits now later s t [] entries (none, same, is) =
+    let empty = ap length none in
+    let after : t.length ≡ s.length = ap (λ (x : State). x.length) is in
+    omega arith
+counted_run limits now later s t (Time moment ∷ causes) entries (rest, before, parts, run) =
+    let more = counted_run limits moment later (ticked_at s moment).after t causes rest run in
+    let first = counted_tick s moment (due_at s moment) in
+    let sum = ap length parts ∙ length-append (ticked_at s moment).entries rest in
+    omega arith
+counted_run limits now later s t (Heard message ∷ causes) entries (move, rest, moves, parts, run) =
+    let more = counted_run limits now later move.after t causes rest run in
+    let first = counted_move limits s now message move moves in
+    let sum = ap length parts ∙ length-append move.entries rest in
+    omega arith
+
+-- what deeds add to the account are their entries
+pub deeds_count : (terms : DeskTerms) (deeds : List Deed) (s t : DeskState) → DoesAll terms s deeds t
+    → t.book.length ≡ s.book.length + length (flat_map entries_of_deed deeds)
+deeds_count terms deeds s t does =
+    let run = one_run terms deeds s t does in
+    counted_run terms.limits s.now t.now s.book t.book run.0 (flat_map entries_of_deed deeds) run.1
+
+pub deed_counts : (terms : DeskTerms) (deed : Deed) (s t : DeskState) → Does terms s deed t
+    → t.book.length ≡ s.book.length + length (entries_of_deed deed)
+deed_counts terms deed s t does =
+    deeds_count terms (deed ∷ []) s t (t, does, refl)
+    ∙ ap (λ l. s.book.length + length l) (append-nil (entries_of_deed deed))
+
+-- ---- what is written
+
+abbrev pub IsWithin : DeskState → Type 0
+IsWithin s = s.open_wires.written ≤ s.book.length
+
+answers_written : (terms : DeskTerms) (s t : DeskState) (connection : ℕ) (body : List ℕ) (said : Answer)
+    → AnswersOrWaits terms s connection body said t → t.open_wires.written ≡ s.open_wires.written
+answers_written terms s t connection body (answer.Waiting key) does = does.takes.sets.written
+answers_written terms s t connection body (answer.Replied key reply) does = does.answers.changes.sets.written
+answers_written terms s t connection body (answer.Welcome epoch client incarnation version) does =
+    does.answers.changes.sets.written
+answers_written terms s t connection body (answer.Refused refusal) does = does.answers.changes.sets.written
+
+-- what is written stays, or is within the account
+pub deed_written : (terms : DeskTerms) (deed : Deed) (s t : DeskState) → Does terms s deed t
+    → (t.open_wires.written ≡ s.open_wires.written) ⊎ IsWithin t
+deed_written terms (Elapsed moment entries settled) s t does =
+    inl (ap (λ (u : DeskState). u.open_wires.written) does.after)
+deed_written terms (Opened connection) s t does = inl does.opens.sets.written
+deed_written terms (TookIn connection bytes) s t does = inl does.changes.sets.written
+deed_written terms (EndedInput connection) s t does = inl does.changes.sets.written
+deed_written terms (Left connection count) s t does = inl does.changes.sets.written
+deed_written terms (Wrote entries) s t does =
+    let written = does.releases.written_is in
+    let most = does.within in
+    let same : t.book.length ≡ s.book.length = ap (λ (u : DeskState). u.book.length) does.rest in
+    inr (let w = written in omega arith)
+deed_written terms (Asked connection body step said) s t does =
+    inl (answers_written terms does.between t connection body said does.rest
+    ∙ ap (λ (u : DeskState). u.open_wires.written) does.steps.after)
+deed_written terms (ReadNothing connection body) s t does = inl does.answers.answers.changes.sets.written
+deed_written terms (Lacked connection body None) s t does =
+    inl (does.answers.answers.changes.sets.written ∙ ap (λ (u : DeskState). u.open_wires.written)
+    does.stepped)
+deed_written terms (Lacked connection body (Some step)) s t does =
+    inl (does.answers.answers.changes.sets.written
+    ∙ ap (λ (u : DeskState). u.open_wires.written) does.stepped.steps.after)
+deed_written terms (Lost connection body step) s t does =
+    inl (does.closes.sets.written ∙ ap (λ (u : DeskState). u.open_wires.written) does.stepped.steps.after)
+deed_written terms (Told connection key said) s t does = inl does.answers.sets.written
+deed_written terms (Closed connection) s t does = inl does.sets.written
+
+within_deed : (terms : DeskTerms) (deed : Deed) (s t : DeskState) → Does terms s deed t → IsWithin s
+    → IsWithin t
+within_deed terms deed s t does within =
+    let counted = deed_counts terms deed s t does in
+    elim (deed_written terms deed s t does) [
+      | inl same ↦ (let w = same in omega arith)
+      | inr own ↦ own
+    ]
+
+pub within_all : (terms : DeskTerms) (deeds : List Deed) (s t : DeskState) → DoesAll terms s deeds t
+    → IsWithin s
+    → IsWithin t
+within_all terms [] s t same within = subst IsWithin (sym same) within
+within_all terms (deed ∷ deeds) s t (mid, does, more) within =
+    within_all terms deeds mid t more (within_deed terms deed s mid does within)

@@ -1,0 +1,184 @@
+-- What holds behind an event.
+use Rattle.std.proofs.Common.{inl, inr, ◌≡◌, ◌<◌, ◌∙◌, ◌⊎◌, ℕ, [], None, Option, Some}
+use Rattle.std.proofs.Common.{refl, sym, ap, subst, arith}
+use Rattle.std.proofs.Common.{Bool, false, true, length}
+use Rattle.std.specs.Option.{unwrap_or}
+use Rattle.std.proofs.lemmas.Bool.{cases_lt}
+use Rattle.rv_connection.specs.Traffic.{IsBad, IsDue, IsWholeFrame, Traffic, held_count, most_held}
+use Rattle.rv_wires.specs.Connections.{ReleasesOpen}
+use Rattle.rv_desk.specs.declared.desk.HubDesk.{HubDesk}
+use Rattle.rv_desk.specs.View.{DeskState, DeskTerms, begun}
+use Rattle.rv_desk.specs.Deeds.{DoesAll, Wrote}
+use Rattle.rv_desk.specs.Rest.{HasComeToStop, HearersInTime, TakesNoMore}
+use Rattle.rv_desk.specs.Fields.{IsDeskReady, IsSteady, desk_state, desk_terms}
+use Rattle.rv_hub.specs.declared.events.EventRefusal.{EventRefusal}
+use Rattle.rv_hub.specs.declared.events.HubEvent.{HubEvent}
+use Rattle.rv_hub.specs.declared.events.HubEvent.TheVariants as event
+use Rattle.rv_hub.specs.Events.{EventCan, EventCannotBe}
+use Rattle.rv_hub.specs.Turns.{EventGives, IsAtRest, CanTakeNone, TakesPiece, last_deeds}
+use Rattle.rv_hub.specs.Turns.{offer_in, own_deeds}
+use Rattle.rv_hub.specs.Steps.{ActsOwn, RunsOn, opened_number}
+use Rattle.rv_hub.proofs.Longer.{IsWithin, within_all}
+use Rattle.rv_hub.proofs.Owning.{at_last, written_stopped}
+use Rattle.rv_hub.proofs.Staying.{TakesNone, none_closed}
+use Rattle.rv_hub.proofs.Whole.{goes_deeds, goes_do}
+use Rattle.rv_desk.proofs.Answering.{some_is}
+
+-- ---- what can be, can be where no connection has changed yet
+
+pub can_begun : (s : DeskState) (what : HubEvent) → EventCan (begun s) what → EventCan s what
+can_begun s event.Opened can = tt
+can_begun s (event.Came connection piece) can = can
+can_begun s (event.Ended connection) can = can
+can_begun s (event.Gone connection) can = can
+can_begun s (event.Took connection count) can = can
+can_begun s (event.Written entries) can = can
+can_begun s event.Passed can = tt
+
+pub cannot_begun : (s : DeskState) (what : HubEvent) (why : EventRefusal) → EventCannotBe (begun s) what why
+    → EventCannotBe s what why
+cannot_begun s event.Opened why cannot = absurd cannot
+cannot_begun s (event.Came connection piece) why cannot = cannot
+cannot_begun s (event.Ended connection) why cannot = cannot
+cannot_begun s (event.Gone connection) why cannot = cannot
+cannot_begun s (event.Took connection count) why cannot = cannot
+cannot_begun s (event.Written entries) why cannot = cannot
+cannot_begun s event.Passed why cannot = absurd cannot
+
+-- ---- behind time and turns
+
+pub ready_behind : (d : HubDesk) → IsSteady d → d.freed.items ≡ [] → IsDeskReady d
+ready_behind d steady none = record {
+  sound = steady.sound;
+  waits = steady.waits;
+  room = steady.room;
+  none_freed = none;
+}
+
+pub within_behind : (old mid new : HubDesk) (what : HubEvent) (opened : Option ℕ) (handed taken : ℕ)
+    → IsWithin (desk_state old) → ActsOwn old what opened mid
+    → RunsOn mid handed what (offer_in what) taken new
+    → IsWithin (desk_state new)
+within_behind old mid new what opened handed taken within acts runs =
+    let goes = goes_do (desk_terms mid) (desk_state mid) handed what new.entries.items taken (desk_state new)
+    runs.goes in
+    within_all (desk_terms mid) (goes_deeds (desk_terms mid) (desk_state mid) handed what new.entries.items
+    taken
+    (desk_state new) runs.goes) (desk_state mid) (desk_state new) goes.does
+    (within_all (desk_terms old) (own_deeds what acts.number) (desk_state old) (desk_state mid) acts.does
+    within)
+
+-- ---- where all is written
+
+last_stopped : (terms : DeskTerms) (journal : Bool) (s t : DeskState)
+    → DoesAll terms s (last_deeds journal s) t
+    → (n : ℕ) → HasComeToStop s n → HasComeToStop t n
+last_stopped terms true s t same n stopped = subst (λ (u : DeskState). HasComeToStop u n) (sym same) stopped
+last_stopped terms false s t all n stopped = written_stopped s t terms s.book.length
+    (at_last terms s t (Wrote s.book.length) all) n stopped
+
+released_none : (written : ℕ) (o after : Option Traffic) → ReleasesOpen written o after → TakesNone o
+    → TakesNone after
+released_none written None after none takes = subst TakesNone (sym none) none_closed
+released_none written (Some wire) None releases takes = absurd releases
+released_none written (Some wire) (Some after) releases takes =
+    λ now there.
+    subst (λ (w : Traffic). IsWholeFrame w.unread ⊎ IsBad w.unread) (some_is after now there)
+    (subst (λ l. IsWholeFrame l ⊎ IsBad l) (sym (ap (λ (w : Traffic). w.unread) releases.goes))
+    (takes wire refl))
+
+last_takes : (terms : DeskTerms) (journal : Bool) (s t : DeskState) → DoesAll terms s (last_deeds journal s) t
+    → (n : ℕ) → TakesNoMore s n → TakesNoMore t n
+last_takes terms true s t same n takes = subst (λ (u : DeskState). TakesNoMore u n) (sym same) takes
+last_takes terms false s t all n takes =
+    let does = at_last terms s t (Wrote s.book.length) all in
+    released_none s.book.length (s.open_wires.wires n) (t.open_wires.wires n) (does.releases.each n) takes
+
+last_in_time : (terms : DeskTerms) (journal : Bool) (s t : DeskState)
+    → DoesAll terms s (last_deeds journal s) t
+    → HearersInTime s → HearersInTime t
+last_in_time terms true s t same in_time = subst HearersInTime (sym same) in_time
+last_in_time terms false s t all in_time =
+    λ connection hearing there.
+    let does = at_last terms s t (Wrote s.book.length) all in
+    let hears = ap (λ (u : DeskState). u.hears connection) does.rest in
+    let now : t.now ≡ s.now = ap (λ (u : DeskState). u.now) does.rest in
+    let before = in_time connection hearing (sym hears ∙ there) in
+    omega arith
+
+last_written : (terms : DeskTerms) (journal : Bool) (s t : DeskState)
+    → DoesAll terms s (last_deeds journal s) t
+    → journal ≡ false → t.open_wires.written ≡ t.book.length
+last_written terms true s t same unkept = absurd (let odd : true ≡ false = unkept in cc)
+last_written terms false s t all unkept =
+    let does = at_last terms s t (Wrote s.book.length) all in
+    does.releases.written_is ∙ sym (ap (λ (u : DeskState). u.book.length) does.rest)
+
+pub at_rest : (old new : HubDesk) (journal : Bool) → IsSteady old
+    → ((connection : ℕ) → HasComeToStop (desk_state old) connection)
+    → IsWithin (desk_state old) → IsDeskReady new
+    → DoesAll (desk_terms old) (desk_state old) (last_deeds journal (desk_state old)) (desk_state new)
+    → IsAtRest journal (desk_state new)
+at_rest old new journal steady stopped within ready last = record {
+  stopped = λ n. last_stopped (desk_terms old) journal (desk_state old) (desk_state new) last n (stopped n);
+  hearers_owe = ready.sound.hearers_owe;
+  owers_hear = ready.sound.owers_hear;
+  waits = ready.waits;
+  in_time = last_in_time (desk_terms old) journal (desk_state old) (desk_state new) last steady.in_time;
+  written = within_all (desk_terms old) (last_deeds journal (desk_state old)) (desk_state old)
+      (desk_state new) last
+      within;
+  all_written = last_written (desk_terms old) journal (desk_state old) (desk_state new) last;
+}
+
+-- ---- what is left of a piece
+
+owes_or_full : (wire : Traffic) (owes : Bool) → wire.owes ≡ owes → IsWholeFrame wire.unread → (¬ IsDue wire)
+    → (wire.owes ≡ true) ⊎ (most_held < held_count wire)
+owes_or_full wire true is whole not_due = inl is
+owes_or_full wire false is whole not_due =
+    elim (cases_lt most_held (held_count wire)) [
+      | inl full ↦ inr full
+      | inr room ↦ absurd (not_due (record { whole = whole; none_owed = is; room = room }))
+    ]
+
+is_stopped : (wire : Traffic) → IsWholeFrame wire.unread ⊎ IsBad wire.unread → (¬ IsDue wire)
+    → CanTakeNone wire
+is_stopped wire (inl whole) not_due = inl (whole, owes_or_full wire wire.owes refl whole not_due)
+is_stopped wire (inr bad) not_due = inr bad
+
+pub takes_piece : (terms : DeskTerms) (journal : Bool) (s t : DeskState) (what : HubEvent)
+    (number taken result : ℕ) → DoesAll terms s (last_deeds journal s) t
+    → ((connection : ℕ) → HasComeToStop s connection)
+    → (taken < length (offer_in what).piece → TakesNoMore s (offer_in what).connection)
+    → EventGives what number taken result → TakesPiece what result t
+takes_piece terms journal s t event.Opened number taken result last stopped takes gives = tt
+takes_piece terms journal s t (event.Came connection piece) number taken result last stopped takes gives =
+    λ less wire there.
+    let before : taken < length piece.now = (let l = less in let g : result ≡ taken = gives in omega arith) in
+    is_stopped wire (last_takes terms journal s t last connection (takes before) wire there)
+    (last_stopped terms journal s t last connection (stopped connection) wire there).0
+takes_piece terms journal s t (event.Ended connection) number taken result last stopped takes gives = tt
+takes_piece terms journal s t (event.Gone connection) number taken result last stopped takes gives = tt
+takes_piece terms journal s t (event.Took connection count) number taken result last stopped takes gives = tt
+takes_piece terms journal s t (event.Written entries) number taken result last stopped takes gives = tt
+takes_piece terms journal s t event.Passed number taken result last stopped takes gives = tt
+
+-- ---- what an event gives
+
+given_by : (what : HubEvent) (number taken : ℕ)
+    → EventGives what number taken (unwrap_or (opened_number what number) taken)
+given_by event.Opened number taken = refl
+given_by (event.Came connection piece) number taken = refl
+given_by (event.Ended connection) number taken = refl
+given_by (event.Gone connection) number taken = refl
+given_by (event.Took connection count) number taken = refl
+given_by (event.Written entries) number taken = refl
+given_by event.Passed number taken = refl
+
+pub gives_it : (what : HubEvent) (number taken result : ℕ) (opened : Option ℕ)
+    → opened ≡ opened_number what number
+    → result ≡ unwrap_or opened taken → EventGives what number taken result
+gives_it what number taken result opened same is =
+    subst (λ r. EventGives what number taken r) (sym (is ∙ ap (λ (o : Option ℕ). unwrap_or o taken) same))
+    (given_by what number taken)

@@ -1,0 +1,9 @@
+-- Each deed leads on.
+use Rattle.rv_hub.proofs.Accounts.{deeds_lead, events_lead}
+use Rattle.rv_hub.proofs.laws.events_lead_on.Goals as goal
+
+pub returns-clause-deeds : goal.returns-clause-deeds
+returns-clause-deeds c = deeds_lead
+
+pub returns-clause-events : goal.returns-clause-events
+returns-clause-events c = events_lead

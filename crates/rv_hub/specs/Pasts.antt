@@ -1,0 +1,107 @@
+-- What the deeds of a run were of one connection, from its opening on.
+use Rattle.std.specs.Prelude.{ℕ, ◌≡◌, ◌+◌, List, [], ◌∷◌, ◌++◌, Some, cond, false, length, nat_eq}
+use Rattle.std.specs.Prelude.{Bool}
+use Rattle.rv_text.specs.declared.answer.Answer.{Answer}
+use Rattle.rv_text.specs.declared.answer.Answer.TheVariants as answer
+use Rattle.rv_text.specs.declared.answer.Refusal.TheVariants.{BadText, NoMemory}
+use Rattle.rv_text.specs.Bodies.{answer_text}
+use Rattle.rv_connection.specs.Traffic.{Traffic}
+use Rattle.rv_connection.specs.History.{Given, History, IsHistory}
+use Rattle.rv_desk.specs.View.{DeskState, DeskTerms}
+use Rattle.rv_desk.specs.Deeds.{Deed, DoesAll, entries_of_deed, rests_on}
+use Rattle.rv_desk.specs.Deeds.{Asked, Closed, Elapsed, EndedInput, Lacked, Left, Lost, Opened, ReadNothing}
+use Rattle.rv_desk.specs.Deeds.{Told, TookIn, Wrote}
+
+pub record Past : Type 0 where
+  -- all bytes that were taken of its input
+  pub came : List ℕ
+  -- the bodies of the frames that were taken of these, and the answers to them, with what they rest on
+  pub frames : List (List ℕ)
+  pub answers : List Given
+  -- how many bytes left
+  pub sent : ℕ
+
+abbrev pub no_past : Past
+no_past = record { came = []; frames = []; answers = []; sent = 0 }
+
+-- one frame more was taken
+abbrev pub with_frame : Past → List ℕ → Past
+with_frame past body = record past { frames = past.frames ++ body ∷ [] }
+
+-- one answer more was given, which rests on so many entries
+abbrev pub with_answer : Past → ℕ → Answer → Past
+with_answer past entries said = record past {
+  answers = past.answers ++ (record { body = answer_text said; rests_on = entries }) ∷ [];
+}
+
+-- the answer to a step, unless its request waits; the account has so many entries behind it
+abbrev pub with_said : Past → ℕ → Answer → Past
+with_said past entries (answer.Waiting key) = past
+with_said past entries (answer.Replied key reply) = with_answer past entries (answer.Replied key reply)
+with_said past entries (answer.Welcome epoch client incarnation version) =
+    with_answer past entries (answer.Welcome epoch client incarnation version)
+with_said past entries (answer.Refused refusal) =
+    with_answer past (rests_on (answer.Refused refusal) entries) (answer.Refused refusal)
+
+-- whether a deed is one of a connection's own
+abbrev pub is_deed_of : ℕ → Deed → Bool
+is_deed_of n (Elapsed moment entries settled) = false
+is_deed_of n (Opened connection) = nat_eq n connection
+is_deed_of n (TookIn connection bytes) = nat_eq n connection
+is_deed_of n (EndedInput connection) = nat_eq n connection
+is_deed_of n (Left connection count) = nat_eq n connection
+is_deed_of n (Wrote entries) = false
+is_deed_of n (Asked connection body step said) = nat_eq n connection
+is_deed_of n (ReadNothing connection body) = nat_eq n connection
+is_deed_of n (Lacked connection body step) = nat_eq n connection
+is_deed_of n (Lost connection body step) = nat_eq n connection
+is_deed_of n (Told connection key said) = nat_eq n connection
+is_deed_of n (Closed connection) = nat_eq n connection
+
+-- what such a deed adds; the account has so many entries behind it
+abbrev pub past_by : Past → ℕ → Deed → Past
+past_by past entries (Elapsed moment made settled) = past
+past_by past entries (Opened connection) = no_past
+past_by past entries (TookIn connection bytes) = record past { came = past.came ++ bytes }
+past_by past entries (EndedInput connection) = past
+past_by past entries (Left connection count) = record past { sent = past.sent + count }
+past_by past entries (Wrote count) = past
+past_by past entries (Asked connection body step said) = with_said (with_frame past body) entries said
+past_by past entries (ReadNothing connection body) = with_answer (with_frame past body) 0
+    (answer.Refused BadText)
+past_by past entries (Lacked connection body step) = with_answer (with_frame past body) 0
+    (answer.Refused NoMemory)
+past_by past entries (Lost connection body step) = past
+past_by past entries (Told connection key said) = with_answer past entries said
+past_by past entries (Closed connection) = past
+
+-- all deeds, from an account of so many entries on
+abbrev pub past_after : ℕ → Past → ℕ → List Deed → Past
+past_after n past entries [] = past
+past_after n past entries (deed ∷ deeds) =
+    past_after n
+    (cond (is_deed_of n deed) (past_by past (entries + length (entries_of_deed deed)) deed) past)
+    (entries + length (entries_of_deed deed)) deeds
+
+-- the history of a past, of which these bytes left
+abbrev pub history_of : Past → List ℕ → History
+history_of past left = record { came = past.came; frames = past.frames; answers = past.answers; left = left }
+
+-- the connection's bytes are those of this past: what was taken of its input are the frames and what is
+-- unread; they
+-- have these answers, one each, in order; and what left, and then what may leave, are of the answers' frames
+-- exactly
+-- those before the first that rests on more entries than are written
+pub record IsPast (written : ℕ) (past : Past) (wire : Traffic) : Type 0 where
+  pub left : List ℕ
+  pub sent : length left ≡ past.sent
+  pub history : IsHistory written (history_of past left) wire
+
+-- that holds of it, if it is open
+abbrev pub HasPast : DeskState → ℕ → Past → Type 0
+HasPast s n past = (wire : Traffic) → s.open_wires.wires n ≡ Some wire → IsPast s.open_wires.written past wire
+
+-- deeds that do this of each connection keep its past
+abbrev pub DeedsKeepPasts : Type 0
+DeedsKeepPasts = (terms : DeskTerms) (deeds : List Deed) (s t : DeskState) → DoesAll terms s deeds t
+    → (n : ℕ) (past : Past) → HasPast s n past → HasPast t n (past_after n past s.book.length deeds)

@@ -1,0 +1,179 @@
+//! The hub: what is asked of it, and its events.
+ghost use Rattle.std.specs.Prelude.{◌≡◌};
+
+use crate::events::{EventRefusal, HubEvent};
+use crate::handling;
+use crate::parts::HubParts;
+use rv_account::Entry;
+use rv_connection::Wire;
+use rv_desk::HubDesk;
+use rv_hearers::ConnectionNumber;
+use rv_machine::Machine;
+use rv_rules::Limits;
+use rv_text::NoMemory;
+use std::alloc::Global;
+use std::marker::Model;
+
+/// The engine of a server: thousands of connections over one machine. Contracts see its parts, of which
+/// always holds what holds between two events.
+#[derive(Drop)]
+pub struct Hub {
+    parts: HubParts,
+}
+
+impl Model for Hub {
+    ghost use Rattle.rv_hub.specs.declared.parts.HubParts.{HubParts};
+    ghost use Rattle.rv_hub.specs.contracts.parts.HubParts as row;
+
+    ghost Value = { HubParts };
+
+    ghost coded = { row.the_row.coded };
+
+    ghost use Rattle.rv_hub.specs.Hubs.{IsHub};
+
+    ghost view = { λ h. h.parts };
+
+    ghost invariant = { λ h. IsHub h.parts };
+}
+
+impl Hub {
+    ghost use Rattle.std.specs.Prelude.{◌↔◌, ◌≢◌, ℕ, AllPairs, Contains, IfErr, IfNone, IfOk, IfSome};
+    ghost use Rattle.std.specs.Prelude.{IsTrue, OnErr, OnOk, [], max};
+    ghost use Rattle.std.specs.Option.{option_copied};
+    ghost use Rattle.rv_machine.specs.Machines.{IsWhole, state_in};
+    ghost use Rattle.rv_machine.specs.Numbering.{AreNumbered};
+    ghost use Rattle.rv_resume.specs.Resuming.{CanResume};
+    ghost use Rattle.rv_rules.specs.StepLimits.{AreStepLimits};
+    ghost use Rattle.rv_hearers.specs.Hearing.{nobody};
+    ghost use Rattle.rv_wires.specs.Connections.{AllHeldBack, IsTotalHeld, none_open};
+    ghost use Rattle.rv_desk.specs.View.{begun};
+    ghost use Rattle.rv_desk.specs.Telling.{CountsUnheard, IsUnheard};
+    ghost use Rattle.rv_desk.specs.Rest.{IsNextMoment};
+    ghost use Rattle.rv_hub.specs.Hubs.{IsHub, hub_state, hub_terms};
+    ghost use Rattle.rv_hub.specs.Turns.{EventRefused, TakesEvent, TakesPiece};
+
+    /// A hub over a machine, with the limits of each step. A request that waits is told so when it has
+    /// waited `patience` milliseconds for a frame, at least 1. Where a journal is kept, `Written` tells
+    /// what is written; else all is.
+    pub fn new(
+        alloc: Global,
+        machine: Machine,
+        limits: Limits,
+        patience: u32,
+        has_journal: bool,
+    ) -> Result<Hub, NoMemory>
+        requires whole { IsWhole machine }
+        requires numbered { AreNumbered (state_in machine) }
+        requires resumes { CanResume (state_in machine) }
+        requires limits { AreStepLimits limits }
+        ensures state { IfOk result (λ h. hub_state h ≡ record {
+          book = state_in machine;
+          now = (state_in machine).moment;
+          open_wires = none_open (state_in machine).length;
+          changed = [];
+          hears = nobody;
+        }) }
+        ensures terms { IfOk result (λ h. hub_terms h
+            ≡ record { limits = limits; patience = max 1 patience }) }
+        ensures journal { IfOk result (λ h. h.has_journal ≡ has_journal) }
+    {
+        let desk = HubDesk::new(alloc, machine, limits, patience)?;
+        Ok(Hub {
+            parts: HubParts { desk, has_journal },
+        })
+    }
+
+    /// Takes an event that came at a moment in milliseconds. It gives the number of a connection that was
+    /// opened, or how many bytes of a piece were taken, else 0. An event that can't be changes nothing.
+    pub fn handle(&mut self, now: u64, event: HubEvent<'_>) -> Result<usize, EventRefusal>
+        ensures hub { IsHub self.new }
+        ensures takes { IfOk result (λ given. TakesEvent self.old.has_journal (hub_terms self.old)
+            (hub_state self.old) now event.entry self.new.desk.entries.items given (hub_state self.new)) }
+        ensures piece { IfOk result (λ given. TakesPiece event.entry given (hub_state self.new)) }
+        ensures listed { OnOk result ((n : ℕ) → ¬ Contains (hub_state self.new).changed n
+            → (hub_state self.new).open_wires.wires n ≡ (hub_state self.old).open_wires.wires n) }
+        ensures refused { IfErr result (EventRefused (hub_state self.old) event.entry) }
+        ensures same { OnErr result (hub_state self.new ≡ begun (hub_state self.old)) }
+        ensures none_made { OnErr result (self.new.desk.entries.items ≡ []) }
+        ensures terms { hub_terms self.new ≡ hub_terms self.old }
+        ensures journal { self.new.has_journal ≡ self.old.has_journal }
+    {
+        handling::handle(&mut self.parts.desk, self.parts.has_journal, now, &event)
+    }
+    /// The entries that the last event made, in order; none where it was refused.
+    pub fn entries(&self) -> &[Entry]
+        ensures { result.now ≡ self.now.desk.entries.items }
+    {
+        self.parts.desk.entries()
+    }
+
+    /// The connections that the last event changed, each once: of which bytes came, were answered, left or
+    /// may leave, whose input ended, or that were opened or closed.
+    pub fn changed(&self) -> &[ConnectionNumber]
+        ensures all { result.now ≡ (hub_state self.now).changed }
+        ensures once { AllPairs (λ one other. one ≢ other) result.now }
+    {
+        self.parts.desk.wires().changed()
+    }
+
+    /// The connection of a number, if it is open. It tells whether an answer is owed, so whether it waits;
+    /// its unread, held and ready bytes; whether it may offer more. What may not leave of any begins with
+    /// an answer that rests on an entry which isn't written.
+    pub fn wire(&self, connection: ConnectionNumber) -> Option<&Wire>
+        ensures wire { option_copied result ≡ (hub_state self.now).open_wires.wires connection }
+        ensures held_back { AllHeldBack (hub_state self.now).open_wires }
+    {
+        self.parts.desk.wires().get(connection)
+    }
+
+    /// How many bytes of answers are held for all connections.
+    pub fn held(&self) -> u128
+        ensures { IsTotalHeld (hub_state self.now).open_wires.wires result }
+    {
+        self.parts.desk.wires().held()
+    }
+
+    /// How many entries are written.
+    pub fn written(&self) -> u64
+        ensures { result ≡ (hub_state self.now).open_wires.written }
+    {
+        self.parts.desk.wires().written()
+    }
+
+    /// The greatest moment so far.
+    pub fn now(&self) -> u64
+        ensures { result ≡ (hub_state self.now).now }
+    {
+        self.parts.desk.now()
+    }
+
+    /// The machine, whose steps are the account.
+    pub fn machine(&self) -> &Machine
+        ensures { result.now ≡ self.now.desk.machine }
+    {
+        self.parts.desk.machine()
+    }
+
+    /// Whether a request of the client waits for which no connection does.
+    pub fn is_unheard(&self, client: u64) -> bool
+        ensures { IsTrue result ↔ IsUnheard (hub_state self.now).book (hub_state self.now).hears client }
+    {
+        self.parts.desk.is_unheard(client)
+    }
+
+    /// How many requests wait for which no connection does.
+    pub fn unheard(&self) -> usize
+        ensures { CountsUnheard (hub_state self.now).book (hub_state self.now).hears result }
+    {
+        self.parts.desk.unheard()
+    }
+
+    /// The next moment at which time has to go on, if there is one: the least of the machine's limits and
+    /// of the moments up to which a connection waits.
+    pub fn next_moment(&self) -> Option<u64>
+        ensures some { IfSome result (IsNextMoment (hub_state self.now)) }
+        ensures none { IfNone result ((moment : ℕ) → ¬ IsNextMoment (hub_state self.now) moment) }
+    {
+        self.parts.desk.next_moment()
+    }
+}

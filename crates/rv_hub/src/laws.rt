@@ -1,0 +1,25 @@
+//! Laws of a hub's events: each contract is one, and no body does anything.
+ghost use Rattle.rv_hub.specs.HubRuns.{AnswersByRules, DeedsLeadOn, EventsLeadOn, HubsAreRuns};
+ghost use Rattle.rv_hub.specs.HubRuns.{TellsPublicReply};
+
+/// The events of a hub are deeds: of the account one run of messages and of time alone, which makes their
+/// entries in order; and of each connection its past, so that its frames have one answer each, in order.
+pub fn hubs_are_runs()
+    ensures { HubsAreRuns }
+{}
+
+/// The deeds of events lead from a legal account to one with their entries more.
+pub fn events_lead_on()
+    ensures deeds { DeedsLeadOn }
+    ensures events { EventsLeadOn }
+{}
+
+/// Whoever waited is told what that account says of its request.
+pub fn tells_public_reply()
+    ensures { TellsPublicReply }
+{}
+
+/// The answer to a step is that of a step of that account with the frame's message.
+pub fn answers_by_rules()
+    ensures { AnswersByRules }
+{}

@@ -1,0 +1,10 @@
+//! What a hub is made of.
+use rv_desk::HubDesk;
+
+/// A desk, and whether a journal is kept: contracts see a hub so.
+#[derive(Drop)]
+pub struct HubParts {
+    pub(crate) desk: HubDesk,
+    // Whether what is written is told; else all entries are.
+    pub(crate) has_journal: bool,
+}
