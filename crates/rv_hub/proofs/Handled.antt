@@ -2,13 +2,14 @@
 use Rattle.std.proofs.Common.{inl, ◌≡◌, ◌∙◌, ℕ, List, Option}
 use Rattle.std.proofs.Common.{sym, subst}
 use Rattle.std.proofs.Common.{Bool, Err, IfErr, OnErr, Ok, Result, option_to_list}
-use Rattle.std.specs.Prelude.{Contains, IsErrAnd}
+use Rattle.std.specs.Prelude.{IsErrAnd}
 use Rattle.std.specs.Option.{unwrap_or}
 use Rattle.rv_account.specs.declared.entry.Entry.{Entry}
 use Rattle.rv_desk.specs.declared.desk.HubDesk.{HubDesk}
 use Rattle.rv_desk.specs.View.{DeskState, DeskTerms, begun}
 use Rattle.rv_desk.specs.Deeds.{DoesAll}
 use Rattle.rv_desk.specs.Rest.{HasComeToStop}
+use Rattle.rv_desk.specs.Runs.{ListsChanged}
 use Rattle.rv_desk.specs.Fields.{desk_state, desk_terms}
 use Rattle.rv_desk.proofs.Listing.{deeds_are_listed}
 use Rattle.rv_hub.specs.declared.events.EventRefusal.{EventRefusal}
@@ -102,11 +103,10 @@ takes_it journal before begins acts runs writes handed what opened taken result 
 -- whoever isn't listed has the bytes that it had
 pub listed_it : (journal : Bool) (terms : DeskTerms) (s : DeskState) (handed : ℕ) (what : HubEvent)
     (made : List Entry) (result : ℕ) (t : DeskState) → TakesEvent journal terms s handed what made result t
-    → (n : ℕ)
-    → ¬ Contains t.changed n → t.open_wires.wires n ≡ s.open_wires.wires n
-listed_it journal terms s handed what made result t takes n absent =
-    (deeds_are_listed terms (event_deeds journal terms s handed what made result t takes) (begun s) t
-    (event_does journal terms s handed what made result t takes).does).others n absent
+    → ListsChanged (begun s) t
+listed_it journal terms s handed what made result t takes =
+    deeds_are_listed terms (event_deeds journal terms s handed what made result t takes) (begun s) t
+    (event_does journal terms s handed what made result t takes).does
 
 -- ---- the ways out where it is refused
 

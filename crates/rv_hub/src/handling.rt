@@ -1,8 +1,9 @@
 //! Events, one at a time.
-ghost use Rattle.std.specs.Prelude.{◌≡◌, ◌≤◌, ◌++◌, ℕ, [], Contains, option_to_list};
+ghost use Rattle.std.specs.Prelude.{◌≡◌, ◌≤◌, ◌++◌, [], option_to_list};
 ghost use Rattle.std.specs.Prelude.{IfErr, IfOk, OnErr, OnOk};
 ghost use Rattle.rv_desk.specs.View.{begun};
 ghost use Rattle.rv_desk.specs.Deeds.{DoesAll};
+ghost use Rattle.rv_desk.specs.Runs.{ListsChanged};
 ghost use Rattle.rv_desk.specs.Fields.{IsDeskReady, IsSteady, desk_state, desk_terms};
 ghost use Rattle.rv_hub.specs.declared.events.HubEvent.TheVariants as what;
 ghost use Rattle.rv_hub.specs.declared.events.EventRefusal.TheVariants as refused;
@@ -128,8 +129,7 @@ pub(crate) fn handle(
     ensures takes { IfOk result (λ given. TakesEvent has_journal (desk_terms desk.old) (desk_state desk.old)
         now event.now desk.new.entries.items given (desk_state desk.new)) }
     ensures piece { IfOk result (λ given. TakesPiece event.now given (desk_state desk.new)) }
-    ensures listed { OnOk result ((n : ℕ) → ¬ Contains (desk_state desk.new).changed n
-        → (desk_state desk.new).open_wires.wires n ≡ (desk_state desk.old).open_wires.wires n) }
+    ensures listed { OnOk result (ListsChanged (begun (desk_state desk.old)) (desk_state desk.new)) }
     ensures refused { IfErr result (EventRefused (desk_state desk.old) event.now) }
     ensures same { OnErr result (desk_state desk.new ≡ begun (desk_state desk.old)) }
     ensures none_made { OnErr result (desk.new.entries.items ≡ []) }

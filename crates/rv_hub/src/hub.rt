@@ -37,7 +37,7 @@ impl Model for Hub {
 }
 
 impl Hub {
-    ghost use Rattle.std.specs.Prelude.{◌↔◌, ◌≢◌, ℕ, AllPairs, Contains, IfErr, IfNone, IfOk, IfSome};
+    ghost use Rattle.std.specs.Prelude.{◌↔◌, ◌≢◌, ℕ, AllPairs, IfErr, IfNone, IfOk, IfSome};
     ghost use Rattle.std.specs.Prelude.{IsTrue, OnErr, OnOk, [], max};
     ghost use Rattle.std.specs.Option.{option_copied};
     ghost use Rattle.rv_machine.specs.Machines.{IsWhole, state_in};
@@ -49,6 +49,7 @@ impl Hub {
     ghost use Rattle.rv_desk.specs.View.{begun};
     ghost use Rattle.rv_desk.specs.Telling.{CountsUnheard, IsUnheard};
     ghost use Rattle.rv_desk.specs.Rest.{IsNextMoment};
+    ghost use Rattle.rv_desk.specs.Runs.{ListsChanged};
     ghost use Rattle.rv_hub.specs.Hubs.{IsHub, hub_state, hub_terms};
     ghost use Rattle.rv_hub.specs.Turns.{EventRefused, TakesEvent, TakesPiece};
 
@@ -90,8 +91,7 @@ impl Hub {
         ensures takes { IfOk result (λ given. TakesEvent self.old.has_journal (hub_terms self.old)
             (hub_state self.old) now event.entry self.new.desk.entries.items given (hub_state self.new)) }
         ensures piece { IfOk result (λ given. TakesPiece event.entry given (hub_state self.new)) }
-        ensures listed { OnOk result ((n : ℕ) → ¬ Contains (hub_state self.new).changed n
-            → (hub_state self.new).open_wires.wires n ≡ (hub_state self.old).open_wires.wires n) }
+        ensures listed { OnOk result (ListsChanged (begun (hub_state self.old)) (hub_state self.new)) }
         ensures refused { IfErr result (EventRefused (hub_state self.old) event.entry) }
         ensures same { OnErr result (hub_state self.new ≡ begun (hub_state self.old)) }
         ensures none_made { OnErr result (self.new.desk.entries.items ≡ []) }
