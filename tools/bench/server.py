@@ -8,6 +8,7 @@ usage: tools/bench/server.py rv|redis PORT CLIENT REQUESTS PIECE
 """
 import array
 import json
+import os
 import pathlib
 import shutil
 import socket
@@ -24,6 +25,8 @@ from tests.sockets.programs import PATIENCE, Server, free_port  # noqa: E402
 LOADS = [(1, 20_000, 1), (8, 10_000, 1), (1, 48_000, 16), (8, 12_000, 16)]
 RUNS = 3
 MOST_WORKERS = 8
+# How many times a second the system counts a process's time.
+TICKS = os.sysconf("SC_CLK_TCK")
 
 
 def item(number):
@@ -143,11 +146,23 @@ def load_once(kind, port, connections, requests, piece):
     return seconds, sorted((after - before) / 1e9 for own in times for before, after in zip(own, own[1:]))
 
 
+def processor_seconds(pid):
+    """The time of the processor that a process has taken so far, which hangs less on what else the machine does."""
+    cells = pathlib.Path(f"/proc/{pid}/stat").read_text().rpartition(")")[2].split()
+    return (int(cells[11]) + int(cells[12])) / TICKS
+
+
+def load_of(pid, *load):
+    """The seconds of a load, those of its pieces, and those of the processor that the server took for it."""
+    before = processor_seconds(pid)
+    return *load_once(*load), processor_seconds(pid) - before
+
+
 def rv_load(program, connections, requests, piece):
     """A load of a server of rv that was just started."""
     with Server(program, workers=MOST_WORKERS, connections=connections + 1) as server:
         server.connect().close()
-        return load_once("rv", server.port, connections, requests, piece)
+        return load_of(server.process.pid, "rv", server.port, connections, requests, piece)
 
 
 def redis_load(program, connections, requests, piece):
@@ -159,7 +174,7 @@ def redis_load(program, connections, requests, piece):
         server = subprocess.Popen(words, stdin=subprocess.DEVNULL, stdout=subprocess.DEVNULL)
         try:
             wait_for(port)
-            return load_once("redis", port, connections, requests, piece)
+            return load_of(server.pid, "redis", port, connections, requests, piece)
         finally:
             server.terminate()
             server.wait()
@@ -179,15 +194,16 @@ def wait_for(port):
 
 
 def figures(runs, count):
-    """Requests a second, and seconds at the median and at the 99th percentile: each the middle one of the runs."""
+    """Requests a second, seconds at the median and at the 99th percentile, and those of the processor for a request:
+    each the middle one of the runs."""
     middle = lambda values: sorted(values)[len(values) // 2]
-    return (count / middle([seconds for seconds, _ in runs]), middle([each[len(each) // 2] for _, each in runs]),
-            middle([each[len(each) * 99 // 100] for _, each in runs]))
+    return (count / middle([seconds for seconds, _, _ in runs]), middle([each[len(each) // 2] for _, each, _ in runs]),
+            middle([each[len(each) * 99 // 100] for _, each, _ in runs]), middle([taken for _, _, taken in runs]) / count)
 
 
-def tell(name, rate, median, late):
+def tell(name, rate, median, late, taken):
     print(f"  {name:9} {rate:7.0f} requests a second, {median * 1e6:.0f} µs at the median, "
-          f"{late * 1e6:.0f} µs at the 99th percentile")
+          f"{late * 1e6:.0f} µs at the 99th percentile, {taken * 1e6:.1f} µs of the processor")
 
 
 def beside_redis(program):
@@ -202,13 +218,14 @@ def beside_redis(program):
             theirs += [redis_load(redis, connections, requests, piece)] if redis else []
         how = "one at a time" if piece == 1 else f"{piece} in one piece"
         print(f"{connections} connection{'s' * (connections > 1)}, {count} requests, {how} on each:")
-        rate, median, late = figures(ours, count)
-        tell("rv serve", rate, median, late)
+        rate, median, late, taken = figures(ours, count)
+        tell("rv serve", rate, median, late, taken)
         if redis:
-            other_rate, other_median, other_late = figures(theirs, count)
-            tell("redis", other_rate, other_median, other_late)
+            other_rate, other_median, other_late, other_taken = figures(theirs, count)
+            tell("redis", other_rate, other_median, other_late, other_taken)
             print(f"  ratio     rv serve takes {other_rate / rate:.2f} times the time of redis, "
-                  f"{median / other_median:.2f} at the median, {late / other_late:.2f} at the 99th percentile")
+                  f"{median / other_median:.2f} at the median, {late / other_late:.2f} at the 99th percentile, "
+                  f"{taken / other_taken:.2f} of the processor")
 
 
 if __name__ == "__main__":

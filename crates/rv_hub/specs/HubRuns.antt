@@ -50,9 +50,8 @@ DoesEvents terms s (deeds ∷ events) t =
 abbrev pub all_deeds : List (List Deed) → List Deed
 all_deeds events = flat_map (λ deeds. deeds) events
 
--- what the events of a hub are: deeds, which make their entries in order; of the account one run of messages
--- and of
--- time alone; and of each connection its past through all deeds
+-- what the events of a hub are: deeds, which make their entries in order; of the account one run of
+-- messages and of time alone; and of each connection its past through all deeds
 pub record AreHubDeeds (terms : DeskTerms) (s : DeskState) (made : List Entry) (t : DeskState) : Type 0 where
   pub events : List (List Deed)
   pub does : DoesEvents terms s events t
@@ -101,18 +100,16 @@ EventsLeadOn = (terms : DeskTerms) (events : List (List Deed)) (s t : DeskState)
     → AreStepLimits terms.limits → DoesEvents terms s events t → t.now ≤ max_moment → IsHubAccount a s
     → LeadsToAccount a (made_by events) t
 
--- what whoever waited for a request, none of number 0, is told is what the account says of it: its reply, or
--- that it waits; or that its session
--- has a greater incarnation
+-- what whoever waited for a request, none of number 0, is told is what the account says of it: its reply,
+-- or that it waits; or that its session has a greater incarnation
 abbrev pub TellsPublicReply : Type 0
-TellsPublicReply = (terms : DeskTerms) (s t : DeskState) (a : Account) (connection : ℕ) (key : Key) (said :
-    Answer)
-    → key.number ≢ 0 → IsHubAccount a s → Does terms s (Told connection key said) t
+TellsPublicReply = (terms : DeskTerms) (s t : DeskState) (a : Account) (connection : ℕ) (key : Key)
+    (said : Answer) → key.number ≢ 0 → IsHubAccount a s → Does terms s (Told connection key said) t
     → Answers a key said ⊎ ((current : ℕ) × (said ≡ answer.Refused (OldIncarnation current)))
 
 -- and the answer to a step is that of the account's own step with the frame's message
 abbrev pub AnswersByRules : Type 0
-AnswersByRules = (terms : DeskTerms) (s t : DeskState) (a : Account) (connection : ℕ) (body : List ℕ) (step :
-    Stepped)
-    (said : Answer) → s.now ≤ max_moment → IsHubAccount a s → Does terms s (Asked connection body step said) t
+AnswersByRules = (terms : DeskTerms) (s t : DeskState) (a : Account) (connection : ℕ) (body : List ℕ)
+    (step : Stepped) (said : Answer) → s.now ≤ max_moment → IsHubAccount a s
+    → Does terms s (Asked connection body step said) t
     → (b : Account) × NextUnder terms.limits a s.now step.message b said × AddsEntries a step.entries b

@@ -88,10 +88,8 @@ abbrev pub history_of : Past → List ℕ → History
 history_of past left = record { came = past.came; frames = past.frames; answers = past.answers; left = left }
 
 -- the connection's bytes are those of this past: what was taken of its input are the frames and what is
--- unread; they
--- have these answers, one each, in order; and what left, and then what may leave, are of the answers' frames
--- exactly
--- those before the first that rests on more entries than are written
+-- unread; they have these answers, one each, in order; and what left, and then what may leave, are of the
+-- answers' frames exactly those before the first that rests on more entries than are written
 pub record IsPast (written : ℕ) (past : Past) (wire : Traffic) : Type 0 where
   pub left : List ℕ
   pub sent : length left ≡ past.sent

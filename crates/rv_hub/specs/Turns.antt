@@ -30,8 +30,7 @@ abbrev pub less_by : Offered → ℕ → Offered
 less_by offer count = record offer { piece = drop count offer.piece }
 
 -- turns of connections in the order in which they were freed: whoever is told goes behind those that were
--- told
--- before. Of the piece so many bytes are taken
+-- told before. Of the piece so many bytes are taken
 abbrev pub RunsTurns : DeskTerms → DeskState → Offered → List ℕ → List (List Deed) → ℕ → DeskState → Type 0
 RunsTurns terms old offer [] [] count new = (new ≡ old) × (count ≡ 0)
 RunsTurns terms old offer [] (deeds ∷ turns) count new = ⊥
@@ -87,13 +86,10 @@ last_deeds true s = []
 last_deeds false s = Wrote s.book.length ∷ []
 
 -- time goes on to a moment, and all whom that ends are told; whoever has waited as long as it may is told;
--- then the
--- event's connection goes on until it stops, and then those that were freed, in the order in which they were
--- told. Of
--- the event's piece so many bytes are taken
-pub record EventGoesOn (terms : DeskTerms) (old : DeskState) (handed : ℕ) (what : HubEvent) (made :
-    List Entry)
-    (taken : ℕ) (new : DeskState) : Type 0
+-- then the event's connection goes on until it stops, and then those that were freed, in the order in which
+-- they were told. Of the event's piece so many bytes are taken
+pub record EventGoesOn (terms : DeskTerms) (old : DeskState) (handed : ℕ) (what : HubEvent)
+    (made : List Entry) (taken : ℕ) (new : DeskState) : Type 0
   where
     pub entries : List Entry
     pub settled : List Key

@@ -100,6 +100,7 @@ impl Hub {
     {
         handling::handle(&mut self.parts.desk, self.parts.has_journal, now, &event)
     }
+
     /// The entries that the last event made, in order; none where it was refused.
     pub fn entries(&self) -> &[Entry]
         ensures { result.now ≡ self.now.desk.entries.items }

@@ -12,3 +12,4 @@ mod progress;
 
 pub use events::{EventRefusal, HubEvent};
 pub use hub::Hub;
+pub use parts::HubParts;

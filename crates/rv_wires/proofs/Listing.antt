@@ -137,16 +137,16 @@ get_or_set (x ∷ flags) (suc k) b is set within = get_or_set flags k b is set (
 
 -- ---- one flag more
 
-same_at : (flags : List Bool) (k : ℕ) → get_or (flags ++ false ∷ []) k false ≡ get_or flags k false
-same_at [] zero = refl
-same_at [] (suc k) = refl
-same_at (b ∷ flags) zero = refl
-same_at (b ∷ flags) (suc k) = same_at flags k
+pub same_at : {A : Type 0} (d : A) (items : List A) (k : ℕ) → get_or (items ++ d ∷ []) k d ≡ get_or items k d
+same_at d [] zero = refl
+same_at d [] (suc k) = refl
+same_at d (x ∷ items) zero = refl
+same_at d (x ∷ items) (suc k) = same_at d items k
 
 pub flag_added : (flags new : List Bool) (numbers : List ℕ) (room : ℕ) → AreListed flags numbers room
     → new ≡ flags ++ false ∷ [] → length flags < room → AreListed new numbers room
 flag_added flags new numbers room was is within = record {
-  each = λ k. ap (λ l. get_or l k false) is ∙ same_at flags k ∙ was.each k;
+  each = λ k. ap (λ l. get_or l k false) is ∙ same_at false flags k ∙ was.each k;
   once = was.once;
   count = was.count ∙ sym (ap flag_count is ∙ more_flags flags);
   fits = omega (arith, ap length is, length-append flags (false ∷ []), within);

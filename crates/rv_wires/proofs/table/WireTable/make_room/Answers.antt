@@ -1,8 +1,9 @@
 -- A number more is free.
 use Rattle.std.proofs.Common.{◌∷◌, ◌++◌, ◌∙◌, [], List, None, Option, arith, sym, ap, subst, is_none, map}
-use Rattle.std.proofs.Common.{vec_capacity}
+use Rattle.std.proofs.Common.{get_or, vec_capacity}
 use Rattle.rv_wires.specs.declared.table.WireSlot.{WireSlot}
 use Rattle.rv_wires.specs.Flags.{AreListed}
+use Rattle.rv_wires.proofs.Listing.{same_at}
 use Rattle.rv_wires.proofs.Places.{place_added}
 use Rattle.rv_wires.proofs.table.WireTable.make_room.Goals as goal
 
@@ -26,3 +27,9 @@ invariant_of-self-2 c =
       places.ok.0,
     ))
     (omega (arith, c.reserve-2.ensures.capacity, c.push_reserved-2.ensures.capacity)))
+
+pub returns-clause-same : goal.returns-clause-same
+returns-clause-same c k =
+    rw (← c.self.view_is) (ap (λ (l : List (Option WireSlot)). get_or l k None)
+    (c.push_reserved.ensures.items ∙ ap (λ l. l ++ None ∷ []) c.reserve.ensures.items)
+    ∙ same_at None c.self.inside.places.items k)
