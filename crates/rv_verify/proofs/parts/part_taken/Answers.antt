@@ -1,11 +1,19 @@
 -- What was taken through the next LF is a line, a last piece or nothing.
-use Rattle.std.proofs.Common.{◌≡◌, ◌∙◌, rules, sym}
+use Rattle.std.proofs.Common.{◌≡◌, ◌∙◌, arith, rules, sym, vec_len}
+use Rattle.std.proofs.lemmas.Bool.{eqb-true}
+use Rattle.std.proofs.lemmas.List.{nil_from_length}
 use Rattle.rv_verify.proofs.Through.{end_next, line_next, piece_next}
 use Rattle.rv_verify.proofs.parts.part_taken.Goals as goal
 
 pub returns-then-is_empty : goal.returns-then-is_empty
 returns-then-is_empty c begun bytes lacks taken =
-    end_next begun bytes c.args.line.now.items lacks taken (search rules)
+    let none = nil_from_length c.args.line.now.items (omega (
+      arith,
+      c.args.line.now.ok.0,
+      eqb-true (vec_len c.args.line.now) 0 (sym c.is_empty.ensures ∙ c.if-is_empty.true),
+    ))
+    in
+    end_next begun bytes c.args.line.now.items lacks taken none
 
 pub returns-then-drop_lf : goal.returns-then-drop_lf
 returns-then-drop_lf c begun bytes lacks taken =
