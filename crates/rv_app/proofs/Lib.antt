@@ -1,7 +1,3 @@
 -- The lemmas that the proofs of this crate share.
-pub mod Cutting
-pub mod Forms
-pub mod Progress
 pub mod Writing
 pub mod Telling
-pub mod Answering

@@ -13,7 +13,7 @@ use Rattle.rv_audit.specs.declared.rule.Rule.{Rule}
 use Rattle.rv_audit.specs.Breaking.{FirstFault, name_of}
 use Rattle.rv_lines.specs.Lines.{lines}
 use Rattle.rv_lines.specs.Reading.{FirstBadLine, ReadsAccount}
-use Rattle.rv_app.specs.Outcomes.{ReadsAll}
+use Rattle.rv_run.specs.Input.{ReadsAll}
 use Rattle.rv_app.specs.declared.audit.AuditSaid.{AuditSaid}
 use Rattle.rv_app.specs.declared.audit.AuditSaid.TheVariants.{BadLine, Fault, Legal}
 

@@ -1,9 +1,3 @@
--- What a reader must agree with: all that the public contracts and the laws cite.
+-- What a reader must agree with: all that the public contracts cite.
 pub mod Accounts
 pub mod Audits
-pub mod Laws
-pub mod Lines
-pub mod Outcomes
-pub mod Run
--- What only private clauses and proofs cite.
-pub mod Body

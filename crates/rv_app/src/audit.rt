@@ -1,7 +1,7 @@
 //! Audits the account that the lines of an input say.
 ghost use Rattle.std.specs.Prelude.{◌≡◌, Err, IfErr, IfOk};
 ghost use Rattle.rv_app.specs.Audits.{Audited, HasLine, StoppedTelling, TellsOf};
-ghost use Rattle.rv_app.specs.Outcomes.{FailedReading, FoundTooLong, LackedMemory};
+ghost use Rattle.rv_run.specs.Input.{FailedReading, FoundTooLong, LackedMemory};
 
 use rv_book::Account;
 use rv_frame::{Sink, Source};

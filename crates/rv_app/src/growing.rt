@@ -1,8 +1,9 @@
 //! Audits an account as its file grows.
 use crate::verify::{buffered, run_fault};
+use rv_findings::AccountFinding;
 use rv_replies::Records;
 use rv_run::RunFault;
-use rv_verify::{AccountFinding, OngoingAudit, Pause};
+use rv_verify::{OngoingAudit, Pause};
 use std::io::Read;
 use std::sync::Wait;
 use std::time::{Duration, Instant};

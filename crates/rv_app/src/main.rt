@@ -9,18 +9,14 @@ mod audit;
 mod fault;
 mod growing;
 pub mod laws;
-mod line;
 mod opened;
-mod run;
 mod server;
-mod turn;
 mod verify;
 mod watch;
 
 pub use account::write_account;
 pub use audit::{AuditSaid, audit_run};
 use fault::ProgramFault;
-pub use run::book_run;
 pub use rv_calls::{CallSaid, RecordFault, RecordingFault, call_run, record_run};
 pub use rv_command::{Command, CommandFault, read_command, read_record, read_verify};
 use rv_frame::{Sink, Source};
@@ -28,6 +24,7 @@ pub use rv_play::play_run;
 pub use rv_run::{OutputFault, RunFault};
 use rv_server::ServeFault;
 use rv_text::Version;
+pub use rv_turns::book_run;
 use server::{ServerPlan, serve_epoch};
 use std::alloc::Global;
 use std::fmt::Display;
@@ -60,13 +57,22 @@ fn run_program<T: Threads + Wait + AllocGlobal + time::Clock + Sync>(
 ) -> Result<ExitCode, ProgramFault> {
     let words = words_of(rt)?;
     let words = borrowed(rt.alloc(), &words)?;
-    if let Some((file, call)) = read_record(rt.alloc(), &words)? {
+    run_words(rt, threads, &words)
+}
+
+// Runs the command that the words name.
+fn run_words<T: Threads + Wait + AllocGlobal + time::Clock + Sync>(
+    rt: &HostRuntime,
+    threads: &T,
+    words: &[&str],
+) -> Result<ExitCode, ProgramFault> {
+    if let Some((file, call)) = read_record(rt.alloc(), words)? {
         return run_recorded(rt, file, &call);
     }
-    if let Some(verify) = read_verify(rt.alloc(), &words)? {
+    if let Some(verify) = read_verify(rt.alloc(), words)? {
         return run_verify(rt, threads, &verify);
     }
-    match read_command(rt.alloc(), &words)? {
+    match read_command(rt.alloc(), words)? {
         Command::Book(epoch) => run_book(rt, epoch)?,
         Command::Play => run_play(rt)?,
         Command::Audit => return run_audit(rt),

@@ -1,18 +1,27 @@
 //! Verifies the account in a file, or on standard input, in memory of what is open and of clients, and a
 //! record of replies beside it.
-ghost use Rattle.std.specs.Prelude.{IfOk};
+ghost use Rattle.std.specs.Prelude.{◌≡◌, ℕ, IfOk, IfSome, List, Some};
+ghost use Rattle.std.specs.Io.Buffered.{reader_remaining};
+ghost use Rattle.rv_lines.specs.Lines.{lines};
+ghost use Rattle.rv_verify.specs.Ends.{IsToldOfBytes};
+ghost use Rattle.rv_verify.specs.Naming.{BeginAlike, IsRuleAt};
+ghost use Rattle.rv_verify.specs.Noting.{IsNotedOfBytes};
+ghost use Rattle.rv_verify.specs.Recording.{IsRecordOf};
 ghost use Rattle.rv_verify.specs.Stages.{AreNew};
+ghost use Rattle.rv_verify.specs.Verdicts.{TellsNotOpen};
 
 use crate::fault::ProgramFault;
 use crate::growing::follow;
 use crate::watch::{Watch, Watched};
+use rv_account::{Entry, Place};
 use rv_audit::Rule;
 use rv_command::{STANDARD_INPUT, VerifyWords};
+use rv_findings::{AccountFinding, AccountVerdict};
 use rv_frame::Sink;
 use rv_inspect::tell_found;
 use rv_replies::Records;
 use rv_run::RunFault;
-use rv_verify::{AccountFinding, AccountVerdict, VerifyFault, read_records, rule_at, verify};
+use rv_verify::{VerifyFault, read_records, rule_at, verify};
 use std::alloc::Global;
 use std::fmt::Display;
 use std::fs::File;
@@ -34,7 +43,7 @@ pub(crate) fn run_verify<T: Wait + time::Clock>(
     };
     match File::open(rt, path) {
         Ok(file) => {
-            let mut records = records_in(rt, file)?;
+            let mut records = records_in(rt, size_of(&file), file)?;
             verify_beside(rt, waits, words, &mut records)
         }
         Err(error) => Ok(unread(rt, "record", path, &error)),
@@ -85,12 +94,12 @@ fn tell_file(
     found: &AccountFinding,
     records: &Records,
 ) -> Result<ExitCode, ProgramFault> {
-    if !matches!(found.verdict, AccountVerdict::NotOpen { .. }) {
+    let AccountVerdict::NotOpen { place, entry } = &found.verdict else {
         return tell(rt, words, found, None, records);
-    }
+    };
     match File::open(rt, words.file) {
         Ok(again) => {
-            let rule = rule_in(rt, &found.verdict, again)?;
+            let rule = rule_in(rt, *place, entry, again)?;
             tell(rt, words, found, rule, records)
         }
         Err(error) => Ok(unread(rt, "account", words.file, &error)),
@@ -102,28 +111,34 @@ fn size_of(file: &File) -> u64 {
     file.metadata().map_or(0, |about| about.len())
 }
 
-// The record that the lines of a file are.
-fn records_in(rt: &HostRuntime, file: File) -> Result<Records, RunFault>
-    ensures { IfOk result AreNew }
+// The record that the lines of a reader are, which has so many bytes, or 0 if nobody knows how many.
+fn records_in<F: Read + Drop>(rt: &HostRuntime, size: u64, input: F) -> Result<Records, RunFault>
+    ensures record { IfSome (F.remaining input) (λ bytes. IfOk result (IsRecordOf bytes)) }
+    ensures are_new { IfOk result AreNew }
 {
-    let mut watch = Watch::new(rt, size_of(&file));
-    let records = records_watched(rt, &mut watch, file);
+    let mut watch = Watch::new(rt, size);
+    let records = records_watched(rt, &mut watch, input);
     watch.erase();
     records
 }
 
 // The same, watched.
-fn records_watched(rt: &HostRuntime, watch: &mut Watch<'_>, file: File) -> Result<Records, RunFault>
-    ensures { IfOk result AreNew }
+fn records_watched<F: Read + Drop>(
+    rt: &HostRuntime,
+    watch: &mut Watch<'_>,
+    input: F,
+) -> Result<Records, RunFault>
+    ensures record { IfSome (F.remaining input) (λ bytes. IfOk result (IsRecordOf bytes)) }
+    ensures are_new { IfOk result AreNew }
 {
-    let mut reader = buffered(rt.alloc(), Watched::new(watch, file))?;
+    let mut reader = buffered(rt.alloc(), Watched::new(watch, input))?;
     match read_records(rt.alloc(), &mut reader) {
         Ok(records) => Ok(records),
         Err(fault) => Err(run_fault(fault)),
     }
 }
 
-// What an account is.
+// What the account is whose bytes a reader has: so many, or 0 if nobody knows how many.
 fn found_in<F: Read + Drop>(
     rt: &HostRuntime,
     size: u64,
@@ -131,6 +146,10 @@ fn found_in<F: Read + Drop>(
     records: &mut Records,
 ) -> Result<AccountFinding, RunFault>
     requires { AreNew records.old }
+    ensures told { IfSome (F.remaining input) (λ bytes. IfOk result (IsToldOfBytes bytes)) }
+    ensures noted { IfSome (F.remaining input) (λ bytes. IfOk result
+        (λ found. IsNotedOfBytes bytes found records.new)) }
+    ensures lines { records.new.lines ≡ records.old.lines }
 {
     let mut watch = Watch::new(rt, size);
     let found = found_watched(rt, &mut watch, input, records);
@@ -146,27 +165,45 @@ fn found_watched<F: Read + Drop>(
     records: &mut Records,
 ) -> Result<AccountFinding, RunFault>
     requires { AreNew records.old }
+    ensures told { IfSome (F.remaining input) (λ bytes. IfOk result (IsToldOfBytes bytes)) }
+    ensures noted { IfSome (F.remaining input) (λ bytes. IfOk result
+        (λ found. IsNotedOfBytes bytes found records.new)) }
+    ensures lines { records.new.lines ≡ records.old.lines }
 {
     let mut reader = buffered(rt.alloc(), Watched::new(watch, input))?;
-    verify(rt.alloc(), &mut reader, records).map_err(run_fault)
+    match verify(rt.alloc(), &mut reader, records) {
+        Ok(found) => Ok(found),
+        Err(fault) => Err(run_fault(fault)),
+    }
 }
 
-// The rule that its entry breaks, if that names a closed place.
-fn rule_in(
+// The rule that the entry at a place breaks, which names a closed place, by a reader with the same account's
+// bytes.
+fn rule_in<F: Read + Drop>(
     rt: &HostRuntime,
-    verdict: &AccountVerdict,
-    file: File,
-) -> Result<Option<Rule>, RunFault> {
-    let AccountVerdict::NotOpen { place, entry } = verdict else {
-        return Ok(None);
-    };
-    let mut reader = buffered(rt.alloc(), file)?;
-    rule_at(rt.alloc(), &mut reader, *place, entry).map_err(run_fault)
+    place: Place,
+    entry: &Entry,
+    input: F,
+) -> Result<Option<Rule>, RunFault>
+    ensures { (all : List (List ℕ)) (bytes : List ℕ) → F.remaining input ≡ Some bytes
+        → TellsNotOpen all place entry.now → BeginAlike all (lines bytes) place
+        → IfOk result (IsRuleAt all place) }
+{
+    let mut reader = buffered(rt.alloc(), input)?;
+    match rule_at(rt.alloc(), &mut reader, place, entry) {
+        Ok(rule) => Ok(rule),
+        Err(fault) => Err(run_fault(fault)),
+    }
 }
 
-/// A reader with a buffer.
-pub(crate) fn buffered<F: Read + Drop>(alloc: Global, input: F) -> Result<BufReader<F>, RunFault> {
-    BufReader::new(alloc, input).map_err(|_| RunFault::NoMemory)
+/// A reader with a buffer: its bytes are those of the reader.
+pub(crate) fn buffered<F: Read + Drop>(alloc: Global, input: F) -> Result<BufReader<F>, RunFault>
+    ensures { IfOk result (λ reader. reader_remaining F.remaining reader ≡ F.remaining input) }
+{
+    match BufReader::new(alloc, input) {
+        Ok(reader) => Ok(reader),
+        Err(_) => Err(RunFault::NoMemory),
+    }
 }
 
 /// Why an account was not read to its end.

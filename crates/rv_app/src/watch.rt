@@ -1,4 +1,6 @@
 //! Tells on a terminal how far a reading is.
+ghost use Rattle.std.specs.Prelude.{◌≡◌};
+
 use rv_text::NoMemory;
 use std::alloc::Global;
 use std::io;
@@ -82,7 +84,7 @@ impl<'a> Watch<'a> {
     }
 }
 
-/// A reader that is watched.
+/// A reader that is watched: its bytes are those of the reader.
 #[derive(Drop)]
 pub(crate) struct Watched<'w, 'a, R> {
     watch: &'w mut Watch<'a>,
@@ -90,12 +92,16 @@ pub(crate) struct Watched<'w, 'a, R> {
 }
 
 impl<'w, 'a, R> Watched<'w, 'a, R> {
-    pub(crate) fn new(watch: &'w mut Watch<'a>, inner: R) -> Watched<'w, 'a, R> {
+    pub(crate) fn new(watch: &'w mut Watch<'a>, inner: R) -> Watched<'w, 'a, R>
+        ensures { result.inner ≡ inner }
+    {
         Watched { watch, inner }
     }
 }
 
 impl<'w, 'a, R: Read> Read for Watched<'w, 'a, R> {
+    ghost remaining = { λ watched. R.remaining watched.inner };
+
     fn read(&mut self, buffer: &mut [u8]) -> io::Result<usize> {
         let count = self.inner.read(buffer)?;
         self.watch.note(&buffer[..count]);

@@ -1,8 +1,9 @@
 //! Reads the words of a command line.
-ghost use Rattle.std.specs.Prelude.{IfOk, IfSome, IsErrOf, None, codes, false, option_map};
+ghost use Rattle.std.specs.Prelude.{IfOk, IfSome, IsErrOf, None, codes, false, option_map, true};
 ghost use Rattle.std.specs.Prelude.{ℕ, ◌≡◌, []};
 ghost use Rattle.std.specs.Option.{IsSomeAnd};
-ghost use Rattle.clap.specs.Words.{Text, app_of, fault_of, first_of, found_of, kind_of, rows_of, rule_of};
+ghost use Rattle.clap.specs.Words.{HasMatchesOf, Text, app_of, fault_of, first_of, found_of};
+ghost use Rattle.clap.specs.Words.{is_simple_and_free, kind_of, rows_of, rule_of};
 ghost use Rattle.clap.specs.Words.{shape_of, subcommand_of, subcommand_rows_of};
 ghost use Rattle.clap.specs.declared.Command.TheViews.{out-Command};
 ghost use Rattle.clap.specs.Walk.{texts};
@@ -227,7 +228,21 @@ fn matches_of<'a>(alloc: Global, words: &'a [&'a str]) -> Result<ArgMatches<'a>,
     ensures bad { IsErrOf result CommandFault.Bad
         → ¬ (fault_of rv_app (texts words.entry.now) ≡ []) }
 {
-    Ok(program(alloc)?.try_get_matches_from(words)?)
+    taken(program(alloc)?, words)
+}
+
+/// The words as clap reads them for a command of which it tells each fault.
+pub(crate) fn taken<'a>(
+    command: clap::Command<'a>,
+    words: &'a [&'a str],
+) -> Result<ArgMatches<'a>, CommandFault>
+    requires { is_simple_and_free (app_of command) ≡ true }
+    ensures taken { IfOk result (λ _. fault_of (app_of command.entry) (texts words.entry.now) ≡ []) }
+    ensures found { IfOk result (HasMatchesOf (app_of command.entry) (texts words.entry.now)) }
+    ensures bad { IsErrOf result CommandFault.Bad
+        → ¬ (fault_of (app_of command.entry) (texts words.entry.now) ≡ []) }
+{
+    Ok(command.try_get_matches_from(words)?)
 }
 
 // The program, as clap reads it.

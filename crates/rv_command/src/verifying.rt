@@ -7,7 +7,7 @@ ghost use Rattle.rv_command.specs.Verifying.{BeginOtherwise, ClapSays, NamesNoVe
 ghost use Rattle.rv_command.specs.Verifying.{SaysVerify};
 ghost use Rattle.rv_command.specs.Verifying.{file_rule, follow_rule, replies_rule, verify_app};
 
-use crate::command::{CommandFault, text_of};
+use crate::command::{CommandFault, taken, text_of};
 use clap::{Arg, ArgAction, ArgMatches};
 use std::alloc::{AllocError, Global};
 
@@ -104,7 +104,7 @@ fn matches_in<'a>(alloc: Global, own: &'a [&'a str]) -> Result<ArgMatches<'a>, C
     ensures bad { IsErrOf result CommandFault.Bad
         → ¬ (fault_of verify_app (texts own.entry.now) ≡ []) }
 {
-    Ok(command(alloc)?.try_get_matches_from(own)?)
+    taken(command(alloc)?, own)
 }
 
 // `verify FILE --replies FILE --follow`, as clap reads it.

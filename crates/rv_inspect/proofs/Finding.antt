@@ -8,9 +8,10 @@ use Rattle.rv_account.specs.Account.{Account}
 use Rattle.rv_rules.specs.Legal.{Legal}
 use Rattle.rv_rules.proofs.Places.{get-append_cases}
 use Rattle.rv_replies.specs.Standing.{HasNoted, IsLineFinding}
-use Rattle.rv_replies.specs.declared.findings.Finding.{Finding}
-use Rattle.rv_replies.specs.declared.findings.Finding.TheVariants.{Impossible, Kept, NoRecord, NoRequest}
-use Rattle.rv_replies.specs.declared.findings.Finding.TheVariants.{OtherCall, OtherEpoch, OtherReply, Waiting}
+use Rattle.rv_findings.specs.declared.findings.Finding.{Finding}
+use Rattle.rv_findings.specs.declared.findings.Finding.TheVariants.{Impossible, Kept, NoRecord}
+use Rattle.rv_findings.specs.declared.findings.Finding.TheVariants.{NoRequest, OtherCall, OtherEpoch}
+use Rattle.rv_findings.specs.declared.findings.Finding.TheVariants.{OtherReply, Waiting}
 use Rattle.rv_replies.specs.declared.records.Line.{Line}
 use Rattle.rv_replies.specs.declared.records.Line.TheVariants as line
 use Rattle.rv_replies.specs.declared.records.Records.{Records}

@@ -5,13 +5,13 @@ use Rattle.rv_account.specs.Account.{Account}
 use Rattle.rv_audit.specs.Breaking.{name_of}
 use Rattle.rv_audit.specs.declared.rule.Rule.{Rule}
 use Rattle.rv_replies.specs.Standing.{HasNoted, IsLineFinding}
-use Rattle.rv_replies.specs.declared.findings.Finding.{Finding}
+use Rattle.rv_findings.specs.declared.findings.Finding.{Finding}
 use Rattle.rv_replies.specs.declared.records.Line.{Line}
 use Rattle.rv_replies.specs.declared.records.Records.{Records}
 use Rattle.rv_rules.specs.Legal.{Legal}
-use Rattle.rv_verify.specs.declared.verdict.AccountVerdict.{AccountVerdict}
-use Rattle.rv_verify.specs.declared.verdict.AccountVerdict.TheVariants.{BadLine, BeyondLimits, Fault, NotOpen}
-use Rattle.rv_verify.specs.declared.verdict.AccountVerdict.TheVariants.{Legal as LegalSoFar}
+use Rattle.rv_findings.specs.declared.verdict.AccountVerdict.{AccountVerdict}
+use Rattle.rv_findings.specs.declared.verdict.AccountVerdict.TheVariants.{BadLine, BeyondLimits, Fault}
+use Rattle.rv_findings.specs.declared.verdict.AccountVerdict.TheVariants.{Legal as LegalSoFar, NotOpen}
 
 -- a fault, by the place and what names the rule
 abbrev pub fault_text : ℕ → List ℕ → List ℕ

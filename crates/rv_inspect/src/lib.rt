@@ -3,7 +3,6 @@
 
 mod lines;
 mod pieces;
-mod status;
 mod telling;
 
 pub use telling::tell_found;

@@ -4,9 +4,9 @@ ghost use Rattle.std.specs.Fmt.{decimal};
 ghost use Rattle.rv_inspect.specs.Lines.{fault_text, verdict_text};
 
 use rv_audit::Rule;
-use rv_replies::{Fate, Finding, Line, Records};
+use rv_findings::{AccountVerdict, Fate, Finding};
+use rv_replies::{Line, Records};
 use rv_text::{Answer, Key, Message, NoMemory, Reply, encode_answer, encode_message};
-use rv_verify::AccountVerdict;
 use std::alloc::Global;
 
 /// The line of a verdict. Which rule is broken at a closed place a second reading tells, if there was one.

@@ -5,13 +5,12 @@ ghost use Rattle.rv_inspect.specs.Statuses.{IsKeptBeside, TellsFound, TellsKept}
 
 use crate::lines::{count_line, differs_line, finding_line, verdict_line};
 use crate::pieces::Pieces;
-use crate::status::status_of;
 use rv_audit::Rule;
+use rv_findings::{AccountFinding, Finding, are_kept, count_of, status_of};
 use rv_frame::Sink;
-use rv_replies::{Finding, Records, are_kept, count_of};
+use rv_replies::Records;
 use rv_run::RunFault;
 use rv_text::NoMemory;
-use rv_verify::AccountFinding;
 use std::alloc::{AllocError, Global};
 use std::io::Write;
 

@@ -8,14 +8,14 @@ use Rattle.std.specs.Map.{lookup}
 use Rattle.rv_rules.proofs.Deciding.{key_or_other}
 use Rattle.rv_rules.proofs.Places.{get-append, get-append_cases, get-append_end, within}
 use Rattle.rv_replies.specs.Firsts.{DiffersFrom, IsFirstOf, IsNamedIfOther, KnowsFirsts, NotesFirst, first_in}
-use Rattle.rv_replies.specs.Known.{key_name}
-use Rattle.rv_replies.specs.declared.fates.Name.{Name}
-use Rattle.rv_replies.specs.declared.findings.Told.{Told}
+use Rattle.rv_findings.specs.Names.{key_name}
+use Rattle.rv_findings.specs.declared.name.Name.{Name}
+use Rattle.rv_findings.specs.declared.findings.Told.{Told}
 use Rattle.rv_replies.specs.declared.firsts.Firsts.{Firsts}
 use Rattle.rv_replies.specs.declared.reading.Flaw.{Flaw}
 use Rattle.rv_replies.specs.declared.records.Line.{Line}
 use Rattle.rv_replies.specs.declared.records.Line.TheVariants as line
-use Rattle.rv_replies.proofs.Names.{named_apart, named_own}
+use Rattle.rv_findings.proofs.Names.{named_apart, named_own}
 
 pub same_told : (told other : Told) → line.Told told ≡ line.Told other → told ≡ other
 same_told told other is = cc

@@ -1,10 +1,7 @@
 pub mod Words
-pub mod Names
 pub mod Arriving
 pub mod Settled
 pub mod Passing
-pub mod KeptTold
-pub mod Judged
 pub mod Texts
 pub mod Counts
 pub mod AskedTold

@@ -1,5 +1,5 @@
 -- Which keys are known, and when what is known of each is what an account tells.
-use Rattle.std.specs.Prelude.{◌≡◌, ◌&&◌, Bool, Option, Some, is_some, nat_eq, unwrap_or}
+use Rattle.std.specs.Prelude.{◌≡◌, Option, Some, is_some, unwrap_or}
 use Rattle.std.specs.Map.{lookup}
 use Rattle.rv_text.specs.declared.message.Key.{Key}
 use Rattle.rv_account.specs.Account.{Account, with_entry}
@@ -8,26 +8,11 @@ use Rattle.rv_rules.specs.Legal.{Legal}
 use Rattle.rv_state.specs.After.{following, state_of}
 use Rattle.rv_machine.specs.Machines.{keys_settled, state_in}
 use Rattle.rv_machine.specs.declared.machine.Machine.{Machine}
-use Rattle.rv_replies.specs.declared.fate.Fate.{Fate}
-use Rattle.rv_replies.specs.declared.fate.Fate.TheVariants.{Unnamed}
+use Rattle.rv_findings.specs.declared.fate.Fate.{Fate}
+use Rattle.rv_findings.specs.declared.fate.Fate.TheVariants.{Unnamed}
 use Rattle.rv_replies.specs.declared.fates.Fates.{Fates}
-use Rattle.rv_replies.specs.declared.fates.Name.{Name}
-use Rattle.rv_replies.specs.Fates.{IsFateOf}
-
-abbrev pub key_name : Key → Name
-key_name key =
-    record {
-      epoch = key.epoch;
-      client = key.client;
-      incarnation = key.incarnation;
-      number = key.number;
-    }
-
-abbrev pub is_named : Key → Name → Bool
-is_named key name =
-    nat_eq key.epoch name.epoch
-    && (nat_eq key.client name.client
-    && (nat_eq key.incarnation name.incarnation && nat_eq key.number name.number))
+use Rattle.rv_findings.specs.Names.{is_named}
+use Rattle.rv_findings.specs.Fates.{IsFateOf}
 
 -- what is known of the key's request
 abbrev pub fate_in : Fates → Key → Option Fate

@@ -5,22 +5,14 @@ ghost use Rattle.rv_machine.specs.Machines.{state_in};
 ghost use Rattle.rv_text.specs.declared.message.Key as message;
 ghost use Rattle.rv_replies.specs.Ending.{changed, ended_by, own_fate, told_last_by, told_now};
 
-use crate::fate::{Change, Fate};
+use crate::changes::{Change, own_fate, turn};
 use crate::telling::{told_last_by, told_now};
 use indexmap::IndexMap;
 use rv_account::{Act, Entry};
+use rv_findings::{Fate, Name};
 use rv_machine::Machine;
 use rv_text::{Call, Key, NoMemory};
 use std::alloc::Global;
-
-// A key, as it is looked up.
-#[derive(Clone, Copy, PartialEq, Eq, Hash)]
-pub(crate) struct Name {
-    epoch: u64,
-    client: u64,
-    incarnation: u64,
-    number: u64,
-}
 
 /// Of some keys what became of their requests.
 ///
@@ -29,21 +21,6 @@ pub(crate) struct Name {
 #[derive(Drop)]
 pub(crate) struct Fates {
     fates: IndexMap<Name, Fate>,
-}
-
-impl Name {
-    ghost use Rattle.rv_replies.specs.Known.{key_name};
-
-    pub(crate) fn of(key: &Key) -> Name
-        ensures { result ≡ key_name key.now }
-    {
-        Name {
-            epoch: key.epoch,
-            client: key.client,
-            incarnation: key.incarnation,
-            number: key.number,
-        }
-    }
 }
 
 impl Fates {
@@ -94,7 +71,7 @@ impl Fates {
         ensures { Changes self.old self.new key.now (changed change) }
     {
         if let Some(fate) = self.fates.get_mut(&Name::of(key)) {
-            fate.change(change);
+            turn(fate, change);
         }
     }
 
@@ -143,7 +120,7 @@ impl Fates {
         if !self.knows(key) {
             return Ok(());
         }
-        let fate = Fate::of(call.copy(alloc)?, told_last_by(alloc, machine, key)?);
+        let fate = own_fate(call.copy(alloc)?, told_last_by(alloc, machine, key)?);
         self.change(key, Change::Becomes(fate));
         Ok(())
     }

@@ -5,6 +5,7 @@ ghost use Rattle.rv_state.specs.Moves.{told_again};
 ghost use Rattle.rv_replies.specs.Ending.{told_last_by, told_now};
 
 use rv_account::Act;
+use rv_findings::told_by;
 use rv_machine::Machine;
 use rv_session::LastRequest;
 use rv_text::{Key, NoMemory, Reply};
@@ -47,9 +48,9 @@ pub(crate) fn told_now(
     ensures { IfOk result (λ told. told ≡ told_now (state_in machine.now) act.now key.now) }
 {
     match act {
-        Act::Hello { .. } => Ok(Some(Reply::Cancelled)),
+        Act::Hello { .. } => Ok(Some(told_by(act))),
         Act::Arrive { .. } => told_last_by(alloc, machine, key),
-        Act::Cancel { .. } => Ok(Some(Reply::Cancelled)),
-        Act::Tick => Ok(Some(Reply::TimedOut)),
+        Act::Cancel { .. } => Ok(Some(told_by(act))),
+        Act::Tick => Ok(Some(told_by(act))),
     }
 }

@@ -15,8 +15,8 @@ use Rattle.rv_resume.specs.Laws.{HadRoom}
 use Rattle.rv_text.specs.Members.{max_identifier}
 use Rattle.rv_verify.specs.Laws.{SayTheSame, VerdictsAgree}
 use Rattle.rv_verify.specs.Verdicts.{IsVerdictOn, ReadsLong, ReadsLongEntry, long_limits}
-use Rattle.rv_verify.specs.declared.verdict.AccountVerdict.{AccountVerdict}
-use Rattle.rv_verify.specs.declared.verdict.AccountVerdict.TheVariants as verdict
+use Rattle.rv_findings.specs.declared.verdict.AccountVerdict.{AccountVerdict}
+use Rattle.rv_findings.specs.declared.verdict.AccountVerdict.TheVariants as verdict
 
 -- ---- reading
 

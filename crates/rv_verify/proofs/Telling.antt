@@ -15,8 +15,8 @@ use Rattle.rv_follow.specs.Ruling.{IsFirstBroken, IsOnNamed, NamesClosed}
 use Rattle.rv_follow.proofs.RuleLaws.{closed_breaks, follows_legally, rules_break}
 use Rattle.rv_verify.specs.Standing.{HasRead, StandsAt, StopsBehind}
 use Rattle.rv_verify.specs.Verdicts.{AuditTells, IsVerdictOn, ReadsLong, TellsFaultOf}
-use Rattle.rv_verify.specs.declared.verdict.AccountVerdict.{AccountVerdict}
-use Rattle.rv_verify.specs.declared.verdict.AccountVerdict.TheVariants as verdict
+use Rattle.rv_findings.specs.declared.verdict.AccountVerdict.{AccountVerdict}
+use Rattle.rv_findings.specs.declared.verdict.AccountVerdict.TheVariants as verdict
 use Rattle.rv_verify.specs.declared.verifier.StopReason.{StopReason}
 use Rattle.rv_verify.specs.declared.verifier.StopReason.TheVariants as stop
 use Rattle.rv_verify.specs.declared.verifier.Verifier.{Verifier}

@@ -10,8 +10,8 @@ use Rattle.rv_resume.specs.Laws.{HadRoom}
 use Rattle.rv_rules.specs.Legal.{Legal}
 use Rattle.rv_verify.specs.Noting.{IsLongestLegal}
 use Rattle.rv_verify.specs.Verdicts.{IsVerdictOn, ReadsLong}
-use Rattle.rv_verify.specs.declared.verdict.AccountVerdict.{AccountVerdict}
-use Rattle.rv_verify.specs.declared.verdict.AccountVerdict.TheVariants as verdict
+use Rattle.rv_findings.specs.declared.verdict.AccountVerdict.{AccountVerdict}
+use Rattle.rv_findings.specs.declared.verdict.AccountVerdict.TheVariants as verdict
 
 -- both say that the account is legal, or tell the same fault; of an entry that names a closed place the rule
 -- is

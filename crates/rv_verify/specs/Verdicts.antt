@@ -17,8 +17,8 @@ use Rattle.rv_audit.specs.declared.rule.Audit.TheVariants as tells
 use Rattle.rv_audit.specs.declared.rule.Rule.{Rule}
 use Rattle.rv_follow.specs.Ruling.{IsOnNamed, NamesClosed}
 use Rattle.rv_lines.specs.Reading.{FirstBadLineUnder, LineLimits, ReadsAccountUnder, ReadsEntryUpTo}
-use Rattle.rv_verify.specs.declared.verdict.AccountVerdict.{AccountVerdict}
-use Rattle.rv_verify.specs.declared.verdict.AccountVerdict.TheVariants as verdict
+use Rattle.rv_findings.specs.declared.verdict.AccountVerdict.{AccountVerdict}
+use Rattle.rv_findings.specs.declared.verdict.AccountVerdict.TheVariants as verdict
 
 -- places up to 2^53 - 1, and as many entries
 abbrev pub long_limits : LineLimits

@@ -10,7 +10,6 @@ mod parts;
 mod reading;
 mod recording;
 mod stage;
-mod verdict;
 mod verifier;
 
 pub use fault::VerifyFault;
@@ -18,4 +17,3 @@ pub use naming::rule_at;
 pub use ongoing::{OngoingAudit, Pause};
 pub use reading::verify;
 pub use recording::read_records;
-pub use verdict::{AccountFinding, AccountVerdict};

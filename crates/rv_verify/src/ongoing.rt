@@ -13,7 +13,7 @@ use crate::fault::VerifyFault;
 use crate::parts::{NextPart, more_of_line};
 use crate::reading::is_torn;
 use crate::stage::Stage;
-use crate::verdict::AccountFinding;
+use rv_findings::AccountFinding;
 use rv_replies::Records;
 use std::alloc::Global;
 use std::io::BufRead;

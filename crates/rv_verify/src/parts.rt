@@ -1,7 +1,8 @@
 //! Reads bytes line by line.
 ghost use Rattle.std.specs.Prelude.{◌≡◌, ◌≢◌, ◌∷◌, ◌++◌, [], ℕ, List, Some, IfOk, true, false};
+ghost use Rattle.std.specs.Io.BufRead.{drop_through, take_through};
 ghost use Rattle.std.specs.List.{All};
-ghost use Rattle.rv_verify.specs.Reading.{HasNextPart};
+ghost use Rattle.rv_verify.specs.Reading.{HasNextPart, IsNext};
 
 use crate::fault::VerifyFault;
 use std::io::BufRead;
@@ -39,13 +40,22 @@ pub(crate) fn more_of_line<B: BufRead>(
         (HasNextPart (line.old.items ++ bytes) (B.remaining reader.new) line.new.items) }
 {
     reader.read_until(b'\n', line)?;
+    Ok(part_taken(line))
+}
+
+// What bytes are that were taken through the next LF, without it.
+fn part_taken(line: &mut Vec<u8>) -> NextPart
+    ensures { (begun : List ℕ) (bytes : List ℕ) → All (λ byte. byte ≢ 10) begun
+        → line.old.items ≡ begun ++ take_through 10 bytes
+        → IsNext (begun ++ bytes) (drop_through 10 bytes) line.new.items result }
+{
     if line.is_empty() {
-        return Ok(NextPart::End);
+        return NextPart::End;
     }
     if drop_lf(line) {
-        Ok(NextPart::Line)
+        NextPart::Line
     } else {
-        Ok(NextPart::Piece)
+        NextPart::Piece
     }
 }
 

@@ -8,8 +8,8 @@ ghost use Rattle.rv_verify.specs.Verdicts.{ReadsLongEntry};
 
 use crate::fault::VerifyFault;
 use crate::ongoing::OngoingAudit;
-use crate::verdict::AccountFinding;
 use rv_account::Entry;
+use rv_findings::AccountFinding;
 use rv_lines::{LineFault, read_entry};
 use rv_replies::Records;
 use rv_text::MAX_IDENTIFIER;

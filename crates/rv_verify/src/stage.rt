@@ -8,8 +8,8 @@ ghost use Rattle.rv_verify.specs.Standing.{CanReadOn};
 ghost use Rattle.rv_verify.specs.Verdicts.{IsVerdictOn};
 
 use crate::fault::VerifyFault;
-use crate::verdict::AccountVerdict;
 use crate::verifier::Verifier;
+use rv_findings::AccountVerdict;
 use rv_lines::{LineFault, read_head};
 use rv_replies::Records;
 use std::alloc::Global;

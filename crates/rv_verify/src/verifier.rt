@@ -19,9 +19,9 @@ ghost use Rattle.rv_verify.specs.Reading.{IsStopped, NotesOneMore, NotesUnlessSt
 ghost use Rattle.rv_verify.specs.Stages.{AreNew, HasReadNoting};
 
 use crate::fault::VerifyFault;
-use crate::verdict::AccountVerdict;
 use rv_account::Entry;
 use rv_audit::Rule;
+use rv_findings::AccountVerdict;
 use rv_follow::{Followed, follow};
 use rv_lines::{LineFault, read_entry};
 use rv_machine::Machine;

@@ -1,11 +1,10 @@
 -- The program is one of which clap tells each fault.
-use Rattle.std.proofs.Common.{◌≡◌, ◌∙◌, [], ap, inl, inr, refl, subst, true}
+use Rattle.std.proofs.Common.{◌≡◌, ◌∙◌, [], IfOk, ap, refl, subst, true}
+use Rattle.std.proofs.lemmas.Result.{IfOk-weaker}
 use Rattle.clap.proofs.OnLiterals.{clap_on_literals}
 use Rattle.clap.specs.Walk.{texts}
-use Rattle.std.proofs.lemmas.Result.{err_from_is_err_and}
-use Rattle.clap.specs.Words.{App, HasKind, HasMatchesOf, Kinds, fault_of, is_simple, is_simple_and_free}
+use Rattle.clap.specs.Words.{App, HasMatchesOf, fault_of, is_simple, is_simple_and_free}
 use Rattle.rv_command.specs.Command.{rv_app}
-use Rattle.rv_command.specs.declared.command.CommandFault.TheVariants.{NoMemory}
 use Rattle.rv_command.proofs.command.matches_of.Goals as goal
 
 simple_and_free : is_simple_and_free rv_app ≡ true
@@ -16,29 +15,21 @@ simple : is_simple rv_app ≡ true
 unfolding clap_on_literals
 simple = refl
 
+pub taken-requires : goal.taken-requires
+taken-requires c = ap is_simple_and_free c.in_ok-program.ensures ∙ simple_and_free
+
 pub returns-clause-taken : goal.returns-clause-taken
-returns-clause-taken c =
-    let app = c.in_ok-program.ensures in
-    subst (λ (a : App). fault_of a (texts c.args.words.now) ≡ []) app
-    (c.in_ok-try_get_matches_from.ensures.kinds (ap is_simple_and_free app ∙ simple_and_free))
+returns-clause-taken c = subst (λ (a : App). IfOk c.taken.result (λ _. fault_of a (texts c.args.words.now) ≡
+    []))
+    c.in_ok-program.ensures c.taken.ensures.taken
 
 pub returns-clause-found : goal.returns-clause-found
-returns-clause-found c =
-    let found = subst (λ (a : App). HasMatchesOf a (texts c.args.words.now)
-    c.in_ok-try_get_matches_from.field-0) c.in_ok-program.ensures
-    c.in_ok-try_get_matches_from.ensures.matches in
-    (found simple).1
+returns-clause-found c = IfOk-weaker c.taken.result _ _ (λ m has. (has simple).1)
+    (subst (λ (a : App). IfOk c.taken.result (HasMatchesOf a (texts c.args.words.now)))
+    c.in_ok-program.ensures
+    c.taken.ensures.found)
 
-pub returns-in_err-try_get_matches_from-clause-bad : goal.returns-in_err-try_get_matches_from-clause-bad
-returns-in_err-try_get_matches_from-clause-bad c bad none =
-    let app = c.in_ok-program.ensures in
-    let error = c.in_err-try_get_matches_from.field-0.0 in
-    let result = c.from_residual-in_err-try_get_matches_from in
-    let exit = err_from_is_err_and result.result result.ensures.1 in
-    let kinds = c.in_err-try_get_matches_from.ensures.kinds (ap is_simple_and_free app ∙ simple_and_free) in
-    let of_none = subst (λ (ks : Kinds). HasKind ks error)
-    (ap (λ (a : App). fault_of a (texts c.args.words.now)) app ∙ none) kinds in
-    elim of_none [
-      | inl out ↦ let no_memory : exit.0 ≡ NoMemory = exit.2.0 out in (cc)
-      | inr nothing ↦ nothing
-    ]
+pub returns-clause-bad : goal.returns-clause-bad
+returns-clause-bad c bad none =
+    c.taken.ensures.bad bad (ap (λ (a : App). fault_of a (texts c.args.words.now)) c.in_ok-program.ensures
+    ∙ none)

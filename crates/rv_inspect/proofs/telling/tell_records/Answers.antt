@@ -1,8 +1,8 @@
 -- Whether all lines are kept, by the findings.
 use Rattle.std.proofs.Common.{◌≡◌, ◌↔◌, IsTrue, List, subst}
 use Rattle.std.specs.List.{All}
-use Rattle.rv_replies.specs.declared.findings.Finding.{Finding}
-use Rattle.rv_replies.specs.declared.findings.Finding.TheVariants.{Kept}
+use Rattle.rv_findings.specs.declared.findings.Finding.{Finding}
+use Rattle.rv_findings.specs.declared.findings.Finding.TheVariants.{Kept}
 use Rattle.rv_inspect.proofs.Finding.{kept_told}
 use Rattle.rv_inspect.proofs.telling.tell_records.Goals as goal
 

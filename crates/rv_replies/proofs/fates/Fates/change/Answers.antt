@@ -9,8 +9,8 @@ pub returns-in-Some : goal.returns-in-Some
 returns-in-Some c =
     let read = ap option_copied_mut (sym c.in-Some.is) ∙ c.get_mut.ensures.value in
     let there = sym (ap is_some read) in
-    let wrote = c.get_mut.follows.holds c.change.new.self in
-    put_changes c.args.self.now (record { fates = c.get_mut.follows.lender c.change.new.self }) c.args.key.now
-    c.of.result c.of.ensures (changed c.args.change) c.in-Some.fate.now c.change.new.self read
-    c.change.ensures
+    let wrote = c.get_mut.follows.holds c.turn.new.fate in
+    put_changes c.args.self.now (record { fates = c.get_mut.follows.lender c.turn.new.fate }) c.args.key.now
+    c.of.result c.of.ensures (changed c.args.change) c.in-Some.fate.now c.turn.new.fate read
+    c.turn.ensures
     (wrote.3 there).0

@@ -1,0 +1,4 @@
+-- The lemmas that the proofs of this crate share.
+pub mod Judged
+pub mod KeptTold
+pub mod Names

@@ -1,0 +1,51 @@
+//! How many lines have which finding.
+ghost use Rattle.std.specs.Prelude.{◌≡◌, ◌↔◌, IsTrue, filter, length};
+ghost use Rattle.std.specs.List.{All};
+ghost use Rattle.rv_findings.specs.Tallies.{is_finding, words_of};
+ghost use Rattle.rv_findings.specs.declared.findings.Finding.TheVariants.{Kept};
+
+use crate::findings::Finding;
+
+/// How many of the findings are this one.
+pub fn count_of(findings: &[Finding], finding: Finding) -> usize
+    ensures { result ≡ length (filter (is_finding finding) findings.now) }
+{
+    findings.iter().filter(|own| **own == finding).count()
+}
+
+/// Whether all are kept.
+pub fn are_kept(findings: &[Finding]) -> bool
+    ensures { IsTrue result ↔ All (λ finding. finding ≡ Kept) findings.now }
+{
+    findings.iter().all(|finding| *finding == Finding::Kept)
+}
+
+impl Finding {
+    /// All findings, in the order in which they are told.
+    pub const ALL: [Finding; 8] = [
+        Finding::Kept,
+        Finding::OtherReply,
+        Finding::OtherCall,
+        Finding::NoRequest,
+        Finding::Waiting,
+        Finding::OtherEpoch,
+        Finding::Impossible,
+        Finding::NoRecord,
+    ];
+
+    /// Its words, as they are printed.
+    pub fn words(self) -> &'static str
+        ensures { result.now ≡ words_of self }
+    {
+        match self {
+            Finding::Kept => "kept",
+            Finding::OtherReply => "another reply",
+            Finding::OtherCall => "another call",
+            Finding::NoRequest => "no such request",
+            Finding::Waiting => "still waiting",
+            Finding::OtherEpoch => "another epoch",
+            Finding::Impossible => "a reply that this call can't have",
+            Finding::NoRecord => "no record",
+        }
+    }
+}

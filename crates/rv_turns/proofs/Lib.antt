@@ -1,0 +1,5 @@
+-- The lemmas that the proofs of this crate share.
+pub mod Cutting
+pub mod Forms
+pub mod Progress
+pub mod Answering

@@ -1,0 +1,9 @@
+//! A run of the book over the lines of an input: each is a turn, and the body that answers it is printed.
+#![tactic(auto)]
+
+pub mod laws;
+mod line;
+mod run;
+mod turn;
+
+pub use run::book_run;
