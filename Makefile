@@ -43,15 +43,18 @@ install: build
 	@cp $(PROGRAM) "$(PREFIX)/bin/rv"
 	@chmod 755 "$(PREFIX)/bin/rv"
 
-# what a machine and rv verify take as entries grow, and what a machine holds; the instructions of a line, if valgrind is there;
+# what a machine and rv verify take as entries grow, and what a machine holds; what a hub's connection holds and its events cost; the
+# instructions of a line, if valgrind is there;
 # lines a second and memory a line, beside a plain loop that reads and writes the same JSON; what a line costs in full tables,
 # with OLD=PROGRAM beside that of another build
 bench: build
 	@command -v python3 > /dev/null || { echo "python3 is missing: the measurement is written in it" >&2; exit 1; }
 	@tools/build.py rv_bench
 	@tools/build.py rv_steps
+	@tools/build.py rv_hub_steps
 	@tools/bench/months.py crates/rv_steps/out/rv_steps
 	@tools/bench/held.py crates/rv_steps/out/rv_steps
+	@tools/bench/hubs.py crates/rv_hub_steps/out/rv_hub_steps
 	@tools/bench/verified.py $(PROGRAM)
 	@tools/bench/instructions.py $(PROGRAM) crates/rv_bench/out/rv_bench
 	@tools/bench/bench.py $(PROGRAM) crates/rv_bench/out/rv_bench $(if $(OLD),--old $(OLD))
