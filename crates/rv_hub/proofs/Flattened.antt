@@ -49,7 +49,7 @@ turns_do terms s t offer [] [] count (same, none) = same
 turns_do terms s t offer [] (deeds ∷ turns) count runs = absurd runs
 turns_do terms s t offer (connection ∷ row) [] count runs = absurd runs
 turns_do terms s t offer (connection ∷ row) (deeds ∷ turns) count (mid, first, rest, turn, more, sum) =
-    does_append terms deeds (all_of turns) s mid t (turn_does terms s mid connection _ deeds first turn)
+    does_append terms deeds (all_of turns) s mid t (turn_does terms s mid connection _ deeds first turn.turn)
     (turns_do terms mid t (less_by offer first) (row ++ told_in_deeds deeds) turns rest more)
 
 pub turns_made : (turns : List (List Deed)) → flat_map entries_of_deed (all_of turns) ≡ made_by turns
