@@ -12,10 +12,10 @@ use Rattle.rv_desk.proofs.Chains.{does_append}
 use Rattle.rv_desk.proofs.Quiet.{keys_quiet}
 use Rattle.rv_hub.specs.declared.events.HubEvent.{HubEvent}
 use Rattle.rv_hub.specs.declared.events.HubEvent.TheVariants as event
-use Rattle.rv_hub.specs.EventDeeds.{event_deeds, goes_deeds}
+use Rattle.rv_hub.specs.EventDeeds.{all_deeds, event_deeds, goes_deeds}
 use Rattle.rv_hub.specs.Turns.{EventGoesOn, TakesEvent, goes_on_first, last_deeds, made_by, offer_in}
 use Rattle.rv_hub.specs.Turns.{own_deeds}
-use Rattle.rv_hub.proofs.Flattened.{all_of, stride_does, turns_do, turns_made}
+use Rattle.rv_hub.proofs.Flattened.{stride_does, turns_do, turns_made}
 use Rattle.rv_hub.proofs.Whom.{late_quiet}
 
 -- deeds lead from one state to the next, and made these entries
@@ -51,7 +51,7 @@ goes_do terms s handed what made taken t goes =
       does = goes.tells.does;
       made_is = sym (late_quiet goes.tells.hearers goes.overdue goes.tells.each);
     } in
-    let turns : AreDeeds terms goes.after_overdue (made_by goes.turns) (all_of goes.turns) t = record {
+    let turns : AreDeeds terms goes.after_overdue (made_by goes.turns) (all_deeds goes.turns) t = record {
       does = turns_do terms goes.after_overdue t (offer_in what)
           (option_to_list (goes_on_first what) ++ (told_in_deeds goes.ended ++ told_in_deeds goes.overdue))
           goes.turns taken goes.runs;
