@@ -100,7 +100,7 @@ begins a s legal same resumes now = record {
 }
 
 -- the account, where neither it nor the moment changes
-same_account : (a : Account) (s t : DeskState) → t.book ≡ s.book → t.now ≡ s.now → IsHubAccount a s
+pub same_account : (a : Account) (s t : DeskState) → t.book ≡ s.book → t.now ≡ s.now → IsHubAccount a s
     → IsHubAccount a t
 same_account a s t book now is = record {
   legal = is.legal;
@@ -252,7 +252,8 @@ behind a made m t leads goes = record {
   is = goes leads.after leads.is;
 }
 
-deed_leads : (terms : DeskTerms) (deed : Deed) (s t : DeskState) (a : Account) → AreStepLimits terms.limits
+pub deed_leads : (terms : DeskTerms) (deed : Deed) (s t : DeskState) (a : Account)
+    → AreStepLimits terms.limits
     → Does terms s deed t → s.now ≤ max_moment → t.now ≤ max_moment → IsHubAccount a s
     → LeadsToAccount a (entries_of_deed deed) t
 deed_leads terms (Elapsed moment entries settled) s t a limits does before time is =
@@ -305,7 +306,8 @@ deeds_lead terms (deed ∷ deeds) s t a limits (mid, does, more) time is =
     leads_on a (entries_of_deed deed) (flat_map entries_of_deed deeds) mid t first
     (deeds_lead terms deeds mid t first.after limits more time first.is)
 
-events_rise : (terms : DeskTerms) (events : List (List Deed)) (s t : DeskState) → DoesEvents terms s events t
+pub events_rise : (terms : DeskTerms) (events : List (List Deed)) (s t : DeskState)
+    → DoesEvents terms s events t
     → s.now ≤ t.now
 events_rise terms [] s t same = let e : t.now ≡ s.now = ap (λ (u : DeskState). u.now) same in omega arith
 events_rise terms (deeds ∷ events) s t (mid, does, more) =
@@ -358,17 +360,24 @@ client_there a s client session legal same there =
     subst (IsClientOrNew a client) (ap (λ (x : State). client_at x client) same ∙ there)
     ((states_agree a legal).clients client)
 
+-- what became of the request of whoever is told
+pub told_became : (a : Account) (s : DeskState) (key : Key) (said : Answer) → IsHubAccount a s
+    → (told : IsToldAgain s.book key said) → told.session.incarnation ≡ key.incarnation
+    → told.session.last ≡ key.number → BecameOf a.entries key told.session.request
+told_became a s key said is told incarnation last =
+    let epoch : (state_of a).epoch ≡ a.epoch = (states_agree a is.legal).epoch in
+    let own : key.epoch ≡ a.epoch = told.epoch ∙ sym (ap (λ (x : State). x.epoch) is.state) ∙ epoch in
+    let client = client_there a s.book key.client told.session is.legal is.state told.there in
+    subst (λ k. BecameOf a.entries k told.session.request)
+    (same_key key a.epoch told.session.incarnation told.session.last own incarnation last) client.request
+
 told_public : (a : Account) (s : DeskState) (key : Key) (said : Answer) → IsHubAccount a s → key.number ≢ 0
     → (told : IsToldAgain s.book key said) → (told.session.incarnation ≡ key.incarnation)
     × (told.session.last ≡ key.number) × (said ≡ answer_told key (told_again told.session.request))
     → Answers a key said
 told_public a s key said is some told (incarnation, last, same) =
-    let epoch : (state_of a).epoch ≡ a.epoch = (states_agree a is.legal).epoch in
-    let own : key.epoch ≡ a.epoch = told.epoch ∙ sym (ap (λ (x : State). x.epoch) is.state) ∙ epoch in
-    let client = client_there a s.book key.client told.session is.legal is.state told.there in
-    let became = subst (λ k. BecameOf a.entries k told.session.request)
-    (same_key key a.epoch told.session.incarnation told.session.last own incarnation last) client.request in
-    subst (λ x. Answers a key x) (sym same) (became_told a key told.session.request some became)
+    subst (λ x. Answers a key x) (sym same)
+    (became_told a key told.session.request some (told_became a s key said is told incarnation last))
 
 -- whoever's session has a greater incarnation
 old_refused : (a : Account) (s : DeskState) (key : Key) (said : Answer) → IsHubAccount a s

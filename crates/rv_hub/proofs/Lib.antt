@@ -12,4 +12,6 @@ pub mod Histories
 pub mod Accounts
 pub mod Causes
 pub mod OneRun
+pub mod StepReplies
+pub mod HandedOver
 pub mod Checked

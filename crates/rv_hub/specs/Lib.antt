@@ -4,6 +4,7 @@ pub mod Turns
 pub mod EventDeeds
 pub mod Pasts
 pub mod HubRuns
+pub mod HandedOut
 -- What the fields hold: the public contracts cite it as a whole, `IsHub`.
 pub mod Hubs
 -- What private clauses and proofs cite.

@@ -1,4 +1,5 @@
 //! Laws of a hub's events: each contract is one, and no body does anything.
+ghost use Rattle.rv_hub.specs.HandedOut.{DeedsTellPublicly, HandedOutIsPublic};
 ghost use Rattle.rv_hub.specs.HubRuns.{AnswersByRules, BeginsAccount, DeedsLeadOn, EventsLeadOn};
 ghost use Rattle.rv_hub.specs.HubRuns.{HubsAreRuns, TellsPublicReply};
 ghost use Rattle.rv_hub.specs.Pasts.{DeedsKeepPasts};
@@ -27,4 +28,11 @@ pub fn tells_public_reply()
 /// The answer to a step is that of a step of that account with the frame's message.
 pub fn answers_by_rules()
     ensures { AnswersByRules }
+{}
+
+/// Each answer that a connection was given is public, and so is what was handed out: a reply is the one
+/// that its key has among the entries that it rests on.
+pub fn handed_out_is_public()
+    ensures deeds { DeedsTellPublicly }
+    ensures events { HandedOutIsPublic }
 {}

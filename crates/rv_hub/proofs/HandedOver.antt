@@ -1,0 +1,258 @@
+-- Each answer that deeds give is public.
+use Rattle.std.proofs.Common.{inl, inr, ◌≡◌, ◌≤◌, ◌+◌, ◌∙◌, ◌++◌, ◌∷◌, ℕ, List, []}
+use Rattle.std.proofs.Common.{refl, sym, ap, subst, arith}
+use Rattle.std.proofs.Common.{All, Bool, append_assoc, cond, false, length, take, true}
+use Rattle.std.specs.Prelude.{flat_map}
+use Rattle.std.proofs.lemmas.List.{append-nil, length-append, take-append-le, take_all}
+use Rattle.std.proofs.lemmas.List.Elements.{All-nil, All-push, All-weaker}
+use Rattle.rv_text.specs.declared.message.Key.{Key}
+use Rattle.rv_text.specs.declared.answer.Answer.{Answer}
+use Rattle.rv_text.specs.declared.answer.Answer.TheVariants as answer
+use Rattle.rv_text.specs.declared.answer.Refusal.{Refusal}
+use Rattle.rv_text.specs.declared.answer.Refusal.TheVariants.{BadText, NoMemory, OldIncarnation}
+use Rattle.rv_text.specs.declared.answer.Reply.{Reply}
+use Rattle.rv_text.specs.declared.answer.Reply.TheVariants.{Cancelled}
+use Rattle.rv_text.specs.Bodies.{answer_text}
+use Rattle.rv_session.specs.declared.client.LastRequest.{LastRequest}
+use Rattle.rv_session.specs.declared.client.LastRequest.TheVariants.{CancelledUnseen, Fresh, RepliedTo, Waits}
+use Rattle.rv_account.specs.declared.entry.Entry.{Entry}
+use Rattle.rv_account.specs.Account.{Account}
+use Rattle.rv_account.specs.Limits.{max_moment}
+use Rattle.rv_rules.specs.Replies.{HasReply}
+use Rattle.rv_rules.specs.StepLimits.{AreStepLimits}
+use Rattle.rv_state.specs.After.{state_of}
+use Rattle.rv_state.specs.Agreement.{BecameOf}
+use Rattle.rv_state.specs.Moves.{answer_told, told_again}
+use Rattle.rv_state.specs.State.{State}
+use Rattle.rv_state.proofs.StateLaws.{states_agree}
+use Rattle.rv_connection.specs.History.{Given}
+use Rattle.rv_desk.specs.View.{DeskState, DeskTerms, begun}
+use Rattle.rv_desk.specs.Deeds.{Deed, Does, DoesAll, entries_of_deed, rests_on}
+use Rattle.rv_desk.specs.Deeds.{Asked, Closed, Elapsed, EndedInput, Lacked, Left, Lost, Opened, ReadNothing}
+use Rattle.rv_desk.specs.Deeds.{Told, TookIn, Wrote}
+use Rattle.rv_desk.specs.Telling.{IsToldAgain}
+use Rattle.rv_hub.specs.EventDeeds.{all_deeds}
+use Rattle.rv_hub.specs.HandedOut.{ArePublic, DeedsTellPublicly, HandedOutIsPublic, IsPublic}
+use Rattle.rv_hub.specs.HubRuns.{DoesEvents, IsHubAccount}
+use Rattle.rv_hub.specs.Pasts.{Past, is_deed_of, past_after, past_by, with_said}
+use Rattle.rv_hub.specs.Turns.{made_by}
+use Rattle.rv_hub.proofs.Accounts.{by_rules, deed_leads, deeds_lead, deeds_rise, events_rise, same_account}
+use Rattle.rv_hub.proofs.Accounts.{told_became}
+use Rattle.rv_hub.proofs.Histories.{past_on}
+use Rattle.rv_hub.proofs.Longer.{deed_counts, deeds_count}
+use Rattle.rv_hub.proofs.StepReplies.{TellsReply, next_tells, refused_differs, replies_tell, waiting_differs}
+
+-- ---- one answer
+
+-- an answer that rests on all entries, of which each reply stands there
+public_at : (entries : List Entry) (count : ℕ) (said : Answer) → count ≡ length entries
+    → ((key : Key) (reply : Reply) → said ≡ answer.Replied key reply → HasReply entries key reply)
+    → IsPublic entries (record { body = answer_text said; rests_on = count })
+public_at entries count said same tells = record {
+  said = said;
+  body_is = refl;
+  within = omega arith;
+  replies = λ key reply is.
+      let all : take (length entries) entries ≡ entries = take_all (length entries) entries (omega arith) in
+      subst (λ l. HasReply l key reply) (sym (ap (λ n. take n entries) same ∙ all)) (tells key reply is);
+}
+
+public_refused : (entries : List Entry) (count : ℕ) (refusal : Refusal) → count ≤ length entries
+    → IsPublic entries (record { body = answer_text (answer.Refused refusal); rests_on = count })
+public_refused entries count refusal within = record {
+  said = answer.Refused refusal;
+  body_is = refl;
+  within = within;
+  replies = λ key reply is. absurd (refused_differs refusal key reply is);
+}
+
+public_on : (entries more : List Entry) (given : Given) → IsPublic entries given
+    → IsPublic (entries ++ more) given
+public_on entries more given is = record {
+  said = is.said;
+  body_is = is.body_is;
+  within = (let within = is.within in let long = length-append entries more in omega arith);
+  replies = λ key reply same. subst (λ l. HasReply l key reply)
+      (sym (take-append-le given.rests_on entries more is.within)) (is.replies key reply same);
+}
+
+all_on : (entries more : List Entry) (answers : List Given) → All (IsPublic entries) answers
+    → All (IsPublic (entries ++ more)) answers
+all_on entries more answers all =
+    All-weaker (IsPublic entries) (IsPublic (entries ++ more)) (public_on entries more) answers all
+
+rests_within : (refusal : Refusal) (count : ℕ) → rests_on (answer.Refused refusal) count ≤ count
+rests_within NoMemory count = omega arith
+rests_within _ count = omega arith
+
+-- the answer to a step, unless its request waits
+said_public : (entries : List Entry) (count : ℕ) (past : Past) (said : Answer) → count ≡ length entries
+    → ((key : Key) (reply : Reply) → said ≡ answer.Replied key reply → HasReply entries key reply)
+    → All (IsPublic entries) past.answers → All (IsPublic entries) (with_said past count said).answers
+said_public entries count past (answer.Waiting key) same tells all = all
+said_public entries count past (answer.Replied key reply) same tells all =
+    All-push (IsPublic entries) past.answers _ all
+    (public_at entries count (answer.Replied key reply) same tells)
+said_public entries count past (answer.Welcome epoch client incarnation version) same tells all =
+    All-push (IsPublic entries) past.answers _ all
+    (public_at entries count (answer.Welcome epoch client incarnation version) same tells)
+said_public entries count past (answer.Refused refusal) same tells all =
+    let within = rests_within refusal count in
+    All-push (IsPublic entries) past.answers _ all (public_refused entries _ refusal (omega arith))
+
+-- ---- whoever waited
+
+became_tells : (a : Account) (key : Key) (request : LastRequest) → BecameOf a.entries key request
+    → (other : Key) (told : Reply) → TellsReply a other told (answer_told key (told_again request))
+became_tells a key Fresh became other told = λ is. absurd (waiting_differs key other told is)
+became_tells a key (Waits place call) became other told = λ is. absurd (waiting_differs key other told is)
+became_tells a key (RepliedTo call reply) became other told =
+    replies_tell a other key told (answer.Replied key reply)
+    (record { reply = reply; has = inl became.replies; is = refl })
+became_tells a key CancelledUnseen became other told =
+    replies_tell a other key told (answer.Replied key Cancelled)
+    (record { reply = Cancelled; has = inr (became, refl); is = refl })
+
+told_tells : (a : Account) (s : DeskState) (key : Key) (said : Answer) → IsHubAccount a s
+    → IsToldAgain s.book key said → (other : Key) (reply : Reply) → TellsReply a other reply said
+told_tells a s key said is told other reply =
+    elim told.told [
+      | inl own ↦
+          subst (TellsReply a other reply) (sym own.2)
+          (became_tells a key told.session.request (told_became a s key said is told own.0 own.1) other reply)
+      | inr old ↦
+          subst (TellsReply a other reply) (sym old.1)
+          (λ same. absurd (refused_differs (OldIncarnation told.session.incarnation) other reply same))
+    ]
+
+-- ---- each deed
+
+-- the answers behind a deed, if it is of this connection
+Behind : Account → Past → ℕ → Deed → Type 0
+Behind a past count deed =
+    All (IsPublic (a.entries ++ entries_of_deed deed)) (past_by past count deed).answers
+
+own_public : (terms : DeskTerms) (deed : Deed) (s t : DeskState) (a : Account) (past : Past) (count : ℕ)
+    → Does terms s deed t → s.now ≤ max_moment → IsHubAccount a s
+    → count ≡ length (a.entries ++ entries_of_deed deed)
+    → All (IsPublic (a.entries ++ entries_of_deed deed)) past.answers → Behind a past count deed
+unfolding Behind
+own_public terms (Elapsed moment entries settled) s t a past count does time is same all = all
+own_public terms (Opened connection) s t a past count does time is same all =
+    All-nil (IsPublic (a.entries ++ []))
+own_public terms (TookIn connection bytes) s t a past count does time is same all = all
+own_public terms (EndedInput connection) s t a past count does time is same all = all
+own_public terms (Left connection bytes) s t a past count does time is same all = all
+own_public terms (Wrote entries) s t a past count does time is same all = all
+own_public terms (Asked connection body step said) s t a past count does time is same all =
+    let rules = by_rules terms s t a connection body step said time is does in
+    said_public (a.entries ++ step.entries) count _ said same
+    (λ key reply told. subst (λ l. HasReply l key reply) rules.2.entries
+    (next_tells terms.limits a rules.0 s.now step.message said key reply rules.1 told)) all
+own_public terms (ReadNothing connection body) s t a past count does time is same all =
+    All-push (IsPublic (a.entries ++ [])) past.answers _ all
+    (public_refused (a.entries ++ []) 0 BadText (omega arith))
+own_public terms (Lacked connection body step) s t a past count does time is same all =
+    let entries = entries_of_deed (Lacked connection body step) in
+    All-push (IsPublic (a.entries ++ entries)) past.answers _ all
+    (public_refused (a.entries ++ entries) 0 NoMemory (omega arith))
+own_public terms (Lost connection body step) s t a past count does time is same all = all
+own_public terms (Told connection key said) s t a past count does time is same all =
+    All-push (IsPublic (a.entries ++ [])) past.answers _ all
+    (public_at (a.entries ++ []) count said same
+    (λ other reply told. subst (λ l. HasReply l other reply) (sym (append-nil a.entries))
+    (told_tells a s key said is does.told other reply told)))
+own_public terms (Closed connection) s t a past count does time is same all = all
+
+either_public : (entries : List Entry) (own : Bool) (now past : Past) → All (IsPublic entries) now.answers
+    → All (IsPublic entries) past.answers → All (IsPublic entries) (cond own now past).answers
+either_public entries true now past one other = one
+either_public entries false now past one other = other
+
+-- the state's length is the account's
+entries_counted : (a : Account) (s : DeskState) (made : List Entry) → IsHubAccount a s
+    → s.book.length + length made ≡ length (a.entries ++ made)
+entries_counted a s made is =
+    let agree = (states_agree a is.legal).length in
+    let same : (state_of a).length ≡ s.book.length = ap (λ (x : State). x.length) is.state in
+    let long = length-append a.entries made in
+    omega arith
+
+deed_public : (terms : DeskTerms) (deed : Deed) (s t : DeskState) (a : Account) (n : ℕ) (past : Past)
+    → Does terms s deed t → s.now ≤ max_moment → IsHubAccount a s → ArePublic a past
+    → All (IsPublic (a.entries ++ entries_of_deed deed))
+    (cond (is_deed_of n deed) (past_by past (s.book.length + length (entries_of_deed deed)) deed)
+    past).answers
+unfolding Behind
+deed_public terms deed s t a n past does time is all =
+    let made = entries_of_deed deed in
+    let count = s.book.length + length made in
+    let older = all_on a.entries made past.answers all in
+    either_public (a.entries ++ made) (is_deed_of n deed) (past_by past count deed) past
+    (own_public terms deed s t a past count does time is (entries_counted a s made is) older) older
+
+-- ---- deeds, one after another
+
+-- the account has these entries
+deeds_tell : (terms : DeskTerms) (deeds : List Deed) (s t : DeskState) (a : Account)
+    → AreStepLimits terms.limits → DoesAll terms s deeds t → t.now ≤ max_moment → IsHubAccount a s
+    → (n : ℕ) (past : Past) → ArePublic a past
+    → All (IsPublic (a.entries ++ flat_map entries_of_deed deeds))
+    (past_after n past s.book.length deeds).answers
+deeds_tell terms [] s t a limits same time is n past all = all_on a.entries [] past.answers all
+deeds_tell terms (deed ∷ deeds) s t a limits (mid, does, more) time is n past all =
+    let made = entries_of_deed deed in
+    let rest = flat_map entries_of_deed deeds in
+    let later = deeds_rise terms deeds mid t more in
+    let rises = deeds_rise terms (deed ∷ []) s mid (mid, does, refl) in
+    let first = deed_leads terms deed s mid a limits does (omega arith) (omega arith) is in
+    let now = cond (is_deed_of n deed) (past_by past (s.book.length + length made) deed) past in
+    let one : ArePublic first.after now =
+    subst (λ es. All (IsPublic es) now.answers) (sym first.adds.entries)
+    (deed_public terms deed s mid a n past does (omega arith) is all) in
+    let whole = deeds_tell terms deeds mid t first.after limits more time first.is n now one in
+    let entries : first.after.entries ++ rest ≡ a.entries ++ (made ++ rest) =
+    ap (λ es. es ++ rest) first.adds.entries ∙ append_assoc a.entries made rest in
+    let counted : mid.book.length ≡ s.book.length + length made = deed_counts terms deed s mid does in
+    subst (λ k. All (IsPublic (a.entries ++ (made ++ rest))) (past_after n now k deeds).answers) counted
+    (subst (λ es. All (IsPublic es) (past_after n now mid.book.length deeds).answers) entries whole)
+
+pub deeds_public : DeedsTellPublicly
+deeds_public terms deeds s t a b limits does time is adds n past all =
+    subst (λ es. All (IsPublic es) (past_after n past s.book.length deeds).answers) (sym adds.entries)
+    (deeds_tell terms deeds s t a limits does time is n past all)
+
+-- ---- events
+
+events_tell : (terms : DeskTerms) (events : List (List Deed)) (s t : DeskState) (a : Account)
+    → AreStepLimits terms.limits → DoesEvents terms s events t → t.now ≤ max_moment → IsHubAccount a s
+    → (n : ℕ) (past : Past) → ArePublic a past
+    → All (IsPublic (a.entries ++ made_by events))
+    (past_after n past s.book.length (all_deeds events)).answers
+events_tell terms [] s t a limits same time is n past all = all_on a.entries [] past.answers all
+events_tell terms (deeds ∷ events) s t a limits (mid, does, more) time is n past all =
+    let made = flat_map entries_of_deed deeds in
+    let rest = made_by events in
+    let count = s.book.length in
+    let later = events_rise terms events mid t more in
+    let is_begun = same_account a s (begun s) refl refl is in
+    let first = deeds_lead terms deeds (begun s) mid a limits does (omega arith) is_begun in
+    let now = past_after n past count deeds in
+    let one : ArePublic first.after now =
+    deeds_public terms deeds (begun s) mid a first.after limits does (omega arith) is_begun first.adds n past
+    all in
+    let whole = events_tell terms events mid t first.after limits more time first.is n now one in
+    let entries : first.after.entries ++ rest ≡ a.entries ++ (made ++ rest) =
+    ap (λ es. es ++ rest) first.adds.entries ∙ append_assoc a.entries made rest in
+    let counted : mid.book.length ≡ count + length made = deeds_count terms deeds (begun s) mid does in
+    let there = subst (λ es. All (IsPublic es) (past_after n now mid.book.length (all_deeds events)).answers)
+    entries whole in
+    subst (λ (p : Past). All (IsPublic (a.entries ++ (made ++ rest))) p.answers)
+    (sym (past_on n past count deeds (all_deeds events)))
+    (subst (λ k. All (IsPublic (a.entries ++ (made ++ rest))) (past_after n now k (all_deeds events)).answers)
+    counted there)
+
+pub handed_out : HandedOutIsPublic
+handed_out terms events s t a b limits does time is adds n past all =
+    subst (λ es. All (IsPublic es) (past_after n past s.book.length (all_deeds events)).answers)
+    (sym adds.entries) (events_tell terms events s t a limits does time is n past all)

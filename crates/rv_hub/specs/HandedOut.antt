@@ -1,0 +1,48 @@
+-- What is told of a key in a run is its public reply in the run's account.
+use Rattle.std.specs.Prelude.{ℕ, ◌≡◌, ◌≤◌, List, All, flat_map, length, take}
+use Rattle.rv_text.specs.declared.message.Key.{Key}
+use Rattle.rv_text.specs.declared.answer.Answer.{Answer}
+use Rattle.rv_text.specs.declared.answer.Answer.TheVariants.{Replied}
+use Rattle.rv_text.specs.declared.answer.Reply.{Reply}
+use Rattle.rv_text.specs.Bodies.{answer_text}
+use Rattle.rv_account.specs.declared.entry.Entry.{Entry}
+use Rattle.rv_account.specs.Account.{Account}
+use Rattle.rv_account.specs.Limits.{max_moment}
+use Rattle.rv_rules.specs.Replies.{HasReply}
+use Rattle.rv_rules.specs.StepLimits.{AreStepLimits}
+use Rattle.rv_connection.specs.History.{Given}
+use Rattle.rv_desk.specs.View.{DeskState, DeskTerms}
+use Rattle.rv_desk.specs.Deeds.{Deed, DoesAll, entries_of_deed}
+use Rattle.rv_hub.specs.EventDeeds.{all_deeds}
+use Rattle.rv_hub.specs.HubRuns.{AddsEntries, DoesEvents, IsHubAccount}
+use Rattle.rv_hub.specs.Pasts.{Past, past_after}
+use Rattle.rv_hub.specs.Turns.{made_by}
+
+-- what was given to a frame is an answer's text, and rests on some of the entries; and if the answer is a
+-- reply, it is the reply of its key in the account of just those entries
+pub record IsPublic (entries : List Entry) (given : Given) : Type 0 where
+  pub said : Answer
+  pub body_is : given.body ≡ answer_text said
+  pub within : given.rests_on ≤ length entries
+  pub replies : (key : Key) (reply : Reply) → said ≡ Replied key reply
+      → HasReply (take given.rests_on entries) key reply
+
+-- so is each answer of a connection's past
+abbrev pub ArePublic : Account → Past → Type 0
+ArePublic a past = All (IsPublic a.entries) past.answers
+
+-- deeds keep that, where the account after them has their entries
+abbrev pub DeedsTellPublicly : Type 0
+DeedsTellPublicly = (terms : DeskTerms) (deeds : List Deed) (s t : DeskState) (a b : Account)
+    → AreStepLimits terms.limits
+    → DoesAll terms s deeds t → t.now ≤ max_moment → IsHubAccount a s
+    → AddsEntries a (flat_map entries_of_deed deeds) b → (n : ℕ) (past : Past) → ArePublic a past
+    → ArePublic b (past_after n past s.book.length deeds)
+
+-- so do the events of a hub
+abbrev pub HandedOutIsPublic : Type 0
+HandedOutIsPublic = (terms : DeskTerms) (events : List (List Deed)) (s t : DeskState) (a b : Account)
+    → AreStepLimits terms.limits
+    → DoesEvents terms s events t → t.now ≤ max_moment → IsHubAccount a s
+    → AddsEntries a (made_by events) b → (n : ℕ) (past : Past) → ArePublic a past
+    → ArePublic b (past_after n past s.book.length (all_deeds events))
