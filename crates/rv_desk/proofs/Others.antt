@@ -108,12 +108,13 @@ own_tells_nobody connection deed own = absurd own
 
 -- ---- a whole turn
 
-pub strides_kept : (terms : DeskTerms) (s t : DeskState) (connection : ℕ) (strides : List (Deed × List Deed))
-    → All (λ x. IsOwnDeed connection x.0) strides → RunsStrides terms s strides t → (n : ℕ) → n ≢ connection
+pub strides_kept : (terms : DeskTerms) (s t : DeskState) (connection : ℕ) (left : List ℕ)
+    (strides : List (Deed × List Deed)) → All (λ x. IsOwnDeed connection x.0) strides
+    → RunsStrides terms s left strides t → (n : ℕ) → n ≢ connection
     → StaysOrTold s (told_in_deeds (deeds_of strides)) n t
-strides_kept terms s t connection [] own same n apart = inl (ap (λ (u : DeskState). u.open_wires.wires n)
+strides_kept terms s t connection left [] own same n apart = inl (ap (λ (u : DeskState). u.open_wires.wires n)
     same)
-strides_kept terms s t connection (stride ∷ strides) own (mid, one, more) n apart =
+strides_kept terms s t connection left (stride ∷ strides) own (mid, may, one, more) n apart =
     let first = own 0 stride (omega arith) in
     let others : All (λ (x : Deed × List Deed). IsOwnDeed connection x.0) strides =
     λ k d within. own (suc k) d (let h = within in omega arith) in
@@ -124,9 +125,9 @@ strides_kept terms s t connection (stride ∷ strides) own (mid, one, more) n ap
     (sym (flat_map-append told_of_deed (stride.0 ∷ stride.1) (deeds_of strides)))
     (kept_on s mid t (told_in_deeds (stride.0 ∷ stride.1)) (told_in_deeds (deeds_of strides)) n
     (kept_on s one.between mid (told_of_deed stride.0) (told_in_deeds stride.1) n deed tells)
-    (strides_kept terms mid t connection strides others more n apart))
+    (strides_kept terms mid t connection _ strides others more n apart))
 
 pub others_stay : OthersStay
 others_stay terms old new connection piece deeds count turn other apart =
     subst (λ ds. StaysOrTold old (told_in_deeds ds) other new) (sym turn.deeds_are)
-    (strides_kept terms old new connection turn.strides turn.own turn.runs other apart)
+    (strides_kept terms old new connection piece turn.strides turn.own turn.runs other apart)

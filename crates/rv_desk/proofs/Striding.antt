@@ -27,7 +27,7 @@ use Rattle.rv_wires.specs.Connections.{HasWire}
 use Rattle.rv_desk.specs.Deeds.{AnswersNow, Deed, Does, DoesClose, IsDueWith, MakesStep, Stepped, bytes_by}
 use Rattle.rv_desk.specs.Deeds.{bytes_in, entries_of_deed, settled_by, told_of_deed, told_in_deeds, Asked}
 use Rattle.rv_desk.specs.Deeds.{Closed, Lacked, Lost, ReadNothing}
-use Rattle.rv_desk.specs.Order.{IsOwnDeed, TellsKeys}
+use Rattle.rv_desk.specs.Order.{IsOwnDeed, MayDo, TellsKeys}
 use Rattle.rv_desk.specs.Rest.{HearersInTime, HearersWait}
 use Rattle.rv_desk.specs.Fields.{IsDeskSound, IsSteady, desk_state, desk_terms}
 use Rattle.rv_desk.specs.Going.{GoesTelling, HearersWaitOr, IsFrameDue, IsAmongKeys, MaySay, SaysOrLacks}
@@ -149,10 +149,11 @@ pub record OneDeed (terms : DeskTerms) (s t : DeskState) (connection : ℕ) (set
     pub nobody_told : told_of_deed deed ≡ []
     pub no_bytes : bytes_by deed ≡ []
     pub own : IsOwnDeed connection deed
+    pub may : MayDo s [] deed
 
-closing_deed : (terms : DeskTerms) (s t : DeskState) (connection : ℕ) → DoesClose s connection t
-    → OneDeed terms s t connection [] []
-closing_deed terms s t connection closed = record {
+closing_deed : (terms : DeskTerms) (s t : DeskState) (connection : ℕ) (body : List ℕ)
+    → IsFrameAt s connection body → DoesClose s connection t → OneDeed terms s t connection [] []
+closing_deed terms s t connection body frame closed = record {
   deed = Closed connection;
   does = closed;
   settled_is = refl;
@@ -160,6 +161,7 @@ closing_deed terms s t connection closed = record {
   nobody_told = refl;
   no_bytes = refl;
   own = refl;
+  may = inl (record { wire = frame.wire; there = frame.there; so = inr frame.so.due });
 }
 
 pub stepped_deed : (terms : DeskTerms) (s m t : DeskState) (connection : ℕ) (body : List ℕ) (step : Stepped)
@@ -173,6 +175,7 @@ stepped_deed terms s m t connection body step a is frame makes (inl now) = recor
   nobody_told = refl;
   no_bytes = refl;
   own = refl;
+  may = tt;
 }
 stepped_deed terms s m t connection body step a is frame makes (inr (inl lacks)) = record {
   deed = Lacked connection body (Some step);
@@ -182,6 +185,7 @@ stepped_deed terms s m t connection body step a is frame makes (inr (inl lacks))
   nobody_told = refl;
   no_bytes = refl;
   own = refl;
+  may = tt;
 }
 stepped_deed terms s m t connection body step a is frame makes (inr (inr closed)) = record {
   deed = Lost connection body step;
@@ -196,13 +200,15 @@ stepped_deed terms s m t connection body step a is frame makes (inr (inr closed)
   nobody_told = refl;
   no_bytes = refl;
   own = refl;
+  may = tt;
 }
 
 -- where no step was made
 pub lacking_deed : (terms : DeskTerms) (s t : DeskState) (connection : ℕ) (body : List ℕ)
+    → IsFrameAt s connection body
     → AnswersNow s connection body 0 (answer_text (answer.Refused NoMemory)) t ⊎ DoesClose s connection t
     → OneDeed terms s t connection [] []
-lacking_deed terms s t connection body (inl now) = record {
+lacking_deed terms s t connection body frame (inl now) = record {
   deed = Lacked connection body None;
   does = record { between = s; stepped = refl; answers = now };
   settled_is = refl;
@@ -210,14 +216,16 @@ lacking_deed terms s t connection body (inl now) = record {
   nobody_told = refl;
   no_bytes = refl;
   own = refl;
+  may = tt;
 }
-lacking_deed terms s t connection body (inr closed) = closing_deed terms s t connection closed
+lacking_deed terms s t connection body frame (inr closed) = closing_deed terms s t connection body frame
+    closed
 
 pub reading_deed : (terms : DeskTerms) (s t : DeskState) (connection : ℕ) (body : List ℕ)
-    → ((message : Message) → ¬ IsMessageBody body message)
+    → IsFrameAt s connection body → ((message : Message) → ¬ IsMessageBody body message)
     → AnswersNow s connection body 0 (answer_text (answer.Refused BadText)) t ⊎ DoesClose s connection t
     → OneDeed terms s t connection [] []
-reading_deed terms s t connection body none (inl now) = record {
+reading_deed terms s t connection body frame none (inl now) = record {
   deed = ReadNothing connection body;
   does = record { none = none; answers = now };
   settled_is = refl;
@@ -225,8 +233,10 @@ reading_deed terms s t connection body none (inl now) = record {
   nobody_told = refl;
   no_bytes = refl;
   own = refl;
+  may = tt;
 }
-reading_deed terms s t connection body none (inr closed) = closing_deed terms s t connection closed
+reading_deed terms s t connection body frame none (inr closed) =
+    closing_deed terms s t connection body frame closed
 
 -- ---- and whom it settled
 
@@ -254,6 +264,7 @@ strides_by d0 d2 d3 connection settled entries tells one told made freed terms g
             (sym one.settled_is) told;
       };
       own = one.own;
+      may = one.may;
       bytes = ap (λ l. l ++ bytes_in tells) one.no_bytes ∙ quiet.1;
       goes = record {
         made = ap (λ (d : HubDesk). d.entries.items) goes.rest ∙ made ∙ ap (λ l. d0.entries.items ++ l)
@@ -393,6 +404,7 @@ strides_from d new entries connection same strides = record {
   tells = strides.tells;
   stride = strides.stride;
   own = strides.own;
+  may = strides.may;
   bytes = strides.bytes;
   goes = record {
     made = strides.goes.made ∙ ap (λ l. l ++ flat_map entries_of_deed (strides.deed ∷ strides.tells)) same;
@@ -435,14 +447,14 @@ no_message body read f reads is other message its =
 -- the deed of a frame of which no message was read
 pub fault_deed : (terms : DeskTerms) (s t : DeskState) (connection : ℕ) (body : List ℕ) (read : Result Message
     TextFault)
-    (f : TextFault) → Decodes Message IsMessageBody body read → read ≡ Err f
+    (f : TextFault) → IsFrameAt s connection body → Decodes Message IsMessageBody body read → read ≡ Err f
     → AnswersNow s connection body 0 (fault_answer f) t ⊎ DoesClose s connection t
     → OneDeed terms s t connection [] []
-fault_deed terms s t connection body read fault.NoMemory reads is did = lacking_deed terms s t connection body
-    did
-fault_deed terms s t connection body read fault.NotJson reads is did =
-    reading_deed terms s t connection body
+fault_deed terms s t connection body read fault.NoMemory frame reads is did =
+    lacking_deed terms s t connection body frame did
+fault_deed terms s t connection body read fault.NotJson frame reads is did =
+    reading_deed terms s t connection body frame
     (no_message body read fault.NotJson reads is (λ same. let e = same in absurd (cc))) did
-fault_deed terms s t connection body read fault.NotMessage reads is did =
-    reading_deed terms s t connection body
+fault_deed terms s t connection body read fault.NotMessage frame reads is did =
+    reading_deed terms s t connection body frame
     (no_message body read fault.NotMessage reads is (λ same. let e = same in absurd (cc))) did

@@ -1,7 +1,7 @@
 -- A connection goes on until it stops.
 use Rattle.std.proofs.Common.{inl, inr, ◌≡◌, ◌+◌, ◌-◌, ◌<◌, ◌≤◌, ◌∙◌, ◌++◌, ◌∷◌, ◌⊎◌, ℕ, List, [], None}
 use Rattle.std.proofs.Common.{Option, Some, refl, sym, ap, subst, arith, append_assoc, drop, length, take}
-use Rattle.std.proofs.Common.{Bool, false, not}
+use Rattle.std.proofs.Common.{Bool, false, nat_eq, not, suc, zero}
 use Rattle.std.specs.Prelude.{All, IsSome, flat_map, is_some}
 use Rattle.std.proofs.lemmas.Bool.{false≢true}
 use Rattle.std.proofs.Math.Seq.{take-add}
@@ -19,7 +19,7 @@ use Rattle.rv_desk.specs.declared.desk.HubDesk.{HubDesk}
 use Rattle.rv_desk.specs.View.{DeskState, DeskTerms}
 use Rattle.rv_desk.specs.Deeds.{Deed, DoesClose, bytes_by, bytes_in, entries_of_deed, told_of_deed}
 use Rattle.rv_desk.specs.Deeds.{told_in_deeds, Closed, TookIn}
-use Rattle.rv_desk.specs.Order.{IsOwnDeed, IsStride, RunsStrides, deeds_of}
+use Rattle.rv_desk.specs.Order.{IsOwnDeed, IsStride, MayDo, RunsStrides, deeds_of, left_behind}
 use Rattle.rv_desk.specs.Rest.{HasComeToStop, TakesNoMore}
 use Rattle.rv_desk.specs.Fields.{IsDeskSound, IsSteady, desk_state, desk_terms}
 use Rattle.rv_desk.specs.Going.{FeedsPiece, Finishes, Goes, HasDue, NotesOne, Strides, TakesItsTurn}
@@ -87,6 +87,11 @@ pub open_by : {A B : Type 0} → (copied : Option A → Option B) (o : Option A)
 open_by copied None b flag each some is same = absurd (false≢true (some ∙ ap not is))
 open_by copied (Some x) b flag each some is same = subst (λ q. IsSome q) same (each x)
 
+-- a piece that isn't empty has bytes
+pub has_bytes : (count : ℕ) → nat_eq count 0 ≡ false → 0 < count
+has_bytes zero is = absurd (false≢true (sym is))
+has_bytes (suc n) is = omega arith
+
 -- ---- what goes on beside
 
 pub goes_nowhere : (d : HubDesk) → Goes d [] d
@@ -110,9 +115,15 @@ goes_further one two three first second before behind = record {
 }
 
 -- a deed of its own, which makes no entry and tells nobody
-one_stride : (terms : DeskTerms) (s t : DeskState) (deed : Deed) → IsStride terms s deed [] t
-    → RunsStrides terms s ((deed, []) ∷ []) t
-one_stride terms s t deed stride = (t, stride, refl)
+one_stride : (terms : DeskTerms) (s t : DeskState) (left : List ℕ) (deed : Deed) → MayDo s left deed
+    → IsStride terms s deed [] t → RunsStrides terms s left ((deed, []) ∷ []) t
+one_stride terms s t left deed may stride = (t, may, stride, refl)
+
+-- what may be done where nothing of a piece is left, may be done where something is
+pub may_more : (s : DeskState) (left : List ℕ) (deed : Deed) → MayDo s [] deed → MayDo s left deed
+may_more s left (Closed n) (inl wire) = inl wire
+may_more s left (Closed n) (inr some) = absurd (let more = some in omega arith)
+may_more s left deed may = may
 
 -- ---- bytes of a piece
 
@@ -173,21 +184,22 @@ fed_some d wires connection piece count steady takes noted =
         own = All-cons (λ (s : Deed × List Deed). IsOwnDeed connection s.0) (TookIn connection bytes, []) []
             refl
             (All-nil (λ (s : Deed × List Deed). IsOwnDeed connection s.0));
-        runs = one_stride (desk_terms d) (desk_state d) (desk_state new) (TookIn connection bytes) (record {
-          between = desk_state new;
-          does = record {
-            changes = record {
-              wire = takes.wire;
-              after = takes.after;
-              there = takes.there;
-              changes = takes_all takes.wire takes.after piece count changes;
-              sets = takes.sets;
-            };
-            lists = noted.changed;
-            rest = refl;
-          };
-          told = (refl, refl);
-        });
+        runs = one_stride (desk_terms d) (desk_state d) (desk_state new) piece (TookIn connection bytes) tt
+            (record {
+              between = desk_state new;
+              does = record {
+                changes = record {
+                  wire = takes.wire;
+                  after = takes.after;
+                  there = takes.there;
+                  changes = takes_all takes.wire takes.after piece count changes;
+                  sets = takes.sets;
+                };
+                lists = noted.changed;
+                rest = refl;
+              };
+              told = (refl, refl);
+            });
         goes = record {
           made = sym (append-nil d.entries.items);
           freed = sym (append-nil d.freed.items);
@@ -203,13 +215,13 @@ fed_some d wires connection piece count steady takes noted =
           subst (λ (t : Traffic). IsWholeFrame t.unread ⊎ IsBad t.unread) same (changes.stops less),
     )
 
-pub fed_closed : (d mid new : HubDesk) (connection : ℕ) (piece : List ℕ)
+pub fed_closed : (d mid new : HubDesk) (connection : ℕ) (piece : List ℕ) → 0 < length piece
     → mid ≡ record d { wires = mid.wires }
     → wires_in mid.wires ≡ wires_in d.wires
     → tally_in mid.wires ≡ tally_in d.wires → DoesClose (desk_state mid) connection (desk_state new)
     → new ≡ record mid { wires = new.wires; hearers = new.hearers } → work_left new ≤ work_left mid
     → FeedsPiece d connection piece 0 new × TakesNoMore (desk_state new) connection
-fed_closed d mid new connection piece same wires tally closes rest less =
+fed_closed d mid new connection piece some same wires tally closes rest less =
     let unread : unread_total mid.wires ≡ unread_total d.wires = ap (λ (t : Tally). t.unread) tally in
     let state : desk_state mid ≡ desk_state d =
     ap desk_state same
@@ -227,7 +239,7 @@ fed_closed d mid new connection piece same wires tally closes rest less =
         strides = (Closed connection, []) ∷ [];
         own = All-cons (λ (s : Deed × List Deed). IsOwnDeed connection s.0) (Closed connection, []) [] refl
             (All-nil (λ (s : Deed × List Deed). IsOwnDeed connection s.0));
-        runs = one_stride (desk_terms d) (desk_state d) (desk_state new) (Closed connection)
+        runs = one_stride (desk_terms d) (desk_state d) (desk_state new) piece (Closed connection) (inr some)
             (record { between = desk_state new; does = closing; told = (refl, refl) });
         goes = record {
           made = entries ∙ sym (append-nil d.entries.items);
@@ -248,7 +260,7 @@ pub record TurnSoFar (old : HubDesk) (connection : ℕ) (piece : List ℕ) (take
     Type 0 where
   pub strides : List (Deed × List Deed)
   pub own : All (λ s. IsOwnDeed connection s.0) strides
-  pub runs : RunsStrides (desk_terms old) (desk_state old) strides (desk_state now)
+  pub runs : RunsStrides (desk_terms old) (desk_state old) piece strides (desk_state now)
   pub goes : Goes old (deeds_of strides) now
   pub within : taken ≤ length piece
   pub bytes : bytes_in (deeds_of strides) ≡ take taken piece
@@ -261,16 +273,24 @@ deeds_append xs ys = flat_map-append (λ (s : Deed × List Deed). s.0 ∷ s.1) x
 bytes_append : (xs ys : List Deed) → bytes_in (xs ++ ys) ≡ bytes_in xs ++ bytes_in ys
 bytes_append xs ys = flat_map-append bytes_by xs ys
 
+left_taken : (taken : ℕ) (piece : List ℕ) (deeds : List Deed) → taken ≤ length piece
+    → bytes_in deeds ≡ take taken piece → left_behind piece deeds ≡ drop taken piece
+left_taken taken piece deeds within bytes =
+    ap (λ n. drop n piece) (ap length bytes ∙ length-take-le taken piece within)
+
 -- strides, and behind them others, of which the desk's terms are those before
-further : (old now new : HubDesk) (connection : ℕ) (xs ys : List (Deed × List Deed))
-    → Goes old (deeds_of xs) now
-    → RunsStrides (desk_terms old) (desk_state old) xs (desk_state now)
-    → RunsStrides (desk_terms now) (desk_state now) ys (desk_state new) → Goes now (deeds_of ys) new
-    → RunsStrides (desk_terms old) (desk_state old) (xs ++ ys) (desk_state new)
+further : (old now new : HubDesk) (connection taken : ℕ) (piece : List ℕ) (xs ys : List (Deed × List Deed))
+    → taken ≤ length piece → bytes_in (deeds_of xs) ≡ take taken piece → Goes old (deeds_of xs) now
+    → RunsStrides (desk_terms old) (desk_state old) piece xs (desk_state now)
+    → RunsStrides (desk_terms now) (desk_state now) (drop taken piece) ys (desk_state new)
+    → Goes now (deeds_of ys) new
+    → RunsStrides (desk_terms old) (desk_state old) piece (xs ++ ys) (desk_state new)
     × Goes old (deeds_of (xs ++ ys)) new
-further old now new connection xs ys goes runs more behind = (
-  runs_append (desk_terms old) xs ys (desk_state old) (desk_state now) (desk_state new) runs
-      (subst (λ t. RunsStrides t (desk_state now) ys (desk_state new)) goes.terms more),
+further old now new connection taken piece xs ys within bytes goes runs more behind = (
+  runs_append (desk_terms old) xs ys (desk_state old) (desk_state now) (desk_state new) piece runs
+      (subst (λ left. RunsStrides (desk_terms old) (desk_state now) left ys (desk_state new))
+      (sym (left_taken taken piece (deeds_of xs) within bytes))
+      (subst (λ t. RunsStrides t (desk_state now) (drop taken piece) ys (desk_state new)) goes.terms more)),
   subst (λ ds. Goes old ds new) (sym (deeds_append xs ys))
       (goes_further old now new (deeds_of xs) (deeds_of ys) goes behind),
 )
@@ -296,13 +316,22 @@ pub turn_on : (old now mid new : HubDesk) (connection : ℕ) (piece : List ℕ) 
     → (count < length (drop taken piece) → TakesNoMore (desk_state new) connection)
     → TurnSoFar old connection piece (taken + count) new
 turn_on old now mid new connection piece taken count far strides feeds stops =
-    let one = (strides.deed, strides.tells) ∷ [] in
-    let mid_runs = further old now mid connection far.strides one far.goes far.runs
-    (desk_state mid, strides.stride, refl)
+    let one : List (Deed × List Deed) = (strides.deed, strides.tells) ∷ [] in
+    let mid_bytes : bytes_in (deeds_of (far.strides ++ one)) ≡ take taken piece =
+    ap bytes_in (deeds_append far.strides one) ∙ bytes_append (deeds_of far.strides) (deeds_of one)
+    ∙ ap (λ l. bytes_in (deeds_of far.strides) ++ l)
+    (ap bytes_in (append-nil (strides.deed ∷ strides.tells)) ∙ strides.bytes)
+    ∙ append-nil (bytes_in (deeds_of far.strides)) ∙ far.bytes in
+    let mid_runs = further old now mid connection taken piece far.strides one far.within far.bytes far.goes
+    far.runs (
+      desk_state mid,
+      may_more (desk_state now) (drop taken piece) strides.deed strides.may,
+      strides.stride,
+      refl,
+    )
     (subst (λ ds. Goes now ds mid) (sym (append-nil (strides.deed ∷ strides.tells))) strides.goes) in
-    let all_runs = further old mid new connection (far.strides ++ one) feeds.strides mid_runs.1 mid_runs.0
-    feeds.runs
-    feeds.goes in
+    let all_runs = further old mid new connection taken piece (far.strides ++ one) feeds.strides far.within
+    mid_bytes mid_runs.1 mid_runs.0 feeds.runs feeds.goes in
     let long = length-drop taken piece in
     let within = feeds.within in
     let before = far.within in
@@ -321,12 +350,8 @@ turn_on old now mid new connection piece taken count far strides feeds stops =
       within = omega arith;
       bytes = ap bytes_in (deeds_append (far.strides ++ one) feeds.strides)
           ∙ bytes_append (deeds_of (far.strides ++ one)) (deeds_of feeds.strides)
-          ∙ ap (λ l. l ++ bytes_in (deeds_of feeds.strides))
-          (ap bytes_in (deeds_append far.strides one) ∙ bytes_append (deeds_of far.strides) (deeds_of one)
-          ∙ ap (λ l. bytes_in (deeds_of far.strides) ++ l)
-          (ap bytes_in (append-nil (strides.deed ∷ strides.tells)) ∙ strides.bytes)
-          ∙ append-nil (bytes_in (deeds_of far.strides)) ∙ far.bytes)
-          ∙ ap (λ l. take taken piece ++ l) feeds.bytes ∙ sym (take-add taken count piece);
+          ∙ ap (λ l. l ++ bytes_in (deeds_of feeds.strides)) mid_bytes ∙ ap (λ l. take taken piece ++ l)
+          feeds.bytes ∙ sym (take-add taken count piece);
       work = omega arith;
       stops = λ less. stops (let l = less in omega arith);
     }
@@ -350,8 +375,8 @@ turn_ended old now new connection piece taken far finishes =
         goes = far.goes;
         work = far.work;
       })
-      | inr closed ↦
-          let one = (Closed connection, []) ∷ [] in
+      | inr (finished, closed) ↦
+          let one : List (Deed × List Deed) = (Closed connection, []) ∷ [] in
           let rest = finishes.rest in
           let less = finishes.work in
           let before = far.work in
@@ -361,8 +386,11 @@ turn_ended old now new connection piece taken far finishes =
             freed = ap (λ (x : HubDesk). x.freed.items) rest ∙ sym (append-nil now.freed.items);
             terms = ap desk_terms rest;
           } in
-          let both = further old now new connection far.strides one far.goes far.runs
-          (one_stride (desk_terms now) (desk_state now) (desk_state new) (Closed connection)
+          let both = further old now new connection taken piece far.strides one far.within far.bytes far.goes
+          far.runs
+          (one_stride (desk_terms now) (desk_state now) (desk_state new) (drop taken piece)
+          (Closed connection)
+          (inl (record { wire = finished.wire; there = finished.there; so = inl finished.so }))
           (record { between = desk_state new; does = closed; told = (refl, refl) })) ends in
           record {
             deeds = deeds_of (far.strides ++ one);

@@ -32,8 +32,8 @@ use Rattle.rv_desk.specs.View.{moment_now}
 use Rattle.rv_desk.specs.Fields.{desk_state, desk_terms}
 use Rattle.rv_desk.specs.Deeds.{AnswersNow, AnswersOrWaits, Deed, Does, DoesClose, IsDueWith, WaitsNow}
 use Rattle.rv_desk.specs.Deeds.{Elapsed, bytes_in, entries_of_deed, rests_on, told_in_deeds}
-use Rattle.rv_desk.specs.Order.{IsOwnDeed, IsStride, RunsStrides, TellsClient, TellsKeys, TellsOneHearer}
-use Rattle.rv_desk.specs.Order.{TellsOverdue, IsTurn, deeds_of}
+use Rattle.rv_desk.specs.Order.{IsOwnDeed, IsStride, MayDo, RunsStrides, TellsClient, TellsKeys}
+use Rattle.rv_desk.specs.Order.{TellsOneHearer, TellsOverdue, IsTurn, deeds_of}
 
 -- how many bytes of a connection are unread, if it is open
 abbrev pub unread_of : Option Traffic → ℕ
@@ -248,6 +248,7 @@ pub record Strides (old : HubDesk) (connection : ℕ) (new : HubDesk) : Type 0 w
   pub tells : List Deed
   pub stride : IsStride (desk_terms old) (desk_state old) deed tells (desk_state new)
   pub own : IsOwnDeed connection deed
+  pub may : MayDo (desk_state old) [] deed
   pub bytes : bytes_in (deed ∷ tells) ≡ []
   pub goes : Goes old (deed ∷ tells) new
   pub work : work_left new + 2 ≤ work_left old
@@ -259,7 +260,7 @@ pub record FeedsPiece (old : HubDesk) (connection : ℕ) (piece : List ℕ) (cou
     Type 0 where
   pub strides : List (Deed × List Deed)
   pub own : All (λ s. IsOwnDeed connection s.0) strides
-  pub runs : RunsStrides (desk_terms old) (desk_state old) strides (desk_state new)
+  pub runs : RunsStrides (desk_terms old) (desk_state old) piece strides (desk_state new)
   pub goes : Goes old (deeds_of strides) new
   pub within : count ≤ length piece
   pub bytes : bytes_in (deeds_of strides) ≡ take count piece
@@ -268,7 +269,9 @@ pub record FeedsPiece (old : HubDesk) (connection : ℕ) (piece : List ℕ) (cou
 
 -- nothing, or it was closed, since nothing was left to do
 pub record Finishes (old : HubDesk) (connection : ℕ) (new : HubDesk) : Type 0 where
-  pub did : (new ≡ old) ⊎ DoesClose (desk_state old) connection (desk_state new)
+  pub did : (new ≡ old)
+      ⊎ (HasWire (wires_in old.wires) connection IsFinished
+      × DoesClose (desk_state old) connection (desk_state new))
   pub stopped : (wire : Traffic) → (wires_in new.wires).wires connection ≡ Some wire → ¬ IsFinished wire
   pub due : HasDue new connection → HasDue old connection
   pub rest : new ≡ record old { wires = new.wires; hearers = new.hearers }

@@ -1,9 +1,11 @@
 -- The order in which the deeds of a desk come.
 use Rattle.std.specs.Prelude.{ℕ, ◌≡◌, ◌<◌, ◌≤◌, ◌⊎◌, List, [], ◌∷◌, ◌++◌, All, AllPairs, Contains, Some}
-use Rattle.std.specs.Prelude.{flat_map, length, take}
+use Rattle.std.specs.Prelude.{drop, flat_map, length, take}
 use Rattle.rv_text.specs.declared.message.Key.{Key}
 use Rattle.rv_text.specs.declared.answer.Answer.TheVariants as answer
+use Rattle.rv_connection.specs.Traffic.{IsDue, IsFinished}
 use Rattle.rv_hearers.specs.declared.tables.Hearing.{Hearing}
+use Rattle.rv_wires.specs.Connections.{HasWire}
 use Rattle.rv_desk.specs.View.{DeskState, DeskTerms}
 use Rattle.rv_desk.specs.Telling.{AreHearersOf}
 use Rattle.rv_desk.specs.Deeds.{Deed, Does, DoesAll, bytes_in, settled_by, Asked, Closed, Lacked, Lost}
@@ -79,12 +81,22 @@ pub record TellsOverdue (terms : DeskTerms) (old : DeskState) (deeds : List Deed
 
 -- ---- turns
 
--- one after another
-abbrev pub RunsStrides : DeskTerms → DeskState → List (Deed × List Deed) → DeskState → Type 0
-RunsStrides terms old [] new = new ≡ old
-RunsStrides terms old (stride ∷ strides) new =
-    (between : DeskState) × IsStride terms old stride.0 stride.1 between × RunsStrides terms between strides
-    new
+-- of a piece these bytes are left: a connection is closed in its own turn only where nothing is left of it to
+-- do, or where memory may have been refused, for the answer to its frame, which is due, or for those bytes
+abbrev pub MayDo : DeskState → List ℕ → Deed → Type 0
+MayDo s left (Closed n) = HasWire s.open_wires n (λ wire. IsFinished wire ⊎ IsDue wire) ⊎ (0 < length left)
+MayDo s left deed = Unit {0}
+
+-- the bytes of a piece that are left behind deeds which took some
+abbrev pub left_behind : List ℕ → List Deed → List ℕ
+left_behind piece deeds = drop (length (bytes_in deeds)) piece
+
+-- one after another, where these bytes of a piece are left
+abbrev pub RunsStrides : DeskTerms → DeskState → List ℕ → List (Deed × List Deed) → DeskState → Type 0
+RunsStrides terms old left [] new = new ≡ old
+RunsStrides terms old left (stride ∷ strides) new =
+    (between : DeskState) × MayDo old left stride.0 × IsStride terms old stride.0 stride.1 between
+    × RunsStrides terms between (left_behind left (stride.0 ∷ stride.1)) strides new
 
 -- a deed of the connection's own: bytes of its input, a frame, or its end
 abbrev pub IsOwnDeed : ℕ → Deed → Type 0
@@ -101,14 +113,13 @@ abbrev pub deeds_of : List (Deed × List Deed) → List Deed
 deeds_of strides = flat_map (λ s. s.0 ∷ s.1) strides
 
 -- a connection goes on until it stops: its deeds are of its own bytes and frames, each with whom it settles,
--- and of a
--- piece that came so many bytes are taken
+-- and of a piece that came so many bytes are taken
 pub record IsTurn (terms : DeskTerms) (old : DeskState) (connection : ℕ) (piece : List ℕ) (deeds : List Deed)
     (count : ℕ) (new : DeskState) : Type 0
   where
     pub strides : List (Deed × List Deed)
     pub deeds_are : deeds ≡ deeds_of strides
     pub own : All (λ s. IsOwnDeed connection s.0) strides
-    pub runs : RunsStrides terms old strides new
+    pub runs : RunsStrides terms old piece strides new
     pub within : count ≤ length piece
     pub bytes : bytes_in deeds ≡ take count piece

@@ -25,19 +25,20 @@ pub stride_does : (terms : DeskTerms) (s t : DeskState) (deed : Deed) (tells : L
 stride_does terms s t deed tells stride =
     (stride.between, stride.does, keys_do terms stride.between t (settled_by deed) tells stride.told)
 
-strides_do : (terms : DeskTerms) (s t : DeskState) (strides : List (Deed × List Deed))
-    → RunsStrides terms s strides t
+strides_do : (terms : DeskTerms) (s t : DeskState) (left : List ℕ) (strides : List (Deed × List Deed))
+    → RunsStrides terms s left strides t
     → DoesAll terms s (deeds_of strides) t
-strides_do terms s t [] same = same
-strides_do terms s t (stride ∷ strides) (mid, one, more) =
+strides_do terms s t left [] same = same
+strides_do terms s t left (stride ∷ strides) (mid, may, one, more) =
     does_append terms (stride.0 ∷ stride.1) (deeds_of strides) s mid t
-    (stride_does terms s mid stride.0 stride.1 one) (strides_do terms mid t strides more)
+    (stride_does terms s mid stride.0 stride.1 one) (strides_do terms mid t _ strides more)
 
 turn_does : (terms : DeskTerms) (s t : DeskState) (connection : ℕ) (piece : List ℕ) (deeds : List Deed)
     (count : ℕ)
     → IsTurn terms s connection piece deeds count t → DoesAll terms s deeds t
 turn_does terms s t connection piece deeds count turn =
-    subst (λ ds. DoesAll terms s ds t) (sym turn.deeds_are) (strides_do terms s t turn.strides turn.runs)
+    subst (λ ds. DoesAll terms s ds t) (sym turn.deeds_are) (strides_do terms s t piece turn.strides
+    turn.runs)
 
 pub turns_do : (terms : DeskTerms) (s t : DeskState) (offer : Offered) (row : List ℕ) (turns :
     List (List Deed))

@@ -1,8 +1,8 @@
 -- Bytes are taken, or it is closed.
-use Rattle.std.proofs.Common.{refl}
+use Rattle.std.proofs.Common.{◌∙◌, refl, sym}
 use Rattle.std.specs.Option.{option_copied}
 use Rattle.rv_desk.proofs.Noting.{still_some}
-use Rattle.rv_desk.proofs.Turning.{fed_closed, fed_some, open_by, same_sound, same_steady}
+use Rattle.rv_desk.proofs.Turning.{fed_closed, fed_some, has_bytes, open_by, same_sound, same_steady}
 use Rattle.rv_desk.proofs.desk.HubDesk.feed.Goals as goal
 
 pub returns-in-Ok-clause-feeds : goal.returns-in-Ok-clause-feeds
@@ -13,7 +13,8 @@ returns-in-Ok-clause-feeds c =
 pub returns-in-Err-clause-feeds : goal.returns-in-Err-clause-feeds
 returns-in-Err-clause-feeds c =
     (fed_closed c.args.self.now (record c.args.self.now { wires = c.take_in.new.self }) c.shut.new.self
-    c.args.connection c.args.piece.now refl c.in-Err.ensures.refused c.in-Err.ensures.kept
+    c.args.connection c.args.piece.now (has_bytes _ (sym c.is_empty.ensures ∙ c.if-is_empty.false)) refl
+    c.in-Err.ensures.refused c.in-Err.ensures.kept
     c.shut.ensures.closes
     c.shut.ensures.rest c.shut.ensures.less).0
 

@@ -15,8 +15,7 @@ returns-in-Err-clause-steady c =
     (steady_from c.args.self.now c.reserve.new.self c.reserve.ensures.capacity c.requires.steady)
     c.lack.ensures.sound did c.lack.ensures.lacks.takes
     (lacking_deed (desk_terms d) (desk_state d) (desk_state c.lack.new.self) c.args.connection
-    c.requires.asked.0
-    did)).0
+    c.requires.asked.0 c.requires.asked.1.frame did)).0
 
 pub returns-in-Err-clause-strides : goal.returns-in-Err-clause-strides
 returns-in-Err-clause-strides c =
@@ -28,5 +27,4 @@ returns-in-Err-clause-strides c =
     (steady_from c.args.self.now c.reserve.new.self c.reserve.ensures.capacity c.requires.steady)
     c.lack.ensures.sound did c.lack.ensures.lacks.takes
     (lacking_deed (desk_terms d) (desk_state d) (desk_state c.lack.new.self) c.args.connection
-    c.requires.asked.0
-    did)).1
+    c.requires.asked.0 c.requires.asked.1.frame did)).1

@@ -24,8 +24,8 @@ returns-in-Err-clause-steady c =
     (unstepped c.args.self.now c.answer_by.new.self c.args.connection 0 (fault_answer c.in-Err.fault)
     c.requires.message.body c.requires.steady c.answer_by.ensures.sound did answers.takes
     (fault_deed (desk_terms c.args.self.now) (desk_state c.args.self.now) (desk_state c.answer_by.new.self)
-    c.args.connection c.requires.message.body c.args.read c.in-Err.fault c.requires.message.reads c.in-Err.is
-    did)).0
+    c.args.connection c.requires.message.body c.args.read c.in-Err.fault c.requires.message.asked.frame
+    c.requires.message.reads c.in-Err.is did)).0
 
 pub returns-in-Err-clause-strides : goal.returns-in-Err-clause-strides
 returns-in-Err-clause-strides c =
@@ -35,5 +35,5 @@ returns-in-Err-clause-strides c =
     (unstepped c.args.self.now c.answer_by.new.self c.args.connection 0 (fault_answer c.in-Err.fault)
     c.requires.message.body c.requires.steady c.answer_by.ensures.sound did answers.takes
     (fault_deed (desk_terms c.args.self.now) (desk_state c.args.self.now) (desk_state c.answer_by.new.self)
-    c.args.connection c.requires.message.body c.args.read c.in-Err.fault c.requires.message.reads c.in-Err.is
-    did)).1
+    c.args.connection c.requires.message.body c.args.read c.in-Err.fault c.requires.message.asked.frame
+    c.requires.message.reads c.in-Err.is did)).1
