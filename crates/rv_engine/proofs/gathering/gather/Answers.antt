@@ -1,0 +1,12 @@
+-- One line more is gathered.
+use Rattle.std.proofs.Common.{ap, string_bytes, ◌+◌}
+use Rattle.rv_engine.proofs.Gathered.{gathered_next}
+use Rattle.rv_engine.proofs.gathering.gather.Goals as goal
+
+pub loop-entry-preserved : goal.loop-entry-preserved
+loop-entry-preserved c = (
+  ap (λ n. n + 1) c.loop-entry.invariant.0,
+  gathered_next (string_bytes c.args.lines.now) (string_bytes c.loop-entry.lines)
+      (string_bytes c.add_line.new.lines) c.args.entries.now c.loop-entry.entry-index c.entry-item.result
+      c.loop-entry-test.true c.loop-entry.invariant.1 ?,
+)
