@@ -1,5 +1,6 @@
 -- Lines of fronts of entries, one behind another.
-use Rattle.std.proofs.Common.{◌≡◌, ◌<◌, ◌≤◌, ◌+◌, ◌-◌, ◌∙◌, ℕ, List, [], ◌∷◌, ◌++◌, Bool, true, false, append-nil, ap, arith}
+use Rattle.std.proofs.Common.{◌≡◌, ◌<◌, ◌≤◌, ◌+◌, ◌-◌, ◌∙◌, ℕ, List, [], ◌∷◌, ◌++◌, Bool, true, false}
+use Rattle.std.proofs.Common.{append-nil, ap, arith}
 use Rattle.std.proofs.Common.{append_assoc, drop, get_or, length, refl, subst, suc, sym, take, zero}
 use Rattle.std.proofs.Math.Seq.{drop-nil, take-suc}
 use Rattle.std.proofs.lemmas.List.{take-append-drop, take_all, take_rest}
@@ -32,7 +33,8 @@ gathered_all start now entries i past is =
     ∙ sym (take_all (length entries) entries (omega arith)))
 
 -- the first so many entries are gathered
-pub gathers_first : (entries left : List Entry) (before lines : List ℕ) (count : ℕ) → left ≡ drop count entries
+pub gathers_first : (entries left : List Entry) (before lines : List ℕ) (count : ℕ)
+    → left ≡ drop count entries
     → lines ≡ before ++ lines_of (take count entries) → GathersFront entries before left lines
 gathers_first entries left before lines count rest is = record {
   front = take count entries;

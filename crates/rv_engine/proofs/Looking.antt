@@ -1,5 +1,6 @@
 -- Numbers that are listed, where there is room.
-use Rattle.std.proofs.Common.{◌≡◌, ◌⊎◌, ◌<◌, ◌≤◌, ◌+◌, ◌∷◌, ◌++◌, ◌∙◌, ℕ, List, [], Contains, ap, arith, get_or, inl, inr}
+use Rattle.std.proofs.Common.{◌≡◌, ◌⊎◌, ◌<◌, ◌≤◌, ◌+◌, ◌∷◌, ◌++◌, ◌∙◌, ℕ, List, [], Contains, ap, arith}
+use Rattle.std.proofs.Common.{get_or, inl, inr}
 use Rattle.std.proofs.Common.{length, refl, subst, suc, sym, take}
 use Rattle.std.proofs.lemmas.List.{take_all}
 use Rattle.std.proofs.Math.Seq.{take-suc}
@@ -67,7 +68,8 @@ adds_more room old now new numbers i within all one =
         to : Contains now k ⊎ (Contains (get_or numbers i 0 ∷ []) k × (k < room))
             → Contains old k ⊎ (Contains (take i numbers ++ get_or numbers i 0 ∷ []) k × (k < room))
         to (inr own) = inr (
-          subst (Contains (take i numbers ++ get_or numbers i 0 ∷ [])) (sym (alone (get_or numbers i 0) k own.0))
+          subst (Contains (take i numbers ++ get_or numbers i 0 ∷ []))
+              (sym (alone (get_or numbers i 0) k own.0))
               (Contains-push (take i numbers) (get_or numbers i 0)),
           own.1,
         )

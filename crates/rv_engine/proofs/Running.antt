@@ -1,5 +1,6 @@
 -- Calls of an engine, one after another.
-use Rattle.std.proofs.Common.{◌≡◌, ◌+◌, ◌-◌, ◌∙◌, ℕ, List, [], ◌∷◌, ◌++◌, Bool, true, ap, append-nil, append_assoc, false}
+use Rattle.std.proofs.Common.{◌≡◌, ◌+◌, ◌-◌, ◌∙◌, ℕ, List, [], ◌∷◌, ◌++◌, Bool, true, ap, append-nil}
+use Rattle.std.proofs.Common.{append_assoc, false}
 use Rattle.std.proofs.Common.{arith, length, length-append, refl, subst, sym}
 use Rattle.rv_account.specs.declared.entry.Entry.{Entry}
 use Rattle.rv_account.specs.Account.{Account}
@@ -17,8 +18,10 @@ use Rattle.rv_engine.specs.declared.events.EngineFault.{EngineFault}
 use Rattle.rv_engine.specs.declared.events.EngineFault.TheVariants as fault
 use Rattle.rv_engine.specs.Engines.{EngineState}
 use Rattle.rv_engine.specs.Handing.{GathersFront, gathered_count, kept_of, lines_gone, lines_of, unwritten}
-use Rattle.rv_engine.specs.EngineRuns.{AccountsAreKept, AreCounted, EngineDeed, EnginesAreRuns, HandedOn}
-use Rattle.rv_engine.specs.EngineRuns.{IsAllWritten, IsEngineRun, KeepsAccount, NotTaken, RunsEngine}
+use Rattle.rv_engine.specs.EngineRuns.{AccountsAreKept, AreCounted, EngineDeed, EnginesAreRuns}
+use Rattle.rv_engine.specs.EngineRuns.{HandedOn}
+use Rattle.rv_engine.specs.EngineRuns.{HandsOnNext, IsAllWritten, IsEngineRun, KeepsAccount, NotTaken}
+use Rattle.rv_engine.specs.EngineRuns.{RunsEngine}
 use Rattle.rv_engine.specs.EngineRuns.{WrittenAreCounted, WroteLines, answers_in, bytes_in}
 use Rattle.rv_engine.proofs.Gathered.{gathers_all, gathers_behind, gathers_then, kept_append, lines_append}
 
@@ -146,3 +149,9 @@ accounts_are_kept terms deeds s t a limits runs all moment is =
           (all_lines (made_in (answers_in deeds)) t.left (bytes_in deeds) t.lines
           (from_written terms deeds s t runs all));
     }
+
+pub hands_on_next : HandsOnNext
+hands_on_next old new what none is =
+    let sum = ap length is.gathers.gathers.parts ∙ length-append is.gathers.gathers.front new.left in
+    let zero_left : length old.left ≡ 0 = ap length none in
+    omega (arith, sum, zero_left, is.some)

@@ -1,6 +1,8 @@
 -- An event that is handed on behind a gathering.
-use Rattle.std.proofs.Common.{◌≡◌, ◌∙◌, ◌++◌, ℕ, List, [], Bool, ap, append-nil, append_assoc, arith, length, length-append}
-use Rattle.std.proofs.Common.{refl, subst, sym}
+use Rattle.std.proofs.Common.{◌≡◌, ◌∙◌, ◌++◌, ℕ, List, [], Bool, ap, append-nil, append_assoc, arith, length}
+use Rattle.std.proofs.Common.{length-append}
+use Rattle.std.proofs.Common.{drop, refl, subst, sym}
+use Rattle.std.proofs.lemmas.List.{drop_all}
 use Rattle.rv_account.specs.declared.entry.Entry.{Entry}
 use Rattle.rv_desk.specs.Runs.{ListsChanged}
 use Rattle.rv_desk.specs.View.{DeskState, DeskTerms, begun}
@@ -33,7 +35,8 @@ looks_through old mid new numbers same looks = record {
 pub handed_through : (journal : Bool) (terms : DeskTerms) (old mid : EngineState) (handed : ℕ)
     (what : HubEvent)
     (made : List Entry) (given : ℕ) (new : EngineState) → Gathers old mid
-    → HandsOn journal terms mid handed what made given new → HandsOn journal terms old handed what made given new
+    → HandsOn journal terms mid handed what made given new
+    → HandsOn journal terms old handed what made given new
 handed_through journal terms old mid handed what made given new gathers does = record {
   takes = subst (λ (h : DeskState). TakesEvent journal terms h handed what made given new.hub) gathers.hub
       does.takes;
@@ -74,3 +77,7 @@ state_is s hub room at_hub lines left looks round at_room =
     ∙ ap (λ (x : List ℕ). record s { hub = hub; lines = []; left = []; looks = x }) looks
     ∙ ap (λ (x : List ℕ). record s { hub = hub; lines = []; left = []; looks = []; round = x }) round
     ∙ ap (λ (x : ℕ). record s { hub = hub; lines = []; left = []; looks = []; round = []; room = x }) at_room
+
+-- all entries are gathered
+pub all_gathered : (same entries : List Entry) → same ≡ entries → drop (length same) entries ≡ []
+all_gathered same entries own = drop_all (length same) entries (omega (arith, ap length own))

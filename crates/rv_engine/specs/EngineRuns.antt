@@ -1,4 +1,5 @@
--- Calls of an engine, one after another: of the hub the run of exactly the events that were handed on, and of the
+-- Calls of an engine, one after another: of the hub the run of exactly the events that were handed on, and of
+-- the
 -- account the lines of all entries that these made, in order.
 use Rattle.std.specs.Prelude.{ℕ, ◌≡◌, ◌≤◌, ◌+◌, Bool, true, List, [], ◌∷◌, ◌++◌, length}
 use Rattle.rv_account.specs.declared.entry.Entry.{Entry}
@@ -9,7 +10,8 @@ use Rattle.rv_lines.specs.Lines.{printed_lines}
 use Rattle.rv_lines.specs.Written.{account_lines}
 use Rattle.rv_desk.specs.View.{DeskTerms}
 use Rattle.rv_hub.specs.declared.events.HubEvent.{HubEvent}
-use Rattle.rv_hub.specs.HubRuns.{AddsEntries, HubAnswer, IsHubAccount, RefusedEvent, RunsHub, TookEvent, made_in}
+use Rattle.rv_hub.specs.HubRuns.{AddsEntries, HubAnswer, IsHubAccount, RefusedEvent, RunsHub, TookEvent}
+use Rattle.rv_hub.specs.HubRuns.{made_in}
 use Rattle.rv_engine.specs.declared.events.EngineFault.{EngineFault}
 use Rattle.rv_engine.specs.declared.events.EngineFault.TheVariants as fault
 use Rattle.rv_engine.specs.Engines.{EngineState}
@@ -26,7 +28,8 @@ pub data EngineDeed : Type 0 where
   WroteLines : (bytes : List ℕ) → EngineDeed
 
 abbrev pub DoesDeed : Bool → DeskTerms → EngineState → EngineDeed → EngineState → Type 0
-DoesDeed journal terms s (HandedOn handed what made given) t = HandsOn journal terms s handed what made given t
+DoesDeed journal terms s (HandedOn handed what made given) t = HandsOn journal terms s handed what made given
+    t
 DoesDeed journal terms s (NotTaken what why) t = IsRefused s what why t
 DoesDeed journal terms s (WroteLines bytes) t = (bytes ≡ s.lines) × (t ≡ lines_gone s)
 
@@ -71,7 +74,8 @@ pub record IsAllWritten (s : EngineState) : Type 0 where
   pub lines : s.lines ≡ []
   pub left : s.left ≡ []
 
--- what is written and gathered are the lines of a front of the entries; it has as many as the hub is told when
+-- what is written and gathered are the lines of a front of the entries; it has as many as the hub is told
+-- when
 -- the lines that are gathered are written
 pub record AreCounted (s : EngineState) (made : List Entry) (bytes : List ℕ) (t : EngineState) : Type 0 where
   pub gathers : GathersFront made [] t.left (bytes ++ t.lines)
@@ -95,3 +99,10 @@ AccountsAreKept = (terms : DeskTerms) (deeds : List EngineDeed) (s t : EngineSta
     → AreStepLimits terms.limits → RunsEngine true terms s deeds t → IsAllWritten s
     → t.hub.now ≤ max_moment → IsHubAccount a s.hub
     → KeepsAccount a (bytes_in deeds) t (made_in (answers_in deeds))
+
+-- ---- want of memory
+
+-- where no entry is left the next event is handed on: it isn't refused for want of memory to earlier lines
+abbrev pub HandsOnNext : Type 0
+HandsOnNext = (old new : EngineState) (what : HubEvent) → old.left ≡ []
+    → ¬ IsRefused old what fault.NoMemory new

@@ -15,8 +15,8 @@ use std::alloc::Global;
 use std::io::Write;
 use std::marker::Model;
 
-/// A hub with what is to be written of its account, if one is kept, and the connections that are to be looked at.
-/// Contracts see its parts, of which always holds what holds between two calls.
+/// A hub with what is to be written of its account, if one is kept, and the connections that are to be looked
+/// at. Contracts see its parts, of which always holds what holds between two calls.
 #[derive(Drop)]
 pub struct Engine {
     parts: EngineParts,
@@ -38,8 +38,9 @@ impl Model for Engine {
 }
 
 impl Engine {
-    ghost use Rattle.std.specs.Prelude.{◌↔◌, ◌<◌, ◌∷◌, ◌++◌, [], IfErr, IfNone, IfOk, IfSome, IsTrue, OnOk};
+    ghost use Rattle.std.specs.Prelude.{◌<◌, ◌∷◌, ◌++◌, [], IfErr, IfNone, IfOk, IfSome, OnOk};
     ghost use Rattle.std.specs.Prelude.{length, max};
+    ghost use Rattle.std.specs.Bool.{OnFalse, OnTrue};
     ghost use Rattle.rv_frame.specs.Sink.{SinkTakes};
     ghost use Rattle.rv_machine.specs.Machines.{IsWhole, state_in};
     ghost use Rattle.rv_machine.specs.Numbering.{AreNumbered};
@@ -49,8 +50,8 @@ impl Engine {
     ghost use Rattle.rv_wires.specs.Connections.{none_open};
     ghost use Rattle.rv_hub.specs.Hubs.{hub_terms};
     ghost use Rattle.rv_engine.specs.Engines.{engine_state};
-    ghost use Rattle.rv_engine.specs.Handing.{HandsOn, IsNotTold, IsRefused, LooksAt, lines_gone, told_hub};
-    ghost use Rattle.rv_engine.specs.Handing.{written_event};
+    ghost use Rattle.rv_engine.specs.Handing.{Gathers, HandsOn, IsNotTold, IsRefused, LooksAt, lines_gone};
+    ghost use Rattle.rv_engine.specs.Handing.{told_hub, written_event};
 
     /// An engine over a machine, with the limits of each step. A request that waits is told so when it has
     /// waited `patience` milliseconds for a frame, at least 1. Only connections below `room` are listed.
@@ -101,8 +102,9 @@ impl Engine {
         })
     }
 
-    /// Hands an event on that came at a moment in milliseconds, once all lines of earlier entries are gathered.
-    /// It gives the number of a connection that was opened, or how many bytes of a piece were taken, else 0.
+    /// Hands an event on that came at a moment in milliseconds, once all lines of earlier entries are
+    /// gathered. It gives the number of a connection that was opened, or how many bytes of a piece were
+    /// taken, else 0.
     pub fn tell(&mut self, now: u64, event: LinkEvent<'_>) -> Result<usize, EngineFault>
         ensures takes { IfOk result (λ given. HandsOn self.old.hub.has_journal (hub_terms self.old.hub)
             (engine_state self.old) now (told_hub event.entry) self.new.hub.desk.entries.items given
@@ -141,11 +143,15 @@ impl Engine {
         &self.parts.lines
     }
 
-    /// Whether of an entry of the last event no line is gathered yet, since memory was refused.
-    pub fn is_behind(&self) -> bool
-        ensures { IsTrue result ↔ (0 < length (engine_state self.now).left) }
+    /// Gathers the lines of entries that are left since memory was refused, as far as memory allows now. It
+    /// gives whether none is left: then the next event is handed on.
+    pub fn catch_up(&mut self) -> bool
+        ensures gathers { Gathers (engine_state self.old) (engine_state self.new) }
+        ensures hub { self.new.hub ≡ self.old.hub }
+        ensures yes { OnTrue result ((engine_state self.new).left ≡ []) }
+        ensures no { OnFalse result (0 < length (engine_state self.new).left) }
     {
-        !handing::is_caught_up(&self.parts)
+        handing::try_to_catch_up(&mut self.parts)
     }
 
     /// A connection is to be looked at in the next round.
@@ -158,8 +164,8 @@ impl Engine {
         handing::look_at(&mut self.parts, number);
     }
 
-    /// Those that are to be looked at become the round. Those of the last round that are left are to be looked
-    /// at in the next one.
+    /// Those that are to be looked at become the round. Those of the last round that are left are to be
+    /// looked at in the next one.
     pub fn begin_round(&mut self)
         ensures round { engine_state self.new ≡ record (engine_state self.old) {
           looks = (engine_state self.old).round;

@@ -12,7 +12,7 @@ use rv_hearers::ConnectionNumber;
 use rv_hub::HubEvent;
 
 // Gathers the lines of the entries that are left, as far as memory allows.
-pub(crate) fn catch_up(parts: &mut EngineParts)
+fn catch_up(parts: &mut EngineParts)
     requires { IsEngine parts.old }
     ensures sound { IsEngine parts.new }
     ensures gathers { Gathers (engine_state parts.old) (engine_state parts.new) }
@@ -26,12 +26,25 @@ pub(crate) fn catch_up(parts: &mut EngineParts)
 }
 
 // Whether no entry is left.
-pub(crate) fn is_caught_up(parts: &EngineParts) -> bool
+fn is_caught_up(parts: &EngineParts) -> bool
     requires { IsEngine parts.now }
     ensures yes { OnTrue result ((engine_state parts.now).left ≡ []) }
     ensures no { OnFalse result (0 < length (engine_state parts.now).left) }
 {
     parts.gathered == parts.hub.entries().len()
+}
+
+/// Gathers the lines of the entries that are left, and gives whether none is left now.
+pub(crate) fn try_to_catch_up(parts: &mut EngineParts) -> bool
+    requires { IsEngine parts.old }
+    ensures sound { IsEngine parts.new }
+    ensures gathers { Gathers (engine_state parts.old) (engine_state parts.new) }
+    ensures hub { parts.new.hub ≡ parts.old.hub }
+    ensures yes { OnTrue result ((engine_state parts.new).left ≡ []) }
+    ensures no { OnFalse result (0 < length (engine_state parts.new).left) }
+{
+    catch_up(parts);
+    is_caught_up(parts)
 }
 
 // Hands an event to the hub, where no entry is left.

@@ -1,12 +1,28 @@
 -- No line is gathered, no entry left, and no connection listed.
-use Rattle.std.proofs.Common.{ap, arith, refl, sym, ◌∙◌}
+use Rattle.std.proofs.Common.{◌≡◌, ◌≤◌, ◌∙◌, [], ap, arith, drop, length, sym}
 use Rattle.std.proofs.lemmas.List.{drop_all}
+use Rattle.rv_desk.specs.View.{DeskState}
+use Rattle.rv_engine.proofs.Through.{all_gathered, state_is}
 use Rattle.rv_engine.specs.Engines.{engine_state}
-use Rattle.rv_engine.proofs.Through.{state_is}
 use Rattle.rv_engine.proofs.engine.Engine.new.Goals as goal
 
 pub invariant_of-result : goal.invariant_of-result
-invariant_of-result c = ?
+invariant_of-result c = record {
+  looks = c.in_ok-looks.ensures.sound;
+  round = c.in_ok-round.ensures.sound;
+  room = c.in_ok-round.ensures.room ∙ sym c.in_ok-looks.ensures.room;
+  account = c.in_ok-hub.ensures.journal;
+  within = omega (arith, ap length c.entries-gathered.ensures);
+  nothing = λ _. record {
+    lines = c.new-4.ensures.bytes;
+    left = all_gathered c.entries-gathered.result.now c.in_ok-hub.hub.desk.entries.items
+        c.entries-gathered.ensures;
+  };
+}
 
 pub returns-clause-state : goal.returns-clause-state
-returns-clause-state c = ?
+returns-clause-state c =
+    state_is _ _ c.args.room c.in_ok-hub.ensures.state c.new-4.ensures.bytes
+    (all_gathered c.entries-gathered.result.now c.in_ok-hub.hub.desk.entries.items
+    c.entries-gathered.ensures) c.in_ok-looks.ensures.none c.in_ok-round.ensures.none
+    c.in_ok-looks.ensures.room

@@ -1,11 +1,15 @@
 -- One number after another is listed, where there is room.
-use Rattle.std.proofs.Common.{arith, get_or, length, subst, ◌∙◌, ◌∷◌, []}
+use Rattle.std.proofs.Common.{arith, get_or, length, refl, subst, ◌∙◌, ◌∷◌, []}
 use Rattle.rv_engine.specs.Handing.{AddsLooks}
 use Rattle.rv_engine.proofs.Looking.{adds_more, adds_nothing, adds_whole}
 use Rattle.rv_engine.proofs.looks.LookList.add_all.Goals as goal
 
 pub loop-number-init : goal.loop-number-init
-loop-number-init c = adds_nothing (length c.args.self.now.flags.items) c.args.self.now.numbers.items
+loop-number-init c = (
+  c.requires,
+  refl,
+  adds_nothing (length c.args.self.now.flags.items) c.args.self.now.numbers.items,
+)
 
 pub loop-number-preserved : goal.loop-number-preserved
 loop-number-preserved c = (
