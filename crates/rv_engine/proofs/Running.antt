@@ -17,16 +17,16 @@ use Rattle.rv_hub.proofs.OneRun.{hubs_are_runs}
 use Rattle.rv_engine.specs.declared.events.EngineFault.{EngineFault}
 use Rattle.rv_engine.specs.declared.events.EngineFault.TheVariants as fault
 use Rattle.rv_engine.specs.Engines.{EngineState}
-use Rattle.rv_engine.specs.Handing.{GathersFront, gathered_count, kept_of, lines_gone, lines_of, unwritten}
+use Rattle.rv_engine.specs.Handing.{GathersFront, gathered_count, entries_kept, lines_gone, entry_lines, unwritten}
 use Rattle.rv_engine.specs.EngineRuns.{AccountsAreKept, AreCounted, EngineDeed, EnginesAreRuns}
 use Rattle.rv_engine.specs.EngineRuns.{HandedOn}
 use Rattle.rv_engine.specs.EngineRuns.{HandsOnNext, IsAllWritten, IsEngineRun, KeepsAccount, NotTaken}
 use Rattle.rv_engine.specs.EngineRuns.{RunsEngine}
-use Rattle.rv_engine.specs.EngineRuns.{WrittenAreCounted, WroteLines, answers_in, bytes_in}
+use Rattle.rv_engine.specs.EngineRuns.{WrittenAreCounted, WroteLines, answers_in, bytes_written}
 use Rattle.rv_engine.proofs.Gathered.{gathers_all, gathers_behind, gathers_then, kept_append, lines_append}
 
 abbrev rest_of : Bool → List EngineDeed → List Entry
-rest_of journal deeds = kept_of journal (made_in (answers_in deeds))
+rest_of journal deeds = entries_kept journal (made_in (answers_in deeds))
 
 pub engines_are_runs : EnginesAreRuns
 engines_are_runs journal terms [] s t same = record {
@@ -38,20 +38,20 @@ engines_are_runs journal terms [] s t same = record {
   };
 }
   where
-    none : (b : Bool) (left : List Entry) → left ++ kept_of b [] ≡ left
+    none : (b : Bool) (left : List Entry) → left ++ entries_kept b [] ≡ left
     none true left = append-nil left
     none false left = append-nil left
 engines_are_runs journal terms (HandedOn handed what made given ∷ deeds) s t (between, does, later) =
     let more = engines_are_runs journal terms deeds between t later in
     record {
       hub = (between.hub, does.takes, more.hub);
-      account = subst (λ (l : List Entry). GathersFront l s.lines t.left (bytes_in deeds ++ t.lines))
-          (append_assoc s.left (kept_of journal made) (rest_of journal deeds)
+      account = subst (λ (l : List Entry). GathersFront l s.lines t.left (bytes_written deeds ++ t.lines))
+          (append_assoc s.left (entries_kept journal made) (rest_of journal deeds)
           ∙ ap (λ (l : List Entry). s.left ++ l)
           (sym (kept_append journal made (made_in (answers_in deeds)))))
-          (gathers_then (s.left ++ kept_of journal made) (rest_of journal deeds) between.left t.left s.lines
-          between.lines (bytes_in deeds ++ t.lines)
-          (gathers_behind s.left (kept_of journal made) between.left s.lines between.lines does.gathers)
+          (gathers_then (s.left ++ entries_kept journal made) (rest_of journal deeds) between.left t.left s.lines
+          between.lines (bytes_written deeds ++ t.lines)
+          (gathers_behind s.left (entries_kept journal made) between.left s.lines between.lines does.gathers)
           more.account);
     }
 engines_are_runs journal terms (NotTaken what (fault.Refused why) ∷ deeds) s t (between, does, later) =
@@ -59,7 +59,7 @@ engines_are_runs journal terms (NotTaken what (fault.Refused why) ∷ deeds) s t
     record {
       hub = subst (λ (h : DeskState). RunsHub journal terms h (answers_in deeds) t.hub) does.hub more.hub;
       account = gathers_then s.left (rest_of journal deeds) between.left t.left s.lines between.lines
-          (bytes_in deeds ++ t.lines)
+          (bytes_written deeds ++ t.lines)
           (gathers_all s.left between.left s.lines between.lines does.left does.lines) more.account;
     }
 engines_are_runs journal terms (NotTaken what fault.NoMemory ∷ deeds) s t (between, does, later) =
@@ -68,7 +68,7 @@ engines_are_runs journal terms (NotTaken what fault.NoMemory ∷ deeds) s t (bet
       hub = subst (λ (h : DeskState). RunsHub journal terms h (answers_in deeds) t.hub) does.gathers.hub
           more.hub;
       account = gathers_then s.left (rest_of journal deeds) between.left t.left s.lines between.lines
-          (bytes_in deeds ++ t.lines) does.gathers.gathers more.account;
+          (bytes_written deeds ++ t.lines) does.gathers.gathers more.account;
     }
 engines_are_runs journal terms (NotTaken what (fault.NotWritten why) ∷ deeds) s t (between, does, later) =
     absurd does
@@ -81,9 +81,9 @@ engines_are_runs journal terms (WroteLines bytes ∷ deeds) s t (between, does, 
       account = record {
         front = more.account.front;
         parts = more.account.parts;
-        gathered = append_assoc bytes (bytes_in deeds) t.lines
+        gathered = append_assoc bytes (bytes_written deeds) t.lines
             ∙ ap (λ (l : List ℕ). bytes ++ l) more.account.gathered
-            ∙ ap (λ (l : List ℕ). l ++ lines_of more.account.front) does.0;
+            ∙ ap (λ (l : List ℕ). l ++ entry_lines more.account.front) does.0;
       };
     }
 
@@ -92,13 +92,13 @@ engines_are_runs journal terms (WroteLines bytes ∷ deeds) s t (between, does, 
 -- from an engine on of which all is written
 from_written : (terms : DeskTerms) (deeds : List EngineDeed) (s t : EngineState)
     → RunsEngine true terms s deeds t → IsAllWritten s
-    → GathersFront (made_in (answers_in deeds)) [] t.left (bytes_in deeds ++ t.lines)
+    → GathersFront (made_in (answers_in deeds)) [] t.left (bytes_written deeds ++ t.lines)
 from_written terms deeds s t runs all =
     let is = (engines_are_runs true terms deeds s t runs).account in
-    subst (λ (l : List ℕ). GathersFront (made_in (answers_in deeds)) l t.left (bytes_in deeds ++ t.lines))
+    subst (λ (l : List ℕ). GathersFront (made_in (answers_in deeds)) l t.left (bytes_written deeds ++ t.lines))
     all.lines
     (subst (λ (l : List Entry). GathersFront (l ++ made_in (answers_in deeds)) s.lines t.left
-    (bytes_in deeds ++ t.lines)) all.left is)
+    (bytes_written deeds ++ t.lines)) all.left is)
 
 -- the account has grown by all entries
 longer : (terms : DeskTerms) (answers : List HubAnswer) (s t : DeskState) → RunsHub true terms s answers t
@@ -118,20 +118,20 @@ written_are_counted terms deeds s t runs all =
     }
 
 text_of : (a b : Account) (made : List Entry) → AddsEntries a made b
-    → printed_lines (account_lines b) ≡ printed_lines (account_lines a) ++ lines_of made
+    → printed_lines (account_lines b) ≡ printed_lines (account_lines a) ++ entry_lines made
 text_of a b made adds =
-    ap (λ (n : ℕ). head_text n b.opened ++ 10 ∷ lines_of b.entries) adds.epoch
-    ∙ ap (λ (n : ℕ). head_text a.epoch n ++ 10 ∷ lines_of b.entries) adds.opened
-    ∙ ap (λ (l : List Entry). head_text a.epoch a.opened ++ 10 ∷ lines_of l) adds.entries
+    ap (λ (n : ℕ). head_text n b.opened ++ 10 ∷ entry_lines b.entries) adds.epoch
+    ∙ ap (λ (n : ℕ). head_text a.epoch n ++ 10 ∷ entry_lines b.entries) adds.opened
+    ∙ ap (λ (l : List Entry). head_text a.epoch a.opened ++ 10 ∷ entry_lines l) adds.entries
     ∙ ap (λ (l : List ℕ). head_text a.epoch a.opened ++ 10 ∷ l) (lines_append a.entries made)
-    ∙ sym (append_assoc (head_text a.epoch a.opened) (10 ∷ lines_of a.entries) (lines_of made))
+    ∙ sym (append_assoc (head_text a.epoch a.opened) (10 ∷ entry_lines a.entries) (entry_lines made))
 
 all_lines : (made left : List Entry) (bytes lines : List ℕ) → GathersFront made [] left (bytes ++ lines)
-    → lines_of made ≡ bytes ++ (lines ++ lines_of left)
+    → entry_lines made ≡ bytes ++ (lines ++ entry_lines left)
 all_lines made left bytes lines gathers =
-    ap lines_of gathers.parts ∙ lines_append gathers.front left
-    ∙ ap (λ (l : List ℕ). l ++ lines_of left) (sym gathers.gathered)
-    ∙ append_assoc bytes lines (lines_of left)
+    ap entry_lines gathers.parts ∙ lines_append gathers.front left
+    ∙ ap (λ (l : List ℕ). l ++ entry_lines left) (sym gathers.gathered)
+    ∙ append_assoc bytes lines (entry_lines left)
 
 pub accounts_are_kept : AccountsAreKept
 accounts_are_kept terms deeds s t a limits runs all moment is =
@@ -146,7 +146,7 @@ accounts_are_kept terms deeds s t a limits runs all moment is =
       is = leads.is;
       text = text_of a leads.after (made_in (answers_in deeds)) adds
           ∙ ap (λ (l : List ℕ). printed_lines (account_lines a) ++ l)
-          (all_lines (made_in (answers_in deeds)) t.left (bytes_in deeds) t.lines
+          (all_lines (made_in (answers_in deeds)) t.left (bytes_written deeds) t.lines
           (from_written terms deeds s t runs all));
     }
 

@@ -12,16 +12,16 @@ use Rattle.rv_engine.specs.declared.events.EngineFault.{EngineFault}
 use Rattle.rv_engine.specs.declared.events.EngineFault.TheVariants as fault
 use Rattle.rv_engine.specs.Engines.{EngineState}
 use Rattle.rv_engine.specs.Handing.{AddsLooks, Gathers, GathersFront, HandsOn, IsRefused, LooksAt, SameLooks}
-use Rattle.rv_engine.specs.Handing.{kept_of, lines_of, unwritten}
+use Rattle.rv_engine.specs.Handing.{entries_kept, entry_lines, unwritten}
 use Rattle.rv_engine.proofs.Gathered.{lines_append}
 
 -- a gathering changes nothing of what is to be written
 unwritten_same : (old mid : EngineState) → Gathers old mid → unwritten mid ≡ unwritten old
 unwritten_same old mid gathers =
-    ap (λ (l : List ℕ). l ++ lines_of mid.left) gathers.gathers.gathered
-    ∙ append_assoc old.lines (lines_of gathers.gathers.front) (lines_of mid.left)
+    ap (λ (l : List ℕ). l ++ entry_lines mid.left) gathers.gathers.gathered
+    ∙ append_assoc old.lines (entry_lines gathers.gathers.front) (entry_lines mid.left)
     ∙ ap (λ (l : List ℕ). old.lines ++ l) (sym (lines_append gathers.gathers.front mid.left))
-    ∙ ap (λ (l : List Entry). old.lines ++ lines_of l) (sym gathers.gathers.parts)
+    ∙ ap (λ (l : List Entry). old.lines ++ entry_lines l) (sym gathers.gathers.parts)
 
 looks_through : (old mid new : EngineState) (numbers : List ℕ) → SameLooks old mid → LooksAt mid numbers new
     → LooksAt old numbers new
@@ -40,7 +40,7 @@ pub handed_through : (journal : Bool) (terms : DeskTerms) (old mid : EngineState
 handed_through journal terms old mid handed what made given new gathers does = record {
   takes = subst (λ (h : DeskState). TakesEvent journal terms h handed what made given new.hub) gathers.hub
       does.takes;
-  gathers = subst (λ (l : List ℕ). GathersFront (kept_of journal made) l new.left new.lines)
+  gathers = subst (λ (l : List ℕ). GathersFront (entries_kept journal made) l new.left new.lines)
       (unwritten_same old mid gathers) does.gathers;
   piece = does.piece;
   listed = subst (λ (h : DeskState). ListsChanged (begun h) new.hub) gathers.hub does.listed;

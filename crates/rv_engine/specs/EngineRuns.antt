@@ -15,7 +15,7 @@ use Rattle.rv_hub.specs.HubRuns.{made_in}
 use Rattle.rv_engine.specs.declared.events.EngineFault.{EngineFault}
 use Rattle.rv_engine.specs.declared.events.EngineFault.TheVariants as fault
 use Rattle.rv_engine.specs.Engines.{EngineState}
-use Rattle.rv_engine.specs.Handing.{GathersFront, HandsOn, IsRefused, gathered_count, kept_of, lines_gone}
+use Rattle.rv_engine.specs.Handing.{GathersFront, HandsOn, IsRefused, gathered_count, entries_kept, lines_gone}
 use Rattle.rv_engine.specs.Handing.{unwritten}
 
 -- what came of an event, or of lines
@@ -48,11 +48,11 @@ answers_in (NotTaken what (fault.NotWritten why) ∷ deeds) = answers_in deeds
 answers_in (WroteLines bytes ∷ deeds) = answers_in deeds
 
 -- all bytes that were written, in order
-abbrev pub bytes_in : List EngineDeed → List ℕ
-bytes_in [] = []
-bytes_in (HandedOn handed what made given ∷ deeds) = bytes_in deeds
-bytes_in (NotTaken what why ∷ deeds) = bytes_in deeds
-bytes_in (WroteLines bytes ∷ deeds) = bytes ++ bytes_in deeds
+abbrev pub bytes_written : List EngineDeed → List ℕ
+bytes_written [] = []
+bytes_written (HandedOn handed what made given ∷ deeds) = bytes_written deeds
+bytes_written (NotTaken what why ∷ deeds) = bytes_written deeds
+bytes_written (WroteLines bytes ∷ deeds) = bytes ++ bytes_written deeds
 
 -- the hub behind a run is that of the events that were handed on, in order; and of the entries that were left
 -- before and those that these made, where an account is kept, a front has its lines written or gathered, in
@@ -61,8 +61,8 @@ pub record IsEngineRun (journal : Bool) (terms : DeskTerms) (s : EngineState) (d
     (t : EngineState) : Type 0
   where
     pub hub : RunsHub journal terms s.hub (answers_in deeds) t.hub
-    pub account : GathersFront (s.left ++ kept_of journal (made_in (answers_in deeds))) s.lines t.left
-        (bytes_in deeds ++ t.lines)
+    pub account : GathersFront (s.left ++ entries_kept journal (made_in (answers_in deeds))) s.lines t.left
+        (bytes_written deeds ++ t.lines)
 
 abbrev pub EnginesAreRuns : Type 0
 EnginesAreRuns = (journal : Bool) (terms : DeskTerms) (deeds : List EngineDeed) (s t : EngineState)
@@ -84,7 +84,7 @@ pub record AreCounted (s : EngineState) (made : List Entry) (bytes : List ℕ) (
 abbrev pub WrittenAreCounted : Type 0
 WrittenAreCounted = (terms : DeskTerms) (deeds : List EngineDeed) (s t : EngineState)
     → RunsEngine true terms s deeds t → IsAllWritten s
-    → AreCounted s (made_in (answers_in deeds)) (bytes_in deeds) t
+    → AreCounted s (made_in (answers_in deeds)) (bytes_written deeds) t
 
 -- behind the lines of a legal account, what is written and what isn't yet are those of a legal account, of
 -- which the hub has the state
@@ -98,7 +98,7 @@ abbrev pub AccountsAreKept : Type 0
 AccountsAreKept = (terms : DeskTerms) (deeds : List EngineDeed) (s t : EngineState) (a : Account)
     → AreStepLimits terms.limits → RunsEngine true terms s deeds t → IsAllWritten s
     → t.hub.now ≤ max_moment → IsHubAccount a s.hub
-    → KeepsAccount a (bytes_in deeds) t (made_in (answers_in deeds))
+    → KeepsAccount a (bytes_written deeds) t (made_in (answers_in deeds))
 
 -- ---- want of memory
 

@@ -30,17 +30,17 @@ told_hub link.Passed = event.Passed
 -- ---- the account
 
 -- the lines of entries, as they are written for an account
-abbrev pub lines_of : List Entry → List ℕ
-lines_of entries = printed_lines (map entry_text entries)
+abbrev pub entry_lines : List Entry → List ℕ
+entry_lines entries = printed_lines (map entry_text entries)
 
 -- all lines that aren't written: those that are gathered, and of the entries that are left
 abbrev pub unwritten : EngineState → List ℕ
-unwritten s = s.lines ++ lines_of s.left
+unwritten s = s.lines ++ entry_lines s.left
 
 -- the entries that are to be written, where an account is kept; else none
-abbrev pub kept_of : Bool → List Entry → List Entry
-kept_of true made = made
-kept_of false made = []
+abbrev pub entries_kept : Bool → List Entry → List Entry
+entries_kept true made = made
+entries_kept false made = []
 
 -- the lines of a front of the entries are gathered behind those that were, and the other entries are left
 pub record GathersFront (entries : List Entry) (before : List ℕ) (left : List Entry) (lines : List ℕ) :
@@ -48,7 +48,7 @@ pub record GathersFront (entries : List Entry) (before : List ℕ) (left : List 
   where
     pub front : List Entry
     pub parts : entries ≡ front ++ left
-    pub gathered : lines ≡ before ++ lines_of front
+    pub gathered : lines ≡ before ++ entry_lines front
 
 -- how many entries have their line gathered or written
 abbrev pub gathered_count : EngineState → ℕ
@@ -86,7 +86,7 @@ pub record HandsOn (journal : Bool) (terms : DeskTerms) (old : EngineState) (han
     (made : List Entry) (given : ℕ) (new : EngineState) : Type 0
   where
     pub takes : TakesEvent journal terms old.hub handed what made given new.hub
-    pub gathers : GathersFront (kept_of journal made) (unwritten old) new.left new.lines
+    pub gathers : GathersFront (entries_kept journal made) (unwritten old) new.left new.lines
     pub piece : TakesPiece what given new.hub
     pub listed : ListsChanged (begun old.hub) new.hub
     pub looks : LooksAt old new.hub.changed new

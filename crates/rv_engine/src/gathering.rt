@@ -2,7 +2,7 @@
 ghost use Rattle.std.specs.Prelude.{◌≡◌, ◌≤◌, ◌++◌, [], ◌∷◌, drop, false, length, string_bytes, take};
 ghost use Rattle.std.specs.Prelude.{OnErr, OnOk};
 ghost use Rattle.rv_lines.specs.Written.{entry_text};
-ghost use Rattle.rv_engine.specs.Handing.{GathersFront, kept_of, lines_of};
+ghost use Rattle.rv_engine.specs.Handing.{GathersFront, entries_kept, entry_lines};
 
 use rv_account::Entry;
 use rv_lines::entry_line;
@@ -24,7 +24,7 @@ fn add_line(lines: &mut String, alloc: Global, entry: &Entry) -> Result<(), NoMe
 pub(crate) fn gather(lines: &mut String, alloc: Global, entries: &[Entry]) -> usize
     ensures within { result ≤ length entries.now }
     ensures lines { string_bytes lines.new
-        ≡ string_bytes lines.old ++ lines_of (take result entries.now) }
+        ≡ string_bytes lines.old ++ entry_lines (take result entries.now) }
 {
     let mut count = 0;
     for entry in entries {
@@ -44,7 +44,7 @@ pub(crate) fn gather_kept(
     made: &[Entry],
 ) -> usize
     ensures within { result ≤ length made.now }
-    ensures gathers { GathersFront (kept_of has_account made.now) (string_bytes lines.old)
+    ensures gathers { GathersFront (entries_kept has_account made.now) (string_bytes lines.old)
         (drop result made.now) (string_bytes lines.new) }
     ensures none_left { has_account ≡ false → drop result made.now ≡ [] }
     ensures same { has_account ≡ false → string_bytes lines.new ≡ string_bytes lines.old }
