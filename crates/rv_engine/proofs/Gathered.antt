@@ -8,7 +8,8 @@ use Rattle.rv_account.specs.declared.entry.Entry.{Entry}
 use Rattle.rv_lines.specs.Written.{entry_text}
 use Rattle.rv_engine.specs.Handing.{GathersFront, entries_kept, entry_lines}
 
-pub lines_append : (front more : List Entry) → entry_lines (front ++ more) ≡ entry_lines front ++ entry_lines more
+pub lines_append : (front more : List Entry) → entry_lines (front ++ more) ≡ entry_lines front ++ entry_lines
+    more
 lines_append [] more = refl
 lines_append (e ∷ front) more = ap (λ (l : List ℕ). entry_text e ++ 10 ∷ l) (lines_append front more)
     ∙ sym (append_assoc (entry_text e) (10 ∷ entry_lines front) (entry_lines more))
@@ -123,8 +124,10 @@ pub gathers_made : (journal account : Bool) (made same left : List Entry) (count
     → GathersFront (entries_kept journal made) (before ++ entry_lines left) (drop count made) lines
 gathers_made journal account made same left count before lines keeps own none gathers =
     let at_made : GathersFront (entries_kept account made) before (drop count made) lines =
-    subst (λ (l : List Entry). GathersFront (entries_kept account l) before (drop count l) lines) own gathers in
+    subst (λ (l : List Entry). GathersFront (entries_kept account l) before (drop count l) lines) own gathers
+    in
     let kept : GathersFront (entries_kept journal made) before (drop count made) lines =
-    subst (λ (b : Bool). GathersFront (entries_kept b made) before (drop count made) lines) (sym keeps) at_made in
+    subst (λ (b : Bool). GathersFront (entries_kept b made) before (drop count made) lines) (sym keeps)
+    at_made in
     subst (λ (l : List ℕ). GathersFront (entries_kept journal made) l (drop count made) lines)
     (sym (ap (λ (l : List Entry). before ++ entry_lines l) none ∙ append-nil before)) kept

@@ -1,7 +1,7 @@
 -- Numbers that are listed, where there is room.
 use Rattle.std.proofs.Common.{◌≡◌, ◌⊎◌, ◌<◌, ◌≤◌, ◌+◌, ◌∷◌, ◌++◌, ◌∙◌, ℕ, List, [], Contains, ap, arith}
 use Rattle.std.proofs.Common.{get_or, inl, inr}
-use Rattle.std.proofs.Common.{length, refl, subst, suc, sym, take}
+use Rattle.std.proofs.Common.{length, subst, suc, sym, take}
 use Rattle.std.proofs.lemmas.List.{take_all}
 use Rattle.std.proofs.Math.Seq.{take-suc}
 use Rattle.std.proofs.lemmas.List.Elements.{Contains-append_left, Contains-push, Contains-push_cases}

@@ -1,26 +1,22 @@
 -- Calls of an engine, one after another.
-use Rattle.std.proofs.Common.{◌≡◌, ◌+◌, ◌-◌, ◌∙◌, ℕ, List, [], ◌∷◌, ◌++◌, Bool, true, ap, append-nil}
+use Rattle.std.proofs.Common.{◌≡◌, ◌+◌, ◌∙◌, ℕ, List, [], ◌∷◌, ◌++◌, Bool, true, ap, append-nil}
 use Rattle.std.proofs.Common.{append_assoc, false}
-use Rattle.std.proofs.Common.{arith, length, length-append, refl, subst, sym}
+use Rattle.std.proofs.Common.{arith, length, length-append, subst, sym}
 use Rattle.rv_account.specs.declared.entry.Entry.{Entry}
 use Rattle.rv_account.specs.Account.{Account}
-use Rattle.rv_account.specs.Limits.{max_moment}
-use Rattle.rv_rules.specs.StepLimits.{AreStepLimits}
 use Rattle.rv_lines.specs.Lines.{printed_lines}
 use Rattle.rv_lines.specs.Written.{account_lines, head_text}
-use Rattle.rv_desk.specs.View.{DeskState, DeskTerms, begun}
-use Rattle.rv_hub.specs.declared.events.HubEvent.{HubEvent}
-use Rattle.rv_hub.specs.HubRuns.{AddsEntries, HubAnswer, IsHubAccount, RunsHub, made_in}
+use Rattle.rv_desk.specs.View.{DeskState, DeskTerms}
+use Rattle.rv_hub.specs.HubRuns.{AddsEntries, HubAnswer, RunsHub, made_in}
 use Rattle.rv_hub.proofs.Accounts.{events_lead}
 use Rattle.rv_hub.proofs.Longer.{counted_run}
 use Rattle.rv_hub.proofs.OneRun.{hubs_are_runs}
-use Rattle.rv_engine.specs.declared.events.EngineFault.{EngineFault}
 use Rattle.rv_engine.specs.declared.events.EngineFault.TheVariants as fault
 use Rattle.rv_engine.specs.Engines.{EngineState}
-use Rattle.rv_engine.specs.Handing.{GathersFront, gathered_count, entries_kept, lines_gone, entry_lines, unwritten}
-use Rattle.rv_engine.specs.EngineRuns.{AccountsAreKept, AreCounted, EngineDeed, EnginesAreRuns}
+use Rattle.rv_engine.specs.Handing.{GathersFront, entries_kept, lines_gone, entry_lines}
+use Rattle.rv_engine.specs.EngineRuns.{AccountsAreKept, EngineDeed, EnginesAreRuns}
 use Rattle.rv_engine.specs.EngineRuns.{HandedOn}
-use Rattle.rv_engine.specs.EngineRuns.{HandsOnNext, IsAllWritten, IsEngineRun, KeepsAccount, NotTaken}
+use Rattle.rv_engine.specs.EngineRuns.{HandsOnNext, IsAllWritten, IsEngineRun, NotTaken}
 use Rattle.rv_engine.specs.EngineRuns.{RunsEngine}
 use Rattle.rv_engine.specs.EngineRuns.{WrittenAreCounted, WroteLines, answers_in, bytes_written}
 use Rattle.rv_engine.proofs.Gathered.{gathers_all, gathers_behind, gathers_then, kept_append, lines_append}
@@ -49,7 +45,8 @@ engines_are_runs journal terms (HandedOn handed what made given ∷ deeds) s t (
           (append_assoc s.left (entries_kept journal made) (rest_of journal deeds)
           ∙ ap (λ (l : List Entry). s.left ++ l)
           (sym (kept_append journal made (made_in (answers_in deeds)))))
-          (gathers_then (s.left ++ entries_kept journal made) (rest_of journal deeds) between.left t.left s.lines
+          (gathers_then (s.left ++ entries_kept journal made) (rest_of journal deeds) between.left t.left
+          s.lines
           between.lines (bytes_written deeds ++ t.lines)
           (gathers_behind s.left (entries_kept journal made) between.left s.lines between.lines does.gathers)
           more.account);
@@ -95,7 +92,8 @@ from_written : (terms : DeskTerms) (deeds : List EngineDeed) (s t : EngineState)
     → GathersFront (made_in (answers_in deeds)) [] t.left (bytes_written deeds ++ t.lines)
 from_written terms deeds s t runs all =
     let is = (engines_are_runs true terms deeds s t runs).account in
-    subst (λ (l : List ℕ). GathersFront (made_in (answers_in deeds)) l t.left (bytes_written deeds ++ t.lines))
+    subst (λ (l : List ℕ). GathersFront (made_in (answers_in deeds)) l t.left (bytes_written deeds ++
+    t.lines))
     all.lines
     (subst (λ (l : List Entry). GathersFront (l ++ made_in (answers_in deeds)) s.lines t.left
     (bytes_written deeds ++ t.lines)) all.left is)

@@ -1,7 +1,7 @@
 -- An event that is handed on behind a gathering.
-use Rattle.std.proofs.Common.{◌≡◌, ◌∙◌, ◌++◌, ℕ, List, [], Bool, ap, append-nil, append_assoc, arith, length}
+use Rattle.std.proofs.Common.{◌≡◌, ◌∙◌, ◌++◌, ℕ, List, [], Bool, ap, append_assoc, arith, length}
 use Rattle.std.proofs.Common.{length-append}
-use Rattle.std.proofs.Common.{drop, refl, subst, sym}
+use Rattle.std.proofs.Common.{drop, subst, sym}
 use Rattle.std.proofs.lemmas.List.{drop_all}
 use Rattle.rv_account.specs.declared.entry.Entry.{Entry}
 use Rattle.rv_desk.specs.Runs.{ListsChanged}

@@ -15,7 +15,8 @@ use Rattle.rv_hub.specs.HubRuns.{made_in}
 use Rattle.rv_engine.specs.declared.events.EngineFault.{EngineFault}
 use Rattle.rv_engine.specs.declared.events.EngineFault.TheVariants as fault
 use Rattle.rv_engine.specs.Engines.{EngineState}
-use Rattle.rv_engine.specs.Handing.{GathersFront, HandsOn, IsRefused, gathered_count, entries_kept, lines_gone}
+use Rattle.rv_engine.specs.Handing.{GathersFront, HandsOn, IsRefused, gathered_count, entries_kept}
+use Rattle.rv_engine.specs.Handing.{lines_gone}
 use Rattle.rv_engine.specs.Handing.{unwritten}
 
 -- what came of an event, or of lines

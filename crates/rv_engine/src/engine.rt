@@ -38,7 +38,7 @@ impl Model for Engine {
 }
 
 impl Engine {
-    ghost use Rattle.std.specs.Prelude.{◌<◌, ◌∷◌, ◌++◌, [], IfErr, IfNone, IfOk, IfSome, OnOk};
+    ghost use Rattle.std.specs.Prelude.{◌↔◌, ◌<◌, ◌∷◌, ◌++◌, [], IfErr, IfNone, IfOk, IfSome, IsTrue, OnOk};
     ghost use Rattle.std.specs.Prelude.{length, max};
     ghost use Rattle.std.specs.Bool.{OnFalse, OnTrue};
     ghost use Rattle.rv_frame.specs.Sink.{SinkTakes};
@@ -186,6 +186,13 @@ impl Engine {
         ensures hub { self.new.hub ≡ self.old.hub }
     {
         self.parts.round.pop()
+    }
+
+    /// Whether nobody is to be looked at in the next round.
+    pub fn is_quiet(&self) -> bool
+        ensures { IsTrue result ↔ ((engine_state self.now).looks ≡ []) }
+    {
+        self.parts.looks.is_empty()
     }
 
     /// The hub.

@@ -1,4 +1,5 @@
 //! Numbers of connections, each at most once, in room that was made before.
+ghost use Rattle.std.specs.Prelude.{IsTrue, ◌↔◌};
 ghost use Rattle.std.specs.Prelude.{◌≡◌, ◌≤◌, ◌<◌, ◌++◌, ◌∷◌, [], length, vec_capacity, IfOk, IfNone, IfSome};
 ghost use Rattle.rv_wires.specs.Connections.{ListsOne};
 ghost use Rattle.rv_engine.specs.Engines.{IsLooks};
@@ -28,6 +29,12 @@ impl LookList {
         };
         list.add_flags(most);
         Ok(list)
+    }
+
+    pub(crate) fn is_empty(&self) -> bool
+        ensures { IsTrue result ↔ (self.now.numbers.items ≡ []) }
+    {
+        self.numbers.is_empty()
     }
 
     // Gives each number below this one a flag.

@@ -1,4 +1,5 @@
 //! Why a server ends.
+use rv_frame::WriteFault;
 use std::alloc::{AllocError, AllocFailed};
 use std::{fmt, io};
 
@@ -9,6 +10,8 @@ pub(crate) enum HostEnd {
     System(&'static str, io::Error),
     /// What the words name, an address or a file, is refused by the system for this reason.
     Named(String, io::ErrorKind),
+    /// The account's file didn't take all lines.
+    Account(WriteFault),
     /// The book takes no such limits.
     Limits,
     /// Memory was refused.
@@ -20,6 +23,7 @@ impl fmt::Display for HostEnd {
         match self {
             HostEnd::System(what, error) => write!(f, "{what}: {error}"),
             HostEnd::Named(name, kind) => write!(f, "{name}: {kind}"),
+            HostEnd::Account(fault) => write!(f, "the account: {fault}"),
             HostEnd::Limits => f.write_str("no such limits"),
             HostEnd::NoMemory => f.write_str("no memory"),
         }

@@ -1,17 +1,17 @@
 //! The life of a server: from its options to its loop.
-use crate::engine::Engine;
 use crate::fault::HostEnd;
-use crate::journal::Journal;
+use crate::journal::begin_account;
 use crate::report::Report;
 use crate::shell::Shell;
 use libc::types::rlimit;
 use libc::{RLIMIT_NOFILE, getrlimit};
 use mio::net::TcpListener;
-use rv_hub::Hub;
+use rv_engine::Engine;
+use rv_frame::Sink;
 use rv_machine::Machine;
 use rv_options::HostOptions;
 use rv_rules::Limits;
-use std::fs::OpenOptions;
+use std::fs::{File, OpenOptions};
 use std::io;
 use std::net::ToSocketAddrs;
 use std::time::Clock;
@@ -28,9 +28,9 @@ const MOST_ENTRIES: usize = 9_007_199_254_740_991;
 pub(crate) fn serve(rt: &HostRuntime, options: &HostOptions<'_>) -> Result<(), HostEnd> {
     let epoch = options.epoch.epoch(wall_clock(rt));
     let listener = listening(rt, options.listen)?;
-    let journal = journal_of(rt, options, epoch)?;
-    let hub = hub_of(rt, options, epoch)?;
+    let account = account_of(rt, options, epoch)?;
     let connections = most_connections(options);
+    let engine = engine_of(rt, options, epoch, connections)?;
     let mut report = Report::new(options.quiet);
     let address = listener.local_addr()?;
     let line = format!(in rt.alloc();
@@ -43,8 +43,7 @@ pub(crate) fn serve(rt: &HostRuntime, options: &HostOptions<'_>) -> Result<(), H
             "other machines may reach this address: there is no authentication",
         );
     }
-    let engine = Engine::new(rt.alloc(), hub, journal, connections)?;
-    let mut shell = Shell::new(rt, engine, listener, report, options, connections)?;
+    let mut shell = Shell::new(rt, engine, account, listener, report, options, connections)?;
     for _ in 0..u64::MAX {
         shell.turn(rt)?;
     }
@@ -74,11 +73,11 @@ fn listening(rt: &HostRuntime, name: &str) -> Result<TcpListener, HostEnd> {
     }
 }
 
-fn journal_of(
+fn account_of(
     rt: &HostRuntime,
     options: &HostOptions<'_>,
     epoch: u64,
-) -> Result<Option<Journal>, HostEnd> {
+) -> Result<Option<Sink<File>>, HostEnd> {
     let Some(path) = options.account else {
         return Ok(None);
     };
@@ -87,7 +86,7 @@ fn journal_of(
         .create_new(true)
         .open(rt, path)
     {
-        Ok(file) => Ok(Some(Journal::begin(rt.alloc(), file, epoch)?)),
+        Ok(file) => Ok(Some(begin_account(rt.alloc(), file, epoch)?)),
         Err(error) => Err(named(rt, path, &error)),
     }
 }
@@ -100,7 +99,12 @@ fn named(rt: &HostRuntime, name: &str, error: &io::Error) -> HostEnd {
     }
 }
 
-fn hub_of(rt: &HostRuntime, options: &HostOptions<'_>, epoch: u64) -> Result<Hub, HostEnd> {
+fn engine_of(
+    rt: &HostRuntime,
+    options: &HostOptions<'_>,
+    epoch: u64,
+    connections: usize,
+) -> Result<Engine, HostEnd> {
     let machine = Machine::open(rt.alloc(), epoch, 0)?;
     let Some(limits) = Limits::new(
         MOST_ENTRIES,
@@ -109,14 +113,15 @@ fn hub_of(rt: &HostRuntime, options: &HostOptions<'_>, epoch: u64) -> Result<Hub
     ) else {
         return Err(HostEnd::Limits);
     };
-    let hub = Hub::new(
+    let engine = Engine::new(
         rt.alloc(),
         machine,
         limits,
         PATIENCE,
         options.account.is_some(),
+        connections,
     )?;
-    Ok(hub)
+    Ok(engine)
 }
 
 // How many connections the limit of open files allows, at most those of the options.

@@ -2,11 +2,9 @@
 #![tactic(auto)]
 
 mod door;
-mod engine;
 mod fault;
 mod host;
 mod journal;
-mod lists;
 mod peers;
 mod report;
 mod shell;

@@ -17,18 +17,21 @@ pub(crate) enum FaultKind {
     Idle,
     /// A connection stopped in the middle of a frame, or took no answer.
     Stall,
+    /// Lines of the account found no memory.
+    Behind,
     /// A connection held most when all held too much.
     MostHeld,
 }
 
 impl FaultKind {
-    pub(crate) const ALL: [FaultKind; 7] = [
+    pub(crate) const ALL: [FaultKind; 8] = [
         FaultKind::NotOpened,
         FaultKind::NoDescriptor,
         FaultKind::NotAccepted,
         FaultKind::Link,
         FaultKind::Idle,
         FaultKind::Stall,
+        FaultKind::Behind,
         FaultKind::MostHeld,
     ];
 
@@ -40,6 +43,7 @@ impl FaultKind {
             FaultKind::Link => "links that broke",
             FaultKind::Idle => "idle connections closed",
             FaultKind::Stall => "stalled connections closed",
+            FaultKind::Behind => "turns in which lines of the account found no memory",
             FaultKind::MostHeld => "connections closed that held most (--memory)",
         }
     }
@@ -55,7 +59,7 @@ struct Tally {
 /// All kinds, with how many lines were dropped.
 #[derive(Drop)]
 pub(crate) struct Report {
-    tallies: [Tally; 7],
+    tallies: [Tally; 8],
     dropped: u64,
     quiet: bool,
 }
@@ -81,7 +85,7 @@ impl Report {
             tallies: [Tally {
                 count: 0,
                 told: None,
-            }; 7],
+            }; 8],
             dropped: 0,
             quiet,
         }

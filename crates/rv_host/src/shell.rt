@@ -1,18 +1,18 @@
 //! The shell of a server: what the poll tells, handed to the hub, and what the hub hands out, written.
 use crate::door::{Accepted, Door};
-use crate::engine::Engine;
 use crate::fault::HostEnd;
-use crate::lists::NumberList;
 use crate::peers::Peers;
 use crate::report::{FaultKind, Report};
 use bytes::BytesMut;
 use libc::net::{IPPROTO_TCP, SO_KEEPALIVE, SOL_SOCKET, TCP_USER_TIMEOUT, setsockopt};
 use mio::net::{TcpListener, TcpStream};
 use mio::{Events, Interest, Poll, Token};
+use rv_engine::{Engine, EngineFault, LinkEvent};
+use rv_frame::Sink;
 use rv_hearers::ConnectionNumber;
-use rv_hub::HubEvent;
 use rv_options::HostOptions;
 use std::alloc::Global;
+use std::fs::File;
 use std::os::fd::AsRawFd;
 use std::time::{Clock, Duration};
 
@@ -28,6 +28,9 @@ const EVENTS: usize = 1_024;
 pub(crate) const LOOK_OVER: u64 = 1_000;
 
 const LONGEST_WAIT: u64 = 60_000;
+
+// Lines that found no memory are tried again after so many milliseconds.
+const MEMORY_AGAIN: u64 = 10;
 
 // The system asks a silent peer whether it is there, and gives up one that takes nothing for a minute. If it refuses to,
 // the connection goes on without.
@@ -52,8 +55,7 @@ pub(crate) struct Shell {
     door: Door,
     pub(crate) engine: Engine,
     pub(crate) peers: Peers,
-    // Those that are looked at in this turn.
-    looked: NumberList,
+    account: Option<Sink<File>>,
     pub(crate) report: Report,
     // At most so many connections are open.
     pub(crate) connections: usize,
@@ -74,6 +76,7 @@ impl Shell {
     pub(crate) fn new(
         rt: &HostRuntime,
         engine: Engine,
+        account: Option<Sink<File>>,
         mut listener: TcpListener,
         report: Report,
         options: &HostOptions<'_>,
@@ -91,7 +94,7 @@ impl Shell {
             door: Door::new(listener),
             engine,
             peers: Peers::new(alloc, connections)?,
-            looked: NumberList::new(alloc, connections)?,
+            account,
             report,
             connections,
             memory: (options.memory as usize) * 1_048_576,
@@ -116,27 +119,30 @@ impl Shell {
 
     /// One turn: all that came is taken, and then the answers go out.
     pub(crate) fn turn(&mut self, rt: &HostRuntime) -> Result<(), HostEnd> {
-        let wait = self.wait(self.now(rt));
+        let wait = if self.engine.catch_up() {
+            self.wait(self.now(rt))
+        } else {
+            MEMORY_AGAIN
+        };
         self.poll
             .poll(&mut self.events, Some(Duration::from_millis(wait)))?;
         let now = self.now(rt);
         self.heed();
-        self.engine.tell(now, HubEvent::Passed)?;
-        self.accept(now)?;
-        self.engine.swap_changed(&mut self.looked);
-        self.read_all(now)?;
-        self.engine.write_account(now)?;
-        self.look_again();
-        self.engine.swap_changed(&mut self.looked);
-        self.write_all(now)?;
-        self.keep_busy();
-        self.look_over(rt, now)
+        let _ = self.tell(now, LinkEvent::Passed);
+        self.accept(now);
+        self.engine.begin_round();
+        self.read_all(now);
+        self.write_account(now)?;
+        self.engine.begin_round();
+        self.write_all(now);
+        self.look_over(rt, now);
+        Ok(())
     }
 
     // For how many milliseconds the poll may wait.
     fn wait(&self, now: u64) -> u64 {
         let may_accept = self.peers.len() < self.connections;
-        if !self.engine.is_quiet() || (may_accept && self.door.is_asked(now)) {
+        if !self.is_quiet() || (may_accept && self.door.is_asked(now)) {
             return 0;
         }
         let mut until = self.engine.hub().next_moment().unwrap_or(u64::MAX);
@@ -170,29 +176,62 @@ impl Shell {
         }
     }
 
+    // Whether nobody is to be looked at, and no entry is unwritten.
+    fn is_quiet(&self) -> bool {
+        self.engine.is_quiet() && self.engine.lines().is_empty()
+    }
+
+    /// Hands an event on. It gives what the hub gives, or nothing if the event isn't taken.
+    pub(crate) fn tell(&mut self, now: u64, event: LinkEvent<'_>) -> Option<usize> {
+        match self.engine.tell(now, event) {
+            Ok(given) => Some(given),
+            Err(EngineFault::NoMemory) => {
+                self.report.note(FaultKind::Behind);
+                None
+            }
+            Err(_) => None,
+        }
+    }
+
+    // Writes what was gathered of the account, and tells the hub.
+    fn write_account(&mut self, now: u64) -> Result<(), HostEnd> {
+        let Some(file) = &mut self.account else {
+            return Ok(());
+        };
+        if self.engine.lines().is_empty() {
+            return Ok(());
+        }
+        match self.engine.write_lines(now, file) {
+            Err(EngineFault::NotWritten(fault)) => Err(HostEnd::Account(fault)),
+            _ => Ok(()),
+        }
+    }
+
     // Accepts those that wait, up to a number.
-    fn accept(&mut self, now: u64) -> Result<(), HostEnd> {
+    fn accept(&mut self, now: u64) {
         for _ in 0..EVENTS {
             if self.peers.len() >= self.connections || !self.door.is_asked(now) {
                 break;
             }
+            if !self.engine.catch_up() {
+                break;
+            }
             match self.door.accept(now) {
-                Accepted::Stream(stream) => self.open(now, stream)?,
+                Accepted::Stream(stream) => self.open(now, stream),
                 Accepted::Nobody => {}
                 Accepted::NoDescriptor => self.report.note(FaultKind::NoDescriptor),
                 Accepted::Failed => self.report.note(FaultKind::NotAccepted),
             }
         }
-        Ok(())
     }
 
     // Opens a connection that was accepted.
-    fn open(&mut self, now: u64, mut stream: TcpStream) -> Result<(), HostEnd> {
+    fn open(&mut self, now: u64, mut stream: TcpStream) {
         let _ = stream.set_nodelay(true);
         keep_alive(&stream);
-        let Some(number) = self.engine.tell(now, HubEvent::Opened)? else {
+        let Some(number) = self.tell(now, LinkEvent::Opened) else {
             self.report.note(FaultKind::NotOpened);
-            return Ok(());
+            return;
         };
         let both = Interest::READABLE | Interest::WRITABLE;
         let registered = self
@@ -201,51 +240,31 @@ impl Shell {
             .register(&mut stream, Token(number), both);
         if number >= self.peers.room() || registered.is_err() {
             self.report.note(FaultKind::NotOpened);
-            self.engine.tell(now, HubEvent::Gone(number))?;
-            return Ok(());
+            let _ = self.tell(now, LinkEvent::Gone(number));
+            return;
         }
         self.peers.insert(number, stream, now);
-        Ok(())
     }
 
-    // Reads once from each that is looked at.
-    fn read_all(&mut self, now: u64) -> Result<(), HostEnd> {
-        for place in 0..self.peers.room() {
-            let Some(number) = self.looked.at(place) else {
+    // Reads once from each of the round, all of which are to be written to.
+    fn read_all(&mut self, now: u64) {
+        for _ in 0..self.peers.room() {
+            let Some(number) = self.engine.next_look() else {
                 break;
             };
-            self.read_one(now, number)?;
-        }
-        Ok(())
-    }
-
-    // Writes once to each that is looked at.
-    fn write_all(&mut self, now: u64) -> Result<(), HostEnd> {
-        for place in 0..self.peers.room() {
-            let Some(number) = self.looked.at(place) else {
-                break;
-            };
-            self.write_one(now, number)?;
-        }
-        Ok(())
-    }
-
-    // Those that were looked at join those that changed meanwhile.
-    fn look_again(&mut self) {
-        for place in 0..self.peers.room() {
-            let Some(number) = self.looked.at(place) else {
-                break;
-            };
+            self.read_one(now, number);
             self.engine.look_at(number);
         }
     }
 
-    // Those of which something more can be done at once are looked at in the next turn.
-    fn keep_busy(&mut self) {
-        for place in 0..self.peers.room() {
-            let Some(number) = self.looked.at(place) else {
+    // Writes once to each of the round. Those of which something more can be done at once are looked at in the
+    // next turn.
+    fn write_all(&mut self, now: u64) {
+        for _ in 0..self.peers.room() {
+            let Some(number) = self.engine.next_look() else {
                 break;
             };
+            self.write_one(now, number);
             if self.is_busy(number) {
                 self.engine.look_at(number);
             }
@@ -254,7 +273,8 @@ impl Shell {
 
     // Whether something can be read from a connection or written to it at once.
     fn is_busy(&self, number: ConnectionNumber) -> bool {
-        let (Some(peer), Some(wire)) = (self.peers.get(number), self.engine.wire(number)) else {
+        let (Some(peer), Some(wire)) = (self.peers.get(number), self.engine.hub().wire(number))
+        else {
             return false;
         };
         let offers = peer.is_readable || !peer.pending.is_empty();

@@ -1,11 +1,11 @@
 -- What is handed over behind a gathering is handed on.
-use Rattle.std.proofs.Common.{ap, subst}
-use Rattle.std.proofs.lemmas.Result.{IfErr-weaker, IfOk-weaker}
+use Rattle.std.proofs.Common.{subst}
+use Rattle.std.proofs.lemmas.Result.{IfOk-weaker}
 use Rattle.rv_hub.specs.declared.parts.HubParts.{HubParts}
 use Rattle.rv_hub.specs.Hubs.{hub_terms}
 use Rattle.rv_engine.specs.Engines.{engine_state}
 use Rattle.rv_engine.specs.Handing.{HandsOn}
-use Rattle.rv_engine.proofs.Through.{handed_through, refused_through}
+use Rattle.rv_engine.proofs.Through.{handed_through}
 use Rattle.rv_engine.proofs.handing.hand_on.Goals as goal
 
 pub returns-clause-takes : goal.returns-clause-takes

@@ -1,9 +1,6 @@
 -- No line is gathered, no entry left, and no connection listed.
-use Rattle.std.proofs.Common.{◌≡◌, ◌≤◌, ◌∙◌, [], ap, arith, drop, length, sym}
-use Rattle.std.proofs.lemmas.List.{drop_all}
-use Rattle.rv_desk.specs.View.{DeskState}
+use Rattle.std.proofs.Common.{◌∙◌, ap, arith, length, sym}
 use Rattle.rv_engine.proofs.Through.{all_gathered, state_is}
-use Rattle.rv_engine.specs.Engines.{engine_state}
 use Rattle.rv_engine.proofs.engine.Engine.new.Goals as goal
 
 pub invariant_of-result : goal.invariant_of-result

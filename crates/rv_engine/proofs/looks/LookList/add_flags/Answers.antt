@@ -1,5 +1,5 @@
 -- One flag more.
-use Rattle.std.proofs.Common.{ap, arith, length, vec_capacity}
+use Rattle.std.proofs.Common.{ap, arith, vec_capacity}
 use Rattle.rv_wires.proofs.Listing.{flag_added}
 use Rattle.rv_engine.proofs.looks.LookList.add_flags.Goals as goal
 
