@@ -188,14 +188,6 @@ class ClosesWaiting(Hub):
     kind = HalfWaitingConnection
 
 
-class ImpatientConnection(Connection):
-    """One whose input ended is closed though a whole frame is unread."""
-
-    @property
-    def is_finished(self) -> bool:
-        return (self.has_bad_length or self.ended) and not self.wait and not self.held
-
-
 class ClosesUnanswered(Hub):
     """One whose input ended is closed with its answers untaken."""
 

@@ -1,5 +1,5 @@
 -- What deeds are of a legal account.
-use Rattle.std.proofs.Common.{inl, inr, ◌≡◌, ◌≢◌, ◌≤◌, ◌∙◌, ◌++◌, ◌∷◌, ℕ, List, [], None}
+use Rattle.std.proofs.Common.{inl, inr, ◌≡◌, ◌≢◌, ◌≤◌, ◌<◌, ◌∙◌, ◌++◌, ◌∷◌, ℕ, List, [], None}
 use Rattle.std.proofs.Common.{Some, refl, sym, ap, subst, arith}
 use Rattle.std.proofs.Common.{append_assoc}
 use Rattle.std.specs.Prelude.{flat_map}
@@ -8,6 +8,8 @@ use Rattle.rv_text.specs.declared.message.Key.{Key}
 use Rattle.rv_text.specs.declared.message.Message.{Message}
 use Rattle.rv_text.specs.declared.answer.Answer.{Answer}
 use Rattle.rv_text.specs.declared.answer.Answer.TheVariants as answer
+use Rattle.rv_text.specs.declared.answer.Refusal.{Refusal}
+use Rattle.rv_text.specs.declared.answer.Refusal.TheVariants.{OldIncarnation}
 use Rattle.rv_text.specs.declared.answer.Reply.TheVariants.{Cancelled}
 use Rattle.rv_text.specs.Limits.{FitsMessage}
 use Rattle.rv_account.specs.declared.entry.Entry.{Entry}
@@ -17,7 +19,7 @@ use Rattle.rv_session.specs.declared.client.LastRequest.{LastRequest}
 use Rattle.rv_session.specs.declared.client.LastRequest.TheVariants.{CancelledUnseen, Fresh, RepliedTo, Waits}
 use Rattle.rv_rules.specs.Legal.{Legal}
 use Rattle.rv_rules.specs.StepLimits.{AreStepLimits, StepLimits}
-use Rattle.rv_rules.specs.Steps.{Answers, NextUnder}
+use Rattle.rv_rules.specs.Steps.{Answers, NextUnder, OldIncarnationDue}
 use Rattle.rv_state.specs.After.{due_at, state_of}
 use Rattle.rv_resume.specs.Resuming.{CanResume}
 use Rattle.rv_state.specs.Agreement.{BecameOf, IsClientOrNew}
@@ -26,6 +28,7 @@ use Rattle.rv_state.specs.Moves.{ticked_at, ticked_if, told_again}
 use Rattle.rv_state.specs.Moves.{unticked}
 use Rattle.rv_state.specs.State.{ClientState, State, client_at}
 use Rattle.rv_state.proofs.StateLaws.{moves_step_under, states_agree, ticks_step}
+use Rattle.rv_waiting.proofs.OwnMoments.{none_due_now}
 use Rattle.rv_waiting.proofs.WaitingLaws.{moves_last, ticks_last}
 use Rattle.rv_desk.specs.View.{DeskState, DeskTerms, begun}
 use Rattle.rv_desk.specs.Deeds.{AnswersOrWaits, Deed, Does, DoesAll, DoesElapse, MakesStep, Stepped}
@@ -35,7 +38,8 @@ use Rattle.rv_desk.specs.Deeds.{Told, TookIn, Wrote}
 use Rattle.rv_desk.specs.Runs.{Cause, Heard, RunsBook, Time}
 use Rattle.rv_desk.specs.Telling.{IsToldAgain}
 use Rattle.rv_desk.proofs.OneBook.{one_run}
-use Rattle.rv_hub.specs.HubRuns.{AddsEntries, AnswersByRules, DeedsLeadOn, DoesEvents, EventsLeadOn}
+use Rattle.rv_hub.specs.HubRuns.{AddsEntries, AnswersByRules, BeginsAccount, DeedsLeadOn, DoesEvents}
+use Rattle.rv_hub.specs.HubRuns.{EventsLeadOn}
 use Rattle.rv_hub.specs.HubRuns.{IsHubAccount, LeadsToAccount, TellsPublicReply}
 use Rattle.rv_hub.specs.Turns.{made_by}
 
@@ -84,6 +88,15 @@ leads_on a one two m t first second = record {
   after = second.after;
   adds = adds_on a first.after second.after one two first.adds second.adds;
   is = second.is;
+}
+
+pub begins : BeginsAccount
+begins a s legal same resumes now = record {
+  legal = legal;
+  state = same;
+  resumes = resumes;
+  later = omega arith;
+  none_due = ap (λ n. due_at s.book n) now ∙ none_due_now s.book resumes;
 }
 
 -- the account, where neither it nor the moment changes
@@ -357,9 +370,27 @@ told_public a s key said is some told (incarnation, last, same) =
     (same_key key a.epoch told.session.incarnation told.session.last own incarnation last) client.request in
     subst (λ x. Answers a key x) (sym same) (became_told a key told.session.request some became)
 
+-- whoever's session has a greater incarnation
+old_refused : (a : Account) (s : DeskState) (key : Key) (said : Answer) → IsHubAccount a s
+    → (told : IsToldAgain s.book key said) → (key.incarnation < told.session.incarnation)
+    × (said ≡ answer.Refused (OldIncarnation told.session.incarnation))
+    → (refusal : Refusal) × OldIncarnationDue a key.client key.incarnation refusal
+    × (said ≡ answer.Refused refusal)
+old_refused a s key said is told (lower, same) =
+    let opened = (client_there a s.book key.client told.session is.legal is.state told.there).opened in (
+      OldIncarnation told.session.incarnation,
+      record {
+        current = told.session.incarnation;
+        has = (opened.h, opened.last);
+        lower = lower;
+        is = refl;
+      },
+      same,
+    )
+
 pub tells_public : TellsPublicReply
 tells_public terms s t a connection key said some is does =
     elim does.told.told [
       | inl own ↦ inl (told_public a s key said is some does.told own)
-      | inr old ↦ inr (does.told.session.incarnation, old.1)
+      | inr old ↦ inr (old_refused a s key said is does.told old)
     ]

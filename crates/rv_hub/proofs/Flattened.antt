@@ -7,6 +7,7 @@ use Rattle.rv_desk.specs.View.{DeskState, DeskTerms}
 use Rattle.rv_desk.specs.Deeds.{Deed, DoesAll, entries_of_deed, settled_by, told_in_deeds}
 use Rattle.rv_desk.specs.Order.{IsStride, IsTurn, RunsStrides, TellsKeys, deeds_of}
 use Rattle.rv_desk.proofs.Chains.{does_append}
+use Rattle.rv_hub.specs.EventDeeds.{all_deeds}
 use Rattle.rv_hub.specs.Turns.{Offered, RunsTurns, less_by, made_by}
 
 -- ---- what is told, strides and turns
@@ -39,22 +40,19 @@ turn_does terms s t connection piece deeds count turn =
     subst (λ ds. DoesAll terms s ds t) (sym turn.deeds_are) (strides_do terms s t piece turn.strides
     turn.runs)
 
--- the deeds of turns, one after another
-abbrev pub all_of : List (List Deed) → List Deed
-all_of turns = flat_map (λ deeds. deeds) turns
-
 pub turns_do : (terms : DeskTerms) (s t : DeskState) (offer : Offered) (row : List ℕ) (turns :
     List (List Deed))
-    (count : ℕ) → RunsTurns terms s offer row turns count t → DoesAll terms s (all_of turns) t
+    (count : ℕ) → RunsTurns terms s offer row turns count t → DoesAll terms s (all_deeds turns) t
 turns_do terms s t offer [] [] count (same, none) = same
 turns_do terms s t offer [] (deeds ∷ turns) count runs = absurd runs
 turns_do terms s t offer (connection ∷ row) [] count runs = absurd runs
 turns_do terms s t offer (connection ∷ row) (deeds ∷ turns) count (mid, first, rest, turn, more, sum) =
-    does_append terms deeds (all_of turns) s mid t (turn_does terms s mid connection _ deeds first turn)
+    does_append terms deeds (all_deeds turns) s mid t
+    (turn_does terms s mid connection _ deeds first turn.turn)
     (turns_do terms mid t (less_by offer first) (row ++ told_in_deeds deeds) turns rest more)
 
-pub turns_made : (turns : List (List Deed)) → flat_map entries_of_deed (all_of turns) ≡ made_by turns
+pub turns_made : (turns : List (List Deed)) → flat_map entries_of_deed (all_deeds turns) ≡ made_by turns
 turns_made [] = refl
 turns_made (deeds ∷ turns) =
-    flat_map-append entries_of_deed deeds (all_of turns) ∙ ap (λ l. flat_map entries_of_deed deeds ++ l)
+    flat_map-append entries_of_deed deeds (all_deeds turns) ∙ ap (λ l. flat_map entries_of_deed deeds ++ l)
     (turns_made turns)

@@ -13,17 +13,16 @@ use Rattle.rv_desk.specs.Runs.{ListsChanged}
 use Rattle.rv_desk.specs.Fields.{desk_state, desk_terms}
 use Rattle.rv_desk.proofs.Listing.{deeds_are_listed}
 use Rattle.rv_hub.specs.declared.events.EventRefusal.{EventRefusal}
-use Rattle.rv_hub.specs.declared.events.EventRefusal.TheVariants as refused
 use Rattle.rv_hub.specs.declared.events.HubEvent.{HubEvent}
-use Rattle.rv_hub.specs.declared.events.HubEvent.TheVariants as event
 use Rattle.rv_hub.specs.Events.{EventCan, EventCannotBe}
+use Rattle.rv_hub.specs.EventDeeds.{event_deeds}
 use Rattle.rv_hub.specs.Turns.{EventRefused, EventGoesOn, IsAtRest, TakesEvent, goes_on_first, last_deeds}
 use Rattle.rv_hub.specs.Turns.{offer_in, own_deeds}
 use Rattle.rv_hub.specs.Steps.{ActsOwn, IsGoing, RunsOn}
 use Rattle.rv_hub.proofs.Longer.{IsWithin}
 use Rattle.rv_hub.proofs.Owning.{own_going}
 use Rattle.rv_hub.proofs.Resting.{can_begun, cannot_begun, gives_it, within_behind}
-use Rattle.rv_hub.proofs.Whole.{event_deeds, event_does}
+use Rattle.rv_hub.proofs.Whole.{event_does}
 
 -- ---- where no connection has changed yet
 

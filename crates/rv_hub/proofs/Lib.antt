@@ -10,5 +10,6 @@ pub mod Resting
 pub mod Handled
 pub mod Histories
 pub mod Accounts
+pub mod Causes
 pub mod OneRun
 pub mod Checked

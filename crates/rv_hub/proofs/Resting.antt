@@ -15,13 +15,14 @@ use Rattle.rv_hub.specs.declared.events.EventRefusal.{EventRefusal}
 use Rattle.rv_hub.specs.declared.events.HubEvent.{HubEvent}
 use Rattle.rv_hub.specs.declared.events.HubEvent.TheVariants as event
 use Rattle.rv_hub.specs.Events.{EventCan, EventCannotBe}
+use Rattle.rv_hub.specs.EventDeeds.{goes_deeds}
 use Rattle.rv_hub.specs.Turns.{EventGives, IsAtRest, CanTakeNone, TakesPiece, last_deeds}
 use Rattle.rv_hub.specs.Turns.{offer_in, own_deeds}
 use Rattle.rv_hub.specs.Steps.{ActsOwn, RunsOn, opened_number}
 use Rattle.rv_hub.proofs.Longer.{IsWithin, within_all}
 use Rattle.rv_hub.proofs.Owning.{at_last, written_stopped}
 use Rattle.rv_hub.proofs.Staying.{TakesNone, none_closed}
-use Rattle.rv_hub.proofs.Whole.{goes_deeds, goes_do}
+use Rattle.rv_hub.proofs.Whole.{goes_do}
 use Rattle.rv_desk.proofs.Answering.{some_is}
 
 -- ---- what can be, can be where no connection has changed yet

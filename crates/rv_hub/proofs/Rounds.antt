@@ -12,7 +12,7 @@ use Rattle.rv_desk.specs.Order.{IsTurn}
 use Rattle.rv_desk.specs.Rest.{HasComeToStop, TakesNoMore}
 use Rattle.rv_desk.specs.Fields.{IsSteady, desk_state, desk_terms}
 use Rattle.rv_desk.specs.Going.{TakesItsTurn, work_left}
-use Rattle.rv_hub.specs.Turns.{Offered, RunsTurns, less_by, made_by, offered_to}
+use Rattle.rv_hub.specs.Turns.{IsWholeTurn, Offered, RunsTurns, less_by, made_by, offered_to}
 use Rattle.rv_hub.specs.Steps.{IsGoing, IsOffering, TurnsOn, offer_from}
 use Rattle.rv_hub.proofs.Staying.{none_in, offered_within, turn_going, turn_offering}
 
@@ -101,6 +101,8 @@ far_on old now mid new source piece taken connection count far first rest takes 
     (subst (λ (s : DeskState). IsTurn (desk_terms mid) s connection offered takes.deeds count
     (desk_state new)) state
     takes.turn) in
+    let whole : IsWholeTurn (desk_terms old) (desk_state now) connection offered takes.deeds count
+    (desk_state new) = record { turn = turn; stopped = stopped; takes_no_more = stops } in
     let entries : mid.entries.items ≡ now.entries.items = ap (λ (d : HubDesk). d.entries.items) rest in
     let left : drop count (drop taken piece) ≡ drop (taken + count) piece = drop-drop count taken piece in
     let freed : mid.freed.items ++ told_in_deeds takes.deeds ≡ new.freed.items = sym takes.goes.freed in
@@ -123,7 +125,7 @@ far_on old now mid new source piece taken connection count far first rest takes 
           end =
           subst (λ l. RunsTurns (desk_terms old) (desk_state now) offer l (takes.deeds ∷ more) (count + n)
           end)
-          (sym first) (desk_state new, count, n, turn, at_freed, refl) in
+          (sym first) (desk_state new, count, n, whole, at_freed, refl) in
           let sum : taken + (count + n) ≡ taken + count + n = omega arith in
           subst (λ l. RunsTurns (desk_terms old) (desk_state old) (offer_from source piece) old.freed.items l
           (taken + count + n) end) (sym (append_assoc far.turns (takes.deeds ∷ []) more))
@@ -224,15 +226,20 @@ first_offering old mid connection offer count takes stops offering =
 
 pub first_on : (old mid new : HubDesk) (connection : ℕ) (offer : Offered) (taken count : ℕ)
     → TakesItsTurn old connection (offered_to offer connection) taken mid
+    → HasComeToStop (desk_state mid) connection
+    → (taken < length (offered_to offer connection) → TakesNoMore (desk_state mid) connection)
     → TurnsOn mid [] (less_by offer taken) count new
     → TurnsOn old (connection ∷ []) offer (taken + count) new
-first_on old mid new connection offer taken count takes on =
+first_on old mid new connection offer taken count takes stopped stops on =
     let freed : mid.freed.items ≡ old.freed.items ++ told_in_deeds takes.deeds = takes.goes.freed in
     let terms : desk_terms mid ≡ desk_terms old = takes.goes.terms in
     let within : taken ≤ length (offered_to offer connection) = takes.turn.within in
     let shorter = offered_within offer connection in
     let long = length-drop taken offer.piece in
     let rest : count ≤ length (drop taken offer.piece) = on.within in
+    let whole : IsWholeTurn (desk_terms old) (desk_state old) connection (offered_to offer connection)
+    takes.deeds taken (desk_state mid) =
+    record { turn = takes.turn; stopped = stopped; takes_no_more = stops } in
     let runs : RunsTurns (desk_terms old) (desk_state mid) (less_by offer taken)
     (old.freed.items ++ told_in_deeds takes.deeds) on.turns count (desk_state new) =
     subst (λ l. RunsTurns (desk_terms old) (desk_state mid) (less_by offer taken) l on.turns count
@@ -242,7 +249,7 @@ first_on old mid new connection offer taken count takes on =
     (desk_state new)) terms on.runs) in
     record {
       turns = takes.deeds ∷ on.turns;
-      runs = (desk_state mid, taken, count, takes.turn, runs, refl);
+      runs = (desk_state mid, taken, count, whole, runs, refl);
       made = on.made ∙ ap (λ l. l ++ made_by on.turns) takes.goes.made
           ∙ append_assoc old.entries.items (flat_map entries_of_deed takes.deeds) (made_by on.turns);
       terms = on.terms ∙ terms;

@@ -12,9 +12,10 @@ use Rattle.rv_desk.proofs.Chains.{does_append}
 use Rattle.rv_desk.proofs.Quiet.{keys_quiet}
 use Rattle.rv_hub.specs.declared.events.HubEvent.{HubEvent}
 use Rattle.rv_hub.specs.declared.events.HubEvent.TheVariants as event
+use Rattle.rv_hub.specs.EventDeeds.{all_deeds, event_deeds, goes_deeds}
 use Rattle.rv_hub.specs.Turns.{EventGoesOn, TakesEvent, goes_on_first, last_deeds, made_by, offer_in}
 use Rattle.rv_hub.specs.Turns.{own_deeds}
-use Rattle.rv_hub.proofs.Flattened.{all_of, stride_does, turns_do, turns_made}
+use Rattle.rv_hub.proofs.Flattened.{stride_does, turns_do, turns_made}
 use Rattle.rv_hub.proofs.Whom.{late_quiet}
 
 -- deeds lead from one state to the next, and made these entries
@@ -32,12 +33,7 @@ deeds_on terms s m t one two xs ys first second = record {
       ∙ sym (flat_map-append entries_of_deed xs ys);
 }
 
--- the deeds of what goes on
-abbrev pub goes_deeds : (terms : DeskTerms) (s : DeskState) (handed : ℕ) (what : HubEvent) (made : List Entry)
-    (taken : ℕ) (t : DeskState) → EventGoesOn terms s handed what made taken t → List Deed
-goes_deeds terms s handed what made taken t goes =
-    ((Elapsed (moment_now s.now handed) goes.entries goes.settled ∷ goes.ended) ++ goes.overdue) ++ all_of
-    goes.turns
+-- ---- what goes on, and an event
 
 pub goes_do : (terms : DeskTerms) (s : DeskState) (handed : ℕ) (what : HubEvent) (made : List Entry) (taken :
     ℕ)
@@ -55,7 +51,7 @@ goes_do terms s handed what made taken t goes =
       does = goes.tells.does;
       made_is = sym (late_quiet goes.tells.hearers goes.overdue goes.tells.each);
     } in
-    let turns : AreDeeds terms goes.after_overdue (made_by goes.turns) (all_of goes.turns) t = record {
+    let turns : AreDeeds terms goes.after_overdue (made_by goes.turns) (all_deeds goes.turns) t = record {
       does = turns_do terms goes.after_overdue t (offer_in what)
           (option_to_list (goes_on_first what) ++ (told_in_deeds goes.ended ++ told_in_deeds goes.overdue))
           goes.turns taken goes.runs;
@@ -83,15 +79,6 @@ own_made event.Passed number = refl
 last_made : (journal : Bool) (s : DeskState) → flat_map entries_of_deed (last_deeds journal s) ≡ []
 last_made true s = refl
 last_made false s = refl
-
--- the deeds of an event
-abbrev pub event_deeds : (journal : Bool) (terms : DeskTerms) (s : DeskState) (handed : ℕ) (what : HubEvent)
-    (made : List Entry) (result : ℕ) (t : DeskState) → TakesEvent journal terms s handed what made result t
-    → List Deed
-event_deeds journal terms s handed what made result t takes =
-    (own_deeds what takes.number
-    ++ goes_deeds terms takes.after_own handed what made takes.taken takes.after_turns takes.goes_on)
-    ++ last_deeds journal takes.after_turns
 
 pub event_does : (journal : Bool) (terms : DeskTerms) (s : DeskState) (handed : ℕ) (what : HubEvent)
     (made : List Entry) (result : ℕ) (t : DeskState) (takes : TakesEvent journal terms s handed what made

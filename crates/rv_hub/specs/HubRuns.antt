@@ -3,19 +3,20 @@ use Rattle.std.specs.Prelude.{ℕ, ◌≡◌, ◌≢◌, ◌≤◌, ◌⊎◌, B
 use Rattle.rv_text.specs.declared.message.Key.{Key}
 use Rattle.rv_text.specs.declared.answer.Answer.{Answer}
 use Rattle.rv_text.specs.declared.answer.Answer.TheVariants as answer
-use Rattle.rv_text.specs.declared.answer.Refusal.TheVariants.{OldIncarnation}
+use Rattle.rv_text.specs.declared.answer.Refusal.{Refusal}
 use Rattle.rv_account.specs.declared.entry.Entry.{Entry}
 use Rattle.rv_account.specs.Account.{Account}
 use Rattle.rv_account.specs.Limits.{max_moment}
 use Rattle.rv_rules.specs.Legal.{Legal}
 use Rattle.rv_rules.specs.StepLimits.{AreStepLimits}
-use Rattle.rv_rules.specs.Steps.{Answers, NextUnder}
+use Rattle.rv_rules.specs.Steps.{Answers, NextUnder, OldIncarnationDue}
 use Rattle.rv_state.specs.After.{due_at, state_of}
 use Rattle.rv_resume.specs.Resuming.{CanResume}
 use Rattle.rv_desk.specs.View.{DeskState, DeskTerms, begun}
 use Rattle.rv_desk.specs.Deeds.{Asked, Deed, Does, DoesAll, Stepped, Told, entries_of_deed}
-use Rattle.rv_desk.specs.Runs.{Cause, RunsBook}
+use Rattle.rv_desk.specs.Runs.{RunsBook}
 use Rattle.rv_hub.specs.declared.events.HubEvent.{HubEvent}
+use Rattle.rv_hub.specs.EventDeeds.{all_deeds, causes_of, event_deeds}
 use Rattle.rv_hub.specs.Turns.{TakesEvent, made_by}
 use Rattle.rv_hub.specs.Pasts.{HasPast, Past, past_after}
 
@@ -46,24 +47,31 @@ DoesEvents terms s [] t = t ≡ s
 DoesEvents terms s (deeds ∷ events) t =
     (between : DeskState) × DoesAll terms (begun s) deeds between × DoesEvents terms between events t
 
--- the deeds of events in one list
-abbrev pub all_deeds : List (List Deed) → List Deed
-all_deeds events = flat_map (λ deeds. deeds) events
+-- the deeds of the events of a run, event by event: one that was refused has none
+abbrev pub run_deeds : (journal : Bool) (terms : DeskTerms) (answers : List HubAnswer) (s t : DeskState)
+    → RunsHub journal terms s answers t → List (List Deed)
+run_deeds journal terms [] s t same = []
+run_deeds journal terms (TookEvent handed what made given ∷ answers) s t (between, takes, more) =
+    event_deeds journal terms s handed what made given between takes
+    ∷ run_deeds journal terms answers between t more
+run_deeds journal terms (RefusedEvent ∷ answers) s t more =
+    [] ∷ run_deeds journal terms answers (begun s) t more
 
--- what the events of a hub are: deeds, which make their entries in order; of the account one run of
--- messages and of time alone; and of each connection its past through all deeds
-pub record AreHubDeeds (terms : DeskTerms) (s : DeskState) (made : List Entry) (t : DeskState) : Type 0 where
-  pub events : List (List Deed)
-  pub does : DoesEvents terms s events t
-  pub made_is : made ≡ made_by events
-  pub causes : List Cause
-  pub one_run : RunsBook terms.limits s.now s.book causes made t.now t.book
-  pub pasts : (n : ℕ) (past : Past) → HasPast s n past
-      → HasPast t n (past_after n past s.book.length (all_deeds events))
+-- what these deeds of events are, which make these entries in order: of the account one run of time and of
+-- their messages alone; and of each connection its past through all of them
+pub record AreHubDeeds (terms : DeskTerms) (s : DeskState) (made : List Entry) (events : List (List Deed))
+    (t : DeskState) : Type 0
+  where
+    pub does : DoesEvents terms s events t
+    pub made_is : made ≡ made_by events
+    pub one_run : RunsBook terms.limits s.now s.book (flat_map causes_of (all_deeds events)) made t.now t.book
+    pub pasts : (n : ℕ) (past : Past) → HasPast s n past
+        → HasPast t n (past_after n past s.book.length (all_deeds events))
 
 abbrev pub HubsAreRuns : Type 0
 HubsAreRuns = (journal : Bool) (terms : DeskTerms) (answers : List HubAnswer) (s t : DeskState)
-    → RunsHub journal terms s answers t → AreHubDeeds terms s (made_in answers) t
+    → (runs : RunsHub journal terms s answers t)
+    → AreHubDeeds terms s (made_in answers) (run_deeds journal terms answers s t runs) t
 
 -- ---- the account of the run
 
@@ -75,6 +83,11 @@ pub record IsHubAccount (a : Account) (s : DeskState) : Type 0 where
   pub resumes : CanResume s.book
   pub later : s.book.moment ≤ s.now
   pub none_due : due_at s.book s.now ≡ []
+
+-- so is a legal account at a hub's beginning, which has the account's state and that state's moment
+abbrev pub BeginsAccount : Type 0
+BeginsAccount = (a : Account) (s : DeskState) → Legal a → state_of a ≡ s.book → CanResume s.book
+    → s.now ≡ s.book.moment → IsHubAccount a s
 
 -- an account with these entries more
 pub record AddsEntries (a : Account) (made : List Entry) (b : Account) : Type 0 where
@@ -101,11 +114,13 @@ EventsLeadOn = (terms : DeskTerms) (events : List (List Deed)) (s t : DeskState)
     → LeadsToAccount a (made_by events) t
 
 -- what whoever waited for a request, none of number 0, is told is what the account says of it: its reply,
--- or that it waits; or that its session has a greater incarnation
+-- or that it waits; or the refusal that the account has due for a lower incarnation than its session's
 abbrev pub TellsPublicReply : Type 0
 TellsPublicReply = (terms : DeskTerms) (s t : DeskState) (a : Account) (connection : ℕ) (key : Key)
     (said : Answer) → key.number ≢ 0 → IsHubAccount a s → Does terms s (Told connection key said) t
-    → Answers a key said ⊎ ((current : ℕ) × (said ≡ answer.Refused (OldIncarnation current)))
+    → Answers a key said
+    ⊎ ((refusal : Refusal) × OldIncarnationDue a key.client key.incarnation refusal
+    × (said ≡ answer.Refused refusal))
 
 -- and the answer to a step is that of the account's own step with the frame's message
 abbrev pub AnswersByRules : Type 0

@@ -1,6 +1,7 @@
 -- What a reader must agree with: all that the public contracts and the laws cite.
 pub mod Events
 pub mod Turns
+pub mod EventDeeds
 pub mod Pasts
 pub mod HubRuns
 -- What the fields hold: the public contracts cite it as a whole, `IsHub`.

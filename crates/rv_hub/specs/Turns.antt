@@ -9,7 +9,7 @@ use Rattle.rv_desk.specs.View.{DeskState, DeskTerms, begun, moment_now}
 use Rattle.rv_desk.specs.Deeds.{Deed, DoesAll, entries_of_deed, told_in_deeds}
 use Rattle.rv_desk.specs.Deeds.{Closed, Elapsed, EndedInput, Left, Opened, Wrote}
 use Rattle.rv_desk.specs.Order.{IsStride, IsTurn, TellsOverdue}
-use Rattle.rv_desk.specs.Rest.{HasComeToStop, HearersInTime, HearersOwe, HearersWait, OwersHear}
+use Rattle.rv_desk.specs.Rest.{HasComeToStop, HearersInTime, HearersOwe, HearersWait, OwersHear, TakesNoMore}
 use Rattle.rv_hub.specs.declared.events.EventRefusal.{EventRefusal}
 use Rattle.rv_hub.specs.declared.events.EventRefusal.TheVariants as refused
 use Rattle.rv_hub.specs.declared.events.HubEvent.{HubEvent}
@@ -29,6 +29,15 @@ offered_to offer connection = cond (nat_eq offer.connection connection) offer.pi
 abbrev pub less_by : Offered → ℕ → Offered
 less_by offer count = record offer { piece = drop count offer.piece }
 
+-- a connection goes on until it stops: behind its turn nothing is to be answered now, and where bytes of its
+-- piece are left it takes no more
+pub record IsWholeTurn (terms : DeskTerms) (old : DeskState) (connection : ℕ) (piece : List ℕ)
+    (deeds : List Deed) (count : ℕ) (new : DeskState) : Type 0
+  where
+    pub turn : IsTurn terms old connection piece deeds count new
+    pub stopped : HasComeToStop new connection
+    pub takes_no_more : count < length piece → TakesNoMore new connection
+
 -- turns of connections in the order in which they were freed: whoever is told goes behind those that were
 -- told before. Of the piece so many bytes are taken
 abbrev pub RunsTurns : DeskTerms → DeskState → Offered → List ℕ → List (List Deed) → ℕ → DeskState → Type 0
@@ -37,7 +46,7 @@ RunsTurns terms old offer [] (deeds ∷ turns) count new = ⊥
 RunsTurns terms old offer (connection ∷ freed) [] count new = ⊥
 RunsTurns terms old offer (connection ∷ freed) (deeds ∷ turns) count new =
     (between : DeskState) × (first : ℕ) × (rest : ℕ)
-    × IsTurn terms old connection (offered_to offer connection) deeds first between
+    × IsWholeTurn terms old connection (offered_to offer connection) deeds first between
     × RunsTurns terms between (less_by offer first) (freed ++ told_in_deeds deeds) turns rest new
     × (count ≡ first + rest)
 

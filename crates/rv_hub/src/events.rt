@@ -9,7 +9,7 @@ pub enum HubEvent<'a> {
     Opened,
     /// A piece of a connection's input came.
     Came(ConnectionNumber, &'a [u8]),
-    /// A connection's input ended.
+    /// A connection's input ended, behind its last byte: none is taken from then on.
     Ended(ConnectionNumber),
     /// A connection's peer is gone.
     Gone(ConnectionNumber),
@@ -21,7 +21,7 @@ pub enum HubEvent<'a> {
     Passed,
 }
 
-/// Why an event isn't taken: it can't be, and changes nothing.
+/// Why an event isn't taken: it can't be, or memory was refused.
 #[derive(Clone, Copy, Debug, PartialEq, Eq, Error)]
 pub enum EventRefusal {
     /// The connection isn't open.

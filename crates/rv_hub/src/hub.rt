@@ -84,8 +84,10 @@ impl Hub {
         })
     }
 
-    /// Takes an event that came at a moment in milliseconds. It gives the number of a connection that was
-    /// opened, or how many bytes of a piece were taken, else 0. An event that can't be changes nothing.
+    /// Takes an event that came at a moment in milliseconds: one above 2^62 counts as that, one below the
+    /// greatest before as that. It gives the number of a connection that was opened, or how many bytes of a
+    /// piece were taken, else 0. A refused event changes nothing but `entries` and `changed`, which are
+    /// empty then.
     pub fn handle(&mut self, now: u64, event: HubEvent<'_>) -> Result<usize, EventRefusal>
         ensures hub { IsHub self.new }
         ensures takes { IfOk result (λ given. TakesEvent self.old.has_journal (hub_terms self.old)

@@ -1,15 +1,20 @@
 //! Laws of a hub's events: each contract is one, and no body does anything.
-ghost use Rattle.rv_hub.specs.HubRuns.{AnswersByRules, DeedsLeadOn, EventsLeadOn, HubsAreRuns};
-ghost use Rattle.rv_hub.specs.HubRuns.{TellsPublicReply};
+ghost use Rattle.rv_hub.specs.HubRuns.{AnswersByRules, BeginsAccount, DeedsLeadOn, EventsLeadOn};
+ghost use Rattle.rv_hub.specs.HubRuns.{HubsAreRuns, TellsPublicReply};
+ghost use Rattle.rv_hub.specs.Pasts.{DeedsKeepPasts};
 
 /// The events of a hub are deeds: of the account one run of messages and of time alone, which makes their
 /// entries in order; and of each connection its past, so that its frames have one answer each, in order.
+/// So keep any deeds, one after another, each past.
 pub fn hubs_are_runs()
-    ensures { HubsAreRuns }
+    ensures events { HubsAreRuns }
+    ensures deeds { DeedsKeepPasts }
 {}
 
-/// The deeds of events lead from a legal account to one with their entries more.
+/// A new hub has the account of its machine, if that is legal; and the deeds of events lead from a legal
+/// account to one with their entries more.
 pub fn events_lead_on()
+    ensures begins { BeginsAccount }
     ensures deeds { DeedsLeadOn }
     ensures events { EventsLeadOn }
 {}

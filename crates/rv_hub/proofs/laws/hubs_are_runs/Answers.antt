@@ -1,6 +1,10 @@
 -- Each event is a list of deeds.
+use Rattle.rv_hub.proofs.Histories.{pasts_kept}
 use Rattle.rv_hub.proofs.OneRun.{hubs_are_runs}
 use Rattle.rv_hub.proofs.laws.hubs_are_runs.Goals as goal
 
-pub returns : goal.returns
-returns c = hubs_are_runs
+pub returns-clause-events : goal.returns-clause-events
+returns-clause-events c = hubs_are_runs
+
+pub returns-clause-deeds : goal.returns-clause-deeds
+returns-clause-deeds c = pasts_kept

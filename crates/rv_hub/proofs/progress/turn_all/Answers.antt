@@ -85,4 +85,4 @@ returns-in-Some-clause-turns c =
     (c.turn-taken.result + c.turn_freed-in-Some.result) c.turn_freed-in-Some.new.desk) (sym c.in-Some.is)
     (first_on c.args.desk.now c.turn-taken.new.desk c.turn_freed-in-Some.new.desk c.in-Some.connection
     (offer_from c.args.source c.args.piece.now) c.turn-taken.result c.turn_freed-in-Some.result
-    c.turn-taken.ensures.turn on)
+    c.turn-taken.ensures.turn c.turn-taken.ensures.stopped c.turn-taken.ensures.stops on)
