@@ -161,7 +161,7 @@ at_moment limits s now m move k same none moves =
           (subst (λ n. StateNextAtUnder limits s n m move) (sym same) moves),
     )
 
-next_here : (limits : StepLimits) (s : State) (now : ℕ) (m : Message) (move : Move) → s.moment ≤ now
+pub next_here : (limits : StepLimits) (s : State) (now : ℕ) (m : Message) (move : Move) → s.moment ≤ now
     → now ≤ max_moment
     → due_at s now ≡ [] → StateNextAtUnder limits s now m move → StateNextUnder limits s now m move
 next_here limits s now m move before time none moves =

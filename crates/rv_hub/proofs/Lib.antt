@@ -12,6 +12,7 @@ pub mod Histories
 pub mod Accounts
 pub mod Causes
 pub mod OneRun
+pub mod Repeating
 pub mod StepReplies
 pub mod HandedOver
 pub mod Checked

@@ -1,7 +1,7 @@
 //! Laws of a hub's events: each contract is one, and no body does anything.
 ghost use Rattle.rv_hub.specs.HandedOut.{DeedsTellPublicly, HandedOutIsPublic};
 ghost use Rattle.rv_hub.specs.HubRuns.{AnswersByRules, BeginsAccount, DeedsLeadOn, EventsLeadOn};
-ghost use Rattle.rv_hub.specs.HubRuns.{HubsAreRuns, TellsPublicReply};
+ghost use Rattle.rv_hub.specs.HubRuns.{HubsAreRuns, TellsAsARepeat, TellsPublicReply};
 ghost use Rattle.rv_hub.specs.Pasts.{DeedsKeepPasts};
 
 /// The events of a hub are deeds: of the account one run of messages and of time alone, which makes their
@@ -23,6 +23,11 @@ pub fn events_lead_on()
 /// Whoever waited is told what that account says of its request.
 pub fn tells_public_reply()
     ensures { TellsPublicReply }
+{}
+
+/// That is what a repeat of its request would be told by a step of that account.
+pub fn tells_as_a_repeat()
+    ensures { TellsAsARepeat }
 {}
 
 /// The answer to a step is that of a step of that account with the frame's message.
