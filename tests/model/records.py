@@ -1,5 +1,5 @@
-"""Compares what `rv verify --replies` says of records with the model: of random accounts, most of them legal, each with the record
-of all replies that it gives, in which some lines are written otherwise, and each reply is changed in turn."""
+"""Compares what `rv verify --replies` says of records with the model: of random accounts, each with the record of all replies that it
+gives, in which some lines are written otherwise, and beside them each reply changed in turn; and of texts that are spoilt or torn."""
 import json
 import os
 import pathlib
@@ -21,10 +21,10 @@ from tests.model.tables import table_audit
 from tests.model.texts import MAX_DRAIN, NoReading, members_of, written
 from tests.model.verdicts import verdict
 
-# How many records are made for one account, and how many of them are at hand at a time.
-RECORDS = 4
+# So often a further text is made of an account, and a record beside it; so many records are at hand at a time.
+FURTHER = 0.5
 AT_HAND = 400
-# A run of so many has to meet each finding.
+# A run of so many accounts has to meet each finding.
 FULL_RUN = 200
 TORN, UNKEPT = 3, 6
 # A reply of each word.
@@ -155,11 +155,11 @@ class Pair:
     whole: bool
 
 
-def make_record(chance, account):
-    """A record beside an account: now and then the right lines alone, else changed ones among them; and the changed ones."""
+def make_record(chance, account, changes):
+    """A record beside an account: the right lines, and where it changes them the changed ones among them; and these."""
     record = Record(chance, account)
     lines = record.right()
-    wrong = [] if chance.random() < 0.2 else record.wrong()
+    wrong = record.wrong() if changes else []
     for line in wrong:
         lines.insert(chance.randint(0, len(lines)), line)
     text = b"".join(line + b"\n" for line in lines)
@@ -167,25 +167,19 @@ def make_record(chance, account):
 
 
 def make_pairs(seed, count):
-    """So many accounts with a record each, and the lines of that which are changed."""
-    made = 0
-    while made < count:
+    """So many accounts with a record each in which each reply is changed in turn, and further texts of some."""
+    for made in range(1, count + 1):
         chance = random.Random(f"{seed} {made}")
         script = AccountScript(chance)
         for _ in range(chance.choice([10, 20, 40, 60, 80])):
             script.line()
-        for _ in range(min(RECORDS, count - made)):
-            made += 1
-            text, whole = make_account(chance, script)
+        whole = account_text(script.account)
+        yield Pair(f"account {made} of seed {seed}", whole, *make_record(chance, script.account, True), True)
+        if chance.random() < FURTHER:
+            text = chance.choices([whole, make_text(chance, script), whole[: -chance.randint(1, 40)]], [2, 4, 2])[0]
+            record = make_record(chance, script.account, chance.random() < 0.5)
             if not is_past(text + b"\n"):
-                yield Pair(f"record {made} of seed {seed}", text, *make_record(chance, script.account), whole)
-
-
-def make_account(chance, script):
-    """The text of a book's account, and whether that is all of it: else it was spoilt, or its end is torn."""
-    whole = account_text(script.account)
-    text = chance.choices([whole, make_text(chance, script), whole[: -chance.randint(1, 40)]], [7, 2, 1])[0]
-    return text, text == whole
+                yield Pair(f"a further text of account {made} of seed {seed}", text, *record, text == whole)
 
 
 def parted(text):
@@ -255,7 +249,7 @@ def outcome(program, pair):
 
 
 def compare_records(program, seed, count):
-    """Compares so many records, in which each finding is to be met."""
+    """Compares the records of so many accounts, in which each finding is to be met."""
     met, pairs, done = Counter(), make_pairs(seed, count), 0
     with ThreadPoolExecutor(os.cpu_count()) as several:
         while part := list(islice(pairs, AT_HAND)):
@@ -265,7 +259,7 @@ def compare_records(program, seed, count):
                     several.shutdown(wait=False, cancel_futures=True)
                     return show(pair, wanted, got, wrong)
             done += len(part)
-    print(f"seed {seed}: {done} records, each line as the model has it: " + ", ".join(f"{what} {met[what]}" for what in FINDINGS))
+    print(f"seed {seed}: {done} records of {count} accounts, each line as the model has it: " + ", ".join(f"{what} {met[what]}" for what in FINDINGS))
     missed = [finding for finding in FINDINGS if not met[finding]]
     if missed and count >= FULL_RUN:
         print(f"FAILED: no line is told: {', '.join(missed)}")
