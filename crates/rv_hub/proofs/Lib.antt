@@ -15,4 +15,6 @@ pub mod OneRun
 pub mod Repeating
 pub mod StepReplies
 pub mod HandedOver
+pub mod ComesOf
+pub mod Paired
 pub mod Checked

@@ -1,6 +1,6 @@
 -- Whoever waited is told what a repeat of its request would be.
-use Rattle.std.proofs.Common.{inl, inr, ◌≡◌, ◌≢◌, ◌<◌, ◌≤◌, ◌+◌, ◌∙◌, ℕ, List, Some}
-use Rattle.std.proofs.Common.{refl, sym, ap, subst, arith, option_and_then, slice_get}
+use Rattle.std.proofs.Common.{inl, inr, ◌≡◌, ◌≢◌, ◌<◌, ◌≤◌, ◌∙◌, ℕ, List, Some}
+use Rattle.std.proofs.Common.{refl, sym, ap, subst, arith, option_and_then}
 use Rattle.std.proofs.lemmas.List.{append-nil}
 use Rattle.std.proofs.lemmas.Option.{none-some, same_Some}
 use Rattle.rv_text.specs.declared.call.Call.{Call}
@@ -18,7 +18,6 @@ use Rattle.rv_account.specs.Account.{Account, act_at, call_in}
 use Rattle.rv_rules.specs.Legal.{Legal}
 use Rattle.rv_rules.specs.StepLimits.{StepLimits}
 use Rattle.rv_rules.specs.Steps.{NextUnder}
-use Rattle.rv_rules.proofs.Growing.{act_read, read_there}
 use Rattle.rv_rules.proofs.OnePartner.{arrives_once}
 use Rattle.rv_state.specs.Agreement.{BecameOf}
 use Rattle.rv_state.specs.Moves.{CallDiffers, IncarnationOld, NumberOld}
@@ -29,18 +28,9 @@ use Rattle.rv_state.specs.Moves.{StateNextUnder}
 use Rattle.rv_desk.specs.View.{DeskState}
 use Rattle.rv_desk.specs.Telling.{IsToldAgain}
 use Rattle.rv_hub.specs.HubRuns.{IsHubAccount, TellsAsARepeat}
-use Rattle.rv_hub.proofs.Accounts.{next_here, told_became}
+use Rattle.rv_hub.proofs.Accounts.{fitting_number, next_here, told_became}
 
 -- ---- the request that arrived
-
--- no request has number 0
-some_number : (a : Account) (place : ℕ) (key : Key) (call : Call) → Legal a
-    → act_at a.entries place ≡ Some (Arrive key call) → key.number ≢ 0
-some_number a place key call legal arrived zero =
-    let at = read_there act_read refl (slice_get a.entries place) (Arrive key call) arrived in
-    let next = (legal place at.0 at.1).numbers.counts_up key call (same_Some _ _ at.2) in
-    let above : key.number ≡ next.last + 1 = next.next in
-    absurd (let no : ⊥ = omega arith in no)
 
 -- a request arrives once, so with one call
 one_call : (a : Account) (p q : ℕ) (key : Key) (c d : Call) → Legal a
@@ -158,13 +148,13 @@ repeats_move limits a s key said call place is told arrived =
       | inl own ↦
           (let became = told_became a s key said is told own.0 own.1 in
           repeats s.book key session told.there limits s.now call said told.epoch own.0 own.1
-          (some_number a place key call is.legal arrived)
+          (fitting_number key told.fits)
           (λ came. asked_with a key session.request place call came is.legal became arrived) own.2)
       | inr old ↦ refused_old s.book key session told.there limits s.now call said told.epoch old.0 old.1
     ]
 
 -- an account is what its fields are
-account_is : (a b : Account) → b.epoch ≡ a.epoch → b.opened ≡ a.opened → b.entries ≡ a.entries → b ≡ a
+pub account_is : (a b : Account) → b.epoch ≡ a.epoch → b.opened ≡ a.opened → b.entries ≡ a.entries → b ≡ a
 account_is a b epoch opened entries =
     ap (λ n. record { epoch = n; opened = b.opened; entries = b.entries }) epoch
     ∙ ap (λ n. record { epoch = a.epoch; opened = n; entries = b.entries }) opened

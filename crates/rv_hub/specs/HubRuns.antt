@@ -1,5 +1,5 @@
 -- Events of a hub, one after another: their deeds, and what they are of the account.
-use Rattle.std.specs.Prelude.{ℕ, ◌≡◌, ◌≢◌, ◌≤◌, ◌⊎◌, Bool, List, [], ◌∷◌, ◌++◌, Some, flat_map}
+use Rattle.std.specs.Prelude.{ℕ, ◌≡◌, ◌≤◌, ◌⊎◌, Bool, List, [], ◌∷◌, ◌++◌, Some, flat_map}
 use Rattle.rv_text.specs.declared.call.Call.{Call}
 use Rattle.rv_text.specs.declared.message.Key.{Key}
 use Rattle.rv_text.specs.declared.message.Message.TheVariants.{Request}
@@ -116,11 +116,11 @@ EventsLeadOn = (terms : DeskTerms) (events : List (List Deed)) (s t : DeskState)
     → AreStepLimits terms.limits → DoesEvents terms s events t → t.now ≤ max_moment → IsHubAccount a s
     → LeadsToAccount a (made_by events) t
 
--- what whoever waited for a request, none of number 0, is told is what the account says of it: its reply,
--- or that it waits; or the refusal that the account has due for a lower incarnation than its session's
+-- what whoever waited for a request is told is what the account says of it: its reply, or that it waits; or
+-- the refusal that the account has due for a lower incarnation than its session's
 abbrev pub TellsPublicReply : Type 0
 TellsPublicReply = (terms : DeskTerms) (s t : DeskState) (a : Account) (connection : ℕ) (key : Key)
-    (said : Answer) → key.number ≢ 0 → IsHubAccount a s → Does terms s (Told connection key said) t
+    (said : Answer) → IsHubAccount a s → Does terms s (Told connection key said) t
     → Answers a key said
     ⊎ ((refusal : Refusal) × OldIncarnationDue a key.client key.incarnation refusal
     × (said ≡ answer.Refused refusal))
