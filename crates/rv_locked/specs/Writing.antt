@@ -6,10 +6,10 @@ use Rattle.rv_text.specs.declared.answer.Refusal.TheVariants as refusal
 use Rattle.rv_frame.specs.Cut.{IsFrameBody, frame_bytes}
 use Rattle.rv_frame.specs.Sink.{SinkTakes, sink_failed}
 use Rattle.rv_frame.specs.declared.sink.Sink.{Sink}
-use Rattle.rv_server.specs.declared.asking.FrameAnswer.{FrameAnswer}
-use Rattle.rv_server.specs.declared.asking.FrameAnswer.TheVariants as told
-use Rattle.rv_server.specs.declared.served.Item.{Item}
-use Rattle.rv_server.specs.declared.served.Item.TheVariants as item
+use Rattle.rv_locked.specs.declared.asking.FrameAnswer.{FrameAnswer}
+use Rattle.rv_locked.specs.declared.asking.FrameAnswer.TheVariants as told
+use Rattle.rv_locked.specs.declared.item.Item.{Item}
+use Rattle.rv_locked.specs.declared.item.Item.TheVariants as item
 
 abbrev pub FitsTold : FrameAnswer → Type 0
 FitsTold (told.Said answer) = FitsAnswer answer

@@ -1,9 +1,9 @@
 -- What is told where the desk isn't asked.
 use Rattle.std.proofs.Common.{◌∙◌, Err, ap}
-use Rattle.rv_server.specs.Stamps.{shown_stamps}
-use Rattle.rv_server.specs.declared.asking.FrameAnswer.TheVariants.{BadText, NoMemory}
-use Rattle.rv_server.proofs.Getting.{nothing_told}
-use Rattle.rv_server.proofs.context.WorkerContext.ask_once.Goals as goal
+use Rattle.rv_locked.specs.Stamps.{shown_stamps}
+use Rattle.rv_locked.specs.declared.asking.FrameAnswer.TheVariants.{BadText, NoMemory}
+use Rattle.rv_locked.proofs.Getting.{nothing_told}
+use Rattle.rv_locked.proofs.asking.ask_once.Goals as goal
 
 pub returns-in-Err-NoMemory-clause-told : goal.returns-in-Err-NoMemory-clause-told
 returns-in-Err-NoMemory-clause-told g c =

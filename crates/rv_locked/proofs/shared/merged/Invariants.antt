@@ -1,6 +1,6 @@
 -- What was merged and what is left have all parts and the whole sum.
 use Rattle.std.proofs.Common.{◌≡◌, ◌+◌, sum, vec_len}
-use Rattle.rv_server.proofs.shared.merged.Given as goal
+use Rattle.rv_locked.proofs.shared.merged.Given as goal
 
 abbrev pub invariant-loop-share : goal.invariant-loop-share
 invariant-loop-share g l =

@@ -1,10 +1,10 @@
 -- Each arm writes one body, for one item.
 use Rattle.std.proofs.Common.{subst, sym}
-use Rattle.rv_server.specs.Writing.{IsAnswer}
-use Rattle.rv_server.specs.declared.asking.FrameAnswer.{FrameAnswer}
-use Rattle.rv_server.specs.declared.served.Item.TheVariants as item
-use Rattle.rv_server.proofs.Answering.{part_written, whole_written}
-use Rattle.rv_server.proofs.worker.write_told.Goals as goal
+use Rattle.rv_locked.specs.Writing.{IsAnswer}
+use Rattle.rv_locked.specs.declared.asking.FrameAnswer.{FrameAnswer}
+use Rattle.rv_locked.specs.declared.item.Item.TheVariants as item
+use Rattle.rv_locked.proofs.Told.{part_written, whole_written}
+use Rattle.rv_locked.proofs.telling.write_told.Goals as goal
 
 pub returns-in-BadText-clause-whole : goal.returns-in-BadText-clause-whole
 returns-in-BadText-clause-whole g c =

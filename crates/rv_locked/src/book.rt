@@ -1,6 +1,6 @@
 //! The book is a desk: its stamps are verdicts.
 ghost use Rattle.rv_book.specs.Verdicts.{WasGiven};
-ghost use Rattle.rv_server.specs.Books.{IsStep, entry_count, shown_by};
+ghost use Rattle.rv_locked.specs.Books.{IsStep, entry_count, shown_by};
 
 use crate::desk::Desk;
 use rv_book::{Book, Verdict};

@@ -1,6 +1,6 @@
 -- Each seat that was made has one part, and no share yet; the rest has all other parts.
 use Rattle.std.proofs.Common.{◌≡◌, ◌≤◌, ◌+◌, All, vec_len, vec_capacity, ◌-◌}
-use Rattle.rv_server.proofs.shared.Shared.open.Given as goal
+use Rattle.rv_locked.proofs.shared.Shared.open.Given as goal
 
 abbrev pub invariant-loop-all : goal.invariant-loop-all
 invariant-loop-all g l =

@@ -1,8 +1,8 @@
 //! The desk behind its lock, and the seats of the workers: their shares in the number of its entries.
 ghost use Rattle.std.specs.Prelude.{◌≡◌, ◌≤◌, ◌+◌, ◌-◌, ◌<◌, ◌≢◌, IfOk, IfErr, OnOk, OnErr, sum, vec_len};
 ghost use Rattle.rv_text.specs.Limits.{FitsAnswer, FitsMessage};
-ghost use Rattle.rv_server.specs.Asking.{IsAsked};
-ghost use Rattle.rv_server.specs.Stamps.{added_by};
+ghost use Rattle.rv_locked.specs.Asking.{IsAsked};
+ghost use Rattle.rv_locked.specs.Stamps.{added_by};
 
 use crate::desk::Desk;
 use rv_text::{Answer, Message, NoMemory};
@@ -129,7 +129,7 @@ pub struct ForeignSeat;
 
 impl<D: Desk, L: Ledger> Shared<D, L> {
     ghost use Rattle.std.specs.Prelude.{All};
-    ghost use Rattle.rv_server.specs.declared.shared.TheConstants.{MAX_WORKERS};
+    ghost use Rattle.rv_locked.specs.declared.shared.TheConstants.{MAX_WORKERS};
 
     /// Puts a desk with no entries behind a lock, and makes one seat with the share 0 for each of 1 to 64
     /// workers. The blank ledger has one part for each. If memory is refused, the desk is dropped.

@@ -2,7 +2,7 @@
 ghost use Rattle.std.specs.Prelude.{◌≡◌, ◌≤◌, ℕ, IfOk};
 ghost use Rattle.rv_text.specs.declared.message.Message.{Message};
 ghost use Rattle.rv_text.specs.Limits.{FitsAnswer, FitsMessage};
-ghost use Rattle.rv_server.specs.Stamps.{Stamped};
+ghost use Rattle.rv_locked.specs.Stamps.{Stamped};
 
 use rv_text::{Answer, Message, NoMemory};
 use std::alloc::Global;
