@@ -1,0 +1,92 @@
+//! The listener, and when it may be asked.
+use mio::net::{TcpListener, TcpStream};
+use std::io::ErrorKind;
+
+// After so many milliseconds without a descriptor accepting is tried again.
+const ACCEPT_AGAIN: u64 = 100;
+
+// No descriptor was left to the process, or to the system.
+const EMFILE: i32 = 24;
+
+const ENFILE: i32 = 23;
+
+// When the listener may be asked.
+#[derive(Clone, Copy, PartialEq, Eq)]
+enum Asking {
+    // It told that someone waits.
+    Now,
+    // Nobody waits.
+    WhenTold,
+    // There was no descriptor: at this moment.
+    At(u64),
+}
+
+/// What came of asking the listener.
+#[derive(Drop)]
+pub(crate) enum Accepted {
+    /// A connection.
+    Stream(TcpStream),
+    /// Nobody waits.
+    Nobody,
+    /// No descriptor was left.
+    NoDescriptor,
+    /// Whoever waited is gone, or the system failed otherwise.
+    Failed,
+}
+
+/// A listener that is asked until it tells that nobody waits.
+#[derive(Drop)]
+pub(crate) struct Door {
+    listener: TcpListener,
+    asking: Asking,
+}
+
+impl Door {
+    pub(crate) fn new(listener: TcpListener) -> Door {
+        Door {
+            listener,
+            asking: Asking::Now,
+        }
+    }
+
+    /// The poll told that someone waits.
+    pub(crate) fn knock(&mut self) {
+        self.asking = Asking::Now;
+    }
+
+    /// Whether it is to be asked at a moment.
+    pub(crate) fn is_asked(&self, now: u64) -> bool {
+        match self.asking {
+            Asking::Now => true,
+            Asking::WhenTold => false,
+            Asking::At(moment) => moment <= now,
+        }
+    }
+
+    /// The moment at which it is to be asked again without being told, if there is one.
+    pub(crate) fn again(&self) -> Option<u64> {
+        match self.asking {
+            Asking::At(moment) => Some(moment),
+            _ => None,
+        }
+    }
+
+    /// Asks for one connection.
+    pub(crate) fn accept(&mut self, now: u64) -> Accepted {
+        let error = match self.listener.accept() {
+            Ok((stream, _)) => return Accepted::Stream(stream),
+            Err(error) => error,
+        };
+        if error.kind() == ErrorKind::WouldBlock {
+            self.asking = Asking::WhenTold;
+            return Accepted::Nobody;
+        }
+        match error.raw_os_error() {
+            Some(EMFILE) | Some(ENFILE) => {
+                self.asking = Asking::At(now.saturating_add(ACCEPT_AGAIN));
+                Accepted::NoDescriptor
+            }
+            _ => Accepted::Failed,
+        }
+    }
+}
