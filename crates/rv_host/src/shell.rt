@@ -2,7 +2,7 @@
 use crate::door::{Accepted, Door};
 use crate::fault::HostEnd;
 use crate::peers::Peers;
-use crate::report::{FaultKind, Report};
+use crate::report::{FaultKind, HostReport};
 use bytes::BytesMut;
 use libc::net::{IPPROTO_TCP, SO_KEEPALIVE, SOL_SOCKET, TCP_USER_TIMEOUT, setsockopt};
 use mio::net::{TcpListener, TcpStream};
@@ -56,7 +56,7 @@ pub(crate) struct Shell {
     pub(crate) engine: Engine,
     pub(crate) peers: Peers,
     account: Option<Sink<File>>,
-    pub(crate) report: Report,
+    pub(crate) report: HostReport,
     // At most so many connections are open.
     pub(crate) connections: usize,
     pub(crate) memory: usize,
@@ -78,7 +78,7 @@ impl Shell {
         engine: Engine,
         account: Option<Sink<File>>,
         mut listener: TcpListener,
-        report: Report,
+        report: HostReport,
         options: &HostOptions<'_>,
         connections: usize,
     ) -> Result<Shell, HostEnd> {
@@ -115,6 +115,14 @@ impl Shell {
             ),
             Err(_) => self.engine.hub().now(),
         }
+    }
+
+    /// Serves until it can't go on.
+    pub(crate) fn serve(&mut self, rt: &HostRuntime) -> Result<(), HostEnd> {
+        for _ in 0..u64::MAX {
+            self.turn(rt)?;
+        }
+        Ok(())
     }
 
     /// One turn: all that came is taken, and then the answers go out.
