@@ -61,8 +61,8 @@ fn date(rt: &HostRuntime) -> Option<HttpDate> {
 }
 
 impl HostReport {
-    /// Nothing is counted. If it is to be quiet it says nothing but why a server ends, and nothing at all where
-    /// standard error is closed. Under systemd, which adds the times, lines have none.
+    /// Nothing is counted. If it is to be quiet it says nothing but why a server ends, and nothing at all
+    /// where standard error is closed. Under systemd, which adds the times, lines have none.
     pub(crate) fn new(rt: &HostRuntime, is_quiet: bool) -> HostReport {
         let is_journal = is_set(rt, "JOURNAL_STREAM") || is_set(rt, "INVOCATION_ID");
         HostReport {
