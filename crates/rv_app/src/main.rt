@@ -19,7 +19,9 @@ pub use audit::{AuditSaid, audit_run};
 use fault::ProgramFault;
 pub use rv_calls::{CallSaid, RecordFault, RecordingFault, call_run, record_run};
 pub use rv_command::{Command, CommandFault, read_command, read_record, read_verify};
+use rv_command::{HelpAnswer, read_help, words_from};
 use rv_frame::{Sink, Source};
+use rv_host::run_host;
 pub use rv_play::play_run;
 pub use rv_run::{OutputFault, RunFault};
 use rv_server::ServeFault;
@@ -72,6 +74,12 @@ fn run_words<T: Threads + Wait + AllocGlobal + time::Clock + Sync>(
     if let Some(verify) = read_verify(rt.alloc(), words)? {
         return run_verify(rt, threads, &verify);
     }
+    if let Some(help) = read_help(rt.alloc(), words)? {
+        return Ok(tell_help(rt, &help));
+    }
+    if let Some(own) = words_from("host", words) {
+        return Ok(ExitCode::from(run_host(rt, own)));
+    }
     match read_command(rt.alloc(), words)? {
         Command::Book(epoch) => run_book(rt, epoch)?,
         Command::Play => run_play(rt)?,
@@ -98,6 +106,17 @@ fn run_words<T: Threads + Wait + AllocGlobal + time::Clock + Sync>(
         } => return run_call(rt, connect, client, incarnation, speak, tries),
     }
     Ok(ExitCode::SUCCESS)
+}
+
+// Prints the help that was asked for, or why there is none.
+fn tell_help(rt: &HostRuntime, help: &HelpAnswer) -> ExitCode {
+    let status = help.status();
+    let _ = if status == 0 {
+        print!(rt; "{help}")
+    } else {
+        eprint!(rt; "{help}")
+    };
+    ExitCode::from(status)
 }
 
 // The words of the command line. Words that are no UTF-8 name no command.

@@ -8,17 +8,17 @@ const PAUSE: u64 = 60_000;
 
 /// How often something came since it was told, and the moment at which it was told last.
 #[derive(Clone, Copy, Debug, PartialEq, Eq)]
-pub struct Tally {
+pub struct FaultTally {
     pub(crate) count: u64,
     pub(crate) told: Option<u64>,
 }
 
-impl Tally {
+impl FaultTally {
     /// Nothing came, and nothing was told.
-    pub fn new() -> Tally
+    pub fn new() -> FaultTally
         ensures { result ≡ nothing_counted }
     {
-        Tally {
+        FaultTally {
             count: 0,
             told: None,
         }
@@ -56,7 +56,7 @@ impl Tally {
             return None;
         }
         let count = self.count;
-        *self = Tally {
+        *self = FaultTally {
             count: 0,
             told: Some(now),
         };

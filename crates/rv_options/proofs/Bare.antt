@@ -10,7 +10,7 @@ use Rattle.clap.specs.Words.{Row, Text, fault_of, first_of, matches_of}
 use Rattle.rv_options.specs.Laws.{AreBare, BareAlone, BareAreNamed, bare_words}
 use Rattle.rv_options.specs.Words.{host_app}
 use Rattle.rv_options.specs.Epochs.{SaysRule}
-use Rattle.rv_options.specs.Numbers.{Gives, WritesWithin, given_for}
+use Rattle.rv_options.specs.Numbers.{GivesNumber, WritesWithin, given_for}
 use Rattle.rv_options.specs.Options.{NamesOptions, SaysOptions}
 use Rattle.rv_options.specs.declared.epoch.EpochRule.{EpochRule}
 use Rattle.rv_options.specs.declared.epoch.EpochRule.TheVariants.{Above, Clock, Exactly}
@@ -113,19 +113,19 @@ stall_written = record {
 
 -- a number that is written behind an option is what the option gives, and it gives no other
 given : (option : HostNumber) (r : List Row) (text : Text) (m n : ℕ) → given_for option r ≡ Some text
-    → WritesWithin option text m → n ≡ m → Gives option r n
+    → WritesWithin option text m → n ≡ m → GivesNumber option r n
 given option r text m n is written same =
     subst (λ (value : Option Text). IsSomeAnd value (λ t. WritesWithin option t n)) (sym is)
     (subst (λ (k : ℕ). WritesWithin option text k) (sym same) written)
 
 given_alone : (option : HostNumber) (r : List Row) (text : Text) (n : ℕ) → given_for option r ≡ Some text
-    → Gives option r n → n ≡ digits_value 10 (without_leading_plus text)
+    → GivesNumber option r n → n ≡ digits_value 10 (without_leading_plus text)
 given_alone option r text n is gives =
     let written : WritesWithin option text n =
     subst (λ (value : Option Text). IsSomeAnd value (λ t. WritesWithin option t n)) is gives in
     sym written.of_number
 
-none_given : (option : HostNumber) (r : List Row) (n : ℕ) → given_for option r ≡ None → Gives option r n → ⊥
+none_given : (option : HostNumber) (r : List Row) (n : ℕ) → given_for option r ≡ None → GivesNumber option r n → ⊥
 none_given option r n is gives =
     subst (λ (value : Option Text). IsSomeAnd value (λ t. WritesWithin option t n)) is gives
 

@@ -1,7 +1,7 @@
 -- The rules by which a server chooses its epoch.
 use Rattle.std.specs.Prelude.{codes, List, ℕ, None, ◌≡◌}
 use Rattle.clap.specs.Words.{Row}
-use Rattle.rv_options.specs.Numbers.{Fits, Gives, given_for}
+use Rattle.rv_options.specs.Numbers.{Fits, GivesNumber, given_for}
 use Rattle.rv_options.specs.declared.epoch.EpochRule.{EpochRule}
 use Rattle.rv_options.specs.declared.epoch.EpochRule.TheVariants.{Above, Clock, Exactly}
 use Rattle.rv_options.specs.declared.number.HostNumber.TheVariants as number
@@ -15,5 +15,5 @@ FitsRule (Above n) = Fits number.EpochAbove n
 -- the options, by their rows, say this rule
 abbrev pub SaysRule : List Row → EpochRule → Type 0
 SaysRule rows Clock = (given_for number.Epoch rows ≡ None) × (given_for number.EpochAbove rows ≡ None)
-SaysRule rows (Exactly epoch) = Gives number.Epoch rows epoch × (given_for number.EpochAbove rows ≡ None)
-SaysRule rows (Above n) = (given_for number.Epoch rows ≡ None) × Gives number.EpochAbove rows n
+SaysRule rows (Exactly epoch) = GivesNumber number.Epoch rows epoch × (given_for number.EpochAbove rows ≡ None)
+SaysRule rows (Above n) = (given_for number.Epoch rows ≡ None) × GivesNumber number.EpochAbove rows n

@@ -45,5 +45,5 @@ abbrev pub given_for : HostNumber → List Row → Option Text
 given_for number = first_of (option_word number)
 
 -- the option's value is there, and is this number
-abbrev pub Gives : HostNumber → List Row → ℕ → Type 0
-Gives number rows n = IsSomeAnd (given_for number rows) (λ text. WritesWithin number text n)
+abbrev pub GivesNumber : HostNumber → List Row → ℕ → Type 0
+GivesNumber number rows n = IsSomeAnd (given_for number rows) (λ text. WritesWithin number text n)

@@ -4,7 +4,7 @@ ghost use Rattle.clap.specs.Walk.{texts};
 ghost use Rattle.clap.specs.Words.{IsAmong, fault_of, first_of, found_of, kind_of, matches_of, rows_of};
 ghost use Rattle.rv_options.specs.Epochs.{SaysRule};
 ghost use Rattle.rv_options.specs.Faults.{IsFault, IsFaultOf};
-ghost use Rattle.rv_options.specs.Numbers.{Gives, given_for};
+ghost use Rattle.rv_options.specs.Numbers.{GivesNumber, given_for};
 ghost use Rattle.rv_options.specs.Options.{NamesOptions, SaysOptions};
 ghost use Rattle.rv_options.specs.Words.{host_app};
 
@@ -97,7 +97,7 @@ fn epoch_of<'a>(given: &ArgMatches<'a>) -> Result<EpochRule, HostFault<'a>>
 
 // The number that an option's value writes.
 fn number_of<'a>(given: &ArgMatches<'a>, number: HostNumber) -> Result<u64, HostFault<'a>>
-    ensures ok { IfOk result (Gives number (rows_of (found_of given.now))) }
+    ensures ok { IfOk result (GivesNumber number (rows_of (found_of given.now))) }
     ensures fault { IfErr result (IsFaultOf (rows_of (found_of given.now))) }
 {
     let Some(text) = text_of(given, number.word()) else {

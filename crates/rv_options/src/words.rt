@@ -1,6 +1,7 @@
 //! The command `host`, as clap reads it.
 ghost use Rattle.std.specs.Prelude.{◌≡◌, ◌∷◌, [], codes, false, IfOk};
 ghost use Rattle.clap.specs.Words.{app_of, new_app, rule_of};
+ghost use Rattle.clap.specs.declared.Command.TheViews.{out-Command};
 ghost use Rattle.rv_options.specs.Words.{bounded_app, epoch_app, flag_rule, host_app, link_app, place_app};
 ghost use Rattle.rv_options.specs.Words.{text_rule};
 
@@ -9,7 +10,8 @@ use std::alloc::{AllocError, Global};
 
 /// The command `host` with its options, their defaults, and what help says of them.
 pub fn host_words<'a>(alloc: Global) -> Result<Command<'a>, AllocError>
-    ensures { IfOk result (λ c. app_of c ≡ host_app) }
+    ensures app { IfOk result (λ c. app_of c ≡ host_app) }
+    ensures local { IfOk result (λ c. (out-Command c).has_globals ≡ false) }
 {
     link_words(alloc)?
         .arg(usual_number(
@@ -29,7 +31,8 @@ pub fn host_words<'a>(alloc: Global) -> Result<Command<'a>, AllocError>
 
 // The command with no option yet.
 fn named<'a>(alloc: Global) -> Result<Command<'a>, AllocError>
-    ensures { IfOk result (λ c. app_of c ≡ new_app (codes "host")) }
+    ensures app { IfOk result (λ c. app_of c ≡ new_app (codes "host")) }
+    ensures local { IfOk result (λ c. (out-Command c).has_globals ≡ false) }
 {
     Command::new(alloc, "host")
         .about("Serve a book, in memory, until the server is killed")
@@ -38,7 +41,8 @@ fn named<'a>(alloc: Global) -> Result<Command<'a>, AllocError>
 
 // Those of its options that say where it listens, and what it keeps.
 fn place_words<'a>(alloc: Global) -> Result<Command<'a>, AllocError>
-    ensures { IfOk result (λ c. app_of c ≡ place_app) }
+    ensures app { IfOk result (λ c. app_of c ≡ place_app) }
+    ensures local { IfOk result (λ c. (out-Command c).has_globals ≡ false) }
 {
     named(alloc)?
         .arg(text_option(alloc, "listen", "ADDR", true, "Where it listens"))?
@@ -53,7 +57,8 @@ fn place_words<'a>(alloc: Global) -> Result<Command<'a>, AllocError>
 
 // These, and those that choose the epoch.
 fn epoch_words<'a>(alloc: Global) -> Result<Command<'a>, AllocError>
-    ensures { IfOk result (λ c. app_of c ≡ epoch_app) }
+    ensures app { IfOk result (λ c. app_of c ≡ epoch_app) }
+    ensures local { IfOk result (λ c. (out-Command c).has_globals ≡ false) }
 {
     place_words(alloc)?
         .arg(text_option(
@@ -74,7 +79,8 @@ fn epoch_words<'a>(alloc: Global) -> Result<Command<'a>, AllocError>
 
 // These, and those that bound the book.
 fn book_words<'a>(alloc: Global) -> Result<Command<'a>, AllocError>
-    ensures { IfOk result (λ c. app_of c ≡ bounded_app) }
+    ensures app { IfOk result (λ c. app_of c ≡ bounded_app) }
+    ensures local { IfOk result (λ c. (out-Command c).has_globals ≡ false) }
 {
     epoch_words(alloc)?
         .arg(usual_number(alloc, "clients", "65536", "How many clients it takes"))?
@@ -88,7 +94,8 @@ fn book_words<'a>(alloc: Global) -> Result<Command<'a>, AllocError>
 
 // These, and those that bound all connections.
 fn link_words<'a>(alloc: Global) -> Result<Command<'a>, AllocError>
-    ensures { IfOk result (λ c. app_of c ≡ link_app) }
+    ensures app { IfOk result (λ c. app_of c ≡ link_app) }
+    ensures local { IfOk result (λ c. (out-Command c).has_globals ≡ false) }
 {
     book_words(alloc)?
         .arg(usual_number(

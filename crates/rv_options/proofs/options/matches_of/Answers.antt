@@ -19,20 +19,20 @@ simple = refl
 
 pub returns-clause-taken : goal.returns-clause-taken
 returns-clause-taken c =
-    let app = c.in_ok-command.ensures in
+    let app = c.in_ok-command.ensures.app in
     subst (λ (a : App). fault_of a (texts c.args.words.now) ≡ []) app
     (c.in_ok-try_get_matches_from.ensures.kinds (ap is_simple_and_free app ∙ simple_and_free))
 
 pub returns-clause-found : goal.returns-clause-found
 returns-clause-found c =
     let found = subst (λ (a : App). HasMatchesOf a (texts c.args.words.now)
-    c.in_ok-try_get_matches_from.field-0) c.in_ok-command.ensures
+    c.in_ok-try_get_matches_from.field-0) c.in_ok-command.ensures.app
     c.in_ok-try_get_matches_from.ensures.matches in
     (found simple).0
 
 pub returns-in_err-try_get_matches_from-clause-fault : goal.returns-in_err-try_get_matches_from-clause-fault
 returns-in_err-try_get_matches_from-clause-fault c =
-    let app = c.in_ok-command.ensures in
+    let app = c.in_ok-command.ensures.app in
     let error = c.in_err-try_get_matches_from.field-0.0 in
     let back = c.from_residual-in_err-try_get_matches_from in
     let exit = err_from_is_err_and back.result back.ensures.1 in

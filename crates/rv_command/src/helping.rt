@@ -1,0 +1,89 @@
+//! Reads the words of `rv help`.
+ghost use Rattle.std.specs.Prelude.{◌≡◌, [], codes, false, IfOk, IfSome, IsErrOf, None};
+ghost use Rattle.clap.specs.Words.{FailsBy, app_of, fault_of, kind_of};
+ghost use Rattle.clap.specs.declared.Command.TheViews.{out-Command};
+ghost use Rattle.clap.specs.Walk.{texts};
+ghost use Rattle.rv_command.specs.Beginning.{BeginWithout};
+ghost use Rattle.rv_command.specs.Helping.{IsHelpFor, help_app, help_status, record_app};
+
+use crate::command::{CommandFault, named, program, required_option};
+use crate::verifying;
+use crate::words::words_from;
+use clap::error::ErrorKind;
+use rv_options::host_words;
+use std::alloc::{AllocError, Global};
+use std::fmt;
+
+/// What a call for help is answered with: its `Display` is the text.
+#[derive(Debug, Drop)]
+pub struct HelpAnswer {
+    pub(crate) error: clap::Error,
+}
+
+impl HelpAnswer {
+    /// The status of a program that ends by it: 0 for help, 2 where it can't be given.
+    pub fn status(&self) -> u8
+        ensures { result ≡ help_status (kind_of self.now.error) }
+    {
+        match self.error.kind() {
+            ErrorKind::DisplayHelp => 0,
+            _ => 2,
+        }
+    }
+}
+
+impl fmt::Display for HelpAnswer {
+    fn fmt<W: fmt::Write>(&self, f: &mut fmt::Formatter<W>) -> fmt::Result {
+        let error = &self.error;
+        write!(f, "{error}")
+    }
+}
+
+/// `rv help`, alone or with a command's name behind it: the help that `clap` has, or why it has none. Words that
+/// begin otherwise ask for none. The first word is the program's name.
+pub fn read_help<'a>(
+    alloc: Global,
+    words: &'a [&'a str],
+) -> Result<Option<HelpAnswer>, CommandFault>
+    ensures answered { IfOk result (λ found. IfSome found (IsHelpFor (texts words.entry.now))) }
+    ensures other { IfOk result (λ found. found ≡ None → BeginWithout (codes "help") (texts words.entry.now)) }
+    ensures bad { IsErrOf result CommandFault.Bad → fault_of help_app (texts words.entry.now) ≡ [] }
+{
+    match words_from("help", words) {
+        Some(_) => Ok(Some(answer(alloc, words)?)),
+        None => Ok(None),
+    }
+}
+
+// What clap says of the words, of which it takes none.
+fn answer<'a>(alloc: Global, words: &'a [&'a str]) -> Result<HelpAnswer, CommandFault>
+    ensures answered { IfOk result (IsHelpFor (texts words.entry.now)) }
+    ensures bad { IsErrOf result CommandFault.Bad → fault_of help_app (texts words.entry.now) ≡ [] }
+{
+    let command = whole_program(alloc)?;
+    match command.try_get_matches_from(words) {
+        Ok(_) => Err(CommandFault::Bad),
+        Err(error) => match error.kind() {
+            ErrorKind::OutOfMemory => Err(CommandFault::NoMemory),
+            _ => Ok(HelpAnswer { error }),
+        },
+    }
+}
+
+// The program with all its commands.
+fn whole_program<'a>(alloc: Global) -> Result<clap::Command<'a>, AllocError>
+    ensures { IfOk result (λ c. app_of c ≡ help_app) }
+{
+    program(alloc)?
+        .subcommand(record_words(alloc)?)?
+        .subcommand(verifying::command(alloc)?)?
+        .subcommand(host_words(alloc)?)
+}
+
+// `record --to FILE`, as help tells it.
+fn record_words<'a>(alloc: Global) -> Result<clap::Command<'a>, AllocError>
+    ensures app { IfOk result (λ c. app_of c ≡ record_app) }
+    ensures local { IfOk result (λ c. (out-Command c).has_globals ≡ false) }
+{
+    named(alloc, "record").arg(required_option(alloc, "to"))
+}
