@@ -67,6 +67,16 @@ gathers_then entries more left later before lines after first second = record {
       ∙ ap (λ (l : List ℕ). before ++ l) (sym (lines_append first.front second.front));
 }
 
+-- the same behind other lines
+pub gathers_shift : (entries left : List Entry) (bytes before lines : List ℕ)
+    → GathersFront entries before left lines → GathersFront entries (bytes ++ before) left (bytes ++ lines)
+gathers_shift entries left bytes before lines is = record {
+  front = is.front;
+  parts = is.parts;
+  gathered = ap (λ (l : List ℕ). bytes ++ l) is.gathered
+      ∙ sym (append_assoc bytes before (entry_lines is.front));
+}
+
 -- all that were left are gathered, and then a front of others
 pub gathers_behind : (entries made left : List Entry) (before lines : List ℕ)
     → GathersFront made (before ++ entry_lines entries) left lines

@@ -2,4 +2,6 @@
 pub mod Gathered
 pub mod Looking
 pub mod Through
+pub mod Sure
+pub mod Written
 pub mod Running

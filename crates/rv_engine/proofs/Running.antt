@@ -13,13 +13,14 @@ use Rattle.rv_hub.proofs.Longer.{counted_run}
 use Rattle.rv_hub.proofs.OneRun.{hubs_are_runs}
 use Rattle.rv_engine.specs.declared.events.EngineFault.TheVariants as fault
 use Rattle.rv_engine.specs.Engines.{EngineState}
-use Rattle.rv_engine.specs.Handing.{GathersFront, entries_kept, lines_gone, entry_lines}
+use Rattle.rv_engine.specs.Handing.{GathersFront, entries_kept, entry_lines}
 use Rattle.rv_engine.specs.EngineRuns.{AccountsAreKept, EngineDeed, EnginesAreRuns}
 use Rattle.rv_engine.specs.EngineRuns.{HandedOn}
-use Rattle.rv_engine.specs.EngineRuns.{HandsOnNext, IsAllWritten, IsEngineRun, NotTaken}
+use Rattle.rv_engine.specs.EngineRuns.{HandsOnNext, IsAllWritten, NotTaken}
 use Rattle.rv_engine.specs.EngineRuns.{RunsEngine}
 use Rattle.rv_engine.specs.EngineRuns.{WrittenAreCounted, WroteLines, answers_in, bytes_written}
-use Rattle.rv_engine.proofs.Gathered.{gathers_all, gathers_behind, gathers_then, kept_append, lines_append}
+use Rattle.rv_engine.proofs.Gathered.{gathers_all, gathers_behind, gathers_shift, gathers_then, kept_append}
+use Rattle.rv_engine.proofs.Gathered.{lines_append}
 
 abbrev rest_of : Bool → List EngineDeed → List Entry
 rest_of journal deeds = entries_kept journal (made_in (answers_in deeds))
@@ -70,18 +71,15 @@ engines_are_runs journal terms (NotTaken what fault.NoMemory ∷ deeds) s t (bet
 engines_are_runs journal terms (NotTaken what (fault.NotWritten why) ∷ deeds) s t (between, does, later) =
     absurd does
 engines_are_runs journal terms (WroteLines bytes ∷ deeds) s t (between, does, later) =
-    let more : IsEngineRun journal terms (lines_gone s) deeds t =
-    engines_are_runs journal terms deeds (lines_gone s) t
-    (subst (λ (x : EngineState). RunsEngine journal terms x deeds t) does.1 later) in
+    let more = engines_are_runs journal terms deeds between t later in
     record {
-      hub = more.hub;
-      account = record {
-        front = more.account.front;
-        parts = more.account.parts;
-        gathered = append_assoc bytes (bytes_written deeds) t.lines
-            ∙ ap (λ (l : List ℕ). bytes ++ l) more.account.gathered
-            ∙ ap (λ (l : List ℕ). l ++ entry_lines more.account.front) does.0;
-      };
+      hub = subst (λ (h : DeskState). RunsHub journal terms h (answers_in deeds) t.hub) does.hub more.hub;
+      account = subst (λ (l : List ℕ). GathersFront (s.left ++ rest_of journal deeds) s.lines t.left l)
+          (sym (append_assoc bytes (bytes_written deeds) t.lines))
+          (gathers_then s.left (rest_of journal deeds) between.left t.left s.lines (bytes ++ between.lines)
+          (bytes ++ (bytes_written deeds ++ t.lines)) does.gathers
+          (gathers_shift (between.left ++ rest_of journal deeds) t.left bytes between.lines
+          (bytes_written deeds ++ t.lines) more.account));
     }
 
 -- ---- where an account is kept

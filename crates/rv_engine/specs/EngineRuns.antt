@@ -1,6 +1,5 @@
 -- Calls of an engine, one after another: of the hub the run of exactly the events that were handed on, and of
--- the
--- account the lines of all entries that these made, in order.
+-- the account the lines of all entries that these made, in order.
 use Rattle.std.specs.Prelude.{ℕ, ◌≡◌, ◌≤◌, ◌+◌, Bool, true, List, [], ◌∷◌, ◌++◌, length}
 use Rattle.rv_account.specs.declared.entry.Entry.{Entry}
 use Rattle.rv_account.specs.Account.{Account}
@@ -15,9 +14,8 @@ use Rattle.rv_hub.specs.HubRuns.{made_in}
 use Rattle.rv_engine.specs.declared.events.EngineFault.{EngineFault}
 use Rattle.rv_engine.specs.declared.events.EngineFault.TheVariants as fault
 use Rattle.rv_engine.specs.Engines.{EngineState}
-use Rattle.rv_engine.specs.Handing.{GathersFront, HandsOn, IsRefused, gathered_count, entries_kept}
-use Rattle.rv_engine.specs.Handing.{lines_gone}
-use Rattle.rv_engine.specs.Handing.{unwritten}
+use Rattle.rv_engine.specs.Handing.{GathersFront, HandsOn, IsRefused, WritesLines, entries_kept}
+use Rattle.rv_engine.specs.Handing.{gathered_count, unwritten}
 
 -- what came of an event, or of lines
 pub data EngineDeed : Type 0 where
@@ -25,14 +23,14 @@ pub data EngineDeed : Type 0 where
   HandedOn : (handed : ℕ) (what : HubEvent) (made : List Entry) (given : ℕ) → EngineDeed
   -- it wasn't taken
   NotTaken : (what : HubEvent) (why : EngineFault) → EngineDeed
-  -- these lines were written
+  -- lines were gathered, and these were written
   WroteLines : (bytes : List ℕ) → EngineDeed
 
 abbrev pub DoesDeed : Bool → DeskTerms → EngineState → EngineDeed → EngineState → Type 0
 DoesDeed journal terms s (HandedOn handed what made given) t = HandsOn journal terms s handed what made given
     t
 DoesDeed journal terms s (NotTaken what why) t = IsRefused s what why t
-DoesDeed journal terms s (WroteLines bytes) t = (bytes ≡ s.lines) × (t ≡ lines_gone s)
+DoesDeed journal terms s (WroteLines bytes) t = WritesLines s bytes t
 
 abbrev pub RunsEngine : Bool → DeskTerms → EngineState → List EngineDeed → EngineState → Type 0
 RunsEngine journal terms s [] t = t ≡ s
@@ -75,9 +73,7 @@ pub record IsAllWritten (s : EngineState) : Type 0 where
   pub lines : s.lines ≡ []
   pub left : s.left ≡ []
 
--- what is written and gathered are the lines of a front of the entries; it has as many as the hub is told
--- when
--- the lines that are gathered are written
+-- what is written and gathered are the lines of a front of the entries: of all, where none is left
 pub record AreCounted (s : EngineState) (made : List Entry) (bytes : List ℕ) (t : EngineState) : Type 0 where
   pub gathers : GathersFront made [] t.left (bytes ++ t.lines)
   pub count : gathered_count t ≡ s.hub.book.length + length gathers.front

@@ -1,5 +1,5 @@
 -- What comes of an event that a shell tells an engine.
-use Rattle.std.specs.Prelude.{ℕ, ◌≡◌, ◌<◌, ◌-◌, ◌↔◌, ◌⊎◌, Bool, false, true, List, [], ◌++◌, Contains, length}
+use Rattle.std.specs.Prelude.{ℕ, ◌≡◌, ◌<◌, ◌≤◌, ◌-◌, ◌↔◌, ◌⊎◌, Bool, false, true, List, [], ◌++◌, Contains, length}
 use Rattle.std.specs.Prelude.{Option, map, take}
 use Rattle.rv_account.specs.declared.entry.Entry.{Entry}
 use Rattle.rv_frame.specs.declared.sink.Sink.{Sink}
@@ -26,6 +26,16 @@ told_hub (link.Ended connection) = event.Ended connection
 told_hub (link.Gone connection) = event.Gone connection
 told_hub (link.Took connection count) = event.Took connection count
 told_hub link.Passed = event.Passed
+
+-- any event but that a connection is to be opened
+abbrev pub IsNoOpening : HubEvent → Type 0
+IsNoOpening event.Opened = ⊥
+IsNoOpening (event.Came connection piece) = Unit {0}
+IsNoOpening (event.Ended connection) = Unit {0}
+IsNoOpening (event.Gone connection) = Unit {0}
+IsNoOpening (event.Took connection count) = Unit {0}
+IsNoOpening (event.Written entries) = Unit {0}
+IsNoOpening event.Passed = Unit {0}
 
 -- ---- the account
 
@@ -113,22 +123,31 @@ IsRefused old what (fault.NotWritten why) new = ⊥
 
 -- ---- writing
 
--- the lines that are gathered are written
-abbrev pub lines_gone : EngineState → EngineState
-lines_gone s = record s { lines = [] }
+-- of the lines that aren't written these are now, first ones, and of those left some may be gathered
+pub record WritesLines (old : EngineState) (bytes : List ℕ) (new : EngineState) : Type 0 where
+  pub gathers : GathersFront old.left old.lines new.left (bytes ++ new.lines)
+  pub hub : new.hub ≡ old.hub
+  pub looks : SameLooks old new
 
--- the hub is told of all entries that have their line gathered
-abbrev pub written_event : EngineState → HubEvent
-written_event s = event.Written (gathered_count s)
+-- all lines are gathered and written
+abbrev pub all_gone : EngineState → EngineState
+all_gone s = record s { lines = []; left = [] }
 
--- why the hub isn't told that lines are written: the device took a part of them alone, and then nothing
--- changed; or it took all, and the event wasn't taken
+-- the hub is told that all its entries are written, where it knows of fewer
+pub record TellsWritten (journal : Bool) (terms : DeskTerms) (old : EngineState) (now : ℕ)
+    (made : List Entry) (new : EngineState) : Type 0
+  where
+    pub fewer : old.hub.open_wires.written < old.hub.book.length → (given : ℕ)
+        × HandsOn journal terms old now (event.Written old.hub.book.length) made given new
+    pub all : old.hub.book.length ≤ old.hub.open_wires.written → new ≡ old
+
+-- why the hub isn't told: the device took a part alone of the lines that were gathered, which are gathered
+-- still; or it took them all, but memory was refused to others
 abbrev pub IsNotTold : {W : Type 0} → (W → Option (List ℕ)) → EngineState → Sink W → EngineFault → EngineState
     → Sink W → Type 0
 IsNotTold contents old before (fault.NotWritten why) new after =
-    (new ≡ old) × SinkTakes contents before after (take why.sent old.lines)
-IsNotTold contents old before (fault.Refused why) new after =
-    SinkTakes contents before after old.lines
-    × RefusedByHub (lines_gone old) (written_event old) why new
+    Gathers old new × SinkTakes contents before after (take why.sent new.lines)
 IsNotTold contents old before fault.NoMemory new after =
-    SinkTakes contents before after old.lines × NotHandedOn (lines_gone old) new
+    (0 < length new.left) × (new.lines ≡ []) × (bytes : List ℕ) × SinkTakes contents before after bytes
+    × WritesLines old bytes new
+IsNotTold contents old before (fault.Refused why) new after = ⊥

@@ -50,8 +50,9 @@ impl Engine {
     ghost use Rattle.rv_wires.specs.Connections.{none_open};
     ghost use Rattle.rv_hub.specs.Hubs.{hub_terms};
     ghost use Rattle.rv_engine.specs.Engines.{engine_state};
-    ghost use Rattle.rv_engine.specs.Handing.{Gathers, HandsOn, IsNotTold, IsRefused, LooksAt, lines_gone};
-    ghost use Rattle.rv_engine.specs.Handing.{told_hub, written_event};
+    ghost use Rattle.rv_hub.specs.Events.{EventCan};
+    ghost use Rattle.rv_engine.specs.Handing.{Gathers, HandsOn, IsNoOpening, IsNotTold, IsRefused, LooksAt};
+    ghost use Rattle.rv_engine.specs.Handing.{TellsWritten, all_gone, told_hub, unwritten};
 
     /// An engine over a machine, with the limits of each step. A request that waits is told so when it has
     /// waited `patience` milliseconds for a frame, at least 1. Only connections below `room` are listed.
@@ -117,18 +118,28 @@ impl Engine {
         handing::hand_on(&mut self.parts, now, hub_event(event))
     }
 
-    /// Writes the lines that are gathered, and tells the hub that their entries are written. Where the device
-    /// doesn't take them all the hub isn't told, and nothing changes.
-    pub fn write_lines<W: Write>(
-        &mut self,
-        now: u64,
-        file: &mut Sink<W>,
-    ) -> Result<usize, EngineFault>
-        ensures written { OnOk result (SinkTakes W.contents file.old file.new (engine_state self.old).lines) }
-        ensures takes { IfOk result (λ given. HandsOn self.old.hub.has_journal (hub_terms self.old.hub)
-            (lines_gone (engine_state self.old)) now (written_event (engine_state self.old))
-            self.new.hub.desk.entries.items given (engine_state self.new)) }
-        ensures refused { IfErr result (λ why. IsNotTold W.contents (engine_state self.old) file.old why
+    /// Hands on an event that can be, where no entry is left: then it isn't refused. It gives what `tell` does.
+    pub fn hand(&mut self, now: u64, event: LinkEvent<'_>) -> usize
+        requires none_left { (engine_state self.old).left ≡ [] }
+        requires can { EventCan (engine_state self.old).hub (told_hub event.entry) }
+        requires no_opening { IsNoOpening (told_hub event.entry) }
+        ensures takes { HandsOn self.old.hub.has_journal (hub_terms self.old.hub) (engine_state self.old) now
+            (told_hub event.entry) self.new.hub.desk.entries.items result (engine_state self.new) }
+        ensures terms { hub_terms self.new.hub ≡ hub_terms self.old.hub }
+        ensures journal { self.new.hub.has_journal ≡ self.old.hub.has_journal }
+    {
+        handing::hand_sure(&mut self.parts, now, hub_event(event))
+    }
+
+    /// Writes all lines that aren't written, and tells the hub that all entries are, where it knows of fewer.
+    /// Where the device doesn't take all lines that are gathered, they are gathered still; where memory is
+    /// refused to some, those before them are written. Then the hub isn't told.
+    pub fn write_lines<W: Write>(&mut self, now: u64, file: &mut Sink<W>) -> Result<(), EngineFault>
+        ensures written { OnOk result (SinkTakes W.contents file.old file.new
+            (unwritten (engine_state self.old))) }
+        ensures tells { OnOk result (TellsWritten self.old.hub.has_journal (hub_terms self.old.hub)
+            (all_gone (engine_state self.old)) now self.new.hub.desk.entries.items (engine_state self.new)) }
+        ensures not_told { IfErr result (λ why. IsNotTold W.contents (engine_state self.old) file.old why
             (engine_state self.new) file.new) }
         ensures terms { hub_terms self.new.hub ≡ hub_terms self.old.hub }
         ensures journal { self.new.hub.has_journal ≡ self.old.hub.has_journal }

@@ -3,7 +3,8 @@ ghost use Rattle.std.specs.Prelude.{◌≡◌, ◌≤◌, ◌<◌, ◌∷◌, []
 ghost use Rattle.std.specs.Bool.{OnFalse, OnTrue};
 ghost use Rattle.rv_hub.specs.Hubs.{hub_terms};
 ghost use Rattle.rv_engine.specs.Engines.{IsEngine, engine_state};
-ghost use Rattle.rv_engine.specs.Handing.{Gathers, HandsOn, IsRefused, LooksAt};
+ghost use Rattle.rv_hub.specs.Events.{EventCan};
+ghost use Rattle.rv_engine.specs.Handing.{Gathers, HandsOn, IsNoOpening, IsRefused, LooksAt};
 
 use crate::events::EngineFault;
 use crate::gathering::{gather, gather_kept};
@@ -71,6 +72,24 @@ fn hand_over(parts: &mut EngineParts, now: u64, event: HubEvent<'_>) -> Result<u
             parts.gathered = 0;
             Err(EngineFault::Refused(why))
         }
+    }
+}
+
+/// Hands on an event that can be, where no entry is left: then it isn't refused.
+pub(crate) fn hand_sure(parts: &mut EngineParts, now: u64, event: HubEvent<'_>) -> usize
+    requires sound { IsEngine parts.old }
+    requires none_left { (engine_state parts.old).left ≡ [] }
+    requires can { EventCan (engine_state parts.old).hub event.entry }
+    requires no_opening { IsNoOpening event.entry }
+    ensures sound { IsEngine parts.new }
+    ensures takes { HandsOn parts.old.hub.has_journal (hub_terms parts.old.hub) (engine_state parts.old) now
+        event.entry parts.new.hub.desk.entries.items result (engine_state parts.new) }
+    ensures terms { hub_terms parts.new.hub ≡ hub_terms parts.old.hub }
+    ensures journal { parts.new.hub.has_journal ≡ parts.old.hub.has_journal }
+{
+    match hand_over(parts, now, event) {
+        Ok(given) => given,
+        Err(_) => unreachable!(),
     }
 }
 

@@ -5,11 +5,9 @@ mod door;
 mod fault;
 mod host;
 mod journal;
-mod peers;
 mod report;
 mod shell;
 mod start;
-mod traffic;
 mod watch;
 
 pub use host::run_host;

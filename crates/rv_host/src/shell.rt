@@ -1,25 +1,21 @@
-//! The shell of a server: what the poll tells, handed to the hub, and what the hub hands out, written.
+//! The shell of a server: what the poll tells is handed to the traffic of its sockets, turn by turn.
 use crate::door::{Accepted, Door};
 use crate::fault::HostEnd;
-use crate::peers::Peers;
 use crate::report::{FaultKind, HostReport};
-use bytes::BytesMut;
 use libc::net::{IPPROTO_TCP, SO_KEEPALIVE, SOL_SOCKET, TCP_USER_TIMEOUT, setsockopt};
 use mio::net::{TcpListener, TcpStream};
 use mio::{Events, Interest, Poll, Token};
-use rv_engine::{Engine, EngineFault, LinkEvent};
+use rv_engine::{Engine, EngineFault};
 use rv_frame::Sink;
 use rv_hearers::ConnectionNumber;
+use rv_links::Links;
 use rv_options::HostOptions;
-use std::alloc::Global;
+use rv_traffic::{Reading, Traffic, Writing};
 use std::fs::File;
 use std::os::fd::AsRawFd;
 use std::time::{Clock, Duration};
 
 const LISTENER: Token = Token(usize::MAX);
-
-// The most bytes of one read.
-const PIECE: usize = 65_536;
 
 // The most events of one poll, and the most accepts of one turn.
 const EVENTS: usize = 1_024;
@@ -45,30 +41,24 @@ fn keep_alive(stream: &TcpStream) {
     let _ = unsafe { setsockopt(number, IPPROTO_TCP, TCP_USER_TIMEOUT, &value, 4) };
 }
 
-/// A server's poll and sockets, over the hub.
+/// A server's poll, listener and account, over the traffic of its sockets.
 #[derive(Drop)]
 pub(crate) struct Shell {
-    pub(crate) alloc: Global,
     start: Duration,
     poll: Poll,
     events: Events,
     door: Door,
-    pub(crate) engine: Engine,
-    pub(crate) peers: Peers,
+    pub(crate) traffic: Traffic<TcpStream>,
     account: Option<Sink<File>>,
     pub(crate) report: HostReport,
     // At most so many connections are open.
     pub(crate) connections: usize,
-    pub(crate) memory: usize,
+    pub(crate) memory: u128,
     pub(crate) idle: u64,
     pub(crate) stall: u64,
     // When all were looked over.
     pub(crate) looked_over: u64,
-    // Into which each read goes.
-    pub(crate) buffer: BytesMut,
-    // The bytes that were read and that the hub hasn't taken, of all connections; and the unread ones of the hub, as
-    // they were when all were looked over.
-    pub(crate) pending: usize,
+    // The unread bytes of the hub, as they were when all were looked over.
     pub(crate) unread: usize,
 }
 
@@ -87,34 +77,20 @@ impl Shell {
         poll.registry()
             .register(&mut listener, LISTENER, Interest::READABLE)?;
         Ok(Shell {
-            alloc,
             start: rt.monotonic()?,
             poll,
             events: Events::with_capacity(alloc, EVENTS)?,
             door: Door::new(listener),
-            engine,
-            peers: Peers::new(alloc, connections)?,
+            traffic: Traffic::new(engine, Links::new(alloc, connections)?),
             account,
             report,
             connections,
-            memory: (options.memory as usize) * 1_048_576,
-            idle: options.idle * 1_000,
-            stall: options.stall * 1_000,
+            memory: options.memory as u128 * 1_048_576,
+            idle: options.idle.saturating_mul(1_000),
+            stall: options.stall.saturating_mul(1_000),
             looked_over: 0,
-            buffer: BytesMut::with_capacity(alloc, PIECE)?,
-            pending: 0,
             unread: 0,
         })
-    }
-
-    // The milliseconds since the start. A clock that fails stands still.
-    fn now(&self, rt: &HostRuntime) -> u64 {
-        match rt.monotonic() {
-            Ok(since) => u64::try_from(since.saturating_sub(self.start).as_millis()).unwrap_or(
-                u64::MAX,
-            ),
-            Err(_) => self.engine.hub().now(),
-        }
     }
 
     /// Serves until it can't go on.
@@ -125,37 +101,51 @@ impl Shell {
         Ok(())
     }
 
-    /// One turn: all that came is taken, and then the answers go out.
-    pub(crate) fn turn(&mut self, rt: &HostRuntime) -> Result<(), HostEnd> {
-        let wait = if self.engine.catch_up() {
-            self.wait(self.now(rt))
-        } else {
-            MEMORY_AGAIN
-        };
+    // The milliseconds since the start. A clock that fails stands still.
+    fn now(&self, rt: &HostRuntime) -> u64 {
+        match rt.monotonic() {
+            Ok(since) => {
+                let passed = since.saturating_sub(self.start).as_millis();
+                u64::try_from(passed).unwrap_or(u64::MAX)
+            }
+            Err(_) => self.traffic.engine().hub().now(),
+        }
+    }
+
+    // One turn: all that came is taken, and then the answers go out.
+    fn turn(&mut self, rt: &HostRuntime) -> Result<(), HostEnd> {
+        let wait = self.wait(self.now(rt));
         self.poll
             .poll(&mut self.events, Some(Duration::from_millis(wait)))?;
         let now = self.now(rt);
         self.heed();
-        let _ = self.tell(now, LinkEvent::Passed);
+        self.traffic.pass(now);
         self.accept(now);
-        self.engine.begin_round();
         self.read_all(now);
         self.write_account(now)?;
-        self.engine.begin_round();
         self.write_all(now);
         self.look_over(rt, now);
         Ok(())
     }
 
     // For how many milliseconds the poll may wait.
-    fn wait(&self, now: u64) -> u64 {
-        let may_accept = self.peers.len() < self.connections;
+    fn wait(&mut self, now: u64) -> u64 {
+        if !self.traffic.catch_up() {
+            self.report.note(FaultKind::Behind);
+            return MEMORY_AGAIN;
+        }
+        let may_accept = self.traffic.links().len() < self.connections;
         if !self.is_quiet() || (may_accept && self.door.is_asked(now)) {
             return 0;
         }
-        let mut until = self.engine.hub().next_moment().unwrap_or(u64::MAX);
-        if self.peers.len() > 0 {
-            until = until.min(self.looked_over + LOOK_OVER);
+        let mut until = self
+            .traffic
+            .engine()
+            .hub()
+            .next_moment()
+            .unwrap_or(u64::MAX);
+        if self.traffic.links().len() > 0 {
+            until = until.min(self.looked_over.saturating_add(LOOK_OVER));
         }
         if may_accept {
             until = until.min(self.door.again().unwrap_or(u64::MAX));
@@ -163,41 +153,24 @@ impl Shell {
         until.saturating_sub(now).min(LONGEST_WAIT)
     }
 
+    // Whether nobody is to be looked at, and all entries are written.
+    fn is_quiet(&self) -> bool {
+        let engine = self.traffic.engine();
+        engine.is_quiet() && engine.hub().written() >= engine.hub().machine().length() as u64
+    }
+
     // Takes in what the poll tells.
     fn heed(&mut self) {
         for event in self.events.iter() {
             if event.token() == LISTENER {
                 self.door.knock();
-                continue;
+            } else {
+                let is_over = event.is_error();
+                let is_readable = event.is_readable() || event.is_read_closed() || is_over;
+                let is_writable = event.is_writable() || event.is_write_closed() || is_over;
+                self.traffic
+                    .heed(event.token().0, is_readable, is_writable);
             }
-            let number = event.token().0;
-            let Some(peer) = self.peers.get_mut(number) else {
-                continue;
-            };
-            if event.is_readable() || event.is_read_closed() || event.is_error() {
-                peer.is_readable = true;
-            }
-            if event.is_writable() || event.is_write_closed() || event.is_error() {
-                peer.is_writable = true;
-            }
-            self.engine.look_at(number);
-        }
-    }
-
-    // Whether nobody is to be looked at, and no entry is unwritten.
-    fn is_quiet(&self) -> bool {
-        self.engine.is_quiet() && self.engine.lines().is_empty()
-    }
-
-    /// Hands an event on. It gives what the hub gives, or nothing if the event isn't taken.
-    pub(crate) fn tell(&mut self, now: u64, event: LinkEvent<'_>) -> Option<usize> {
-        match self.engine.tell(now, event) {
-            Ok(given) => Some(given),
-            Err(EngineFault::NoMemory) => {
-                self.report.note(FaultKind::Behind);
-                None
-            }
-            Err(_) => None,
         }
     }
 
@@ -206,10 +179,7 @@ impl Shell {
         let Some(file) = &mut self.account else {
             return Ok(());
         };
-        if self.engine.lines().is_empty() {
-            return Ok(());
-        }
-        match self.engine.write_lines(now, file) {
+        match self.traffic.write_lines(now, file) {
             Err(EngineFault::NotWritten(fault)) => Err(HostEnd::Account(fault)),
             _ => Ok(()),
         }
@@ -218,10 +188,8 @@ impl Shell {
     // Accepts those that wait, up to a number.
     fn accept(&mut self, now: u64) {
         for _ in 0..EVENTS {
-            if self.peers.len() >= self.connections || !self.door.is_asked(now) {
-                break;
-            }
-            if !self.engine.catch_up() {
+            let is_full = self.traffic.links().len() >= self.connections;
+            if is_full || !self.door.is_asked(now) || !self.traffic.catch_up() {
                 break;
             }
             match self.door.accept(now) {
@@ -237,55 +205,68 @@ impl Shell {
     fn open(&mut self, now: u64, mut stream: TcpStream) {
         let _ = stream.set_nodelay(true);
         keep_alive(&stream);
-        let Some(number) = self.tell(now, LinkEvent::Opened) else {
+        let Ok(number) = self.traffic.open(now) else {
             self.report.note(FaultKind::NotOpened);
             return;
         };
-        let both = Interest::READABLE | Interest::WRITABLE;
-        let registered = self
-            .poll
-            .registry()
-            .register(&mut stream, Token(number), both);
-        if number >= self.peers.room() || registered.is_err() {
+        if number < self.traffic.links().room() && self.register(number, &mut stream) {
+            self.traffic.attach(now, number, stream);
+        } else {
             self.report.note(FaultKind::NotOpened);
-            let _ = self.tell(now, LinkEvent::Gone(number));
-            return;
+            self.traffic.give_up(now, number);
         }
-        self.peers.insert(number, stream, now);
     }
 
-    // Reads once from each of the round, all of which are to be written to.
+    // The poll tells of a socket from now on, by the number of its connection.
+    fn register(&self, number: ConnectionNumber, stream: &mut TcpStream) -> bool {
+        let both = Interest::READABLE | Interest::WRITABLE;
+        self.poll
+            .registry()
+            .register(stream, Token(number), both)
+            .is_ok()
+    }
+
+    // Reads once from each that is looked at, all of which are to be written to.
     fn read_all(&mut self, now: u64) {
-        for _ in 0..self.peers.room() {
-            let Some(number) = self.engine.next_look() else {
+        self.traffic.begin_round();
+        for _ in 0..self.traffic.links().room() {
+            let Some(number) = self.traffic.next_look() else {
                 break;
             };
-            self.read_one(now, number);
-            self.engine.look_at(number);
+            match self.traffic.read_one(now, number) {
+                Reading::Broken => self.report.note(FaultKind::Link),
+                Reading::NoMemory => self.report.note(FaultKind::NotOpened),
+                Reading::Nothing | Reading::Offered | Reading::Ended => {}
+            }
+            self.traffic.look_at(number);
         }
     }
 
-    // Writes once to each of the round. Those of which something more can be done at once are looked at in the
+    // Writes once to each that is looked at. Those of which something more can be done at once are looked at in the
     // next turn.
     fn write_all(&mut self, now: u64) {
-        for _ in 0..self.peers.room() {
-            let Some(number) = self.engine.next_look() else {
+        self.traffic.begin_round();
+        for _ in 0..self.traffic.links().room() {
+            let Some(number) = self.traffic.next_look() else {
                 break;
             };
-            self.write_one(now, number);
+            match self.traffic.write_one(now, number) {
+                Writing::Broken => self.report.note(FaultKind::Link),
+                Writing::Nothing | Writing::Sent | Writing::Closed | Writing::Gone => {}
+            }
             if self.is_busy(number) {
-                self.engine.look_at(number);
+                self.traffic.look_at(number);
             }
         }
     }
 
     // Whether something can be read from a connection or written to it at once.
     fn is_busy(&self, number: ConnectionNumber) -> bool {
-        let (Some(peer), Some(wire)) = (self.peers.get(number), self.engine.hub().wire(number))
-        else {
+        let Some(wire) = self.traffic.engine().hub().wire(number) else {
             return false;
         };
-        let offers = peer.is_readable || !peer.pending.is_empty();
-        (offers && wire.may_offer()) || (peer.is_writable && !wire.ready().is_empty())
+        let links = self.traffic.links();
+        (links.has_input(number) && wire.may_offer())
+            || (links.is_writable(number) && !wire.ready().is_empty())
     }
 }

@@ -1,0 +1,28 @@
+//! What is asked of a connection before its turn.
+ghost use Rattle.std.specs.Prelude.{◌≡◌, None};
+ghost use Rattle.std.specs.Bool.{OnFalse, OnTrue};
+ghost use Rattle.rv_wires.specs.Connections.{HasWire};
+ghost use Rattle.rv_engine.specs.Engines.{engine_state};
+ghost use Rattle.rv_traffic.specs.Calls.{MayBeOffered};
+
+use rv_engine::Engine;
+use rv_hearers::ConnectionNumber;
+
+// Whether more of a connection's input may be offered.
+pub(crate) fn may_offer(engine: &Engine, number: ConnectionNumber) -> bool
+    ensures yes { OnTrue result (MayBeOffered (engine_state engine.now).hub number) }
+    ensures no { OnFalse result (¬ MayBeOffered (engine_state engine.now).hub number) }
+{
+    match engine.hub().wire(number) {
+        Some(wire) => wire.may_offer(),
+        None => false,
+    }
+}
+
+// Whether a connection is open.
+pub(crate) fn is_open(engine: &Engine, number: ConnectionNumber) -> bool
+    ensures yes { OnTrue result (HasWire (engine_state engine.now).hub.open_wires number (λ wire. Unit {0})) }
+    ensures no { OnFalse result ((engine_state engine.now).hub.open_wires.wires number ≡ None) }
+{
+    engine.hub().wire(number).is_some()
+}

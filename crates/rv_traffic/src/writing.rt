@@ -1,0 +1,71 @@
+//! Writes once to a connection what may leave.
+ghost use Rattle.std.specs.Prelude.{◌≡◌, [], IsSome};
+ghost use Rattle.rv_hub.specs.Hubs.{hub_terms};
+ghost use Rattle.rv_engine.specs.Engines.{engine_state};
+ghost use Rattle.rv_links.specs.Table.{link_at};
+ghost use Rattle.rv_traffic.specs.Calls.{WritesOne};
+ghost use Rattle.rv_traffic.specs.Views.{SameTerms, traffic_state};
+
+use crate::asking::is_open;
+use crate::giving_up::give_up;
+use crate::outcomes::Writing;
+use crate::traffic::Traffic;
+use rv_engine::LinkEvent;
+use rv_hearers::ConnectionNumber;
+use rv_links::Output;
+use std::io::Write;
+
+// Writes once to an open connection's socket, and tells the hub how many bytes that took.
+fn send<S: Write + Drop>(traffic: &mut Traffic<S>, now: u64, number: ConnectionNumber) -> Writing
+    requires none_left { (engine_state traffic.old.engine).left ≡ [] }
+    requires there { IsSome (link_at traffic.old.links.table.items number) }
+    ensures writes { WritesOne S.contents traffic.old.engine.hub.has_journal (hub_terms traffic.old.engine.hub)
+        now number (traffic_state traffic.old) result (traffic_state traffic.new) }
+    ensures terms { SameTerms traffic.old traffic.new }
+{
+    let Some(wire) = traffic.engine.hub().wire(number) else {
+        traffic.links.remove(number);
+        return Writing::Closed;
+    };
+    let ready = wire.ready();
+    if ready.is_empty() {
+        traffic.links.rest(number, now);
+        return Writing::Nothing;
+    }
+    match traffic.links.write(number, now, ready) {
+        Output::Took(count) => {
+            traffic.engine.hand(now, LinkEvent::Took(number, count));
+            Writing::Sent
+        }
+        Output::Nothing => Writing::Nothing,
+        Output::Broken => {
+            give_up(traffic, now, number);
+            Writing::Broken
+        }
+    }
+}
+
+// Writes once to a connection. One that the hub closed loses its socket, and the hub is told of one that has none.
+// Nothing is written while the hub couldn't be told.
+pub(crate) fn write_one<S: Write + Drop>(
+    traffic: &mut Traffic<S>,
+    now: u64,
+    number: ConnectionNumber,
+) -> Writing
+    ensures writes { WritesOne S.contents traffic.old.engine.hub.has_journal (hub_terms traffic.old.engine.hub)
+        now number (traffic_state traffic.old) result (traffic_state traffic.new) }
+    ensures terms { SameTerms traffic.old traffic.new }
+{
+    if !traffic.engine.catch_up() {
+        traffic.engine.look_at(number);
+        return Writing::Nothing;
+    }
+    if traffic.links.is_there(number) {
+        return send(traffic, now, number);
+    }
+    if is_open(&traffic.engine, number) {
+        traffic.engine.hand(now, LinkEvent::Gone(number));
+        return Writing::Gone;
+    }
+    Writing::Nothing
+}
