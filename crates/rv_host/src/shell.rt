@@ -144,7 +144,7 @@ impl Shell {
             .hub()
             .next_moment()
             .unwrap_or(u64::MAX);
-        if self.traffic.links().len() > 0 {
+        if self.traffic.links().len() > 0 || self.report.has_untold() {
             until = until.min(self.looked_over.saturating_add(LOOK_OVER));
         }
         if may_accept {
@@ -168,8 +168,7 @@ impl Shell {
                 let is_over = event.is_error();
                 let is_readable = event.is_readable() || event.is_read_closed() || is_over;
                 let is_writable = event.is_writable() || event.is_write_closed() || is_over;
-                self.traffic
-                    .heed(event.token().0, is_readable, is_writable);
+                self.traffic.heed(event.token().0, is_readable, is_writable);
             }
         }
     }
