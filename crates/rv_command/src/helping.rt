@@ -1,6 +1,6 @@
 //! Reads the words of `rv help`.
-ghost use Rattle.std.specs.Prelude.{◌≡◌, [], codes, false, IfOk, IfSome, IsErrOf, None};
-ghost use Rattle.clap.specs.Words.{app_of, fault_of, kind_of, shape_of};
+ghost use Rattle.std.specs.Prelude.{◌≡◌, [], codes, false, IfOk, IfSome, IsErrOf, None, true};
+ghost use Rattle.clap.specs.Words.{HasKind, app_of, fault_of, is_simple_and_free, kind_of, shape_of};
 ghost use Rattle.clap.specs.declared.Command.TheViews.{out-Command};
 ghost use Rattle.clap.specs.Walk.{texts};
 ghost use Rattle.rv_command.specs.Beginning.{BeginWithout};
@@ -62,12 +62,24 @@ fn answer<'a>(alloc: Global, words: &'a [&'a str]) -> Result<HelpAnswer, Command
     ensures bad { IsErrOf result CommandFault.Bad → fault_of help_app (texts words.entry.now) ≡ [] }
 {
     let command = whole_program(alloc)?;
-    match command.try_get_matches_from(words) {
-        Ok(_) => Err(CommandFault::Bad),
-        Err(error) => match error.kind() {
+    match refusal_of(command, words) {
+        None => Err(CommandFault::Bad),
+        Some(error) => match error.kind() {
             ErrorKind::OutOfMemory => Err(CommandFault::NoMemory),
             _ => Ok(HelpAnswer { error }),
         },
+    }
+}
+
+// Why a command, of which clap tells each fault, doesn't take the words.
+fn refusal_of<'a>(command: clap::Command<'a>, words: &'a [&'a str]) -> Option<clap::Error>
+    requires { is_simple_and_free (app_of command) ≡ true }
+    ensures some { IfSome result (HasKind (fault_of (app_of command.entry) (texts words.entry.now))) }
+    ensures none { result ≡ None → fault_of (app_of command.entry) (texts words.entry.now) ≡ [] }
+{
+    match command.try_get_matches_from(words) {
+        Ok(_) => None,
+        Err(error) => Some(error),
     }
 }
 
