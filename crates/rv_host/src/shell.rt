@@ -10,7 +10,7 @@ use rv_frame::Sink;
 use rv_hearers::ConnectionNumber;
 use rv_links::Links;
 use rv_options::HostOptions;
-use rv_traffic::{Reading, Traffic, Writing};
+use rv_traffic::{Reading, Switchboard, Writing};
 use std::fs::File;
 use std::os::fd::AsRawFd;
 use std::time::{Clock, Duration};
@@ -28,8 +28,8 @@ const LONGEST_WAIT: u64 = 60_000;
 // Lines that found no memory are tried again after so many milliseconds.
 const MEMORY_AGAIN: u64 = 10;
 
-// The system asks a silent peer whether it is there, and gives up one that takes nothing for a minute. If it refuses to,
-// the connection goes on without.
+// The system asks a silent peer whether it is there, and gives up one that takes nothing for a minute. If it
+// refuses to, the connection goes on without.
 fn keep_alive(stream: &TcpStream) {
     let number = stream.as_raw_fd();
     let mut value = [0u8; 16];
@@ -48,7 +48,7 @@ pub(crate) struct Shell {
     poll: Poll,
     events: Events,
     door: Door,
-    pub(crate) traffic: Traffic<TcpStream>,
+    pub(crate) traffic: Switchboard<TcpStream>,
     account: Option<Sink<File>>,
     pub(crate) report: HostReport,
     // At most so many connections are open.
@@ -81,7 +81,7 @@ impl Shell {
             poll,
             events: Events::with_capacity(alloc, EVENTS)?,
             door: Door::new(listener),
-            traffic: Traffic::new(engine, Links::new(alloc, connections)?),
+            traffic: Switchboard::new(engine, Links::new(alloc, connections)?),
             account,
             report,
             connections,
@@ -119,7 +119,9 @@ impl Shell {
             .poll(&mut self.events, Some(Duration::from_millis(wait)))?;
         let now = self.now(rt);
         self.heed();
-        self.traffic.pass(now);
+        if self.traffic.catch_up() {
+            self.traffic.pass(now);
+        }
         self.accept(now);
         self.read_all(now);
         self.write_account(now)?;
@@ -168,8 +170,7 @@ impl Shell {
                 let is_over = event.is_error();
                 let is_readable = event.is_readable() || event.is_read_closed() || is_over;
                 let is_writable = event.is_writable() || event.is_write_closed() || is_over;
-                self.traffic
-                    .heed(event.token().0, is_readable, is_writable);
+                self.traffic.heed(event.token().0, is_readable, is_writable);
             }
         }
     }
@@ -233,31 +234,48 @@ impl Shell {
             let Some(number) = self.traffic.next_look() else {
                 break;
             };
-            match self.traffic.read_one(now, number) {
-                Reading::Broken => self.report.note(FaultKind::Link),
-                Reading::NoMemory => self.report.note(FaultKind::NotOpened),
-                Reading::Nothing | Reading::Offered | Reading::Ended => {}
-            }
+            self.read_one(now, number);
             self.traffic.look_at(number);
         }
     }
 
-    // Writes once to each that is looked at. Those of which something more can be done at once are looked at in the
-    // next turn.
+    // Reads once from a connection. Nothing is read while lines of the account find no memory, since no event
+    // would be taken.
+    fn read_one(&mut self, now: u64, number: ConnectionNumber) {
+        if !self.traffic.catch_up() {
+            return;
+        }
+        match self.traffic.read_one(now, number) {
+            Reading::Broken => self.report.note(FaultKind::Link),
+            Reading::NoMemory => self.report.note(FaultKind::NotOpened),
+            Reading::Nothing | Reading::Offered | Reading::Ended => {}
+        }
+    }
+
+    // Writes once to each that is looked at. Those of which something more can be done at once are looked
+    // at in the next turn.
     fn write_all(&mut self, now: u64) {
         self.traffic.begin_round();
         for _ in 0..self.traffic.links().room() {
             let Some(number) = self.traffic.next_look() else {
                 break;
             };
-            match self.traffic.write_one(now, number) {
-                Writing::Broken => self.report.note(FaultKind::Link),
-                Writing::Nothing | Writing::Sent | Writing::Closed | Writing::Gone => {}
-            }
-            if self.is_busy(number) {
+            if !self.write_one(now, number) || self.is_busy(number) {
                 self.traffic.look_at(number);
             }
         }
+    }
+
+    // Writes once to a connection, and gives whether that could be told: nothing is written while lines of
+    // the account find no memory.
+    fn write_one(&mut self, now: u64, number: ConnectionNumber) -> bool {
+        if !self.traffic.catch_up() {
+            return false;
+        }
+        if self.traffic.write_one(now, number) == Writing::Broken {
+            self.report.note(FaultKind::Link);
+        }
+        true
     }
 
     // Whether something can be read from a connection or written to it at once.
