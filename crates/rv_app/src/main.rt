@@ -68,18 +68,27 @@ fn run_words<T: Threads + Wait + AllocGlobal + time::Clock + Sync>(
     threads: &T,
     words: &[&str],
 ) -> Result<ExitCode, ProgramFault> {
+    if let Some(own) = words_from("host", words) {
+        return Ok(ExitCode::from(run_host(rt, own)));
+    }
+    if let Some(code) = run_help(rt, words)? {
+        return Ok(code);
+    }
     if let Some((file, call)) = read_record(rt.alloc(), words)? {
         return run_recorded(rt, file, &call);
     }
     if let Some(verify) = read_verify(rt.alloc(), words)? {
         return run_verify(rt, threads, &verify);
     }
-    if let Some(help) = read_help(rt.alloc(), words)? {
-        return Ok(tell_help(rt, &help));
-    }
-    if let Some(own) = words_from("host", words) {
-        return Ok(ExitCode::from(run_host(rt, own)));
-    }
+    run_command(rt, threads, words)
+}
+
+// Runs one of the other commands.
+fn run_command<T: Threads + Wait + AllocGlobal + time::Clock + Sync>(
+    rt: &HostRuntime,
+    threads: &T,
+    words: &[&str],
+) -> Result<ExitCode, ProgramFault> {
     match read_command(rt.alloc(), words)? {
         Command::Book(epoch) => run_book(rt, epoch)?,
         Command::Play => run_play(rt)?,
@@ -106,6 +115,14 @@ fn run_words<T: Threads + Wait + AllocGlobal + time::Clock + Sync>(
         } => return run_call(rt, connect, client, incarnation, speak, tries),
     }
     Ok(ExitCode::SUCCESS)
+}
+
+// Prints help, if the words ask for it, and gives the status.
+fn run_help(rt: &HostRuntime, words: &[&str]) -> Result<Option<ExitCode>, CommandFault> {
+    match read_help(rt.alloc(), words)? {
+        Some(help) => Ok(Some(tell_help(rt, &help))),
+        None => Ok(None),
+    }
 }
 
 // Prints the help that was asked for, or why there is none.

@@ -1,6 +1,6 @@
 //! Reads the words of `rv help`.
 ghost use Rattle.std.specs.Prelude.{◌≡◌, [], codes, false, IfOk, IfSome, IsErrOf, None};
-ghost use Rattle.clap.specs.Words.{FailsBy, app_of, fault_of, kind_of};
+ghost use Rattle.clap.specs.Words.{app_of, fault_of, kind_of, shape_of};
 ghost use Rattle.clap.specs.declared.Command.TheViews.{out-Command};
 ghost use Rattle.clap.specs.Walk.{texts};
 ghost use Rattle.rv_command.specs.Beginning.{BeginWithout};
@@ -39,14 +39,15 @@ impl fmt::Display for HelpAnswer {
     }
 }
 
-/// `rv help`, alone or with a command's name behind it: the help that `clap` has, or why it has none. Words that
-/// begin otherwise ask for none. The first word is the program's name.
+/// `rv help`, alone or with a command's name behind it: the help that `clap` has, or why it has none. Words
+/// that begin otherwise ask for none. The first word is the program's name.
 pub fn read_help<'a>(
     alloc: Global,
     words: &'a [&'a str],
 ) -> Result<Option<HelpAnswer>, CommandFault>
     ensures answered { IfOk result (λ found. IfSome found (IsHelpFor (texts words.entry.now))) }
-    ensures other { IfOk result (λ found. found ≡ None → BeginWithout (codes "help") (texts words.entry.now)) }
+    ensures other { IfOk result (λ found. found ≡ None
+        → BeginWithout (codes "help") (texts words.entry.now)) }
     ensures bad { IsErrOf result CommandFault.Bad → fault_of help_app (texts words.entry.now) ≡ [] }
 {
     match words_from("help", words) {
@@ -75,6 +76,7 @@ fn whole_program<'a>(alloc: Global) -> Result<clap::Command<'a>, AllocError>
     ensures { IfOk result (λ c. app_of c ≡ help_app) }
 {
     program(alloc)?
+        .bin_name("rv")?
         .subcommand(record_words(alloc)?)?
         .subcommand(verifying::command(alloc)?)?
         .subcommand(host_words(alloc)?)
@@ -82,7 +84,7 @@ fn whole_program<'a>(alloc: Global) -> Result<clap::Command<'a>, AllocError>
 
 // `record --to FILE`, as help tells it.
 fn record_words<'a>(alloc: Global) -> Result<clap::Command<'a>, AllocError>
-    ensures app { IfOk result (λ c. app_of c ≡ record_app) }
+    ensures shape { IfOk result (λ c. shape_of c ≡ record_app.top) }
     ensures local { IfOk result (λ c. (out-Command c).has_globals ≡ false) }
 {
     named(alloc, "record").arg(required_option(alloc, "to"))

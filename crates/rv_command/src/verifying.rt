@@ -2,6 +2,7 @@
 ghost use Rattle.std.specs.Prelude.{◌≡◌, ◌∷◌, ◌↔◌, [], codes, false, IfOk, IfSome, IsErrOf, IsTrue};
 ghost use Rattle.std.specs.Prelude.{List, None, Some};
 ghost use Rattle.clap.specs.Words.{Text, app_of, fault_of, first_of, found_of, matches_of, rows_of, rule_of};
+ghost use Rattle.clap.specs.Words.{shape_of};
 ghost use Rattle.clap.specs.Walk.{texts};
 ghost use Rattle.clap.specs.declared.Command.TheViews.{out-Command};
 ghost use Rattle.rv_command.specs.Verifying.{BeginOtherwise, ClapSays, NamesNoVerify, NamesVerify};
@@ -100,6 +101,7 @@ fn matches_in<'a>(alloc: Global, own: &'a [&'a str]) -> Result<ArgMatches<'a>, C
 /// `verify FILE --replies FILE --follow`, as clap reads it.
 pub(crate) fn command<'a>(alloc: Global) -> Result<clap::Command<'a>, AllocError>
     ensures app { IfOk result (λ c. app_of c ≡ verify_app) }
+    ensures shape { IfOk result (λ c. shape_of c ≡ verify_app.top) }
     ensures local { IfOk result (λ c. (out-Command c).has_globals ≡ false) }
 {
     named(alloc, "verify")

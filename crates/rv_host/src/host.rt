@@ -2,7 +2,7 @@
 ghost use Rattle.std.specs.Prelude.{◌≡◌};
 ghost use Rattle.clap.specs.Walk.{texts};
 ghost use Rattle.rv_options.specs.Faults.{status_of};
-ghost use Rattle.rv_options.specs.Options.{NamesOptions};
+ghost use Rattle.rv_options.specs.Options.{FitOptions, NamesOptions};
 ghost use Rattle.rv_options.specs.declared.options.HostOptions.{HostOptions as Options};
 ghost use Rattle.rv_host.specs.Statuses.{RefusesWords};
 
@@ -46,7 +46,9 @@ fn tell_fault(rt: &HostRuntime, fault: &HostFault<'_>) -> u8
 }
 
 // Starts a server, and serves.
-fn serve(rt: &HostRuntime, options: &HostOptions<'_>) -> u8 {
+fn serve(rt: &HostRuntime, options: &HostOptions<'_>) -> u8
+    requires { FitOptions options.now }
+{
     let report = HostReport::new(rt, options.quiet);
     let is_there = report.is_there();
     match begin(rt, options, report) {
@@ -76,12 +78,12 @@ fn tell_end(rt: &HostRuntime, options: &HostOptions<'_>, report: &HostReport, en
     let why = io::Error::from_raw_os_error(errno());
     let text = match (end, options.account) {
         (HostEnd::Account(fault), Some(path)) => {
-            format!(in rt.alloc(); "ends: {path}: {fault}: {why}")
+            format!(in rt.alloc(); "rv host ends: {path}: {fault}: {why}")
         }
-        _ => format!(in rt.alloc(); "ends: {end}"),
+        _ => format!(in rt.alloc(); "rv host ends: {end}"),
     };
     match text {
         Ok(text) => report.end(rt, &text),
-        Err(_) => report.end(rt, "ends: no memory"),
+        Err(_) => report.end(rt, "rv host ends: no memory"),
     }
 }

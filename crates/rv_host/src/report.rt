@@ -61,8 +61,8 @@ fn date(rt: &HostRuntime) -> Option<HttpDate> {
 }
 
 impl HostReport {
-    /// Nothing is counted. If it is to be quiet it says nothing but why a server ends, and nothing at all where
-    /// standard error is closed. Under systemd, which adds the times, lines have none.
+    /// Nothing is counted. If it is to be quiet it says nothing but why a server ends, and nothing at all
+    /// where standard error is closed. Under systemd, which adds the times, lines have none.
     pub(crate) fn new(rt: &HostRuntime, is_quiet: bool) -> HostReport {
         let is_journal = is_set(rt, "JOURNAL_STREAM") || is_set(rt, "INVOCATION_ID");
         HostReport {
@@ -80,7 +80,14 @@ impl HostReport {
 
     /// A fault of this kind came.
     pub(crate) fn note(&mut self, kind: FaultKind) {
-        self.tallies[kind as usize].note();
+        if let Some(tally) = self.tallies.get_mut(kind as usize) {
+            tally.note();
+        }
+    }
+
+    /// Whether a fault came that wasn't told.
+    pub(crate) fn has_untold(&self) -> bool {
+        !self.is_quiet && self.tallies.iter().any(|tally| !tally.is_told())
     }
 
     /// Says a line, unless it is quiet. One that standard error doesn't take is counted.
@@ -119,12 +126,17 @@ impl HostReport {
 
     // Tells one kind.
     fn tell_kind(&mut self, rt: &HostRuntime, now: u64, kind: FaultKind) {
-        let Some(count) = self.tallies[kind as usize].take(now) else {
+        let Some(count) = self.take(now, kind) else {
             return;
         };
         match fault_text(rt.alloc(), kind, count) {
             Ok(text) => self.say(rt, &text),
             Err(_) => self.note(FaultKind::Dropped),
         }
+    }
+
+    // How often a kind came, if it is to be told.
+    fn take(&mut self, now: u64, kind: FaultKind) -> Option<u64> {
+        self.tallies.get_mut(kind as usize)?.take(now)
     }
 }

@@ -146,7 +146,7 @@ impl Shell {
             .hub()
             .next_moment()
             .unwrap_or(u64::MAX);
-        if self.traffic.links().len() > 0 {
+        if self.traffic.links().len() > 0 || self.report.has_untold() {
             until = until.min(self.looked_over.saturating_add(LOOK_OVER));
         }
         if may_accept {

@@ -1,4 +1,8 @@
 //! The start of a server: its address, its account, its limits, and what it says of them.
+ghost use Rattle.rv_options.specs.Numbers.{Fits};
+ghost use Rattle.rv_options.specs.Options.{FitOptions};
+ghost use Rattle.rv_options.specs.declared.number.HostNumber.TheVariants as number;
+
 use crate::fault::HostEnd;
 use crate::journal::begin_account;
 use crate::report::HostReport;
@@ -32,14 +36,17 @@ pub(crate) fn begin(
     rt: &HostRuntime,
     options: &HostOptions<'_>,
     mut report: HostReport,
-) -> Result<Shell, HostEnd> {
+) -> Result<Shell, HostEnd>
+    requires { FitOptions options.now }
+{
     let epoch = options.epoch.epoch(wall_clock(rt));
     let listener = listening(rt, options.listen)?;
     let account = account_of(rt, options, epoch)?;
     let open_files = open_files();
     let connections = open_files
         .saturating_sub(SPARE)
-        .clamp(1, options.connections);
+        .max(1)
+        .min(options.connections);
     let engine = engine_of(rt, options, epoch, connections as usize)?;
     tell_start(
         rt,
@@ -131,7 +138,9 @@ fn engine_of(
     options: &HostOptions<'_>,
     epoch: u64,
     connections: usize,
-) -> Result<Engine, HostEnd> {
+) -> Result<Engine, HostEnd>
+    requires { Fits number.Epoch epoch }
+{
     let machine = Machine::open(rt.alloc(), epoch, 0)?;
     let Some(limits) = Limits::new(
         MOST_ENTRIES,
@@ -164,7 +173,7 @@ fn open_files() -> u64 {
     }
 }
 
-// Says where a server listens, and within which limits; and that nobody is asked who he is, if others reach it.
+// Says where a server listens, and its limits; and that nobody is asked who he is, if others reach it.
 fn tell_start(
     rt: &HostRuntime,
     options: &HostOptions<'_>,

@@ -24,7 +24,7 @@ fault_words kind count = kind_words kind ++ codes ": " ++ decimal count
 -- where a server listens, and its epoch
 abbrev pub place_words : List ℕ → ℕ → List ℕ
 place_words address epoch =
-    codes "listens on " ++ (address ++ (codes ", epoch " ++ (decimal epoch ++ codes ": ")))
+    codes "rv host listens on " ++ (address ++ (codes ", epoch " ++ (decimal epoch ++ codes ": ")))
 
 -- the limits of its connections
 abbrev pub link_words : ℕ → ℕ → List ℕ
@@ -45,4 +45,5 @@ start_words said = place_words said.address.now said.epoch ++ link_words said.co
 -- how a client makes a call of a server at an address
 abbrev pub call_words : List ℕ → List ℕ → ℕ → List ℕ
 call_words call address client = codes "echo '" ++ (call ++ (codes "' | rv call --connect " ++ (address
-    ++ (codes " --client " ++ (decimal client ++ (codes " " ++ codes "--incarnation $(date +%s) --tries 6 --speak 2"))))))
+    ++ (codes " --client " ++
+    (decimal client ++ (codes " " ++ codes "--incarnation $(date +%s) --tries 6 --speak 2"))))))

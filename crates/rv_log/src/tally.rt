@@ -1,5 +1,5 @@
 //! How often something came, which is told once a minute.
-ghost use Rattle.std.specs.Prelude.{◌≡◌, ◌+◌, ◌<◌, ℕ, IfNone, IfSome, None, min};
+ghost use Rattle.std.specs.Prelude.{◌≡◌, ◌↔◌, ◌+◌, ◌<◌, ℕ, IfNone, IfSome, IsTrue, None, min};
 ghost use Rattle.std.specs.Bool.{OnFalse, OnTrue};
 ghost use Rattle.rv_log.specs.Tallies.{IsToBeTold, IsUntold, greatest_count, nothing_counted, told_at};
 
@@ -29,6 +29,13 @@ impl FaultTally {
         ensures { self.new ≡ record self.old { count = min greatest_count (self.old.count + 1) } }
     {
         self.count = self.count.saturating_add(1);
+    }
+
+    /// Whether nothing came since it was told.
+    pub fn is_told(&self) -> bool
+        ensures { IsTrue result ↔ (self.now.count ≡ 0) }
+    {
+        self.count == 0
     }
 
     // Whether a minute is over since it was told.

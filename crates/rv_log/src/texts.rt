@@ -39,7 +39,7 @@ pub fn start_text(alloc: Global, said: &StartSaid<'_>) -> Result<String, AllocEr
 fn place_text(alloc: Global, address: &str, epoch: u64) -> Result<String, AllocError>
     ensures { IfOk result (λ text. string_bytes text ≡ place_words address.now epoch) }
 {
-    format!(in alloc; "listens on {address}, epoch {epoch}: ")
+    format!(in alloc; "rv host listens on {address}, epoch {epoch}: ")
 }
 
 // The limits of its connections.

@@ -125,7 +125,8 @@ given_alone option r text n is gives =
     subst (λ (value : Option Text). IsSomeAnd value (λ t. WritesWithin option t n)) is gives in
     sym written.of_number
 
-none_given : (option : HostNumber) (r : List Row) (n : ℕ) → given_for option r ≡ None → GivesNumber option r n → ⊥
+none_given : (option : HostNumber) (r : List Row) (n : ℕ) → given_for option r ≡ None → GivesNumber option r n
+    → ⊥
 none_given option r n is gives =
     subst (λ (value : Option Text). IsSomeAnd value (λ t. WritesWithin option t n)) is gives
 

@@ -15,5 +15,6 @@ FitsRule (Above n) = Fits number.EpochAbove n
 -- the options, by their rows, say this rule
 abbrev pub SaysRule : List Row → EpochRule → Type 0
 SaysRule rows Clock = (given_for number.Epoch rows ≡ None) × (given_for number.EpochAbove rows ≡ None)
-SaysRule rows (Exactly epoch) = GivesNumber number.Epoch rows epoch × (given_for number.EpochAbove rows ≡ None)
+SaysRule rows (Exactly epoch) = GivesNumber number.Epoch rows epoch
+    × (given_for number.EpochAbove rows ≡ None)
 SaysRule rows (Above n) = (given_for number.Epoch rows ≡ None) × GivesNumber number.EpochAbove rows n

@@ -2,8 +2,8 @@
 use Rattle.std.specs.Prelude.{codes, List, Option, Some, true, option_map, [], ◌≡◌, ◌↔◌}
 use Rattle.clap.specs.Words.{Row, Text, fault_of, first_of, matches_of}
 use Rattle.rv_options.specs.Words.{host_app}
-use Rattle.rv_options.specs.Numbers.{GivesNumber}
-use Rattle.rv_options.specs.Epochs.{SaysRule}
+use Rattle.rv_options.specs.Numbers.{Fits, GivesNumber}
+use Rattle.rv_options.specs.Epochs.{FitsRule, SaysRule}
 use Rattle.rv_options.specs.declared.number.HostNumber.TheVariants as number
 use Rattle.rv_options.specs.declared.options.HostOptions.{HostOptions}
 
@@ -24,3 +24,13 @@ pub record SaysOptions (rows : List Row) (options : HostOptions) : Type 0 where
 pub record NamesOptions (words : List Text) (options : HostOptions) : Type 0 where
   pub taken : fault_of host_app words ≡ []
   pub said : SaysOptions (matches_of host_app words) options
+
+-- each number of the options is within its option's limits, and there is an epoch by their rule
+pub record FitOptions (options : HostOptions) : Type 0 where
+  pub in_epoch : FitsRule options.epoch
+  pub clients : Fits number.Clients options.clients
+  pub opens : Fits number.Open options.open_places
+  pub connects : Fits number.Connections options.connections
+  pub holds : Fits number.Memory options.memory
+  pub idles : Fits number.Idle options.idle
+  pub stalls : Fits number.Stall options.stall

@@ -2,10 +2,10 @@
 ghost use Rattle.std.specs.Prelude.{◌≡◌, ◌↔◌, [], codes, IfErr, IfOk, None, option_map, Some, true};
 ghost use Rattle.clap.specs.Walk.{texts};
 ghost use Rattle.clap.specs.Words.{IsAmong, fault_of, first_of, found_of, kind_of, matches_of, rows_of};
-ghost use Rattle.rv_options.specs.Epochs.{SaysRule};
+ghost use Rattle.rv_options.specs.Epochs.{FitsRule, SaysRule};
 ghost use Rattle.rv_options.specs.Faults.{IsFault, IsFaultOf};
-ghost use Rattle.rv_options.specs.Numbers.{GivesNumber, given_for};
-ghost use Rattle.rv_options.specs.Options.{NamesOptions, SaysOptions};
+ghost use Rattle.rv_options.specs.Numbers.{Fits, GivesNumber, given_for};
+ghost use Rattle.rv_options.specs.Options.{FitOptions, NamesOptions, SaysOptions};
 ghost use Rattle.rv_options.specs.Words.{host_app};
 
 use crate::epoch::EpochRule;
@@ -44,6 +44,7 @@ pub struct HostOptions<'a> {
 /// ASCII digits, behind a plus or none, read in decimal.
 pub fn read_host<'a>(alloc: Global, words: &'a [&'a str]) -> Result<HostOptions<'a>, HostFault<'a>>
     ensures ok { IfOk result (NamesOptions (texts words.entry.now)) }
+    ensures fits { IfOk result FitOptions }
     ensures fault { IfErr result (IsFault (texts words.entry.now)) }
 {
     let matches = matches_of(alloc, words)?;
@@ -63,6 +64,7 @@ fn matches_of<'a>(alloc: Global, words: &'a [&'a str]) -> Result<ArgMatches<'a>,
 // The options that the rows say.
 fn options_of<'a>(given: &ArgMatches<'a>) -> Result<HostOptions<'a>, HostFault<'a>>
     ensures ok { IfOk result (SaysOptions (rows_of (found_of given.now))) }
+    ensures fits { IfOk result FitOptions }
     ensures fault { IfErr result (IsFaultOf (rows_of (found_of given.now))) }
 {
     let listen = text_of(given, "listen").ok_or(HostFault::Missing("listen"))?;
@@ -83,6 +85,7 @@ fn options_of<'a>(given: &ArgMatches<'a>) -> Result<HostOptions<'a>, HostFault<'
 // The rule of the epoch that they say.
 fn epoch_of<'a>(given: &ArgMatches<'a>) -> Result<EpochRule, HostFault<'a>>
     ensures ok { IfOk result (SaysRule (rows_of (found_of given.now))) }
+    ensures fits { IfOk result FitsRule }
     ensures fault { IfErr result (IsFaultOf (rows_of (found_of given.now))) }
 {
     let exact = text_of(given, HostNumber::Epoch.word()).is_some();
@@ -98,6 +101,7 @@ fn epoch_of<'a>(given: &ArgMatches<'a>) -> Result<EpochRule, HostFault<'a>>
 // The number that an option's value writes.
 fn number_of<'a>(given: &ArgMatches<'a>, number: HostNumber) -> Result<u64, HostFault<'a>>
     ensures ok { IfOk result (GivesNumber number (rows_of (found_of given.now))) }
+    ensures fits { IfOk result (Fits number) }
     ensures fault { IfErr result (IsFaultOf (rows_of (found_of given.now))) }
 {
     let Some(text) = text_of(given, number.word()) else {

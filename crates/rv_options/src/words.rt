@@ -1,6 +1,6 @@
 //! The command `host`, as clap reads it.
 ghost use Rattle.std.specs.Prelude.{◌≡◌, ◌∷◌, [], codes, false, IfOk};
-ghost use Rattle.clap.specs.Words.{app_of, new_app, rule_of};
+ghost use Rattle.clap.specs.Words.{app_of, new_app, rule_of, shape_of};
 ghost use Rattle.clap.specs.declared.Command.TheViews.{out-Command};
 ghost use Rattle.rv_options.specs.Words.{bounded_app, epoch_app, flag_rule, host_app, link_app, place_app};
 ghost use Rattle.rv_options.specs.Words.{text_rule};
@@ -11,6 +11,7 @@ use std::alloc::{AllocError, Global};
 /// The command `host` with its options, their defaults, and what help says of them.
 pub fn host_words<'a>(alloc: Global) -> Result<Command<'a>, AllocError>
     ensures app { IfOk result (λ c. app_of c ≡ host_app) }
+    ensures shape { IfOk result (λ c. shape_of c ≡ host_app.top) }
     ensures local { IfOk result (λ c. (out-Command c).has_globals ≡ false) }
 {
     link_words(alloc)?

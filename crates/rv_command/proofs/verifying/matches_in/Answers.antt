@@ -25,7 +25,8 @@ returns-clause-taken c = subst (λ (a : App). IfOk c.taken.result (λ _. fault_o
 
 pub returns-clause-found : goal.returns-clause-found
 returns-clause-found c = IfOk-weaker c.taken.result _ _ (λ m has. (has simple).0)
-    (subst (λ (a : App). IfOk c.taken.result (HasMatchesOf a (texts c.args.own.now))) c.in_ok-command.ensures.app
+    (subst (λ (a : App). IfOk c.taken.result (HasMatchesOf a (texts c.args.own.now)))
+    c.in_ok-command.ensures.app
     c.taken.ensures.found)
 
 pub returns-clause-bad : goal.returns-clause-bad
