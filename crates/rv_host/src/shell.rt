@@ -62,6 +62,36 @@ pub(crate) struct Shell {
     pub(crate) unread: usize,
 }
 
+// What of a shell the system or memory may refuse.
+#[derive(Drop)]
+struct ShellParts {
+    start: Duration,
+    poll: Poll,
+    events: Events,
+    links: Links<TcpStream>,
+}
+
+// A poll that tells of a listener, and room for so many sockets.
+fn make_parts(
+    rt: &HostRuntime,
+    listener: &mut TcpListener,
+    connections: usize,
+) -> Result<ShellParts, HostEnd> {
+    let alloc = rt.alloc();
+    let links = Links::new(alloc, connections)?;
+    let events = Events::with_capacity(alloc, EVENTS)?;
+    let start = rt.monotonic()?;
+    let poll = Poll::new(rt)?;
+    poll.registry()
+        .register(listener, LISTENER, Interest::READABLE)?;
+    Ok(ShellParts {
+        start,
+        poll,
+        events,
+        links,
+    })
+}
+
 impl Shell {
     pub(crate) fn new(
         rt: &HostRuntime,
@@ -72,25 +102,24 @@ impl Shell {
         options: &HostOptions<'_>,
         connections: usize,
     ) -> Result<Shell, HostEnd> {
-        let alloc = rt.alloc();
-        let poll = Poll::new(rt)?;
-        poll.registry()
-            .register(&mut listener, LISTENER, Interest::READABLE)?;
-        Ok(Shell {
-            start: rt.monotonic()?,
-            poll,
-            events: Events::with_capacity(alloc, EVENTS)?,
-            door: Door::new(listener),
-            traffic: Switchboard::new(engine, Links::new(alloc, connections)?),
-            account,
-            report,
-            connections,
-            memory: options.memory as u128 * 1_048_576,
-            idle: options.idle.saturating_mul(1_000),
-            stall: options.stall.saturating_mul(1_000),
-            looked_over: 0,
-            unread: 0,
-        })
+        match make_parts(rt, &mut listener, connections) {
+            Ok(parts) => Ok(Shell {
+                start: parts.start,
+                poll: parts.poll,
+                events: parts.events,
+                door: Door::new(listener),
+                traffic: Switchboard::new(engine, parts.links),
+                account,
+                report,
+                connections,
+                memory: options.memory as u128 * 1_048_576,
+                idle: options.idle.saturating_mul(1_000),
+                stall: options.stall.saturating_mul(1_000),
+                looked_over: 0,
+                unread: 0,
+            }),
+            Err(end) => Err(end),
+        }
     }
 
     /// Serves until it can't go on.
@@ -210,12 +239,12 @@ impl Shell {
             self.report.note(FaultKind::NotOpened);
             return;
         };
-        if number < self.traffic.links().room() && self.register(number, &mut stream) {
-            self.traffic.attach(now, number, stream);
-        } else {
+        if number >= self.traffic.links().room() || !self.register(number, &mut stream) {
             self.report.note(FaultKind::NotOpened);
             self.traffic.give_up(now, number);
+            return;
         }
+        self.traffic.attach(now, number, stream);
     }
 
     // The poll tells of a socket from now on, by the number of its connection.
