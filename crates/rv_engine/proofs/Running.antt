@@ -15,7 +15,7 @@ use Rattle.rv_engine.specs.declared.events.EngineFault.TheVariants as fault
 use Rattle.rv_engine.specs.Engines.{EngineState}
 use Rattle.rv_engine.specs.Handing.{GathersFront, entries_kept, entry_lines}
 use Rattle.rv_engine.specs.EngineRuns.{AccountsAreKept, EngineDeed, EnginesAreRuns}
-use Rattle.rv_engine.specs.EngineRuns.{HandedOn}
+use Rattle.rv_engine.specs.EngineRuns.{HandedOn, Looked}
 use Rattle.rv_engine.specs.EngineRuns.{HandsOnNext, IsAllWritten, NotTaken}
 use Rattle.rv_engine.specs.EngineRuns.{RunsEngine}
 use Rattle.rv_engine.specs.EngineRuns.{WrittenAreCounted, WroteLines, answers_in, bytes_written}
@@ -80,6 +80,15 @@ engines_are_runs journal terms (WroteLines bytes ∷ deeds) s t (between, does, 
           (bytes ++ (bytes_written deeds ++ t.lines)) does.gathers
           (gathers_shift (between.left ++ rest_of journal deeds) t.left bytes between.lines
           (bytes_written deeds ++ t.lines) more.account));
+    }
+engines_are_runs journal terms (Looked ∷ deeds) s t (between, does, later) =
+    let more = engines_are_runs journal terms deeds between t later in
+    record {
+      hub = subst (λ (h : DeskState). RunsHub journal terms h (answers_in deeds) t.hub) does.hub more.hub;
+      account = subst (λ (l : List Entry). GathersFront (l ++ rest_of journal deeds) s.lines t.left
+          (bytes_written deeds ++ t.lines)) does.left
+          (subst (λ (l : List ℕ). GathersFront (between.left ++ rest_of journal deeds) l t.left
+          (bytes_written deeds ++ t.lines)) does.lines more.account);
     }
 
 -- ---- where an account is kept

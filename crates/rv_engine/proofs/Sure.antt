@@ -1,5 +1,6 @@
 -- Events that can be, and so aren't refused.
-use Rattle.std.proofs.Common.{◌≡◌, ◌∙◌, ◌⊎◌, ℕ, Bool, [], Some, arith, ap, false, inl, inr, length, length-append}
+use Rattle.std.proofs.Common.{◌≡◌, ◌∙◌, ◌⊎◌, ℕ, Bool, [], Some, arith, ap, false, inl, inr, length}
+use Rattle.std.proofs.Common.{length-append}
 use Rattle.std.proofs.Common.{sym, true}
 use Rattle.std.proofs.lemmas.Bool.{false≢true}
 use Rattle.std.proofs.lemmas.Option.{none-some, same_Some}
@@ -16,7 +17,8 @@ use Rattle.rv_engine.specs.declared.events.EngineFault.TheVariants as fault
 use Rattle.rv_engine.specs.Engines.{EngineState}
 use Rattle.rv_engine.specs.Handing.{IsNoOpening, IsRefused}
 
-closed_not_open : (s : DeskState) (n : ℕ) (so : Traffic → Type 0) → HasWire s.open_wires n so → IsNotOpen s n → ⊥
+closed_not_open : (s : DeskState) (n : ℕ) (so : Traffic → Type 0) → HasWire s.open_wires n so → IsNotOpen s n
+    → ⊥
 closed_not_open s n so has closed = none-some has.wire (sym closed ∙ has.there)
 
 one_wire : (s : DeskState) (n : ℕ) (so other : Traffic → Type 0) (has : HasWire s.open_wires n so)

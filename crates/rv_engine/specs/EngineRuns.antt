@@ -25,12 +25,21 @@ pub data EngineDeed : Type 0 where
   NotTaken : (what : HubEvent) (why : EngineFault) → EngineDeed
   -- lines were gathered, and these were written
   WroteLines : (bytes : List ℕ) → EngineDeed
+  -- others are to be looked at
+  Looked : EngineDeed
+
+-- all but whom to look at is as it was
+pub record ChangesLooks (s t : EngineState) : Type 0 where
+  pub hub : t.hub ≡ s.hub
+  pub lines : t.lines ≡ s.lines
+  pub left : t.left ≡ s.left
 
 abbrev pub DoesDeed : Bool → DeskTerms → EngineState → EngineDeed → EngineState → Type 0
 DoesDeed journal terms s (HandedOn handed what made given) t = HandsOn journal terms s handed what made given
     t
 DoesDeed journal terms s (NotTaken what why) t = IsRefused s what why t
 DoesDeed journal terms s (WroteLines bytes) t = WritesLines s bytes t
+DoesDeed journal terms s Looked t = ChangesLooks s t
 
 abbrev pub RunsEngine : Bool → DeskTerms → EngineState → List EngineDeed → EngineState → Type 0
 RunsEngine journal terms s [] t = t ≡ s
@@ -45,6 +54,7 @@ answers_in (NotTaken what (fault.Refused why) ∷ deeds) = RefusedEvent ∷ answ
 answers_in (NotTaken what fault.NoMemory ∷ deeds) = answers_in deeds
 answers_in (NotTaken what (fault.NotWritten why) ∷ deeds) = answers_in deeds
 answers_in (WroteLines bytes ∷ deeds) = answers_in deeds
+answers_in (Looked ∷ deeds) = answers_in deeds
 
 -- all bytes that were written, in order
 abbrev pub bytes_written : List EngineDeed → List ℕ
@@ -52,6 +62,7 @@ bytes_written [] = []
 bytes_written (HandedOn handed what made given ∷ deeds) = bytes_written deeds
 bytes_written (NotTaken what why ∷ deeds) = bytes_written deeds
 bytes_written (WroteLines bytes ∷ deeds) = bytes ++ bytes_written deeds
+bytes_written (Looked ∷ deeds) = bytes_written deeds
 
 -- the hub behind a run is that of the events that were handed on, in order; and of the entries that were left
 -- before and those that these made, where an account is kept, a front has its lines written or gathered, in

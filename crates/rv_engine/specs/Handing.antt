@@ -1,5 +1,6 @@
 -- What comes of an event that a shell tells an engine.
-use Rattle.std.specs.Prelude.{ℕ, ◌≡◌, ◌<◌, ◌≤◌, ◌-◌, ◌↔◌, ◌⊎◌, Bool, false, true, List, [], ◌++◌, Contains, length}
+use Rattle.std.specs.Prelude.{ℕ, ◌≡◌, ◌<◌, ◌≤◌, ◌-◌, ◌↔◌, ◌⊎◌, Bool, false, true, List, [], ◌++◌, Contains}
+use Rattle.std.specs.Prelude.{length}
 use Rattle.std.specs.Prelude.{Option, map, take}
 use Rattle.rv_account.specs.declared.entry.Entry.{Entry}
 use Rattle.rv_frame.specs.declared.sink.Sink.{Sink}

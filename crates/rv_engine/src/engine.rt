@@ -118,7 +118,8 @@ impl Engine {
         handing::hand_on(&mut self.parts, now, hub_event(event))
     }
 
-    /// Hands on an event that can be, where no entry is left: then it isn't refused. It gives what `tell` does.
+    /// Hands on an event that can be, where no entry is left: then it isn't refused. It gives what
+    /// `tell` does.
     pub fn hand(&mut self, now: u64, event: LinkEvent<'_>) -> usize
         requires none_left { (engine_state self.old).left ≡ [] }
         requires can { EventCan (engine_state self.old).hub (told_hub event.entry) }

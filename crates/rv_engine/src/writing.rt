@@ -38,7 +38,8 @@ fn tell_written(parts: &mut EngineParts, now: u64)
     requires sound { IsEngine parts.old }
     requires none_left { (engine_state parts.old).left ≡ [] }
     ensures sound { IsEngine parts.new }
-    ensures tells { TellsWritten parts.old.hub.has_journal (hub_terms parts.old.hub) (engine_state parts.old) now
+    ensures tells { TellsWritten parts.old.hub.has_journal (hub_terms parts.old.hub) (engine_state parts.old)
+        now
         parts.new.hub.desk.entries.items (engine_state parts.new) }
     ensures terms { hub_terms parts.new.hub ≡ hub_terms parts.old.hub }
     ensures journal { parts.new.hub.has_journal ≡ parts.old.hub.has_journal }
@@ -58,7 +59,8 @@ pub(crate) fn write_lines<W: Write>(
 ) -> Result<(), EngineFault>
     requires { IsEngine parts.old }
     ensures sound { IsEngine parts.new }
-    ensures written { OnOk result (SinkTakes W.contents file.old file.new (unwritten (engine_state parts.old))) }
+    ensures written { OnOk result (SinkTakes W.contents file.old file.new
+        (unwritten (engine_state parts.old))) }
     ensures tells { OnOk result (TellsWritten parts.old.hub.has_journal (hub_terms parts.old.hub)
         (all_gone (engine_state parts.old)) now parts.new.hub.desk.entries.items (engine_state parts.new)) }
     ensures not_told { IfErr result (λ why. IsNotTold W.contents (engine_state parts.old) file.old why

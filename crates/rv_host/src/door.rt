@@ -12,7 +12,7 @@ const ENFILE: i32 = 23;
 
 // When the listener may be asked.
 #[derive(Clone, Copy, PartialEq, Eq)]
-enum Asking {
+enum DoorState {
     // It told that someone waits.
     Now,
     // Nobody waits.
@@ -38,35 +38,35 @@ pub(crate) enum Accepted {
 #[derive(Drop)]
 pub(crate) struct Door {
     listener: TcpListener,
-    asking: Asking,
+    asking: DoorState,
 }
 
 impl Door {
     pub(crate) fn new(listener: TcpListener) -> Door {
         Door {
             listener,
-            asking: Asking::Now,
+            asking: DoorState::Now,
         }
     }
 
     /// The poll told that someone waits.
     pub(crate) fn knock(&mut self) {
-        self.asking = Asking::Now;
+        self.asking = DoorState::Now;
     }
 
     /// Whether it is to be asked at a moment.
     pub(crate) fn is_asked(&self, now: u64) -> bool {
         match self.asking {
-            Asking::Now => true,
-            Asking::WhenTold => false,
-            Asking::At(moment) => moment <= now,
+            DoorState::Now => true,
+            DoorState::WhenTold => false,
+            DoorState::At(moment) => moment <= now,
         }
     }
 
     /// The moment at which it is to be asked again without being told, if there is one.
     pub(crate) fn again(&self) -> Option<u64> {
         match self.asking {
-            Asking::At(moment) => Some(moment),
+            DoorState::At(moment) => Some(moment),
             _ => None,
         }
     }
@@ -78,12 +78,12 @@ impl Door {
             Err(error) => error,
         };
         if error.kind() == ErrorKind::WouldBlock {
-            self.asking = Asking::WhenTold;
+            self.asking = DoorState::WhenTold;
             return Accepted::Nobody;
         }
         match error.raw_os_error() {
             Some(EMFILE) | Some(ENFILE) => {
-                self.asking = Asking::At(now.saturating_add(ACCEPT_AGAIN));
+                self.asking = DoorState::At(now.saturating_add(ACCEPT_AGAIN));
                 Accepted::NoDescriptor
             }
             _ => Accepted::Failed,

@@ -10,7 +10,7 @@ use rv_frame::Sink;
 use rv_hearers::ConnectionNumber;
 use rv_links::Links;
 use rv_options::HostOptions;
-use rv_traffic::{Reading, Traffic, Writing};
+use rv_traffic::{Reading, Switchboard, Writing};
 use std::fs::File;
 use std::os::fd::AsRawFd;
 use std::time::{Clock, Duration};
@@ -28,8 +28,8 @@ const LONGEST_WAIT: u64 = 60_000;
 // Lines that found no memory are tried again after so many milliseconds.
 const MEMORY_AGAIN: u64 = 10;
 
-// The system asks a silent peer whether it is there, and gives up one that takes nothing for a minute. If it refuses to,
-// the connection goes on without.
+// The system asks a silent peer whether it is there, and gives up one that takes nothing for a minute. If it
+// refuses to, the connection goes on without.
 fn keep_alive(stream: &TcpStream) {
     let number = stream.as_raw_fd();
     let mut value = [0u8; 16];
@@ -48,7 +48,7 @@ pub(crate) struct Shell {
     poll: Poll,
     events: Events,
     door: Door,
-    pub(crate) traffic: Traffic<TcpStream>,
+    pub(crate) traffic: Switchboard<TcpStream>,
     account: Option<Sink<File>>,
     pub(crate) report: HostReport,
     // At most so many connections are open.
@@ -62,6 +62,36 @@ pub(crate) struct Shell {
     pub(crate) unread: usize,
 }
 
+// What of a shell the system or memory may refuse.
+#[derive(Drop)]
+struct ShellParts {
+    start: Duration,
+    poll: Poll,
+    events: Events,
+    links: Links<TcpStream>,
+}
+
+// A poll that tells of a listener, and room for so many sockets.
+fn make_parts(
+    rt: &HostRuntime,
+    listener: &mut TcpListener,
+    connections: usize,
+) -> Result<ShellParts, HostEnd> {
+    let alloc = rt.alloc();
+    let links = Links::new(alloc, connections)?;
+    let events = Events::with_capacity(alloc, EVENTS)?;
+    let start = rt.monotonic()?;
+    let poll = Poll::new(rt)?;
+    poll.registry()
+        .register(listener, LISTENER, Interest::READABLE)?;
+    Ok(ShellParts {
+        start,
+        poll,
+        events,
+        links,
+    })
+}
+
 impl Shell {
     pub(crate) fn new(
         rt: &HostRuntime,
@@ -72,25 +102,24 @@ impl Shell {
         options: &HostOptions<'_>,
         connections: usize,
     ) -> Result<Shell, HostEnd> {
-        let alloc = rt.alloc();
-        let poll = Poll::new(rt)?;
-        poll.registry()
-            .register(&mut listener, LISTENER, Interest::READABLE)?;
-        Ok(Shell {
-            start: rt.monotonic()?,
-            poll,
-            events: Events::with_capacity(alloc, EVENTS)?,
-            door: Door::new(listener),
-            traffic: Traffic::new(engine, Links::new(alloc, connections)?),
-            account,
-            report,
-            connections,
-            memory: options.memory as u128 * 1_048_576,
-            idle: options.idle.saturating_mul(1_000),
-            stall: options.stall.saturating_mul(1_000),
-            looked_over: 0,
-            unread: 0,
-        })
+        match make_parts(rt, &mut listener, connections) {
+            Ok(parts) => Ok(Shell {
+                start: parts.start,
+                poll: parts.poll,
+                events: parts.events,
+                door: Door::new(listener),
+                traffic: Switchboard::new(engine, parts.links),
+                account,
+                report,
+                connections,
+                memory: options.memory as u128 * 1_048_576,
+                idle: options.idle.saturating_mul(1_000),
+                stall: options.stall.saturating_mul(1_000),
+                looked_over: 0,
+                unread: 0,
+            }),
+            Err(end) => Err(end),
+        }
     }
 
     /// Serves until it can't go on.
@@ -119,7 +148,9 @@ impl Shell {
             .poll(&mut self.events, Some(Duration::from_millis(wait)))?;
         let now = self.now(rt);
         self.heed();
-        self.traffic.pass(now);
+        if self.traffic.catch_up() {
+            self.traffic.pass(now);
+        }
         self.accept(now);
         self.read_all(now);
         self.write_account(now)?;
@@ -208,12 +239,12 @@ impl Shell {
             self.report.note(FaultKind::NotOpened);
             return;
         };
-        if number < self.traffic.links().room() && self.register(number, &mut stream) {
-            self.traffic.attach(now, number, stream);
-        } else {
+        if number >= self.traffic.links().room() || !self.register(number, &mut stream) {
             self.report.note(FaultKind::NotOpened);
             self.traffic.give_up(now, number);
+            return;
         }
+        self.traffic.attach(now, number, stream);
     }
 
     // The poll tells of a socket from now on, by the number of its connection.
@@ -232,31 +263,48 @@ impl Shell {
             let Some(number) = self.traffic.next_look() else {
                 break;
             };
-            match self.traffic.read_one(now, number) {
-                Reading::Broken => self.report.note(FaultKind::Link),
-                Reading::NoMemory => self.report.note(FaultKind::NotOpened),
-                Reading::Nothing | Reading::Offered | Reading::Ended => {}
-            }
+            self.read_one(now, number);
             self.traffic.look_at(number);
         }
     }
 
-    // Writes once to each that is looked at. Those of which something more can be done at once are looked at in the
-    // next turn.
+    // Reads once from a connection. Nothing is read while lines of the account find no memory, since no event
+    // would be taken.
+    fn read_one(&mut self, now: u64, number: ConnectionNumber) {
+        if !self.traffic.catch_up() {
+            return;
+        }
+        match self.traffic.read_one(now, number) {
+            Reading::Broken => self.report.note(FaultKind::Link),
+            Reading::NoMemory => self.report.note(FaultKind::NotOpened),
+            Reading::Nothing | Reading::Offered | Reading::Ended => {}
+        }
+    }
+
+    // Writes once to each that is looked at. Those of which something more can be done at once are looked
+    // at in the next turn.
     fn write_all(&mut self, now: u64) {
         self.traffic.begin_round();
         for _ in 0..self.traffic.links().room() {
             let Some(number) = self.traffic.next_look() else {
                 break;
             };
-            match self.traffic.write_one(now, number) {
-                Writing::Broken => self.report.note(FaultKind::Link),
-                Writing::Nothing | Writing::Sent | Writing::Closed | Writing::Gone => {}
-            }
-            if self.is_busy(number) {
+            if !self.write_one(now, number) || self.is_busy(number) {
                 self.traffic.look_at(number);
             }
         }
+    }
+
+    // Writes once to a connection, and gives whether that could be told: nothing is written while lines of
+    // the account find no memory.
+    fn write_one(&mut self, now: u64, number: ConnectionNumber) -> bool {
+        if !self.traffic.catch_up() {
+            return false;
+        }
+        if self.traffic.write_one(now, number) == Writing::Broken {
+            self.report.note(FaultKind::Link);
+        }
+        true
     }
 
     // Whether something can be read from a connection or written to it at once.

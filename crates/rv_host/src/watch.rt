@@ -4,7 +4,8 @@ use crate::shell::{LOOK_OVER, Shell};
 use rv_hearers::ConnectionNumber;
 
 impl Shell {
-    /// Once a second ends those that are idle or stall, and tells faults; at once who holds most, if all hold too much.
+    /// Once a second ends those that are idle or stall, and tells faults; at once who holds most, if all
+    /// hold too much.
     pub(crate) fn look_over(&mut self, rt: &HostRuntime, now: u64) {
         self.make_room(now);
         if now < self.looked_over.saturating_add(LOOK_OVER) {

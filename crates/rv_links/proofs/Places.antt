@@ -5,46 +5,48 @@ use Rattle.std.specs.List.{sum_by}
 use Rattle.std.proofs.lemmas.List.{get_or-set_same, set-set, set_past}
 use Rattle.std.proofs.lemmas.Option.{none-some}
 use Rattle.std.proofs.lemmas.List.Sums.{sum_by-set}
-use Rattle.rv_links.specs.declared.link.Input.{Input}
-use Rattle.rv_links.specs.declared.link.Link.{Link}
-use Rattle.rv_links.specs.declared.link.Output.{Output}
-use Rattle.rv_links.specs.Table.{AreCounted, ChangesOne, PendsSlot, ReadsSlot, SameSlot, WritesSlot, link_at}
+use Rattle.rv_links.specs.declared.link.ReadOutcome.{ReadOutcome}
+use Rattle.rv_links.specs.declared.link.Socket.{Socket}
+use Rattle.rv_links.specs.declared.link.WriteOutcome.{WriteOutcome}
+use Rattle.rv_links.specs.Table.{AreTallied, ChangesOne, PendsSlot, ReadsSlot, SameSlot, WritesSlot, link_at}
 use Rattle.rv_links.specs.Table.{one_at, over_at, pending_at, pending_of}
 
 module _ {S : Type 0} where
-  pub own_place : (table : List (Option (Link S))) (n : ℕ) (slot : Option (Link S)) → n < length table
+  pub own_place : (table : List (Option (Socket S))) (n : ℕ) (slot : Option (Socket S)) → n < length table
       → link_at (slice_set table n slot) n ≡ slot
   own_place table n slot within = get_or-set_same table n slot None within
 
-  pub one_place : (table : List (Option (Link S))) (n : ℕ) (slot : Option (Link S)) → n < length table
+  pub one_place : (table : List (Option (Socket S))) (n : ℕ) (slot : Option (Socket S)) → n < length table
       → ChangesOne table n (slice_set table n slot)
-  one_place table n slot within = ap (λ (o : Option (Link S)). slice_set table n o)
+  one_place table n slot within = ap (λ (o : Option (Socket S)). slice_set table n o)
       (sym (own_place table n slot within))
 
   -- a number past the room has no socket, and nothing changes there
-  pub past_place : (table : List (Option (Link S))) (n : ℕ) (slot : Option (Link S)) → length table ≤ n
+  pub past_place : (table : List (Option (Socket S))) (n : ℕ) (slot : Option (Socket S)) → length table ≤ n
       → ChangesOne table n table
   past_place table n slot past = sym (set_past table n (link_at table n) past)
 
   -- sums
-  pub ones_set : (table : List (Option (Link S))) (n : ℕ) (slot : Option (Link S)) → n < length table
+  pub ones_set : (table : List (Option (Socket S))) (n : ℕ) (slot : Option (Socket S)) → n < length table
       → sum_by one_at (slice_set table n slot) + one_at (link_at table n) ≡ sum_by one_at table + one_at slot
   ones_set table n slot within = sum_by-set one_at table n slot None within
 
-  pub pending_set : (table : List (Option (Link S))) (n : ℕ) (slot : Option (Link S)) → n < length table
+  pub pending_set : (table : List (Option (Socket S))) (n : ℕ) (slot : Option (Socket S)) → n < length table
       → sum_by pending_at (slice_set table n slot) + pending_at (link_at table n)
       ≡ sum_by pending_at table + pending_at slot
   pending_set table n slot within = sum_by-set pending_at table n slot None within
 
-  over_set : (table : List (Option (Link S))) (n : ℕ) (slot : Option (Link S)) → n < length table
-      → sum_by over_at (slice_set table n slot) + over_at (link_at table n) ≡ sum_by over_at table + over_at slot
+  over_set : (table : List (Option (Socket S))) (n : ℕ) (slot : Option (Socket S)) → n < length table
+      → sum_by over_at (slice_set table n slot) + over_at (link_at table n) ≡ sum_by over_at table + over_at
+      slot
   over_set table n slot within = sum_by-set over_at table n slot None within
 
-  pub counted : (table : List (Option (Link S))) (n : ℕ) (slot : Option (Link S))
-      (count pending more after : ℕ) → n < length table → AreCounted table count pending
+  pub counted : (table : List (Option (Socket S))) (n : ℕ) (slot : Option (Socket S))
+      (count pending more after : ℕ) → n < length table → AreTallied table count pending
       → more + one_at (link_at table n) ≡ count + one_at slot
-      → after + pending_at (link_at table n) ≡ pending + pending_at slot → over_at slot ≤ over_at (link_at table n)
-      → AreCounted (slice_set table n slot) more after
+      → after + pending_at (link_at table n) ≡ pending + pending_at slot
+      → over_at slot ≤ over_at (link_at table n)
+      → AreTallied (slice_set table n slot) more after
   counted table n slot count pending more after within is ones bytes fewer = record {
     counts = omega (arith, is.counts, ones, ones_set table n slot within);
     pends = omega (arith, is.pends, bytes, pending_set table n slot within);
@@ -52,29 +54,30 @@ module _ {S : Type 0} where
   }
 
   -- all have few enough
-  pub few_all : (table : List (Option (Link S)))
+  pub few_all : (table : List (Option (Socket S)))
       → sum_by pending_at table ≤ (2 ^ 63 - 1) * length table + sum_by over_at table
   few_all [] = omega arith
   few_all (slot ∷ table) = omega (arith, few_all table, few_one slot)
     where
-      few_one : (slot : Option (Link S)) → pending_at slot ≤ (2 ^ 63 - 1) + over_at slot
+      few_one : (slot : Option (Socket S)) → pending_at slot ≤ (2 ^ 63 - 1) + over_at slot
       few_one slot = omega arith
 
-  pub ones_all : (table : List (Option (Link S))) → sum_by one_at table ≤ length table
+  pub ones_all : (table : List (Option (Socket S))) → sum_by one_at table ≤ length table
   ones_all [] = omega arith
   ones_all (None ∷ table) = omega (arith, ones_all table)
   ones_all (Some link ∷ table) = omega (arith, ones_all table)
 
-  pub pending_part : (table : List (Option (Link S))) (n : ℕ) → n < length table
+  pub pending_part : (table : List (Option (Socket S))) (n : ℕ) → n < length table
       → pending_at (link_at table n) ≤ sum_by pending_at table
   pending_part table n within = omega (arith, pending_set table n None within)
 
-  pub one_part : (table : List (Option (Link S))) (n : ℕ) → n < length table
+  pub one_part : (table : List (Option (Socket S))) (n : ℕ) → n < length table
       → one_at (link_at table n) ≤ sum_by one_at table
   one_part table n within = omega (arith, ones_set table n None within)
 
   -- what a call leaves as it was
-  read_one : (remaining : S → Option (List ℕ)) (o new : Option (Link S)) (came : Input) (bytes : List ℕ)
+  read_one : (remaining : S → Option (List ℕ)) (o new : Option (Socket S)) (came : ReadOutcome) (bytes :
+      List ℕ)
       → ReadsSlot remaining o came bytes new → (one_at new ≡ one_at o) × (pending_at new ≡ pending_at o)
   read_one remaining None new came bytes is = (ap one_at is.2, ap pending_at is.2)
   read_one remaining (Some link) new came bytes (after, reads, is) = (
@@ -82,7 +85,8 @@ module _ {S : Type 0} where
     ap pending_at is ∙ ap (λ p. length p.items) reads.rest.pending,
   )
 
-  write_one : (contents : S → Option (List ℕ)) (o new : Option (Link S)) (ready : List ℕ) (what : Output)
+  write_one : (contents : S → Option (List ℕ)) (o new : Option (Socket S)) (ready : List ℕ) (what :
+      WriteOutcome)
       → WritesSlot contents o ready what new → (one_at new ≡ one_at o) × (pending_at new ≡ pending_at o)
   write_one contents None new ready what is = (ap one_at is.1, ap pending_at is.1)
   write_one contents (Some link) new ready what (after, writes, is) = (
@@ -90,7 +94,7 @@ module _ {S : Type 0} where
     ap pending_at is ∙ ap (λ p. length p.items) writes.rest.pending,
   )
 
-  same_one : (o new : Option (Link S)) → SameSlot o new
+  same_one : (o new : Option (Socket S)) → SameSlot o new
       → (one_at new ≡ one_at o) × (pending_at new ≡ pending_at o)
   same_one None new is = (ap one_at is, ap pending_at is)
   same_one (Some link) new (after, same, is) = (
@@ -98,7 +102,7 @@ module _ {S : Type 0} where
     ap pending_at is ∙ ap (λ p. length p.items) same.pending,
   )
 
-  pends_one : (o new : Option (Link S)) (bytes : List ℕ) → PendsSlot o bytes new
+  pends_one : (o new : Option (Socket S)) (bytes : List ℕ) → PendsSlot o bytes new
       → bytes ≡ pending_of o → (one_at new ≡ one_at o) × (pending_at new ≡ pending_at o)
   pends_one None new bytes is same = (ap one_at is, ap pending_at is)
   pends_one (Some link) new bytes (after, has, is) same = (
@@ -107,43 +111,44 @@ module _ {S : Type 0} where
   )
 
   -- the counts stay
-  stays : (table : List (Option (Link S))) (n : ℕ) (slot : Option (Link S)) (count pending : ℕ)
-      → n < length table → AreCounted table count pending
+  stays : (table : List (Option (Socket S))) (n : ℕ) (slot : Option (Socket S)) (count pending : ℕ)
+      → n < length table → AreTallied table count pending
       → (one_at slot ≡ one_at (link_at table n)) × (pending_at slot ≡ pending_at (link_at table n))
-      → AreCounted (slice_set table n slot) count pending
+      → AreTallied (slice_set table n slot) count pending
   stays table n slot count pending within is same =
       counted table n slot count pending count pending within is (omega (arith, same.0))
       (omega (arith, same.1)) (omega (arith, same.1))
 
-  pub read_counted : (remaining : S → Option (List ℕ)) (table : List (Option (Link S))) (n : ℕ)
-      (slot : Option (Link S)) (came : Input) (bytes : List ℕ) (count pending : ℕ) → n < length table
-      → AreCounted table count pending → ReadsSlot remaining (link_at table n) came bytes slot
-      → AreCounted (slice_set table n slot) count pending
+  pub read_counted : (remaining : S → Option (List ℕ)) (table : List (Option (Socket S))) (n : ℕ)
+      (slot : Option (Socket S)) (came : ReadOutcome) (bytes : List ℕ) (count pending : ℕ) → n < length table
+      → AreTallied table count pending → ReadsSlot remaining (link_at table n) came bytes slot
+      → AreTallied (slice_set table n slot) count pending
   read_counted remaining table n slot came bytes count pending within is reads =
       stays table n slot count pending within is (read_one remaining (link_at table n) slot came bytes reads)
 
-  pub write_counted : (contents : S → Option (List ℕ)) (table : List (Option (Link S))) (n : ℕ)
-      (slot : Option (Link S)) (ready : List ℕ) (what : Output) (count pending : ℕ) → n < length table
-      → AreCounted table count pending → WritesSlot contents (link_at table n) ready what slot
-      → AreCounted (slice_set table n slot) count pending
+  pub write_counted : (contents : S → Option (List ℕ)) (table : List (Option (Socket S))) (n : ℕ)
+      (slot : Option (Socket S)) (ready : List ℕ) (what : WriteOutcome) (count pending : ℕ) → n < length table
+      → AreTallied table count pending → WritesSlot contents (link_at table n) ready what slot
+      → AreTallied (slice_set table n slot) count pending
   write_counted contents table n slot ready what count pending within is writes =
       stays table n slot count pending within is (write_one contents (link_at table n) slot ready what writes)
 
-  pub same_counted : (table : List (Option (Link S))) (n : ℕ) (slot : Option (Link S)) (count pending : ℕ)
-      → n < length table → AreCounted table count pending → SameSlot (link_at table n) slot
-      → AreCounted (slice_set table n slot) count pending
+  pub same_counted : (table : List (Option (Socket S))) (n : ℕ) (slot : Option (Socket S)) (count pending : ℕ)
+      → n < length table → AreTallied table count pending → SameSlot (link_at table n) slot
+      → AreTallied (slice_set table n slot) count pending
   same_counted table n slot count pending within is same =
       stays table n slot count pending within is (same_one (link_at table n) slot same)
 
-  pub pends_counted : (table : List (Option (Link S))) (n : ℕ) (slot : Option (Link S)) (count pending : ℕ)
-      → n < length table → AreCounted table count pending
+  pub pends_counted : (table : List (Option (Socket S))) (n : ℕ) (slot : Option (Socket S)) (count pending :
+      ℕ)
+      → n < length table → AreTallied table count pending
       → PendsSlot (link_at table n) (pending_of (link_at table n)) slot
-      → AreCounted (slice_set table n slot) count pending
+      → AreTallied (slice_set table n slot) count pending
   pends_counted table n slot count pending within is pends =
       stays table n slot count pending within is (pends_one (link_at table n) slot _ pends refl)
 
   -- where one place is empty there is room for one more
-  pub few_ones : (table : List (Option (Link S))) (n : ℕ) → n < length table → link_at table n ≡ None
+  pub few_ones : (table : List (Option (Socket S))) (n : ℕ) → n < length table → link_at table n ≡ None
       → sum_by one_at table < length table
   few_ones [] n within none = absurd (omega (arith, within))
   few_ones (None ∷ table) n within none = omega (arith, ones_all table)
@@ -152,9 +157,10 @@ module _ {S : Type 0} where
       omega (arith, few_ones table n (omega (arith, within)) none)
 
   -- one place after another call for it
-  pub one_again : (old mid : List (Option (Link S))) (n : ℕ) (slot : Option (Link S)) → ChangesOne old n mid
+  pub one_again : (old mid : List (Option (Socket S))) (n : ℕ) (slot : Option (Socket S))
+      → ChangesOne old n mid
       → n < length mid → ChangesOne old n (slice_set mid n slot)
   one_again old mid n slot first within =
-      ap (λ (l : List (Option (Link S))). slice_set l n slot) first
+      ap (λ (l : List (Option (Socket S))). slice_set l n slot) first
       ∙ set-set old n (link_at mid n) slot
-      ∙ ap (λ (o : Option (Link S)). slice_set old n o) (sym (own_place mid n slot within))
+      ∙ ap (λ (o : Option (Socket S)). slice_set old n o) (sym (own_place mid n slot within))

@@ -1,12 +1,12 @@
 -- What a read of a connection's socket gives.
 use Rattle.std.specs.Prelude.{ℕ, ◌≡◌, ◌<◌, List, [], Option, length, true}
 use Rattle.std.specs.Io.KnownBytes.{Consumes, IsAtEnd, Keeps}
-use Rattle.rv_links.specs.declared.link.Input.{Input}
-use Rattle.rv_links.specs.declared.link.Input.TheVariants as input
-use Rattle.rv_links.specs.declared.link.Link.{Link}
+use Rattle.rv_links.specs.declared.link.ReadOutcome.{ReadOutcome}
+use Rattle.rv_links.specs.declared.link.ReadOutcome.TheVariants as input
+use Rattle.rv_links.specs.declared.link.Socket.{Socket}
 
 -- a socket that was accepted at a moment, of which nothing is pending
-abbrev pub fresh_link : {S : Type 0} → S → ℕ → ℕ → Link S
+abbrev pub fresh_link : {S : Type 0} → S → ℕ → ℕ → Socket S
 fresh_link stream now spare = record {
   stream = stream;
   pending = record { items = []; spare = spare };
@@ -17,13 +17,14 @@ fresh_link stream now spare = record {
 }
 
 -- what a read leaves as it was
-pub record KeepsOutput {S : Type 0} (old new : Link S) : Type 0 where
+pub record KeepsOutput {S : Type 0} (old new : Socket S) : Type 0 where
   pub pending : new.pending ≡ old.pending
   pub writable : new.is_writable ≡ old.is_writable
   pub moved : new.moved ≡ old.moved
 
 -- bytes came from the socket, if it may be read, and these are all that it gave
-abbrev pub GivesInput : {S : Type 0} → (S → Option (List ℕ)) → Link S → Input → List ℕ → Link S → Type 0
+abbrev pub GivesInput : {S : Type 0} → (S → Option (List ℕ)) → Socket S → ReadOutcome → List ℕ → Socket S
+    → Type 0
 GivesInput remaining old input.Piece bytes new = (0 < length bytes) × (old.is_readable ≡ true)
     × Consumes (remaining old.stream) (remaining new.stream) bytes
 GivesInput remaining old input.End bytes new = (bytes ≡ []) × (old.is_readable ≡ true)
@@ -34,8 +35,8 @@ GivesInput remaining old input.Broken bytes new = (bytes ≡ []) × (old.is_read
     × Keeps (remaining old.stream) (remaining new.stream)
 
 -- one read
-pub record ReadsOnce {S : Type 0} (remaining : S → Option (List ℕ)) (old : Link S) (came : Input)
-    (bytes : List ℕ) (new : Link S) : Type 0
+pub record ReadsOnce {S : Type 0} (remaining : S → Option (List ℕ)) (old : Socket S) (came : ReadOutcome)
+    (bytes : List ℕ) (new : Socket S) : Type 0
   where
     pub gives : GivesInput remaining old came bytes new
     pub rest : KeepsOutput old new

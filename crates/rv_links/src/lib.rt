@@ -5,5 +5,5 @@ mod link;
 mod links;
 mod slot;
 
-pub use link::{Input, Link, Output};
+pub use link::{ReadOutcome, Socket, WriteOutcome};
 pub use links::Links;

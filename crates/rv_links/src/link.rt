@@ -9,7 +9,7 @@ use std::io::{Error, ErrorKind, Read, Write};
 
 /// What came of one read of a socket.
 #[derive(Clone, Copy, Debug, PartialEq, Eq)]
-pub enum Input {
+pub enum ReadOutcome {
     /// At least one byte.
     Piece,
     /// The end of the input.
@@ -22,7 +22,7 @@ pub enum Input {
 
 /// What came of one write to a socket.
 #[derive(Clone, Copy, Debug, PartialEq, Eq)]
-pub enum Output {
+pub enum WriteOutcome {
     /// It took so many bytes, from the first on.
     Took(usize),
     /// It takes none yet.
@@ -34,7 +34,7 @@ pub enum Output {
 /// A socket, what of its input nobody has taken, and what is known of its readiness. A flag is cleared only
 /// where a call would have blocked, since a poll tells changes alone.
 #[derive(Drop)]
-pub struct Link<S> {
+pub struct Socket<S> {
     pub(crate) stream: S,
     pub(crate) pending: BytesMut,
     pub(crate) is_readable: bool,
@@ -63,12 +63,12 @@ fn trouble_of(error: &Error) -> Trouble {
     }
 }
 
-impl<S> Link<S> {
+impl<S> Socket<S> {
     // A socket that was accepted at a moment. Both flags are set until a call blocks.
-    pub(crate) fn new(alloc: Global, stream: S, now: u64) -> Link<S>
+    pub(crate) fn new(alloc: Global, stream: S, now: u64) -> Socket<S>
         ensures { result ≡ fresh_link stream now result.pending.spare }
     {
-        Link {
+        Socket {
             stream,
             pending: BytesMut::new(alloc),
             is_readable: true,
@@ -79,58 +79,58 @@ impl<S> Link<S> {
     }
 }
 
-impl<S: Read> Link<S> {
+impl<S: Read> Socket<S> {
     // Reads once into the buffer, whose bytes are then those that came, if the socket may have some.
-    pub(crate) fn read(&mut self, now: u64, buffer: &mut BytesMut) -> Input
+    pub(crate) fn read(&mut self, now: u64, buffer: &mut BytesMut) -> ReadOutcome
         requires { 0 < length buffer.old.items + buffer.old.spare }
         ensures reads { ReadsOnce S.remaining self.old result buffer.new.items self.new }
         ensures room { 0 < length buffer.new.items + buffer.new.spare }
     {
         buffer.clear();
         if !self.is_readable {
-            return Input::Nothing;
+            return ReadOutcome::Nothing;
         }
         let error = match buffer.read_from(&mut self.stream) {
-            Ok(0) => return Input::End,
+            Ok(0) => return ReadOutcome::End,
             Ok(_) => {
                 self.heard = now;
-                return Input::Piece;
+                return ReadOutcome::Piece;
             }
             Err(error) => error,
         };
         match trouble_of(&error) {
             Trouble::Blocks => {
                 self.is_readable = false;
-                Input::Nothing
+                ReadOutcome::Nothing
             }
-            Trouble::Again => Input::Nothing,
-            Trouble::Breaks => Input::Broken,
+            Trouble::Again => ReadOutcome::Nothing,
+            Trouble::Breaks => ReadOutcome::Broken,
         }
     }
 }
 
-impl<S: Write> Link<S> {
+impl<S: Write> Socket<S> {
     // Writes bytes once, if the socket may take some.
-    pub(crate) fn write(&mut self, now: u64, ready: &[u8]) -> Output
+    pub(crate) fn write(&mut self, now: u64, ready: &[u8]) -> WriteOutcome
         ensures { WritesOnce S.contents self.old ready.now result self.new }
     {
         if !self.is_writable {
-            return Output::Nothing;
+            return WriteOutcome::Nothing;
         }
         let error = match self.stream.write(ready) {
             Ok(count) => {
                 self.moved = now;
-                return Output::Took(count);
+                return WriteOutcome::Took(count);
             }
             Err(error) => error,
         };
         match trouble_of(&error) {
             Trouble::Blocks => {
                 self.is_writable = false;
-                Output::Nothing
+                WriteOutcome::Nothing
             }
-            Trouble::Again => Output::Nothing,
-            Trouble::Breaks => Output::Broken,
+            Trouble::Again => WriteOutcome::Nothing,
+            Trouble::Breaks => WriteOutcome::Broken,
         }
     }
 }

@@ -1,13 +1,13 @@
 //! All sockets, each under the number of its connection.
-ghost use Rattle.std.specs.Prelude.{◌≡◌, ◌≤◌, ◌<◌, ◌+◌, ◌++◌, [], drop, length, None, IfOk, IsTrue, OnErr, OnOk, ◌↔◌, IsSome};
-ghost use Rattle.std.specs.Prelude.{ℕ};
+ghost use Rattle.std.specs.Prelude.{◌≡◌, ◌≤◌, ◌<◌, ◌+◌, ◌++◌, ◌↔◌, ℕ, [], drop, length, None, IfOk, IsSome};
+ghost use Rattle.std.specs.Prelude.{IsTrue, OnErr, OnOk};
 ghost use Rattle.std.specs.List.{sum_by};
 ghost use Rattle.std.specs.Option.{option_map};
 ghost use Rattle.rv_links.specs.Table.{HasInput, IsWritable};
-ghost use Rattle.rv_links.specs.Table.{AreCounted, ChangesOne, IsFreshSlot, PendsSlot, ReadsSlot, SameSlot};
+ghost use Rattle.rv_links.specs.Table.{AreTallied, ChangesOne, IsFreshSlot, PendsSlot, ReadsSlot, SameSlot};
 ghost use Rattle.rv_links.specs.Table.{WritesSlot, link_at, one_at, pending_at, pending_of};
 
-use crate::link::{Input, Link, Output};
+use crate::link::{ReadOutcome, Socket, WriteOutcome};
 use crate::slot::{
     advance_slot, heed_slot, keep_slot, pending_slot, read_slot, rest_slot, write_slot,
 };
@@ -22,13 +22,13 @@ const PIECE: usize = 65_536;
 #[derive(Drop)]
 pub struct Links<S> {
     alloc: Global,
-    pub(crate) table: Vec<Option<Link<S>>>,
+    pub(crate) table: Vec<Option<Socket<S>>>,
     pub(crate) buffer: BytesMut,
     // How many sockets there are.
     pub(crate) count: usize,
     // How many bytes are pending of all.
     pub(crate) pending: u128,
-    ghost counted: { AreCounted table.items count pending },
+    ghost counted: { AreTallied table.items count pending },
     ghost roomy: { 0 < length buffer.items + buffer.spare },
 }
 
@@ -181,14 +181,14 @@ impl<S: Drop> Links<S> {
 
 impl<S: Read> Links<S> {
     /// Reads once from a connection's socket, at a moment in milliseconds: `piece` has the bytes that came.
-    pub fn read(&mut self, number: usize, now: u64) -> Input
+    pub fn read(&mut self, number: usize, now: u64) -> ReadOutcome
         ensures reads { ReadsSlot S.remaining (link_at self.old.table.items number) result
             self.new.buffer.items (link_at self.new.table.items number) }
         ensures others { ChangesOne self.old.table.items number self.new.table.items }
     {
         if number >= self.table.len() {
             self.buffer.clear();
-            return Input::Nothing;
+            return ReadOutcome::Nothing;
         }
         read_slot(&mut self.table[number], now, &mut self.buffer)
     }
@@ -196,13 +196,13 @@ impl<S: Read> Links<S> {
 
 impl<S: Write> Links<S> {
     /// Writes bytes once to a connection's socket, at a moment in milliseconds.
-    pub fn write(&mut self, number: usize, now: u64, ready: &[u8]) -> Output
+    pub fn write(&mut self, number: usize, now: u64, ready: &[u8]) -> WriteOutcome
         ensures writes { WritesSlot S.contents (link_at self.old.table.items number) ready.now result
             (link_at self.new.table.items number) }
         ensures others { ChangesOne self.old.table.items number self.new.table.items }
     {
         if number >= self.table.len() {
-            return Output::Nothing;
+            return WriteOutcome::Nothing;
         }
         write_slot(&mut self.table[number], now, ready)
     }
@@ -245,7 +245,7 @@ impl<S: Drop> Links<S> {
     {
         self.remove(number);
         self.count += 1;
-        self.table[number] = Some(Link::new(self.alloc, stream, now));
+        self.table[number] = Some(Socket::new(self.alloc, stream, now));
     }
 
     /// Lets go the socket under a number, with what was read of it and not taken.

@@ -2,17 +2,17 @@
 ghost use Rattle.std.specs.Prelude.{◌≡◌, ◌≤◌, ◌<◌, ◌^◌, ◌+◌, ◌++◌, drop, length, OnErr, OnOk};
 ghost use Rattle.rv_links.specs.Table.{PendsSlot, ReadsSlot, SameSlot, WritesSlot, pending_of};
 
-use crate::link::{Input, Link, Output};
+use crate::link::{ReadOutcome, Socket, WriteOutcome};
 use bytes::BytesMut;
 use std::alloc::{AllocError, Global};
 use std::io::{Read, Write};
 
 // Reads once from the socket, if there is one; else the buffer is empty.
 pub(crate) fn read_slot<S: Read>(
-    slot: &mut Option<Link<S>>,
+    slot: &mut Option<Socket<S>>,
     now: u64,
     buffer: &mut BytesMut,
-) -> Input
+) -> ReadOutcome
     requires { 0 < length buffer.old.items + buffer.old.spare }
     ensures reads { ReadsSlot S.remaining slot.old result buffer.new.items slot.new }
     ensures room { 0 < length buffer.new.items + buffer.new.spare }
@@ -21,23 +21,27 @@ pub(crate) fn read_slot<S: Read>(
         Some(link) => link.read(now, buffer),
         None => {
             buffer.clear();
-            Input::Nothing
+            ReadOutcome::Nothing
         }
     }
 }
 
 // Writes once to the socket, if there is one.
-pub(crate) fn write_slot<S: Write>(slot: &mut Option<Link<S>>, now: u64, ready: &[u8]) -> Output
+pub(crate) fn write_slot<S: Write>(
+    slot: &mut Option<Socket<S>>,
+    now: u64,
+    ready: &[u8],
+) -> WriteOutcome
     ensures { WritesSlot S.contents slot.old ready.now result slot.new }
 {
     match slot {
         Some(link) => link.write(now, ready),
-        None => Output::Nothing,
+        None => WriteOutcome::Nothing,
     }
 }
 
 // Adds what is pending behind what was. If memory is refused nothing changes.
-pub(crate) fn keep_slot<S>(slot: &mut Option<Link<S>>, rest: &[u8]) -> Result<(), AllocError>
+pub(crate) fn keep_slot<S>(slot: &mut Option<Socket<S>>, rest: &[u8]) -> Result<(), AllocError>
     ensures kept { OnOk result (PendsSlot slot.old (pending_of slot.old ++ rest.now) slot.new) }
     ensures refused { OnErr result (PendsSlot slot.old (pending_of slot.old) slot.new) }
     ensures short { length (pending_of slot.new) < 2 ^ 63 }
@@ -53,7 +57,7 @@ pub(crate) fn keep_slot<S>(slot: &mut Option<Link<S>>, rest: &[u8]) -> Result<()
 }
 
 // So many of what is pending are taken. A buffer that is empty then is let go.
-pub(crate) fn advance_slot<S>(slot: &mut Option<Link<S>>, alloc: Global, count: usize)
+pub(crate) fn advance_slot<S>(slot: &mut Option<Socket<S>>, alloc: Global, count: usize)
     requires { count ≤ length (pending_of slot.old) }
     ensures { PendsSlot slot.old (drop count (pending_of slot.old)) slot.new }
 {
@@ -66,7 +70,7 @@ pub(crate) fn advance_slot<S>(slot: &mut Option<Link<S>>, alloc: Global, count: 
 }
 
 // The socket may be read, or written, once more.
-pub(crate) fn heed_slot<S>(slot: &mut Option<Link<S>>, is_readable: bool, is_writable: bool)
+pub(crate) fn heed_slot<S>(slot: &mut Option<Socket<S>>, is_readable: bool, is_writable: bool)
     ensures { SameSlot slot.old slot.new }
 {
     if let Some(link) = slot {
@@ -76,7 +80,7 @@ pub(crate) fn heed_slot<S>(slot: &mut Option<Link<S>>, is_readable: bool, is_wri
 }
 
 // Nothing was there to leave at this moment.
-pub(crate) fn rest_slot<S>(slot: &mut Option<Link<S>>, now: u64)
+pub(crate) fn rest_slot<S>(slot: &mut Option<Socket<S>>, now: u64)
     ensures { SameSlot slot.old slot.new }
 {
     if let Some(link) = slot {
@@ -85,7 +89,7 @@ pub(crate) fn rest_slot<S>(slot: &mut Option<Link<S>>, now: u64)
 }
 
 // What is pending of the socket.
-pub(crate) fn pending_slot<S>(slot: &Option<Link<S>>) -> &[u8]
+pub(crate) fn pending_slot<S>(slot: &Option<Socket<S>>) -> &[u8]
     ensures { result.now ≡ pending_of slot.now }
 {
     match slot {

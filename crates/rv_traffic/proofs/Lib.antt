@@ -1,3 +1,4 @@
 -- The lemmas that the proofs of this crate share.
-pub mod Through
 pub mod Tables
+pub mod Reads
+pub mod Writes

@@ -10,7 +10,7 @@ use Rattle.rv_hub.specs.declared.events.HubEvent.{HubEvent}
 use Rattle.rv_hub.specs.declared.events.HubEvent.TheVariants as event
 use Rattle.rv_engine.specs.Engines.{EngineState}
 use Rattle.rv_engine.specs.Handing.{Gathers, HandsOn, LooksAt}
-use Rattle.rv_links.specs.declared.link.Link.{Link}
+use Rattle.rv_links.specs.declared.link.Socket.{Socket}
 use Rattle.rv_links.specs.Table.{ChangesOne, link_at, pending_of}
 use Rattle.rv_traffic.specs.declared.outcomes.Reading.{Reading}
 use Rattle.rv_traffic.specs.declared.outcomes.Reading.TheVariants as reading
@@ -23,18 +23,19 @@ abbrev pub MayBeOffered : DeskState → ℕ → Type 0
 MayBeOffered s number = HasWire s.open_wires number MayOffer
 
 -- its socket is another value now, and that of all others as it was
-pub record ChangesLink {S : Type 0} (old : List (Option (Link S))) (number : ℕ)
-    (so : Link S → Link S → Type 0) (new : List (Option (Link S))) : Type 0
+pub record ChangesLink {S : Type 0} (old : List (Option (Socket S))) (number : ℕ)
+    (so : Socket S → Socket S → Type 0) (new : List (Option (Socket S))) : Type 0
   where
-    pub link : Link S
-    pub after : Link S
+    pub link : Socket S
+    pub after : Socket S
     pub there : link_at old number ≡ Some link
     pub changes : so link after
     pub is : link_at new number ≡ Some after
     pub others : ChangesOne old number new
 
 -- it has none
-pub record LetsGo {S : Type 0} (old : List (Option (Link S))) (number : ℕ) (new : List (Option (Link S))) :
+pub record LetsGo {S : Type 0} (old : List (Option (Socket S))) (number : ℕ)
+    (new : List (Option (Socket S))) :
     Type 0
   where
     pub none : link_at new number ≡ None
@@ -49,7 +50,8 @@ pub record Hands (journal : Bool) (terms : DeskTerms) (old : EngineState) (now :
     pub made : List Entry
     pub hands : HandsOn journal terms old now what made given new
 
--- bytes that came from the socket are offered behind those that were pending, of which the hub takes some: the
+-- bytes that came from the socket are offered behind those that were pending, of which the hub takes some:
+-- the
 -- others are pending
 pub record Offers {S : Type 0} (remaining : S → Option (List ℕ)) (journal : Bool) (terms : DeskTerms)
     (now number : ℕ) (old new : TrafficState S) : Type 0
@@ -84,35 +86,35 @@ pub record GivesUp {S : Type 0} (journal : Bool) (terms : DeskTerms) (now number
     pub link : LetsGo old.table number new.table
     pub told : TellsGone journal terms old.engine now number new.engine
 
--- time goes on; or, where memory is refused to lines of the account, later
-abbrev pub Passes : Bool → DeskTerms → EngineState → ℕ → EngineState → Type 0
-Passes journal terms old now new = ((given : ℕ) × Hands journal terms old now event.Passed given new)
-    ⊎ (Gathers old new × (0 < length new.left))
-
 -- ---- reading
 
 -- no byte came of the socket, if there is one, and what is pending is as it was
-pub record GaveNone {S : Type 0} (remaining : S → Option (List ℕ)) (link after : Link S) : Type 0 where
+pub record GaveNone {S : Type 0} (remaining : S → Option (List ℕ)) (link after : Socket S) : Type 0 where
   pub keeps : Keeps (remaining link.stream) (remaining after.stream)
   pub pending : after.pending ≡ link.pending
 
+-- nothing came of its socket, or it has none
+abbrev pub NoneCame : {S : Type 0} → (S → Option (List ℕ)) → ℕ → List (Option (Socket S))
+    → List (Option (Socket S))
+    → Type 0
+NoneCame remaining number old new = ((link_at old number ≡ None) × (new ≡ old))
+    ⊎ ChangesLink old number (GaveNone remaining) new
+
 -- the input ended
-pub record GaveEnd {S : Type 0} (remaining : S → Option (List ℕ)) (link after : Link S) : Type 0 where
+pub record GaveEnd {S : Type 0} (remaining : S → Option (List ℕ)) (link after : Socket S) : Type 0 where
   pub is_end : IsAtEnd (remaining after.stream)
   pub none : Consumes (remaining link.stream) (remaining after.stream) []
   pub pending : after.pending ≡ link.pending
 
--- nothing is handed on: it may not be offered more, or nothing is pending and nothing came, or memory is refused
--- to lines of the account
-pub record ReadsNothing {S : Type 0} (remaining : S → Option (List ℕ)) (number : ℕ) (old new : TrafficState S) :
+-- nothing is handed on: it may not be offered more, or nothing is pending and nothing came
+pub record ReadsNothing {S : Type 0} (remaining : S → Option (List ℕ)) (number : ℕ) (old new :
+    TrafficState S) :
     Type 0
   where
-    pub engine : Gathers old.engine new.engine
-    pub table : (new.table ≡ old.table)
+    pub engine : new.engine ≡ old.engine
+    pub why : ((¬ MayBeOffered old.engine.hub number) × (new.table ≡ old.table))
         ⊎ ((pending_of (link_at old.table number) ≡ [])
-        × ChangesLink old.table number (GaveNone remaining) new.table)
-    pub why : (0 < length new.engine.left) ⊎ (¬ MayBeOffered old.engine.hub number)
-        ⊎ (pending_of (link_at old.table number) ≡ [])
+        × NoneCame remaining number old.table new.table)
 
 -- its input ended, and the hub is told so
 pub record EndsInput {S : Type 0} (remaining : S → Option (List ℕ)) (journal : Bool) (terms : DeskTerms)
@@ -123,7 +125,7 @@ pub record EndsInput {S : Type 0} (remaining : S → Option (List ℕ)) (journal
     pub link : ChangesLink old.table number (GaveEnd remaining) new.table
 
 -- a piece was offered, of which the hub takes some: the others are pending
-pub record KeepsRest {S : Type 0} (journal : Bool) (terms : DeskTerms) (now number : ℕ) (bytes : List ℕ)
+pub record KeepsUntaken {S : Type 0} (journal : Bool) (terms : DeskTerms) (now number : ℕ) (bytes : List ℕ)
     (old new : TrafficState S) : Type 0
   where
     pub what : HubEvent
@@ -162,7 +164,7 @@ abbrev pub OffersPiece : {S : Type 0} → Bool → DeskTerms → ℕ → ℕ →
     → TrafficState S → Type 0
 OffersPiece journal terms now number bytes old reading.Nothing new = ⊥
 OffersPiece journal terms now number bytes old reading.Offered new =
-    KeepsRest journal terms now number bytes old new
+    KeepsUntaken journal terms now number bytes old new
 OffersPiece journal terms now number bytes old reading.Ended new = ⊥
 OffersPiece journal terms now number bytes old reading.Broken new = ⊥
 OffersPiece journal terms now number bytes old reading.NoMemory new =
@@ -185,21 +187,24 @@ pub record Sends {S : Type 0} (contents : S → Option (List ℕ)) (journal : Bo
         × (after.pending ≡ link.pending)) new.table
 
 -- the socket took none
-pub record TookNone {S : Type 0} (contents : S → Option (List ℕ)) (link after : Link S) : Type 0 where
+pub record TookNone {S : Type 0} (contents : S → Option (List ℕ)) (link after : Socket S) : Type 0 where
   pub keeps : Keeps (contents link.stream) (contents after.stream)
   pub pending : after.pending ≡ link.pending
 
--- nothing is written or told; whoever couldn't be told is looked at in the next round
-pub record SendsNothing {S : Type 0} (contents : S → Option (List ℕ)) (number : ℕ) (old new : TrafficState S) :
+-- nothing is written or told: nothing may leave, or the socket took none
+pub record SendsNothing {S : Type 0} (contents : S → Option (List ℕ)) (number : ℕ) (old new :
+    TrafficState S) :
     Type 0
   where
-    pub engine : Gathers old.engine new.engine ⊎ LooksLater old.engine number new.engine
-    pub table : (new.table ≡ old.table) ⊎ ChangesLink old.table number (TookNone contents) new.table
+    pub engine : new.engine ≡ old.engine
+    pub why : ((link_at old.table number ≡ None) × (new.table ≡ old.table)
+        × (old.engine.hub.open_wires.wires number ≡ None))
+        ⊎ ChangesLink old.table number (TookNone contents) new.table
 
--- a connection that isn't open has no socket
-pub record Closes {S : Type 0} (number : ℕ) (old new : TrafficState S) : Type 0 where
+-- a connection that isn't open has no socket any more
+pub record ClosesSocket {S : Type 0} (number : ℕ) (old new : TrafficState S) : Type 0 where
   pub closed : old.engine.hub.open_wires.wires number ≡ None
-  pub engine : Gathers old.engine new.engine
+  pub engine : new.engine ≡ old.engine
   pub link : LetsGo old.table number new.table
 
 -- what comes of one connection's turn to be written to
@@ -208,7 +213,7 @@ abbrev pub WritesOne : {S : Type 0} → (S → Option (List ℕ)) → Bool → D
 WritesOne contents journal terms now number old writing.Nothing new = SendsNothing contents number old new
 WritesOne contents journal terms now number old writing.Sent new =
     Sends contents journal terms now number old new
-WritesOne contents journal terms now number old writing.Closed new = Closes number old new
+WritesOne contents journal terms now number old writing.Closed new = ClosesSocket number old new
 WritesOne contents journal terms now number old writing.Gone new =
     (link_at old.table number ≡ None) × (new.table ≡ old.table) × (given : ℕ)
     × Hands journal terms old.engine now (event.Gone number) given new.engine

@@ -9,4 +9,4 @@ mod traffic;
 mod writing;
 
 pub use outcomes::{Reading, Writing};
-pub use traffic::Traffic;
+pub use traffic::Switchboard;

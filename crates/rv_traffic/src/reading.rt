@@ -1,5 +1,5 @@
 //! Reads once from a connection, and hands on what came.
-ghost use Rattle.std.specs.Prelude.{◌≡◌, [], IsSome};
+ghost use Rattle.std.specs.Prelude.{◌≡◌, ◌≤◌, [], drop, length, IsSome};
 ghost use Rattle.rv_hub.specs.Hubs.{hub_terms};
 ghost use Rattle.rv_engine.specs.Engines.{engine_state};
 ghost use Rattle.rv_links.specs.Table.{link_at, pending_of};
@@ -9,30 +9,42 @@ ghost use Rattle.rv_traffic.specs.Views.{SameTerms, traffic_state};
 use crate::asking::may_offer;
 use crate::giving_up::give_up;
 use crate::outcomes::Reading;
-use crate::traffic::Traffic;
+use crate::traffic::Switchboard;
 use rv_engine::LinkEvent;
 use rv_hearers::ConnectionNumber;
-use rv_links::Input;
+use rv_links::ReadOutcome;
 use std::io::Read;
 
+// So many bytes of a piece, or all.
+fn at_most(count: usize, piece: &[u8]) -> usize
+    ensures within { result ≤ length piece.now }
+    ensures same { drop result piece.now ≡ drop count piece.now }
+{
+    if count < piece.len() {
+        return count;
+    }
+    piece.len()
+}
+
 // Offers what is pending of a connection.
-fn offer_pending<S: Read + Drop>(traffic: &mut Traffic<S>, now: u64, number: ConnectionNumber)
+fn offer_pending<S: Read + Drop>(traffic: &mut Switchboard<S>, now: u64, number: ConnectionNumber)
     requires none_left { (engine_state traffic.old.engine).left ≡ [] }
     requires may { MayBeOffered (engine_state traffic.old.engine).hub number }
     requires there { IsSome (link_at traffic.old.links.table.items number) }
-    ensures offers { Offers S.remaining traffic.old.engine.hub.has_journal (hub_terms traffic.old.engine.hub) now
+    ensures offers { Offers S.remaining traffic.old.engine.hub.has_journal (hub_terms traffic.old.engine.hub)
+        now
         number (traffic_state traffic.old) (traffic_state traffic.new) }
     ensures terms { SameTerms traffic.old traffic.new }
 {
     let piece = traffic.links.pending(number);
-    let count = piece.len();
     let taken = traffic.engine.hand(now, LinkEvent::Came(number, piece));
-    traffic.links.advance(number, taken.min(count));
+    let count = at_most(taken, piece);
+    traffic.links.advance(number, count);
 }
 
 // Offers the piece that was read of a connection of which nothing was pending. What isn't taken is pending.
 fn offer_piece<S: Read + Drop>(
-    traffic: &mut Traffic<S>,
+    traffic: &mut Switchboard<S>,
     now: u64,
     number: ConnectionNumber,
 ) -> Reading
@@ -45,9 +57,9 @@ fn offer_piece<S: Read + Drop>(
     ensures terms { SameTerms traffic.old traffic.new }
 {
     let piece = traffic.links.piece();
-    let count = piece.len();
     let taken = traffic.engine.hand(now, LinkEvent::Came(number, piece));
-    match traffic.links.keep(number, taken.min(count)) {
+    let count = at_most(taken, piece);
+    match traffic.links.keep(number, count) {
         Ok(()) => Reading::Offered,
         Err(_) => {
             give_up(traffic, now, number);
@@ -57,7 +69,11 @@ fn offer_piece<S: Read + Drop>(
 }
 
 // Reads once from a connection of which nothing is pending, and offers what came.
-fn read_new<S: Read + Drop>(traffic: &mut Traffic<S>, now: u64, number: ConnectionNumber) -> Reading
+fn read_new<S: Read + Drop>(
+    traffic: &mut Switchboard<S>,
+    now: u64,
+    number: ConnectionNumber,
+) -> Reading
     requires none_left { (engine_state traffic.old.engine).left ≡ [] }
     requires may { MayBeOffered (engine_state traffic.old.engine).hub number }
     requires none_pending { pending_of (link_at traffic.old.links.table.items number) ≡ [] }
@@ -66,33 +82,30 @@ fn read_new<S: Read + Drop>(traffic: &mut Traffic<S>, now: u64, number: Connecti
     ensures terms { SameTerms traffic.old traffic.new }
 {
     match traffic.links.read(number, now) {
-        Input::Piece => offer_piece(traffic, now, number),
-        Input::End => {
+        ReadOutcome::Piece => offer_piece(traffic, now, number),
+        ReadOutcome::End => {
             traffic.engine.hand(now, LinkEvent::Ended(number));
             Reading::Ended
         }
-        Input::Nothing => Reading::Nothing,
-        Input::Broken => {
+        ReadOutcome::Nothing => Reading::Nothing,
+        ReadOutcome::Broken => {
             give_up(traffic, now, number);
             Reading::Broken
         }
     }
 }
 
-// What is pending of a connection that may be offered more goes first; else a piece is read. Nothing is read while
-// lines of the account find no memory, since no event would be taken.
+// What is pending of a connection that may be offered more goes first; else a piece is read.
 pub(crate) fn read_one<S: Read + Drop>(
-    traffic: &mut Traffic<S>,
+    traffic: &mut Switchboard<S>,
     now: u64,
     number: ConnectionNumber,
 ) -> Reading
+    requires none_left { (engine_state traffic.old.engine).left ≡ [] }
     ensures reads { ReadsOne S.remaining traffic.old.engine.hub.has_journal (hub_terms traffic.old.engine.hub)
         now number (traffic_state traffic.old) result (traffic_state traffic.new) }
     ensures terms { SameTerms traffic.old traffic.new }
 {
-    if !traffic.engine.catch_up() {
-        return Reading::Nothing;
-    }
     if !may_offer(&traffic.engine, number) {
         return Reading::Nothing;
     }

@@ -16,21 +16,21 @@ use std::io::{Read, Write};
 
 /// An engine with the sockets of its connections, each under the number that the hub gave it.
 #[derive(Drop)]
-pub struct Traffic<S> {
+pub struct Switchboard<S> {
     pub(crate) engine: Engine,
     pub(crate) links: Links<S>,
 }
 
-impl<S: Drop> Traffic<S> {
+impl<S: Drop> Switchboard<S> {
     ghost use Rattle.rv_traffic.specs.Calls.{GivesUp};
     ghost use Rattle.rv_traffic.specs.Views.{SameTerms, traffic_state};
 
     /// An engine whose connections have no sockets yet.
-    pub fn new(engine: Engine, links: Links<S>) -> Traffic<S>
+    pub fn new(engine: Engine, links: Links<S>) -> Switchboard<S>
         ensures engine { result.engine ≡ engine }
         ensures links { result.links ≡ links }
     {
-        Traffic { engine, links }
+        Switchboard { engine, links }
     }
 
     /// The engine.
@@ -47,8 +47,8 @@ impl<S: Drop> Traffic<S> {
         &self.links
     }
 
-    /// Lets a connection's socket go, and tells the hub that it is gone; where memory is refused to lines of the
-    /// account it is to be looked at.
+    /// Lets a connection's socket go, and tells the hub that it is gone; where memory is refused to lines
+    /// of the account it is to be looked at.
     pub fn give_up(&mut self, now: u64, number: ConnectionNumber)
         ensures gives_up { GivesUp self.old.engine.hub.has_journal (hub_terms self.old.engine.hub) now number
             (traffic_state self.old) (traffic_state self.new) }
@@ -58,16 +58,16 @@ impl<S: Drop> Traffic<S> {
     }
 }
 
-impl<S: Drop> Traffic<S> {
-    ghost use Rattle.std.specs.Prelude.{◌<◌, ◌∷◌, IfNone, IfSome};
+impl<S: Drop> Switchboard<S> {
+    ghost use Rattle.std.specs.Prelude.{◌<◌, ◌∷◌, ℕ, IfNone, IfSome};
     ghost use Rattle.std.specs.Bool.{OnFalse, OnTrue};
     ghost use Rattle.rv_engine.specs.Handing.{Gathers, LooksAt};
-    ghost use Rattle.rv_traffic.specs.Calls.{Passes};
+    ghost use Rattle.rv_traffic.specs.Calls.{Hands};
     ghost use Rattle.rv_links.specs.Table.{ChangesOne, IsFreshSlot, SameSlot, link_at};
     ghost use Rattle.rv_traffic.specs.Views.{SameTerms, traffic_state};
 
-    /// A connection is opened at a moment: it gives its number, under which a socket is to be put, or why there is
-    /// none.
+    /// A connection is opened at a moment: it gives its number, under which a socket is to be put, or why
+    /// there is none.
     pub fn open(&mut self, now: u64) -> Result<ConnectionNumber, EngineFault>
         ensures opens { IfOk result (λ number. HandsOn self.old.engine.hub.has_journal
             (hub_terms self.old.engine.hub) (engine_state self.old.engine) now event.Opened
@@ -104,17 +104,15 @@ impl<S: Drop> Traffic<S> {
         self.look_at(number);
     }
 
-    /// Time goes on to a moment: whoever waits no longer is told. Where memory is refused to lines of the account
-    /// it doesn't yet.
+    /// Time goes on to a moment, where no entry is left: whoever has waited as long as it may is told.
     pub fn pass(&mut self, now: u64)
-        ensures passes { Passes self.old.engine.hub.has_journal (hub_terms self.old.engine.hub)
-            (engine_state self.old.engine) now (engine_state self.new.engine) }
+        requires { (engine_state self.old.engine).left ≡ [] }
+        ensures passes { (given : ℕ) × Hands self.old.engine.hub.has_journal (hub_terms self.old.engine.hub)
+            (engine_state self.old.engine) now event.Passed given (engine_state self.new.engine) }
         ensures links { self.new.links ≡ self.old.links }
         ensures terms { SameTerms self.old self.new }
     {
-        if self.catch_up() {
-            self.engine.hand(now, LinkEvent::Passed);
-        }
+        self.engine.hand(now, LinkEvent::Passed);
     }
 
     /// Gathers lines of the account that found no memory, and tells whether none is left.
@@ -169,10 +167,12 @@ impl<S: Drop> Traffic<S> {
     pub fn write_lines<W: Write>(&mut self, now: u64, file: &mut Sink<W>) -> Result<(), EngineFault>
         ensures written { OnOk result (SinkTakes W.contents file.old file.new
             (unwritten (engine_state self.old.engine))) }
-        ensures tells { OnOk result (TellsWritten self.old.engine.hub.has_journal (hub_terms self.old.engine.hub)
+        ensures tells { OnOk result (TellsWritten self.old.engine.hub.has_journal
+            (hub_terms self.old.engine.hub)
             (all_gone (engine_state self.old.engine)) now self.new.engine.hub.desk.entries.items
             (engine_state self.new.engine)) }
-        ensures not_told { IfErr result (λ why. IsNotTold W.contents (engine_state self.old.engine) file.old why
+        ensures not_told { IfErr result (λ why. IsNotTold W.contents (engine_state self.old.engine) file.old
+            why
             (engine_state self.new.engine) file.new) }
         ensures links { self.new.links ≡ self.old.links }
         ensures terms { SameTerms self.old self.new }
@@ -181,13 +181,14 @@ impl<S: Drop> Traffic<S> {
     }
 }
 
-impl<S: Read + Drop> Traffic<S> {
+impl<S: Read + Drop> Switchboard<S> {
     ghost use Rattle.rv_traffic.specs.Calls.{ReadsOne};
     ghost use Rattle.rv_traffic.specs.Views.{SameTerms, traffic_state};
 
-    /// A connection's turn to be read. What is pending of one that may be offered more goes first; else a piece is
-    /// read. Nothing is read while lines of the account find no memory, since no event would be taken.
+    /// A connection's turn to be read, where no entry is left. What is pending of one that may be offered
+    /// more goes first; else a piece is read.
     pub fn read_one(&mut self, now: u64, number: ConnectionNumber) -> Reading
+        requires { (engine_state self.old.engine).left ≡ [] }
         ensures reads { ReadsOne S.remaining self.old.engine.hub.has_journal (hub_terms self.old.engine.hub)
             now number (traffic_state self.old) result (traffic_state self.new) }
         ensures terms { SameTerms self.old self.new }
@@ -196,13 +197,14 @@ impl<S: Read + Drop> Traffic<S> {
     }
 }
 
-impl<S: Write + Drop> Traffic<S> {
+impl<S: Write + Drop> Switchboard<S> {
     ghost use Rattle.rv_traffic.specs.Calls.{WritesOne};
     ghost use Rattle.rv_traffic.specs.Views.{SameTerms, traffic_state};
 
-    /// A connection's turn to be written to. One that the hub closed loses its socket, and the hub is told of one
-    /// that has none. Nothing is written while the hub couldn't be told.
+    /// A connection's turn to be written to, where no entry is left. One that the hub closed loses its
+    /// socket, and the hub is told of one that has none.
     pub fn write_one(&mut self, now: u64, number: ConnectionNumber) -> Writing
+        requires { (engine_state self.old.engine).left ≡ [] }
         ensures writes { WritesOne S.contents self.old.engine.hub.has_journal (hub_terms self.old.engine.hub)
             now number (traffic_state self.old) result (traffic_state self.new) }
         ensures terms { SameTerms self.old self.new }

@@ -9,17 +9,22 @@ ghost use Rattle.rv_traffic.specs.Views.{SameTerms, traffic_state};
 use crate::asking::is_open;
 use crate::giving_up::give_up;
 use crate::outcomes::Writing;
-use crate::traffic::Traffic;
+use crate::traffic::Switchboard;
 use rv_engine::LinkEvent;
 use rv_hearers::ConnectionNumber;
-use rv_links::Output;
+use rv_links::WriteOutcome;
 use std::io::Write;
 
 // Writes once to an open connection's socket, and tells the hub how many bytes that took.
-fn send<S: Write + Drop>(traffic: &mut Traffic<S>, now: u64, number: ConnectionNumber) -> Writing
+fn send<S: Write + Drop>(
+    traffic: &mut Switchboard<S>,
+    now: u64,
+    number: ConnectionNumber,
+) -> Writing
     requires none_left { (engine_state traffic.old.engine).left ≡ [] }
     requires there { IsSome (link_at traffic.old.links.table.items number) }
-    ensures writes { WritesOne S.contents traffic.old.engine.hub.has_journal (hub_terms traffic.old.engine.hub)
+    ensures writes { WritesOne S.contents traffic.old.engine.hub.has_journal
+        (hub_terms traffic.old.engine.hub)
         now number (traffic_state traffic.old) result (traffic_state traffic.new) }
     ensures terms { SameTerms traffic.old traffic.new }
 {
@@ -33,39 +38,37 @@ fn send<S: Write + Drop>(traffic: &mut Traffic<S>, now: u64, number: ConnectionN
         return Writing::Nothing;
     }
     match traffic.links.write(number, now, ready) {
-        Output::Took(count) => {
+        WriteOutcome::Took(count) => {
             traffic.engine.hand(now, LinkEvent::Took(number, count));
             Writing::Sent
         }
-        Output::Nothing => Writing::Nothing,
-        Output::Broken => {
+        WriteOutcome::Nothing => Writing::Nothing,
+        WriteOutcome::Broken => {
             give_up(traffic, now, number);
             Writing::Broken
         }
     }
 }
 
-// Writes once to a connection. One that the hub closed loses its socket, and the hub is told of one that has none.
-// Nothing is written while the hub couldn't be told.
+// Writes once to a connection. One that the hub closed loses its socket, and the hub is told of
+// one that has none.
 pub(crate) fn write_one<S: Write + Drop>(
-    traffic: &mut Traffic<S>,
+    traffic: &mut Switchboard<S>,
     now: u64,
     number: ConnectionNumber,
 ) -> Writing
-    ensures writes { WritesOne S.contents traffic.old.engine.hub.has_journal (hub_terms traffic.old.engine.hub)
+    requires none_left { (engine_state traffic.old.engine).left ≡ [] }
+    ensures writes { WritesOne S.contents traffic.old.engine.hub.has_journal
+        (hub_terms traffic.old.engine.hub)
         now number (traffic_state traffic.old) result (traffic_state traffic.new) }
     ensures terms { SameTerms traffic.old traffic.new }
 {
-    if !traffic.engine.catch_up() {
-        traffic.engine.look_at(number);
-        return Writing::Nothing;
-    }
     if traffic.links.is_there(number) {
         return send(traffic, now, number);
     }
-    if is_open(&traffic.engine, number) {
-        traffic.engine.hand(now, LinkEvent::Gone(number));
-        return Writing::Gone;
+    if !is_open(&traffic.engine, number) {
+        return Writing::Nothing;
     }
-    Writing::Nothing
+    traffic.engine.hand(now, LinkEvent::Gone(number));
+    Writing::Gone
 }

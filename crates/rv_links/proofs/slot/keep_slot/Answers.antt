@@ -19,7 +19,8 @@ returns-in-Some-clause-kept g c =
 
 pub returns-in-Some-clause-refused : goal.returns-in-Some-clause-refused
 returns-in-Some-clause-refused g c =
-    on_err_weaker c.extend_from_slice.result (λ items. same_pending c.args.slot.now c.in-Some.link _ c.in-Some.is
+    on_err_weaker c.extend_from_slice.result (λ items. same_pending c.args.slot.now c.in-Some.link _
+    c.in-Some.is
     (record {
       stream = refl;
       pending = items;

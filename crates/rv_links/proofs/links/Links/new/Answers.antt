@@ -5,7 +5,8 @@ use Rattle.rv_links.proofs.links.Links.new.Goals as goal
 
 pub loop-table-preserved : goal.loop-table-preserved
 loop-table-preserved g c = (
-  subst AreNone (sym c.push_reserved.ensures.items) (none_push c.loop-table.table.items c.loop-table.invariant.0),
+  subst AreNone (sym c.push_reserved.ensures.items) (none_push c.loop-table.table.items
+      c.loop-table.invariant.0),
   omega (
     arith,
     c.loop-table-test.true,
