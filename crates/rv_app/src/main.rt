@@ -19,7 +19,7 @@ pub use audit::{AuditSaid, audit_run};
 use fault::ProgramFault;
 pub use rv_calls::{CallSaid, RecordFault, RecordingFault, call_run, record_run};
 pub use rv_command::{Command, CommandFault, read_command, read_record, read_verify};
-use rv_command::{HelpAnswer, read_help, words_from};
+use rv_command::{HelpAnswer, read_help, words_of_host};
 use rv_frame::{Sink, Source};
 use rv_host::run_host;
 pub use rv_play::play_run;
@@ -68,7 +68,7 @@ fn run_words<T: Threads + Wait + AllocGlobal + time::Clock + Sync>(
     threads: &T,
     words: &[&str],
 ) -> Result<ExitCode, ProgramFault> {
-    if let Some(own) = words_from("host", words) {
+    if let Some(own) = words_of_host(words) {
         return Ok(ExitCode::from(run_host(rt, own)));
     }
     if let Some(code) = run_help(rt, words)? {

@@ -8,7 +8,7 @@ ghost use Rattle.rv_command.specs.Helping.{IsHelpFor, help_app, help_status, rec
 
 use crate::command::{CommandFault, named, program, required_option};
 use crate::verifying;
-use crate::words::words_from;
+use crate::words::words_of_help;
 use clap::error::ErrorKind;
 use rv_options::host_words;
 use std::alloc::{AllocError, Global};
@@ -50,7 +50,7 @@ pub fn read_help<'a>(
         → BeginWithout (codes "help") (texts words.entry.now)) }
     ensures bad { IsErrOf result CommandFault.Bad → fault_of help_app (texts words.entry.now) ≡ [] }
 {
-    match words_from("help", words) {
+    match words_of_help(words) {
         Some(_) => Ok(Some(answer(alloc, words)?)),
         None => Ok(None),
     }

@@ -13,4 +13,4 @@ pub use command::{Command, CommandFault, read_command};
 pub use helping::{HelpAnswer, read_help};
 pub use recorded::read_record;
 pub use verifying::{STANDARD_INPUT, VerifyWords, read_verify};
-pub use words::words_from;
+pub use words::words_of_host;

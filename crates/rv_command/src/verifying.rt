@@ -10,7 +10,7 @@ ghost use Rattle.rv_command.specs.Verifying.{SaysVerify};
 ghost use Rattle.rv_command.specs.Verifying.{file_rule, follow_rule, replies_rule, verify_app};
 
 use crate::command::{CommandFault, named, taken, text_of};
-use crate::words::words_from;
+use crate::words::words_of_verify;
 use clap::{Arg, ArgAction, ArgMatches};
 use std::alloc::{AllocError, Global};
 
@@ -38,7 +38,7 @@ pub fn read_verify<'a>(
     ensures other { IfOk result (λ found. found ≡ None → BeginOtherwise (texts words.entry.now)) }
     ensures bad { IsErrOf result CommandFault.Bad → NamesNoVerify (texts words.entry.now) }
 {
-    match words_from("verify", words) {
+    match words_of_verify(words) {
         Some(own) => Ok(Some(said(alloc, own)?)),
         None => Ok(None),
     }
