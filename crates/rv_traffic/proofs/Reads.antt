@@ -8,12 +8,15 @@ use Rattle.std.specs.Io.KnownBytes.{Consumes}
 use Rattle.rv_desk.specs.View.{DeskTerms}
 use Rattle.rv_hub.specs.declared.events.HubEvent.{HubEvent}
 use Rattle.rv_engine.specs.Engines.{EngineState}
+use Rattle.rv_engine.specs.Handing.{HandsOn}
+use Rattle.rv_account.specs.declared.entry.Entry.{Entry}
 use Rattle.rv_links.specs.declared.link.ReadOutcome.TheVariants as input
 use Rattle.rv_links.specs.declared.link.Socket.{Socket}
 use Rattle.rv_links.specs.Table.{ChangesOne, PendsSlot, ReadsSlot, link_at, pending_of}
 use Rattle.rv_traffic.specs.declared.outcomes.Reading.{Reading}
 use Rattle.rv_traffic.specs.declared.outcomes.Reading.TheVariants as reading
-use Rattle.rv_traffic.specs.Calls.{ChangesLink, GaveEnd, Hands, NoneCame, OffersPiece, ReadsOne}
+use Rattle.rv_traffic.specs.Calls.{ChangesLink, GaveEnd, GivesUp, Hands, KeepsUntaken, LosesRest}
+use Rattle.rv_traffic.specs.Calls.{NoneCame, Offers, OffersPiece, ReadsOne}
 use Rattle.rv_traffic.specs.Views.{IsPieceOf, TrafficState}
 use Rattle.rv_traffic.proofs.Tables.{consumes_none, none_changed, one_then}
 
@@ -207,3 +210,54 @@ module _ {S : Type 0} where
         is = is_new;
         others = others;
       }
+
+  -- what is pending was offered, as a whole
+  pub offers_made : (remaining : S → Option (List ℕ)) (journal : Bool) (terms : DeskTerms) (now n : ℕ)
+      (old new : TrafficState S) (what : HubEvent) (made : List Entry) (given count : ℕ)
+      → HandsOn journal terms old.engine now what made given new.engine → IsSome (link_at old.table n)
+      → IsPieceOf what n (pending_of (link_at old.table n))
+      → drop count (pending_of (link_at old.table n)) ≡ drop given (pending_of (link_at old.table n))
+      → PendsSlot (link_at old.table n) (drop count (pending_of (link_at old.table n))) (link_at new.table n)
+      → ChangesOne old.table n new.table → Offers remaining journal terms now n old new
+  offers_made remaining journal terms now n old new what made given count does there piece same pends others =
+      record {
+        bytes = [];
+        what = what;
+        given = given;
+        hands = record { made = made; hands = does };
+        link = pending_offered remaining old.table new.table n what given count there piece same pends others;
+      }
+
+  -- a piece was offered, and the rest is pending
+  pub keeps_made : (journal : Bool) (terms : DeskTerms) (now n : ℕ) (bytes : List ℕ)
+      (old new : TrafficState S) (what : HubEvent) (made : List Entry) (given count : ℕ)
+      → HandsOn journal terms old.engine now what made given new.engine → IsSome (link_at old.table n)
+      → pending_of (link_at old.table n) ≡ [] → IsPieceOf what n bytes
+      → drop count bytes ≡ drop given bytes
+      → PendsSlot (link_at old.table n) (pending_of (link_at old.table n) ++ drop count bytes)
+      (link_at new.table n)
+      → ChangesOne old.table n new.table → KeepsUntaken journal terms now n bytes old new
+  keeps_made journal terms now n bytes old new what made given count does there none piece same pends others =
+      record {
+        what = what;
+        piece = piece;
+        given = given;
+        hands = record { made = made; hands = does };
+        link = rest_kept old.table new.table n bytes given count there none same pends others;
+      }
+
+  -- or the connection is given up
+  pub loses_made : (journal : Bool) (terms : DeskTerms) (now n : ℕ) (bytes : List ℕ)
+      (old between new : TrafficState S) (what : HubEvent) (made : List Entry) (given : ℕ)
+      → HandsOn journal terms old.engine now what made given between.engine → IsPieceOf what n bytes
+      → ChangesOne old.table n between.table → GivesUp journal terms now n between new
+      → LosesRest journal terms now n bytes old new
+  loses_made journal terms now n bytes old between new what made given does piece others gives = record {
+    what = what;
+    piece = piece;
+    given = given;
+    between = between;
+    hands = record { made = made; hands = does };
+    others = others;
+    gives_up = gives;
+  }

@@ -76,3 +76,14 @@ module _ {S : Type 0} where
         is = is_new;
         others = others;
       }
+
+  -- the bytes that a connection has ready
+  pub took_ready : (contents : S → Option (List ℕ)) (old new : List (Option (Socket S))) (n : ℕ)
+      (ready same : List ℕ) (count : ℕ) → ready ≡ same
+      → WritesSlot contents (link_at old n) ready (output.Took count) (link_at new n) → ChangesOne old n new
+      → ChangesLink old n (λ link after. Appends (contents link.stream) (contents after.stream)
+      (take count same) × (after.pending ≡ link.pending)) new
+  took_ready contents old new n ready same count is writes others =
+      subst (λ (l : List ℕ). ChangesLink old n (λ link after. Appends (contents link.stream)
+      (contents after.stream) (take count l) × (after.pending ≡ link.pending)) new) is
+      (took_some contents old new n ready count writes others)
