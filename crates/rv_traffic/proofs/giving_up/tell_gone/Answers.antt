@@ -23,10 +23,10 @@ returns-then-not-is_open-clause-told c = inr (record {
   gathers = c.catch_up.ensures.gathers;
   why = inr (ap (λ (h : DeskState). h.open_wires.wires c.args.number) (sym c.catch_up.ensures.gathers.hub)
       ∙ c.if-not-is_open.ensures.no);
-  looks = c.look_at-2.ensures.looks;
-  hub = ap hub_state c.look_at-2.ensures.hub;
-  lines = c.look_at-2.ensures.lines;
-  left = c.look_at-2.ensures.left;
+  looks = c.look_at-then-not-is_open.ensures.looks;
+  hub = ap hub_state c.look_at-then-not-is_open.ensures.hub;
+  lines = c.look_at-then-not-is_open.ensures.lines;
+  left = c.look_at-then-not-is_open.ensures.left;
 })
 
 pub returns-clause-told : goal.returns-clause-told

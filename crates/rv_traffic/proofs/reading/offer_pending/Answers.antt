@@ -3,7 +3,7 @@ use Rattle.std.proofs.Common.{◌≡◌, ℕ, List, drop, refl, subst}
 use Rattle.rv_hub.specs.Hubs.{hub_terms}
 use Rattle.rv_engine.specs.Engines.{engine_state}
 use Rattle.rv_traffic.specs.Views.{traffic_state}
-use Rattle.rv_traffic.proofs.Reads.{offers_made}
+use Rattle.rv_traffic.proofs.WhatCame.{offers_made}
 use Rattle.rv_traffic.proofs.Tables.{may_end}
 use Rattle.rv_traffic.proofs.reading.offer_pending.Goals as goal
 

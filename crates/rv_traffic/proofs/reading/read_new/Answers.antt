@@ -3,7 +3,7 @@ use Rattle.std.proofs.Common.{inr, refl}
 use Rattle.rv_hub.specs.Hubs.{hub_terms}
 use Rattle.rv_engine.specs.Engines.{engine_state}
 use Rattle.rv_traffic.specs.Views.{traffic_state}
-use Rattle.rv_traffic.proofs.Reads.{end_came, nothing_came, piece_read, piece_there}
+use Rattle.rv_traffic.proofs.WhatCame.{end_came, nothing_came, piece_read, piece_there}
 use Rattle.rv_traffic.proofs.Tables.{gives_up_then, may_end}
 use Rattle.rv_traffic.proofs.reading.read_new.Goals as goal
 

@@ -4,7 +4,7 @@ use Rattle.rv_hub.specs.Hubs.{hub_terms}
 use Rattle.rv_engine.specs.Engines.{engine_state}
 use Rattle.rv_traffic.specs.Views.{traffic_state}
 use Rattle.rv_traffic.proofs.Tables.{gives_up_then}
-use Rattle.rv_traffic.proofs.Writes.{same_none, took_none, took_ready, took_within}
+use Rattle.rv_traffic.proofs.WhatLeft.{same_none, took_none, took_ready, took_within}
 use Rattle.rv_traffic.proofs.writing.send.Goals as goal
 
 pub hand-requires-clause-can : goal.hand-requires-clause-can
