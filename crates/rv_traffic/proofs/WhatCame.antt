@@ -88,7 +88,7 @@ module _ {S : Type 0} where
       (new : Option (Socket S)) → ReadsSlot remaining o input.Piece bytes new → pending_of o ≡ []
       → IsSome new × (pending_of new ≡ [])
   piece_there remaining None bytes new (none, empty, is) pending =
-      absurd (let no : input.Piece ≡ input.Nothing = none in cc)
+      absurd (let differ : input.Piece ≡ input.Nothing = none in cc)
   piece_there remaining (Some link) bytes new (after, reads, is) pending = (
     some_after new after is,
     ap pending_of is ∙ ap (λ p. p.items) reads.rest.pending ∙ pending,
@@ -104,7 +104,7 @@ module _ {S : Type 0} where
       → ChangesLink old n (λ link after. Consumes (remaining link.stream) (remaining after.stream) bytes
       × IsPieceOf what n (link.pending.items ++ bytes)
       × (after.pending.items ≡ drop given (link.pending.items ++ bytes))) new
-  came_then remaining old mid new n bytes what given none reads first piece then =
+  came_then remaining old mid new n bytes what given none reads first piece later =
       at (link_at old n) refl none reads
     where
       at : (o : Option (Socket S)) → link_at old n ≡ o → pending_of o ≡ []
@@ -113,22 +113,22 @@ module _ {S : Type 0} where
           × IsPieceOf what n (link.pending.items ++ bytes)
           × (after.pending.items ≡ drop given (link.pending.items ++ bytes))) new
       at None is empty (nothing, no_bytes, is_mid) =
-          absurd (let no : input.Piece ≡ input.Nothing = nothing in cc)
+          absurd (let differ : input.Piece ≡ input.Nothing = nothing in cc)
       at (Some link) is empty (between, read, is_mid) =
-          let same : then.link ≡ between = same_Some then.link between (sym then.there ∙ is_mid) in
+          let same : later.link ≡ between = same_Some later.link between (sym later.there ∙ is_mid) in
           let all : bytes ≡ link.pending.items ++ bytes = ap (λ (l : List ℕ). l ++ bytes) (sym empty) in
           record {
             link = link;
-            after = then.after;
+            after = later.after;
             there = is;
             changes = (
               subst (λ (s : S). Consumes (remaining link.stream) (remaining s) bytes)
-                  (sym (then.changes.0 ∙ ap (λ (l : Socket S). l.stream) same)) read.gives.2,
+                  (sym (later.changes.0 ∙ ap (λ (l : Socket S). l.stream) same)) read.gives.2,
               subst (IsPieceOf what n) all piece,
-              then.changes.1 ∙ ap (drop given) all,
+              later.changes.1 ∙ ap (drop given) all,
             );
-            is = then.is;
-            others = one_then old mid new n first then.others;
+            is = later.is;
+            others = one_then old mid new n first later.others;
           }
 
   -- what came of a piece is what came of the read
@@ -195,7 +195,7 @@ module _ {S : Type 0} where
     where
       at : (o : Option (Socket S)) → link_at old n ≡ o → ReadsSlot remaining o input.End bytes (link_at new n)
           → ChangesLink old n (GaveEnd remaining) new
-      at None is (nothing, no_bytes, is_new) = absurd (let no : input.End ≡ input.Nothing = nothing in cc)
+      at None is (nothing, no_bytes, is_new) = absurd (let differ : input.End ≡ input.Nothing = nothing in cc)
       at (Some link) is (after, read, is_new) = record {
         link = link;
         after = after;
