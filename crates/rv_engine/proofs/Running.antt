@@ -2,12 +2,14 @@
 use Rattle.std.proofs.Common.{◌≡◌, ◌+◌, ◌∙◌, ℕ, List, [], ◌∷◌, ◌++◌, Bool, true, ap, append-nil}
 use Rattle.std.proofs.Common.{append_assoc, false}
 use Rattle.std.proofs.Common.{arith, length, length-append, subst, sym}
+use Rattle.std.specs.Prelude.{flat_map}
 use Rattle.rv_account.specs.declared.entry.Entry.{Entry}
 use Rattle.rv_account.specs.Account.{Account}
 use Rattle.rv_lines.specs.Lines.{printed_lines}
 use Rattle.rv_lines.specs.Written.{account_lines, head_text}
 use Rattle.rv_desk.specs.View.{DeskState, DeskTerms}
-use Rattle.rv_hub.specs.HubRuns.{AddsEntries, HubAnswer, RunsHub, made_in}
+use Rattle.rv_hub.specs.EventDeeds.{all_deeds, causes_of}
+use Rattle.rv_hub.specs.HubRuns.{AddsEntries, HubAnswer, RunsHub, made_in, run_deeds}
 use Rattle.rv_hub.proofs.Accounts.{events_lead}
 use Rattle.rv_hub.proofs.Longer.{counted_run}
 use Rattle.rv_hub.proofs.OneRun.{hubs_are_runs}
@@ -110,7 +112,8 @@ longer : (terms : DeskTerms) (answers : List HubAnswer) (s t : DeskState) → Ru
     → t.book.length ≡ s.book.length + length (made_in answers)
 longer terms answers s t runs =
     let is = hubs_are_runs true terms answers s t runs in
-    counted_run terms.limits s.now t.now s.book t.book is.causes (made_in answers) is.one_run
+    counted_run terms.limits s.now t.now s.book t.book
+    (flat_map causes_of (all_deeds (run_deeds true terms answers s t runs))) (made_in answers) is.one_run
 
 pub written_are_counted : WrittenAreCounted
 written_are_counted terms deeds s t runs all =
@@ -140,9 +143,11 @@ all_lines made left bytes lines gathers =
 
 pub accounts_are_kept : AccountsAreKept
 accounts_are_kept terms deeds s t a limits runs all moment is =
-    let hub = hubs_are_runs true terms (answers_in deeds) s.hub t.hub
-    (engines_are_runs true terms deeds s t runs).hub in
-    let leads = events_lead terms hub.events s.hub t.hub a limits hub.does moment is in
+    let run = (engines_are_runs true terms deeds s t runs).hub in
+    let hub = hubs_are_runs true terms (answers_in deeds) s.hub t.hub run in
+    let leads = events_lead terms (run_deeds true terms (answers_in deeds) s.hub t.hub run) s.hub t.hub a
+    limits
+    hub.does moment is in
     let adds : AddsEntries a (made_in (answers_in deeds)) leads.after =
     subst (λ (l : List Entry). AddsEntries a l leads.after) (sym hub.made_is) leads.adds in
     record {

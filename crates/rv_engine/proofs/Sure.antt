@@ -47,23 +47,23 @@ can_be s (event.Written entries) why can (inr more) = omega (arith, can.1, more.
 can_be s event.Passed why can cannot = cannot
 
 opens_not : (what : HubEvent) → IsNoOpening what → what ≡ event.Opened → ⊥
-opens_not event.Opened no same = no
-opens_not (event.Came n piece) no same = cc
-opens_not (event.Ended n) no same = cc
-opens_not (event.Gone n) no same = cc
-opens_not (event.Took n count) no same = cc
-opens_not (event.Written entries) no same = cc
-opens_not event.Passed no same = cc
+opens_not event.Opened other same = other
+opens_not (event.Came n piece) other same = cc
+opens_not (event.Ended n) other same = cc
+opens_not (event.Gone n) other same = cc
+opens_not (event.Took n count) other same = cc
+opens_not (event.Written entries) other same = cc
+opens_not event.Passed other same = cc
 
 -- where no entry is left, an event that can be is refused only to a connection that is to be opened
 pub never_refused : (old new : EngineState) (what : HubEvent) (why : EngineFault) → old.left ≡ []
     → EventCan old.hub what → IsNoOpening what → IsRefused old what why new → ⊥
-never_refused old new what (fault.Refused why) none can no is = elim is.refused [
+never_refused old new what (fault.Refused why) none can other is = elim is.refused [
   | inl cannot ↦ can_be old.hub what why can cannot
-  | inr opening ↦ opens_not what no opening.0
+  | inr opening ↦ opens_not what other opening.0
 ]
-never_refused old new what fault.NoMemory none can no is =
+never_refused old new what fault.NoMemory none can other is =
     let sum = ap length is.gathers.gathers.parts ∙ length-append is.gathers.gathers.front new.left in
     let zero_left : length old.left ≡ 0 = ap length none in
     omega (arith, sum, zero_left, is.some)
-never_refused old new what (fault.NotWritten why) none can no is = is
+never_refused old new what (fault.NotWritten why) none can other is = is

@@ -1,7 +1,7 @@
 -- What comes of an event that a shell tells an engine.
 use Rattle.std.specs.Prelude.{ℕ, ◌≡◌, ◌<◌, ◌≤◌, ◌-◌, ◌↔◌, ◌⊎◌, Bool, false, true, List, [], ◌++◌, Contains}
 use Rattle.std.specs.Prelude.{length}
-use Rattle.std.specs.Prelude.{Option, map, take}
+use Rattle.std.specs.Prelude.{None, Option, Some, map, take}
 use Rattle.rv_account.specs.declared.entry.Entry.{Entry}
 use Rattle.rv_frame.specs.declared.sink.Sink.{Sink}
 use Rattle.rv_frame.specs.Sink.{SinkTakes}
@@ -134,13 +134,17 @@ pub record WritesLines (old : EngineState) (bytes : List ℕ) (new : EngineState
 abbrev pub all_gone : EngineState → EngineState
 all_gone s = record s { lines = []; left = [] }
 
--- the hub is told that all its entries are written, where it knows of fewer
-pub record TellsWritten (journal : Bool) (terms : DeskTerms) (old : EngineState) (now : ℕ)
-    (made : List Entry) (new : EngineState) : Type 0
-  where
-    pub fewer : old.hub.open_wires.written < old.hub.book.length → (given : ℕ)
-        × HandsOn journal terms old now (event.Written old.hub.book.length) made given new
-    pub all : old.hub.book.length ≤ old.hub.open_wires.written → new ≡ old
+-- the hub is told of all its entries
+abbrev pub written_event : EngineState → HubEvent
+written_event s = event.Written s.hub.book.length
+
+-- the hub is told that all its entries are written, and gives this, where it knows of fewer
+abbrev pub TellsWritten : Bool → DeskTerms → EngineState → ℕ → List Entry → Option ℕ → EngineState → Type 0
+TellsWritten journal terms old now made None new =
+    (old.hub.book.length ≤ old.hub.open_wires.written) × (new ≡ old)
+TellsWritten journal terms old now made (Some given) new =
+    (old.hub.open_wires.written < old.hub.book.length)
+    × HandsOn journal terms old now (written_event old) made given new
 
 -- why the hub isn't told: the device took a part alone of the lines that were gathered, which are gathered
 -- still; or it took them all, but memory was refused to others

@@ -122,8 +122,8 @@ impl Engine {
     /// `tell` does.
     pub fn hand(&mut self, now: u64, event: LinkEvent<'_>) -> usize
         requires none_left { (engine_state self.old).left ≡ [] }
-        requires can { EventCan (engine_state self.old).hub (told_hub event.entry) }
-        requires no_opening { IsNoOpening (told_hub event.entry) }
+        requires can { EventCan (engine_state self.old).hub (told_hub event) }
+        requires no_opening { IsNoOpening (told_hub event) }
         ensures takes { HandsOn self.old.hub.has_journal (hub_terms self.old.hub) (engine_state self.old) now
             (told_hub event.entry) self.new.hub.desk.entries.items result (engine_state self.new) }
         ensures terms { hub_terms self.new.hub ≡ hub_terms self.old.hub }
@@ -132,14 +132,20 @@ impl Engine {
         handing::hand_sure(&mut self.parts, now, hub_event(event))
     }
 
-    /// Writes all lines that aren't written, and tells the hub that all entries are, where it knows of fewer.
+    /// Writes all lines that aren't written, and tells the hub that all entries are, where it knows of fewer:
+    /// then it gives what the hub does.
     /// Where the device doesn't take all lines that are gathered, they are gathered still; where memory is
     /// refused to some, those before them are written. Then the hub isn't told.
-    pub fn write_lines<W: Write>(&mut self, now: u64, file: &mut Sink<W>) -> Result<(), EngineFault>
+    pub fn write_lines<W: Write>(
+        &mut self,
+        now: u64,
+        file: &mut Sink<W>,
+    ) -> Result<Option<usize>, EngineFault>
         ensures written { OnOk result (SinkTakes W.contents file.old file.new
             (unwritten (engine_state self.old))) }
-        ensures tells { OnOk result (TellsWritten self.old.hub.has_journal (hub_terms self.old.hub)
-            (all_gone (engine_state self.old)) now self.new.hub.desk.entries.items (engine_state self.new)) }
+        ensures tells { IfOk result (λ told. TellsWritten self.old.hub.has_journal (hub_terms self.old.hub)
+            (all_gone (engine_state self.old)) now self.new.hub.desk.entries.items told
+            (engine_state self.new)) }
         ensures not_told { IfErr result (λ why. IsNotTold W.contents (engine_state self.old) file.old why
             (engine_state self.new) file.new) }
         ensures terms { hub_terms self.new.hub ≡ hub_terms self.old.hub }

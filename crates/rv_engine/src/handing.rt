@@ -12,8 +12,8 @@ use crate::parts::EngineParts;
 use rv_hearers::ConnectionNumber;
 use rv_hub::HubEvent;
 
-// Gathers the lines of the entries that are left, as far as memory allows.
-fn catch_up(parts: &mut EngineParts)
+/// Gathers the lines of the entries that are left, as far as memory allows.
+pub(crate) fn catch_up(parts: &mut EngineParts)
     requires { IsEngine parts.old }
     ensures sound { IsEngine parts.new }
     ensures gathers { Gathers (engine_state parts.old) (engine_state parts.new) }
@@ -26,8 +26,8 @@ fn catch_up(parts: &mut EngineParts)
     parts.gathered += gather(&mut parts.lines, parts.alloc, left);
 }
 
-// Whether no entry is left.
-fn is_caught_up(parts: &EngineParts) -> bool
+/// Whether no entry is left.
+pub(crate) fn is_caught_up(parts: &EngineParts) -> bool
     requires { IsEngine parts.now }
     ensures yes { OnTrue result ((engine_state parts.now).left ≡ []) }
     ensures no { OnFalse result (0 < length (engine_state parts.now).left) }
@@ -79,8 +79,8 @@ fn hand_over(parts: &mut EngineParts, now: u64, event: HubEvent<'_>) -> Result<u
 pub(crate) fn hand_sure(parts: &mut EngineParts, now: u64, event: HubEvent<'_>) -> usize
     requires sound { IsEngine parts.old }
     requires none_left { (engine_state parts.old).left ≡ [] }
-    requires can { EventCan (engine_state parts.old).hub event.entry }
-    requires no_opening { IsNoOpening event.entry }
+    requires can { EventCan (engine_state parts.old).hub event }
+    requires no_opening { IsNoOpening event }
     ensures sound { IsEngine parts.new }
     ensures takes { HandsOn parts.old.hub.has_journal (hub_terms parts.old.hub) (engine_state parts.old) now
         event.entry parts.new.hub.desk.entries.items result (engine_state parts.new) }

@@ -2,7 +2,7 @@
 use mio::net::{TcpListener, TcpStream};
 use std::io::ErrorKind;
 
-// After so many milliseconds without a descriptor accepting is tried again.
+// After so many milliseconds accepting is tried again, where the system lacked what it takes.
 const ACCEPT_AGAIN: u64 = 100;
 
 // No descriptor was left to the process, or to the system.
@@ -38,25 +38,25 @@ pub(crate) enum Accepted {
 #[derive(Drop)]
 pub(crate) struct Door {
     listener: TcpListener,
-    asking: DoorState,
+    state: DoorState,
 }
 
 impl Door {
     pub(crate) fn new(listener: TcpListener) -> Door {
         Door {
             listener,
-            asking: DoorState::Now,
+            state: DoorState::Now,
         }
     }
 
     /// The poll told that someone waits.
     pub(crate) fn knock(&mut self) {
-        self.asking = DoorState::Now;
+        self.state = DoorState::Now;
     }
 
     /// Whether it is to be asked at a moment.
     pub(crate) fn is_asked(&self, now: u64) -> bool {
-        match self.asking {
+        match self.state {
             DoorState::Now => true,
             DoorState::WhenTold => false,
             DoorState::At(moment) => moment <= now,
@@ -65,7 +65,7 @@ impl Door {
 
     /// The moment at which it is to be asked again without being told, if there is one.
     pub(crate) fn again(&self) -> Option<u64> {
-        match self.asking {
+        match self.state {
             DoorState::At(moment) => Some(moment),
             _ => None,
         }
@@ -77,16 +77,20 @@ impl Door {
             Ok((stream, _)) => return Accepted::Stream(stream),
             Err(error) => error,
         };
-        if error.kind() == ErrorKind::WouldBlock {
-            self.asking = DoorState::WhenTold;
-            return Accepted::Nobody;
-        }
-        match error.raw_os_error() {
-            Some(EMFILE) | Some(ENFILE) => {
-                self.asking = DoorState::At(now.saturating_add(ACCEPT_AGAIN));
-                Accepted::NoDescriptor
+        match error.kind() {
+            ErrorKind::WouldBlock => {
+                self.state = DoorState::WhenTold;
+                Accepted::Nobody
             }
-            _ => Accepted::Failed,
+            // Whoever waited is gone: the next is asked for.
+            ErrorKind::ConnectionAborted | ErrorKind::Interrupted => Accepted::Failed,
+            _ => {
+                self.state = DoorState::At(now.saturating_add(ACCEPT_AGAIN));
+                match error.raw_os_error() {
+                    Some(EMFILE) | Some(ENFILE) => Accepted::NoDescriptor,
+                    _ => Accepted::Failed,
+                }
+            }
         }
     }
 }

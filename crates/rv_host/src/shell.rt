@@ -103,12 +103,19 @@ impl Shell {
         connections: usize,
     ) -> Result<Shell, HostEnd> {
         match make_parts(rt, &mut listener, connections) {
-            Ok(parts) => Ok(Shell {
-                start: parts.start,
-                poll: parts.poll,
-                events: parts.events,
+            Ok(
+                ShellParts {
+                    start,
+                    poll,
+                    events,
+                    links,
+                },
+            ) => Ok(Shell {
+                start,
+                poll,
+                events,
                 door: Door::new(listener),
-                traffic: Switchboard::new(engine, parts.links),
+                traffic: Switchboard::new(engine, links),
                 account,
                 report,
                 connections,

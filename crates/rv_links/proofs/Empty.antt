@@ -1,6 +1,7 @@
 -- A table without sockets.
 use Rattle.std.proofs.Common.{◌≡◌, ◌++◌, ◌∷◌, ℕ, List, [], None, Option, Some, arith, get_or, refl, suc, zero}
 use Rattle.std.specs.List.{sum_by}
+use Rattle.std.proofs.lemmas.List.Sums.{sum_by-cons}
 use Rattle.rv_links.specs.declared.link.Socket.{Socket}
 use Rattle.rv_links.specs.Table.{AreTallied, link_at, one_at, over_at, pending_at}
 
@@ -24,7 +25,8 @@ module _ {S : Type 0} where
   none_sum : (f : Option (Socket S) → ℕ) (table : List (Option (Socket S))) → f None ≡ 0 → AreNone table
       → sum_by f table ≡ 0
   none_sum f [] nothing none = refl
-  none_sum f (None ∷ table) nothing none = omega (arith, nothing, none_sum f table nothing none)
+  none_sum f (None ∷ table) nothing none =
+      omega (arith, sum_by-cons f None table, nothing, none_sum f table nothing none)
   none_sum f (Some link ∷ table) nothing none = absurd none
 
   pub none_counted : (table : List (Option (Socket S))) → AreNone table → AreTallied table 0 0

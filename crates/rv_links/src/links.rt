@@ -223,6 +223,7 @@ impl<S: Drop> Links<S> {
         if !self.is_there(number) {
             return Ok(());
         }
+        let _ = self.buffer.len();
         let rest = &self.buffer.as_slice()[taken..];
         let count = rest.len() as u128;
         match keep_slot(&mut self.table[number], rest) {

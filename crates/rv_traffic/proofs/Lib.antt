@@ -1,4 +1,4 @@
 -- The lemmas that the proofs of this crate share.
 pub mod Tables
-pub mod Reads
-pub mod Writes
+pub mod WhatCame
+pub mod WhatLeft

@@ -1,7 +1,7 @@
 -- The socket of one number, and what is told of it.
 use Rattle.std.proofs.Common.{◌≡◌, ◌∙◌, ◌++◌, ◌⊎◌, ℕ, Bool, List, [], None, Option, Some, ap, false, inl, inr}
 use Rattle.std.proofs.Common.{refl}
-use Rattle.std.proofs.Common.{slice_set, subst, sym, true}
+use Rattle.std.proofs.Common.{IsSome, slice_set, subst, sym, true}
 use Rattle.std.proofs.lemmas.List.{set-get_or, set-set}
 use Rattle.std.specs.Io.KnownBytes.{Consumes, Keeps}
 use Rattle.rv_wires.specs.Connections.{HasWire}
@@ -68,3 +68,15 @@ module _ {S : Type 0} where
     };
     told = subst (λ (e : EngineState). TellsGone journal terms e now n new.engine) same gives.told;
   }
+
+  -- the same terms
+  pub gives_up_at : (journal same : Bool) (terms as_before : DeskTerms) (now n : ℕ) (old new : TrafficState S)
+      → same ≡ journal → as_before ≡ terms → GivesUp same as_before now n old new
+      → GivesUp journal terms now n old new
+  gives_up_at journal same terms as_before now n old new keeps terms_keep gives =
+      subst (λ (b : Bool). GivesUp b terms now n old new) keeps
+      (subst (λ (t : DeskTerms). GivesUp same t now n old new) terms_keep gives)
+
+  pub none_there : (o : Option (Socket S)) → (IsSome o → ⊥) → o ≡ None
+  none_there None not = refl
+  none_there (Some link) not = absurd (not refl)

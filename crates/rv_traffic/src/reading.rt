@@ -6,7 +6,7 @@ ghost use Rattle.rv_links.specs.Table.{link_at, pending_of};
 ghost use Rattle.rv_traffic.specs.Calls.{MayBeOffered, Offers, OffersPiece, ReadsOne};
 ghost use Rattle.rv_traffic.specs.Views.{SameTerms, traffic_state};
 
-use crate::asking::may_offer;
+use crate::asking::{is_none_pending, may_offer};
 use crate::giving_up::give_up;
 use crate::outcomes::Reading;
 use crate::traffic::Switchboard;
@@ -109,7 +109,10 @@ pub(crate) fn read_one<S: Read + Drop>(
     if !may_offer(&traffic.engine, number) {
         return Reading::Nothing;
     }
-    if traffic.links.pending(number).is_empty() {
+    if !traffic.links.is_there(number) {
+        return Reading::Nothing;
+    }
+    if is_none_pending(&traffic.links, number) {
         return read_new(traffic, now, number);
     }
     offer_pending(traffic, now, number);

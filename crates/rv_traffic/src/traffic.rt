@@ -164,16 +164,18 @@ impl<S: Drop> Switchboard<S> {
     }
 
     /// Writes all lines of the account that aren't written, as the engine does.
-    pub fn write_lines<W: Write>(&mut self, now: u64, file: &mut Sink<W>) -> Result<(), EngineFault>
+    pub fn write_lines<W: Write>(
+        &mut self,
+        now: u64,
+        file: &mut Sink<W>,
+    ) -> Result<Option<usize>, EngineFault>
         ensures written { OnOk result (SinkTakes W.contents file.old file.new
             (unwritten (engine_state self.old.engine))) }
-        ensures tells { OnOk result (TellsWritten self.old.engine.hub.has_journal
-            (hub_terms self.old.engine.hub)
-            (all_gone (engine_state self.old.engine)) now self.new.engine.hub.desk.entries.items
-            (engine_state self.new.engine)) }
+        ensures tells { IfOk result (λ told. TellsWritten self.old.engine.hub.has_journal
+            (hub_terms self.old.engine.hub) (all_gone (engine_state self.old.engine)) now
+            self.new.engine.hub.desk.entries.items told (engine_state self.new.engine)) }
         ensures not_told { IfErr result (λ why. IsNotTold W.contents (engine_state self.old.engine) file.old
-            why
-            (engine_state self.new.engine) file.new) }
+            why (engine_state self.new.engine) file.new) }
         ensures links { self.new.links ≡ self.old.links }
         ensures terms { SameTerms self.old self.new }
     {

@@ -6,7 +6,7 @@ use Rattle.rv_links.proofs.slot.keep_slot.Goals as goal
 
 pub returns-in-Some-clause-kept : goal.returns-in-Some-clause-kept
 returns-in-Some-clause-kept g c =
-    on_ok_weaker c.extend_from_slice.result (λ items. more_pending c.args.slot.now c.in-Some.link _
+    on_ok_weaker c.extend_from_slice-kept.result (λ items. more_pending c.args.slot.now c.in-Some.link _
     c.args.rest.now c.in-Some.is
     (record {
       stream = refl;
@@ -15,11 +15,11 @@ returns-in-Some-clause-kept g c =
       writable = refl;
       heard = refl;
       moved = refl;
-    })) c.extend_from_slice.ensures.ok
+    })) c.extend_from_slice-kept.ensures.ok
 
 pub returns-in-Some-clause-refused : goal.returns-in-Some-clause-refused
 returns-in-Some-clause-refused g c =
-    on_err_weaker c.extend_from_slice.result (λ items. same_pending c.args.slot.now c.in-Some.link _
+    on_err_weaker c.extend_from_slice-kept.result (λ items. same_pending c.args.slot.now c.in-Some.link _
     c.in-Some.is
     (record {
       stream = refl;
@@ -28,4 +28,4 @@ returns-in-Some-clause-refused g c =
       writable = refl;
       heard = refl;
       moved = refl;
-    })) c.extend_from_slice.ensures.err
+    })) c.extend_from_slice-kept.ensures.err

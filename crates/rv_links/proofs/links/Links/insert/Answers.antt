@@ -1,7 +1,5 @@
 -- A place that is empty has room for one more.
-use Rattle.std.proofs.Common.{◌∙◌, ap, arith, Some}
-use Rattle.std.proofs.lemmas.List.{set-set}
-use Rattle.rv_links.specs.Table.{one_at}
+use Rattle.std.proofs.Common.{arith, Some}
 use Rattle.rv_links.proofs.Places.{few_ones, one_again}
 use Rattle.rv_links.proofs.links.Links.insert.Goals as goal
 

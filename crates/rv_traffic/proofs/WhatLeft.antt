@@ -12,7 +12,7 @@ module _ {S : Type 0} where
   pub took_within : (contents : S → Option (List ℕ)) (o : Option (Socket S)) (ready : List ℕ) (count : ℕ)
       (new : Option (Socket S)) → WritesSlot contents o ready (output.Took count) new → count ≤ length ready
   took_within contents None ready count new (nothing, is) =
-      absurd (let no : output.Took count ≡ output.Nothing = nothing in cc)
+      absurd (let differ : output.Took count ≡ output.Nothing = nothing in cc)
   took_within contents (Some link) ready count new (after, writes, is) = writes.takes.0
 
   pub took_some : (contents : S → Option (List ℕ)) (old new : List (Option (Socket S))) (n : ℕ)
@@ -27,7 +27,7 @@ module _ {S : Type 0} where
           → WritesSlot contents o ready (output.Took count) (link_at new n)
           → ChangesLink old n (λ link after. Appends (contents link.stream) (contents after.stream)
           (take count ready) × (after.pending ≡ link.pending)) new
-      at None is (nothing, is_new) = absurd (let no : output.Took count ≡ output.Nothing = nothing in cc)
+      at None is (nothing, is_new) = absurd (let differ : output.Took count ≡ output.Nothing = nothing in cc)
       at (Some link) is (after, wrote, is_new) = record {
         link = link;
         after = after;
@@ -76,3 +76,14 @@ module _ {S : Type 0} where
         is = is_new;
         others = others;
       }
+
+  -- the bytes that a connection has ready
+  pub took_ready : (contents : S → Option (List ℕ)) (old new : List (Option (Socket S))) (n : ℕ)
+      (ready same : List ℕ) (count : ℕ) → ready ≡ same
+      → WritesSlot contents (link_at old n) ready (output.Took count) (link_at new n) → ChangesOne old n new
+      → ChangesLink old n (λ link after. Appends (contents link.stream) (contents after.stream)
+      (take count same) × (after.pending ≡ link.pending)) new
+  took_ready contents old new n ready same count is writes others =
+      subst (λ (l : List ℕ). ChangesLink old n (λ link after. Appends (contents link.stream)
+      (contents after.stream) (take count l) × (after.pending ≡ link.pending)) new) is
+      (took_some contents old new n ready count writes others)

@@ -8,12 +8,15 @@ use Rattle.std.specs.Io.KnownBytes.{Consumes}
 use Rattle.rv_desk.specs.View.{DeskTerms}
 use Rattle.rv_hub.specs.declared.events.HubEvent.{HubEvent}
 use Rattle.rv_engine.specs.Engines.{EngineState}
+use Rattle.rv_engine.specs.Handing.{HandsOn}
+use Rattle.rv_account.specs.declared.entry.Entry.{Entry}
 use Rattle.rv_links.specs.declared.link.ReadOutcome.TheVariants as input
 use Rattle.rv_links.specs.declared.link.Socket.{Socket}
 use Rattle.rv_links.specs.Table.{ChangesOne, PendsSlot, ReadsSlot, link_at, pending_of}
 use Rattle.rv_traffic.specs.declared.outcomes.Reading.{Reading}
 use Rattle.rv_traffic.specs.declared.outcomes.Reading.TheVariants as reading
-use Rattle.rv_traffic.specs.Calls.{ChangesLink, GaveEnd, Hands, NoneCame, OffersPiece, ReadsOne}
+use Rattle.rv_traffic.specs.Calls.{ChangesLink, GaveEnd, GivesUp, Hands, KeepsUntaken, LosesRest}
+use Rattle.rv_traffic.specs.Calls.{NoneCame, Offers, OffersPiece, ReadsOne}
 use Rattle.rv_traffic.specs.Views.{IsPieceOf, TrafficState}
 use Rattle.rv_traffic.proofs.Tables.{consumes_none, none_changed, one_then}
 
@@ -85,7 +88,7 @@ module _ {S : Type 0} where
       (new : Option (Socket S)) → ReadsSlot remaining o input.Piece bytes new → pending_of o ≡ []
       → IsSome new × (pending_of new ≡ [])
   piece_there remaining None bytes new (none, empty, is) pending =
-      absurd (let no : input.Piece ≡ input.Nothing = none in cc)
+      absurd (let differ : input.Piece ≡ input.Nothing = none in cc)
   piece_there remaining (Some link) bytes new (after, reads, is) pending = (
     some_after new after is,
     ap pending_of is ∙ ap (λ p. p.items) reads.rest.pending ∙ pending,
@@ -101,7 +104,7 @@ module _ {S : Type 0} where
       → ChangesLink old n (λ link after. Consumes (remaining link.stream) (remaining after.stream) bytes
       × IsPieceOf what n (link.pending.items ++ bytes)
       × (after.pending.items ≡ drop given (link.pending.items ++ bytes))) new
-  came_then remaining old mid new n bytes what given none reads first piece then =
+  came_then remaining old mid new n bytes what given none reads first piece later =
       at (link_at old n) refl none reads
     where
       at : (o : Option (Socket S)) → link_at old n ≡ o → pending_of o ≡ []
@@ -110,22 +113,22 @@ module _ {S : Type 0} where
           × IsPieceOf what n (link.pending.items ++ bytes)
           × (after.pending.items ≡ drop given (link.pending.items ++ bytes))) new
       at None is empty (nothing, no_bytes, is_mid) =
-          absurd (let no : input.Piece ≡ input.Nothing = nothing in cc)
+          absurd (let differ : input.Piece ≡ input.Nothing = nothing in cc)
       at (Some link) is empty (between, read, is_mid) =
-          let same : then.link ≡ between = same_Some then.link between (sym then.there ∙ is_mid) in
+          let same : later.link ≡ between = same_Some later.link between (sym later.there ∙ is_mid) in
           let all : bytes ≡ link.pending.items ++ bytes = ap (λ (l : List ℕ). l ++ bytes) (sym empty) in
           record {
             link = link;
-            after = then.after;
+            after = later.after;
             there = is;
             changes = (
               subst (λ (s : S). Consumes (remaining link.stream) (remaining s) bytes)
-                  (sym (then.changes.0 ∙ ap (λ (l : Socket S). l.stream) same)) read.gives.2,
+                  (sym (later.changes.0 ∙ ap (λ (l : Socket S). l.stream) same)) read.gives.2,
               subst (IsPieceOf what n) all piece,
-              then.changes.1 ∙ ap (drop given) all,
+              later.changes.1 ∙ ap (drop given) all,
             );
-            is = then.is;
-            others = one_then old mid new n first then.others;
+            is = later.is;
+            others = one_then old mid new n first later.others;
           }
 
   -- what came of a piece is what came of the read
@@ -192,7 +195,7 @@ module _ {S : Type 0} where
     where
       at : (o : Option (Socket S)) → link_at old n ≡ o → ReadsSlot remaining o input.End bytes (link_at new n)
           → ChangesLink old n (GaveEnd remaining) new
-      at None is (nothing, no_bytes, is_new) = absurd (let no : input.End ≡ input.Nothing = nothing in cc)
+      at None is (nothing, no_bytes, is_new) = absurd (let differ : input.End ≡ input.Nothing = nothing in cc)
       at (Some link) is (after, read, is_new) = record {
         link = link;
         after = after;
@@ -207,3 +210,54 @@ module _ {S : Type 0} where
         is = is_new;
         others = others;
       }
+
+  -- what is pending was offered, as a whole
+  pub offers_made : (remaining : S → Option (List ℕ)) (journal : Bool) (terms : DeskTerms) (now n : ℕ)
+      (old new : TrafficState S) (what : HubEvent) (made : List Entry) (given count : ℕ)
+      → HandsOn journal terms old.engine now what made given new.engine → IsSome (link_at old.table n)
+      → IsPieceOf what n (pending_of (link_at old.table n))
+      → drop count (pending_of (link_at old.table n)) ≡ drop given (pending_of (link_at old.table n))
+      → PendsSlot (link_at old.table n) (drop count (pending_of (link_at old.table n))) (link_at new.table n)
+      → ChangesOne old.table n new.table → Offers remaining journal terms now n old new
+  offers_made remaining journal terms now n old new what made given count does there piece same pends others =
+      record {
+        bytes = [];
+        what = what;
+        given = given;
+        hands = record { made = made; hands = does };
+        link = pending_offered remaining old.table new.table n what given count there piece same pends others;
+      }
+
+  -- a piece was offered, and the rest is pending
+  pub keeps_made : (journal : Bool) (terms : DeskTerms) (now n : ℕ) (bytes : List ℕ)
+      (old new : TrafficState S) (what : HubEvent) (made : List Entry) (given count : ℕ)
+      → HandsOn journal terms old.engine now what made given new.engine → IsSome (link_at old.table n)
+      → pending_of (link_at old.table n) ≡ [] → IsPieceOf what n bytes
+      → drop count bytes ≡ drop given bytes
+      → PendsSlot (link_at old.table n) (pending_of (link_at old.table n) ++ drop count bytes)
+      (link_at new.table n)
+      → ChangesOne old.table n new.table → KeepsUntaken journal terms now n bytes old new
+  keeps_made journal terms now n bytes old new what made given count does there none piece same pends others =
+      record {
+        what = what;
+        piece = piece;
+        given = given;
+        hands = record { made = made; hands = does };
+        link = rest_kept old.table new.table n bytes given count there none same pends others;
+      }
+
+  -- or the connection is given up
+  pub loses_made : (journal : Bool) (terms : DeskTerms) (now n : ℕ) (bytes : List ℕ)
+      (old between new : TrafficState S) (what : HubEvent) (made : List Entry) (given : ℕ)
+      → HandsOn journal terms old.engine now what made given between.engine → IsPieceOf what n bytes
+      → ChangesOne old.table n between.table → GivesUp journal terms now n between new
+      → LosesRest journal terms now n bytes old new
+  loses_made journal terms now n bytes old between new what made given does piece others gives = record {
+    what = what;
+    piece = piece;
+    given = given;
+    between = between;
+    hands = record { made = made; hands = does };
+    others = others;
+    gives_up = gives;
+  }
