@@ -12,11 +12,16 @@ use Rattle.rv_command.specs.declared.helping.HelpAnswer.{HelpAnswer}
 abbrev pub record_app : App
 record_app = with_rule (new_app (codes "record")) (required_option (codes "to"))
 
+-- the program with its command `record`, and `verify` too
+abbrev pub recording_app : App
+recording_app = with_subcommand rv_app record_app.top
+
+abbrev pub verifying_app : App
+verifying_app = with_subcommand recording_app verify_app.top
+
 -- the program with all its commands
 abbrev pub help_app : App
-help_app =
-    let kept = with_subcommand (with_subcommand rv_app record_app.top) verify_app.top in
-    with_subcommand kept host_app.top
+help_app = with_subcommand verifying_app host_app.top
 
 -- the answer is of a kind that clap finds for the words
 abbrev pub IsHelpFor : List Text → HelpAnswer → Type 0

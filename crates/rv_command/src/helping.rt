@@ -4,7 +4,8 @@ ghost use Rattle.clap.specs.Words.{HasKind, app_of, fault_of, is_simple_and_free
 ghost use Rattle.clap.specs.declared.Command.TheViews.{out-Command};
 ghost use Rattle.clap.specs.Walk.{texts};
 ghost use Rattle.rv_command.specs.Beginning.{BeginWithout};
-ghost use Rattle.rv_command.specs.Helping.{IsHelpFor, help_app, help_status, record_app};
+ghost use Rattle.rv_command.specs.Helping.{IsHelpFor, help_app, help_status, record_app, recording_app};
+ghost use Rattle.rv_command.specs.Helping.{verifying_app};
 
 use crate::command::{CommandFault, named, program, required_option};
 use crate::verifying;
@@ -87,11 +88,23 @@ fn refusal_of<'a>(command: clap::Command<'a>, words: &'a [&'a str]) -> Option<cl
 fn whole_program<'a>(alloc: Global) -> Result<clap::Command<'a>, AllocError>
     ensures { IfOk result (λ c. app_of c ≡ help_app) }
 {
+    verifying_program(alloc)?.subcommand(host_words(alloc)?)
+}
+
+// All but `host`.
+fn verifying_program<'a>(alloc: Global) -> Result<clap::Command<'a>, AllocError>
+    ensures { IfOk result (λ c. app_of c ≡ verifying_app) }
+{
+    recording_program(alloc)?.subcommand(verifying::command(alloc)?)
+}
+
+// All but `host` and `verify`.
+fn recording_program<'a>(alloc: Global) -> Result<clap::Command<'a>, AllocError>
+    ensures { IfOk result (λ c. app_of c ≡ recording_app) }
+{
     program(alloc)?
         .bin_name("rv")?
-        .subcommand(record_words(alloc)?)?
-        .subcommand(verifying::command(alloc)?)?
-        .subcommand(host_words(alloc)?)
+        .subcommand(record_words(alloc)?)
 }
 
 // `record --to FILE`, as help tells it.
