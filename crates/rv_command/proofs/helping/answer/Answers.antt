@@ -23,5 +23,8 @@ pub returns-in_default : goal.returns-in_default
 returns-in_default c =
     let known = subst (λ (a : App). HasKind (fault_of a (texts c.args.words.now)) c.in-Some.error)
     c.in_ok-command.ensures c.in-Some.ensures.some in
-    is_among (fault_of help_app (texts c.args.words.now)) c.in-Some.error known
-    (λ out. c.in_default.not-OutOfMemory (c.kind.ensures ∙ out))
+    record {
+      answered = is_among (fault_of help_app (texts c.args.words.now)) c.in-Some.error known
+          (λ out. c.in_default.not-OutOfMemory (c.kind.ensures ∙ out));
+      bad = λ told. absurd (cc);
+    }
