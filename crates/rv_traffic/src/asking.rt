@@ -27,7 +27,10 @@ pub(crate) fn is_open(engine: &Engine, number: ConnectionNumber) -> bool
     ensures yes { OnTrue result (HasWire (engine_state engine.now).hub.open_wires number (λ wire. Unit {0})) }
     ensures no { OnFalse result ((engine_state engine.now).hub.open_wires.wires number ≡ None) }
 {
-    engine.hub().wire(number).is_some()
+    match engine.hub().wire(number) {
+        Some(_) => true,
+        None => false,
+    }
 }
 
 // Whether nothing is pending of a connection.

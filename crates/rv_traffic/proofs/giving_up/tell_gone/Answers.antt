@@ -1,6 +1,5 @@
 -- The hub is told, or later.
-use Rattle.std.proofs.Common.{◌∙◌, ap, inl, inr, sym}
-use Rattle.rv_desk.specs.View.{DeskState}
+use Rattle.std.proofs.Common.{ap, inl, inr}
 use Rattle.rv_hub.specs.Hubs.{hub_state}
 use Rattle.rv_engine.specs.Engines.{engine_state}
 use Rattle.rv_traffic.proofs.Tables.{hands_through}
@@ -21,8 +20,7 @@ pub returns-then-not-is_open-clause-told : goal.returns-then-not-is_open-clause-
 returns-then-not-is_open-clause-told c = inr (record {
   mid = engine_state c.catch_up.new.self;
   gathers = c.catch_up.ensures.gathers;
-  why = inr (ap (λ (h : DeskState). h.open_wires.wires c.args.number) (sym c.catch_up.ensures.gathers.hub)
-      ∙ c.if-not-is_open.ensures.no);
+  why = inr c.if-not-is_open.ensures.no;
   looks = c.look_at-then-not-is_open.ensures.looks;
   hub = ap hub_state c.look_at-then-not-is_open.ensures.hub;
   lines = c.look_at-then-not-is_open.ensures.lines;

@@ -8,7 +8,8 @@ use Rattle.rv_traffic.proofs.Tables.{may_end}
 use Rattle.rv_traffic.proofs.reading.offer_pending.Goals as goal
 
 pub hand-taken-requires-clause-can : goal.hand-taken-requires-clause-can
-hand-taken-requires-clause-can g c = may_end _ c.args.number c.requires.may
+hand-taken-requires-clause-can g c = may_end (engine_state c.args.traffic.now.engine).hub c.args.number
+    c.requires.may
 
 pub returns-clause-offers : goal.returns-clause-offers
 returns-clause-offers g c =

@@ -8,7 +8,8 @@ use Rattle.rv_traffic.proofs.Tables.{gives_up_at, may_end}
 use Rattle.rv_traffic.proofs.reading.offer_piece.Goals as goal
 
 pub hand-taken-requires-clause-can : goal.hand-taken-requires-clause-can
-hand-taken-requires-clause-can g c = may_end _ c.args.number c.requires.may
+hand-taken-requires-clause-can g c = may_end (engine_state c.args.traffic.now.engine).hub c.args.number
+    c.requires.may
 
 pub returns-in-Ok-clause-offers : goal.returns-in-Ok-clause-offers
 returns-in-Ok-clause-offers g c =

@@ -16,7 +16,8 @@ offer_piece-requires-clause-there g c =
     (piece_there g.S.Read.remaining _ _ _ c.in-Piece.ensures.reads c.requires.none_pending).0
 
 pub hand-requires-clause-can : goal.hand-requires-clause-can
-hand-requires-clause-can g c = may_end _ c.args.number c.requires.may
+hand-requires-clause-can g c = may_end (engine_state c.args.traffic.now.engine).hub c.args.number
+    c.requires.may
 
 pub returns-in-Piece-clause-reads : goal.returns-in-Piece-clause-reads
 returns-in-Piece-clause-reads g c =
