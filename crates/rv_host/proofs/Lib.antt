@@ -1,1 +1,2 @@
--- No lemma is needed yet.
+-- The lemmas that the proofs of this crate share.
+pub mod Opened
