@@ -7,17 +7,17 @@ use Rattle.rv_engine.specs.EngineRuns.{HandedOn, Looked, WroteLines}
 use Rattle.rv_traffic.specs.declared.outcomes.Reading.TheVariants as reading
 use Rattle.rv_traffic.specs.declared.outcomes.Writing.TheVariants as writing
 use Rattle.rv_traffic.specs.Calls.{Hands, TellsGone}
-use Rattle.rv_traffic.specs.CallRuns.{IsBehind, ReadsAreRuns, WritesAreRuns}
+use Rattle.rv_traffic.specs.CallRuns.{RunsBehind, ReadsAreRuns, WritesAreRuns}
 
 hands_run : (journal : Bool) (terms : DeskTerms) (s : EngineState) (now : ℕ) (what : HubEvent) (given : ℕ)
-    (t : EngineState) → Hands journal terms s now what given t → IsBehind journal terms s t
+    (t : EngineState) → Hands journal terms s now what given t → RunsBehind journal terms s t
 hands_run journal terms s now what given t is = record {
   deeds = HandedOn now what is.made given ∷ [];
   runs = (t, is.hands, refl);
 }
 
 gone_run : (journal : Bool) (terms : DeskTerms) (s : EngineState) (now n : ℕ) (t : EngineState)
-    → TellsGone journal terms s now n t → IsBehind journal terms s t
+    → TellsGone journal terms s now n t → RunsBehind journal terms s t
 gone_run journal terms s now n t (inl told) = hands_run journal terms s now _ told.0 t told.1
 gone_run journal terms s now n t (inr later) = record {
   deeds = WroteLines [] ∷ Looked ∷ [];
@@ -28,9 +28,7 @@ gone_run journal terms s now n t (inr later) = record {
       hub = later.gathers.hub;
       looks = later.gathers.looks;
     },
-    t,
-    record { hub = later.hub; lines = later.lines; left = later.left },
-    refl,
+    (t, record { hub = later.hub; lines = later.lines; left = later.left }, refl),
   );
 }
 

@@ -10,16 +10,16 @@ use Rattle.rv_traffic.specs.Calls.{GivesUp, ReadsOne, WritesOne}
 use Rattle.rv_traffic.specs.Views.{TrafficState}
 
 -- one engine is behind some deeds of the other
-pub record IsBehind (journal : Bool) (terms : DeskTerms) (s t : EngineState) : Type 0 where
+pub record RunsBehind (journal : Bool) (terms : DeskTerms) (s t : EngineState) : Type 0 where
   pub deeds : List EngineDeed
   pub runs : RunsEngine journal terms s deeds t
 
 abbrev pub ReadsAreRuns : {S : Type 0} → (S → Option (List ℕ)) → Type 0
 ReadsAreRuns {S} remaining = (journal : Bool) (terms : DeskTerms) (now number : ℕ) (old new : TrafficState S)
     (came : Reading) → ReadsOne remaining journal terms now number old came new
-    → IsBehind journal terms old.engine new.engine
+    → RunsBehind journal terms old.engine new.engine
 
 abbrev pub WritesAreRuns : {S : Type 0} → (S → Option (List ℕ)) → Type 0
 WritesAreRuns {S} contents = (journal : Bool) (terms : DeskTerms) (now number : ℕ) (old new : TrafficState S)
     (what : Writing) → WritesOne contents journal terms now number old what new
-    → IsBehind journal terms old.engine new.engine
+    → RunsBehind journal terms old.engine new.engine
