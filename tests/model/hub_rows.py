@@ -137,6 +137,12 @@ ROWS = [
         0 says hello 1/1; 1#1 put 3 "a"; 1#2 take 4 forever; 1#3 count 3; 1#4 count 4
             => 0: welcome 1/1, 1#1 done, 1#2 item "b", 1#3 counted 0 0, 1#4 counted 0 0 | 1: 2#1 item "a", 2#2 done
         """),
+    ("of those that time frees the event's connection goes on first", TEN_SECONDS, THREE + """
+        0 says hello 1/1; 1#1 take 3 20; 1#2 put 5 "a" => 0: welcome 1/1
+        1 says hello 2/1; 2#1 take 4 20; 2#2 put 5 "b" => 1: welcome 2/1
+        @20 1 ended => 0: 1#1 timedout, 1#2 done | 1: 2#1 timedout, 2#2 done
+        @20 2 says hello 3/1; 3#1 take 5 forever => 2: welcome 3/1, 3#1 item "b"
+        """),
     ("what can't be is refused", JOURNAL, TWO + """
         2 gone => refused not_open
         0 says hello 1/1 =>
@@ -267,10 +273,10 @@ def asked_fault(step: Step, hub: Hub) -> str | None:
     return f"got {wrong}" if wrong else None
 
 
-def hub_row_faults(rows=tuple(ROWS)) -> Iterator[tuple[str, str | None]]:
-    """Each row by its name, with what is wrong with it, if something is."""
+def hub_row_faults(rows=tuple(ROWS), kind: type[Hub] = Hub) -> Iterator[tuple[str, str | None]]:
+    """Each row by its name, with what is wrong with it, if something is, in a hub of this kind."""
     for name, terms, lines in rows:
-        hub, faults = Hub(terms), []
+        hub, faults = kind(terms), []
         for step in steps_of(lines):
             event = event_of(step.event, hub)
             faults += [f"{step.event[:200]}: {fault}" for fault in (told_fault(step, hub, event), asked_fault(step, hub)) if fault]

@@ -1,4 +1,4 @@
-"""Hubs that do one thing wrong, made of the model's by a change. Random events must find each."""
+"""Hubs that do one thing wrong, made of the model's by a change. Random events, or a worked row, must find each."""
 import random
 from collections.abc import Iterable, Iterator
 from dataclasses import dataclass
@@ -10,6 +10,7 @@ from tests.model.hub import Hub
 from tests.model.hub_connection import Answer, Connection, Wait
 from tests.model.hub_events import Came, Event, Terms
 from tests.model.hub_lines import Told, told
+from tests.model.hub_rows import ROWS, hub_row_faults
 from tests.model.hub_scripts import HubScript
 from tests.model.steps import refused, replied
 from tests.model.texts import written
@@ -228,6 +229,14 @@ class FreedFirst(Hub):
         super().act(event)
 
 
+class SkipsItsTurn(Hub):
+    """The event's connection, where time freed it, goes on among those that were freed, in place of before them."""
+
+    def act(self, event: Event) -> None:
+        if getattr(event, "connection", None) not in self.freed:
+            super().act(event)
+
+
 class FreedAtOnce(Hub):
     """Whoever is told goes on at once."""
 
@@ -422,7 +431,12 @@ def played(number: int) -> Played:
 
 
 def wrong_hub_faults() -> Iterator[tuple[str, str | None]]:
-    """Of each wrong hub, that no random events find it, if none do."""
+    """Of each wrong hub, that neither random events nor a worked row find it, if none do."""
     for kind in WRONG:
-        found = any(played(number).finds(kind) for number in range(SCRIPTS))
-        yield kind.__name__, None if found else "no random events find it"
+        found = any(played(number).finds(kind) for number in range(SCRIPTS)) or is_found_in_rows(kind)
+        yield kind.__name__, None if found else "neither random events nor a row find it"
+
+
+def is_found_in_rows(kind: type[Hub]) -> bool:
+    """Whether a wrong hub tells something else in a worked row."""
+    return any(fault for _, fault in hub_row_faults(tuple(ROWS), kind))

@@ -161,7 +161,7 @@ closing_deed terms s t connection body frame closed = record {
   nobody_told = refl;
   no_bytes = refl;
   own = refl;
-  may = inl (record { wire = frame.wire; there = frame.there; so = inr frame.so.due });
+  may = record { wire = frame.wire; there = frame.there; so = inr (inl frame.so.due) };
 }
 
 pub stepped_deed : (terms : DeskTerms) (s m t : DeskState) (connection : ℕ) (body : List ℕ) (step : Stepped)

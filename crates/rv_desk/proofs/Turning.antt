@@ -1,25 +1,27 @@
 -- A connection goes on until it stops.
-use Rattle.std.proofs.Common.{inl, inr, ◌≡◌, ◌+◌, ◌-◌, ◌<◌, ◌≤◌, ◌∙◌, ◌++◌, ◌∷◌, ◌⊎◌, ℕ, List, [], None}
-use Rattle.std.proofs.Common.{Option, Some, refl, sym, ap, subst, arith, append_assoc, drop, length, take}
-use Rattle.std.proofs.Common.{Bool, false, nat_eq, not, suc, zero}
-use Rattle.std.specs.Prelude.{All, IsSome, flat_map, is_some}
+use Rattle.std.proofs.Common.{inl, inr, ◌≡◌, ◌+◌, ◌-◌, ◌<◌, ◌≤◌, ◌∙◌, ◌++◌, ◌∷◌, ◌⊎◌, ℕ, List, []}
+use Rattle.std.proofs.Common.{Some, refl, sym, ap, subst, arith, append_assoc, drop, length, take}
+use Rattle.std.proofs.Common.{false, nat_eq, suc, zero}
+use Rattle.std.specs.Prelude.{All, flat_map}
 use Rattle.std.proofs.lemmas.Bool.{false≢true}
 use Rattle.std.proofs.Math.Seq.{take-add}
 use Rattle.std.proofs.lemmas.List.{append-nil, length-append, length-drop, length-take-le, take_all}
 use Rattle.std.proofs.lemmas.List.Elements.{All-append, All-cons, All-nil}
 use Rattle.std.proofs.lemmas.Grind.{flat_map-append}
 use Rattle.std.proofs.lemmas.Option.{none-some}
+use Rattle.rv_frame.specs.Cut.{IsUnfinished}
 use Rattle.rv_connection.specs.Traffic.{IsBad, IsWholeFrame, Traffic}
 use Rattle.rv_connection.specs.Steps.{TakesIn}
 use Rattle.rv_hearers.specs.Hearers.{hearers_count, hearers_of}
-use Rattle.rv_wires.specs.Connections.{ChangesWire, SetsWire, Tally, WiresState}
+use Rattle.rv_wires.specs.Connections.{ChangesWire, HasWire, SetsWire, Tally, WiresState}
 use Rattle.rv_wires.specs.Wires.{tally_in, wires_in}
 use Rattle.rv_wires.specs.declared.wires.Wires.{Wires}
 use Rattle.rv_desk.specs.declared.desk.HubDesk.{HubDesk}
 use Rattle.rv_desk.specs.View.{DeskState, DeskTerms}
 use Rattle.rv_desk.specs.Deeds.{Deed, DoesClose, bytes_by, bytes_in, entries_of_deed, told_of_deed}
 use Rattle.rv_desk.specs.Deeds.{told_in_deeds, Closed, TookIn}
-use Rattle.rv_desk.specs.Order.{IsOwnDeed, IsStride, MayDo, RunsStrides, deeds_of, left_behind}
+use Rattle.rv_desk.specs.Order.{IsOwnDeed, IsStride, MayClose, MayDo, RunsStrides, deeds_of}
+use Rattle.rv_desk.specs.Order.{left_behind}
 use Rattle.rv_desk.specs.Rest.{HasComeToStop, TakesNoMore}
 use Rattle.rv_desk.specs.Fields.{IsDeskSound, IsSteady, desk_state, desk_terms}
 use Rattle.rv_desk.specs.Going.{FeedsPiece, Finishes, Goes, HasDue, NotesOne, Strides, TakesItsTurn}
@@ -81,12 +83,6 @@ same_steady d wires steady same = record {
   in_time = steady.in_time;
 }
 
--- a connection that was found is open
-pub open_by : {A B : Type 0} → (copied : Option A → Option B) (o : Option A) (b : Option B) (flag : Bool)
-    → ((x : A) → IsSome (copied (Some x))) → is_some o ≡ not flag → flag ≡ false → copied o ≡ b → IsSome b
-open_by copied None b flag each some is same = absurd (false≢true (some ∙ ap not is))
-open_by copied (Some x) b flag each some is same = subst (λ q. IsSome q) same (each x)
-
 -- a piece that isn't empty has bytes
 pub has_bytes : (count : ℕ) → nat_eq count 0 ≡ false → 0 < count
 has_bytes zero is = absurd (false≢true (sym is))
@@ -119,10 +115,15 @@ one_stride : (terms : DeskTerms) (s t : DeskState) (left : List ℕ) (deed : Dee
     → IsStride terms s deed [] t → RunsStrides terms s left ((deed, []) ∷ []) t
 one_stride terms s t left deed may stride = (t, may, stride, refl)
 
+may_close_more : (left : List ℕ) (wire : Traffic) → MayClose [] wire → MayClose left wire
+may_close_more left wire (inl finished) = inl finished
+may_close_more left wire (inr (inl due)) = inr (inl due)
+may_close_more left wire (inr (inr (part, some))) = absurd (let more = some in omega arith)
+
 -- what may be done where nothing of a piece is left, may be done where something is
 pub may_more : (s : DeskState) (left : List ℕ) (deed : Deed) → MayDo s [] deed → MayDo s left deed
-may_more s left (Closed n) (inl wire) = inl wire
-may_more s left (Closed n) (inr some) = absurd (let more = some in omega arith)
+may_more s left (Closed n) may =
+    record { wire = may.wire; there = may.there; so = may_close_more left may.wire may.so }
 may_more s left deed may = may
 
 -- ---- bytes of a piece
@@ -216,12 +217,13 @@ fed_some d wires connection piece count steady takes noted =
     )
 
 pub fed_closed : (d mid new : HubDesk) (connection : ℕ) (piece : List ℕ) → 0 < length piece
+    → HasWire (wires_in d.wires) connection (λ wire. IsUnfinished wire.unread)
     → mid ≡ record d { wires = mid.wires }
     → wires_in mid.wires ≡ wires_in d.wires
     → tally_in mid.wires ≡ tally_in d.wires → DoesClose (desk_state mid) connection (desk_state new)
     → new ≡ record mid { wires = new.wires; hearers = new.hearers } → work_left new ≤ work_left mid
     → FeedsPiece d connection piece 0 new × TakesNoMore (desk_state new) connection
-fed_closed d mid new connection piece some same wires tally closes rest less =
+fed_closed d mid new connection piece some more same wires tally closes rest less =
     let unread : unread_total mid.wires ≡ unread_total d.wires = ap (λ (t : Tally). t.unread) tally in
     let state : desk_state mid ≡ desk_state d =
     ap desk_state same
@@ -239,7 +241,8 @@ fed_closed d mid new connection piece some same wires tally closes rest less =
         strides = (Closed connection, []) ∷ [];
         own = All-cons (λ (s : Deed × List Deed). IsOwnDeed connection s.0) (Closed connection, []) [] refl
             (All-nil (λ (s : Deed × List Deed). IsOwnDeed connection s.0));
-        runs = one_stride (desk_terms d) (desk_state d) (desk_state new) piece (Closed connection) (inr some)
+        runs = one_stride (desk_terms d) (desk_state d) (desk_state new) piece (Closed connection)
+            (record { wire = more.wire; there = more.there; so = inr (inr (more.so, some)) })
             (record { between = desk_state new; does = closing; told = (refl, refl) });
         goes = record {
           made = entries ∙ sym (append-nil d.entries.items);
@@ -390,7 +393,7 @@ turn_ended old now new connection piece taken far finishes =
           far.runs
           (one_stride (desk_terms now) (desk_state now) (desk_state new) (drop taken piece)
           (Closed connection)
-          (inl (record { wire = finished.wire; there = finished.there; so = inl finished.so }))
+          (record { wire = finished.wire; there = finished.there; so = inl finished.so })
           (record { between = desk_state new; does = closed; told = (refl, refl) })) ends in
           record {
             deeds = deeds_of (far.strides ++ one);

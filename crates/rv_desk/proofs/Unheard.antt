@@ -4,12 +4,15 @@ use Rattle.std.proofs.Common.{inl, inr, ◌≡◌, ◌≢◌, ◌<◌, ◌≤◌
 use Rattle.std.proofs.Common.{true, false, not, List, [], None, Option, Some, Contains, length, nat_eq, refl}
 use Rattle.std.proofs.Common.{sym, ap, subst, arith, cond, length-append}
 use Rattle.std.specs.Prelude.{◌&&◌, filter, is_some, slice_get}
-use Rattle.std.specs.Cmp.{nat_eq_equiv}
-use Rattle.std.specs.List.{list_any}
+use Rattle.std.specs.Cmp.{nat_eq_equiv, unsigned_Decides}
+use Rattle.std.specs.List.{AllPairs, list_any}
 use Rattle.std.proofs.lemmas.Bool.{eqb-true, false≢true}
-use Rattle.std.proofs.lemmas.List.Elements.{Contains-append_left, Contains-push, Contains-push_cases}
+use Rattle.std.proofs.lemmas.List.Elements.{Contains-append_left, Contains-get_or, Contains-push}
+use Rattle.std.proofs.lemmas.List.Elements.{Contains-push_cases}
 use Rattle.std.proofs.lemmas.List.Filters.{length-filter_both}
 use Rattle.std.proofs.lemmas.List.Kept.{AllPairs-filter}
+use Rattle.std.proofs.lemmas.List.Quantifiers.{all_pairs_push}
+use Rattle.std.proofs.lemmas.Map.Made.{IsDistinct-from_AllPairs, length-le_from_is_member}
 use Rattle.std.proofs.lemmas.Map.Views.{Contains-from_any, any-filter_same, list_any-from_Contains}
 use Rattle.std.proofs.lemmas.Option.{none-some}
 use Rattle.rv_session.specs.Clients.{place_waiting}
@@ -18,10 +21,41 @@ use Rattle.rv_state.specs.State.{ClientState, OpenPlace, State, Waiter, client_a
 use Rattle.rv_resume.specs.Resuming.{CanResume}
 use Rattle.rv_waiting.specs.Waiting.{WaitsOn}
 use Rattle.rv_hearers.specs.declared.tables.Hearing.{Hearing}
-use Rattle.rv_hearers.specs.Hearing.{AreHeard, CountsHeard, WhoHears}
-use Rattle.rv_hearers.proofs.Numbering.{Once, no_longer, once_pushed}
+use Rattle.rv_hearers.specs.Hearing.{AreHeard, CountsHeard, HasHearer, HearsOf, WhoHears}
 use Rattle.rv_desk.specs.Telling.{AreUnheard, CountsUnheard, DoesWait}
 use Rattle.rv_desk.proofs.Answering.{some_is}
+
+-- ---- whether some connection waits for a request of a client
+
+pub not_heard : (who : WhoHears) (client : ℕ) (is : Bool) → (HasHearer who client → is ≡ true)
+    → not is ≡ true → (connection : ℕ) → HearsOf who client connection → ⊥
+not_heard who client true found lacks connection hears = false≢true lacks
+not_heard who client false found lacks connection hears = false≢true (found (connection, hears))
+
+pub none_heard : (who : WhoHears) (client : ℕ) (is : Bool) → (is ≡ true → HasHearer who client)
+    → ((connection : ℕ) → HearsOf who client connection → ⊥) → not is ≡ true
+none_heard who client true found nobody = let heard = found refl in absurd (nobody heard.0 heard.1)
+none_heard who client false found nobody = refl
+
+-- ---- lists of numbers, each of which stands there once
+
+abbrev pub Once : List ℕ → Type 0
+Once xs = AllPairs (λ one other. one ≢ other) xs
+
+-- numbers that stand there once, all among others, are no more than those
+no_longer : (xs ys : List ℕ) → Once xs → ((q : ℕ) → Contains xs q → Contains ys q)
+    → length xs ≤ length ys
+no_longer xs ys once among =
+    length-le_from_is_member nat_eq_equiv xs ys (IsDistinct-from_AllPairs unsigned_Decides xs once)
+    (λ q there. list_any-from_Contains nat_eq_equiv q ys (among q (Contains-from_any eqb-true q xs there)))
+
+once_pushed : (xs : List ℕ) (x : ℕ) → Once xs → (Contains xs x → ⊥) → Once (xs ++ x ∷ [])
+once_pushed xs x once new =
+    all_pairs_push (λ one other. one ≢ other) xs x once
+    (λ k d less same. new (found k d (Contains-get_or xs k d less) same))
+  where
+    found : (k d : ℕ) {y : ℕ} → Contains xs y → y ≡ x → Contains xs x
+    found k d {y} there same = subst (Contains xs) same there
 
 -- ---- the clients of those that wait at open places
 

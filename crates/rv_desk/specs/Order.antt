@@ -3,7 +3,8 @@ use Rattle.std.specs.Prelude.{ℕ, ◌≡◌, ◌<◌, ◌≤◌, ◌⊎◌, Lis
 use Rattle.std.specs.Prelude.{drop, flat_map, length, take}
 use Rattle.rv_text.specs.declared.message.Key.{Key}
 use Rattle.rv_text.specs.declared.answer.Answer.TheVariants as answer
-use Rattle.rv_connection.specs.Traffic.{IsDue, IsFinished}
+use Rattle.rv_frame.specs.Cut.{IsUnfinished}
+use Rattle.rv_connection.specs.Traffic.{IsDue, IsFinished, Traffic}
 use Rattle.rv_hearers.specs.declared.tables.Hearing.{Hearing}
 use Rattle.rv_wires.specs.Connections.{HasWire}
 use Rattle.rv_desk.specs.View.{DeskState, DeskTerms}
@@ -81,10 +82,14 @@ pub record TellsOverdue (terms : DeskTerms) (old : DeskState) (deeds : List Deed
 
 -- ---- turns
 
--- of a piece these bytes are left: a connection is closed in its own turn only where nothing is left of it to
--- do, or where memory may have been refused, for the answer to its frame, which is due, or for those bytes
+-- a connection is closed in its own turn only where nothing is left of it to do, or where memory may have
+-- been refused: for the answer to its frame, which is due, or for bytes of its piece, of which these are
+-- left, if it takes more
+abbrev pub MayClose : List ℕ → Traffic → Type 0
+MayClose left wire = IsFinished wire ⊎ (IsDue wire ⊎ (IsUnfinished wire.unread × (0 < length left)))
+
 abbrev pub MayDo : DeskState → List ℕ → Deed → Type 0
-MayDo s left (Closed n) = HasWire s.open_wires n (λ wire. IsFinished wire ⊎ IsDue wire) ⊎ (0 < length left)
+MayDo s left (Closed n) = HasWire s.open_wires n (MayClose left)
 MayDo s left deed = Unit {0}
 
 -- the bytes of a piece that are left behind deeds which took some

@@ -10,8 +10,7 @@ use Rattle.rv_desk.specs.Deeds.{Deed, DoesAll, entries_of_deed, told_in_deeds}
 use Rattle.rv_desk.specs.Order.{IsTurn}
 
 -- what leads from one state of the account to the next: time alone up to a moment, or a message at the moment
--- up to
--- which time went
+-- up to which time went
 pub data Cause : Type 0 where
   Time : (moment : ℕ) → Cause
   Heard : (message : Message) → Cause

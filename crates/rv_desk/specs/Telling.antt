@@ -28,6 +28,7 @@ pub record IsTellable (s : State) (key : Key) : Type 0 where
 
 -- what a repeat of the request is told, or that its session is one of a greater incarnation
 pub record IsToldAgain (s : State) (key : Key) (said : Answer) : Type 0 where
+  pub fits : FitsKey key
   pub epoch : key.epoch ≡ s.epoch
   pub session : ClientState
   pub there : client_at s key.client ≡ Some session

@@ -8,7 +8,7 @@ ghost use Rattle.rv_resume.specs.Resuming.{CanResume};
 ghost use Rattle.rv_connection.specs.Steps.{input_ended, left_by};
 ghost use Rattle.rv_wires.specs.Connections.{AllHeldBack, HasWire, none_open};
 ghost use Rattle.rv_wires.specs.Wires.{wires_in};
-ghost use Rattle.rv_hearers.specs.Hearing.{HearsOf, nobody};
+ghost use Rattle.rv_hearers.specs.Hearing.{nobody};
 ghost use Rattle.rv_hearers.specs.Hearers.{hearers_of};
 ghost use Rattle.rv_desk.specs.View.{ChangesBytes, begun};
 ghost use Rattle.rv_desk.specs.Telling.{CountsUnheard, DoesWait, IsUnheard};
@@ -61,7 +61,8 @@ fn is_waiting(request: &LastRequest) -> bool
 
 impl HubDesk {
     /// A desk with no connection over a machine, with the limits of each step. A request that waits is told
-    /// so when it has waited `patience` milliseconds for a frame. All entries so far are written.
+    /// so when it has waited `patience` milliseconds for a frame. The machine's entries so far are written,
+    /// and none was made since.
     pub fn new(
         alloc: Global,
         machine: Machine,
@@ -73,6 +74,7 @@ impl HubDesk {
         requires resumes { CanResume (state_in machine) }
         requires limits { AreStepLimits limits }
         ensures ready { IfOk result IsDeskReady }
+        ensures none_made { IfOk result (λ d. d.entries.items ≡ []) }
         ensures state { IfOk result (λ d. desk_state d ≡ record {
           book = state_in machine;
           now = (state_in machine).moment;
@@ -128,24 +130,13 @@ impl HubDesk {
         &self.entries
     }
 
-    /// Whether a request of the client waits for which no connection does.
+    /// Whether a request of the client waits for which no connection does. It takes constant time on average.
     pub fn is_unheard(&self, client: u64) -> bool
         ensures { IsTrue result ↔ IsUnheard (state_in self.now.machine) (hearers_of self.now.hearers) client }
     {
         match self.machine.client(client) {
-            Some(session) => is_waiting(&session.request) && self.hears_none(client),
+            Some(session) => is_waiting(&session.request) && !self.hearers.is_heard(client),
             None => false,
-        }
-    }
-
-    // Whether no connection waits for a request of the client.
-    fn hears_none(&self, client: u64) -> bool
-        ensures { IsTrue result
-            ↔ ((connection : ℕ) → ¬ HearsOf (hearers_of self.now.hearers) client connection) }
-    {
-        match self.hearers.first_of(client) {
-            Some(_) => false,
-            None => true,
         }
     }
 

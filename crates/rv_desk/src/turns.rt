@@ -1,13 +1,35 @@
 //! A connection's turn: it goes on until it stops.
 ghost use Rattle.std.specs.Prelude.{◌≡◌, ◌<◌, ◌++◌, [], IfNone, length, option_to_list};
+ghost use Rattle.std.specs.Bool.{OnFalse, OnTrue};
+ghost use Rattle.rv_frame.specs.Cut.{IsUnfinished};
+ghost use Rattle.rv_wires.specs.Connections.{HasWire};
+ghost use Rattle.rv_wires.specs.Wires.{wires_in};
 ghost use Rattle.rv_desk.specs.Fields.{IsSteady, desk_state};
 ghost use Rattle.rv_desk.specs.Rest.{HasComeToStop, TakesNoMore};
 ghost use Rattle.rv_desk.specs.Going.{FeedsPiece, Finishes, TakesItsTurn};
 
 use crate::desk::HubDesk;
+use rv_connection::Coming;
 use rv_hearers::ConnectionNumber;
 
 impl HubDesk {
+    // Whether a connection takes more bytes of its input: it is open, and neither a whole frame is unread nor
+    // a bad length.
+    fn takes_more(&self, connection: ConnectionNumber) -> bool
+        ensures more { OnTrue result (HasWire (wires_in self.now.wires) connection
+            (λ wire. IsUnfinished wire.unread)) }
+        ensures no_more { OnFalse result (TakesNoMore (desk_state self.now) connection) }
+    {
+        match self.wires.get(connection) {
+            Some(wire) => match wire.unread() {
+                Coming::Part => true,
+                Coming::Frame(_) => false,
+                Coming::BadLength => false,
+            },
+            None => false,
+        }
+    }
+
     // Takes bytes of a piece, as far as an open connection takes them. If memory is refused it is closed.
     fn feed(&mut self, connection: ConnectionNumber, piece: &[u8]) -> usize
         requires { IsSteady self.old }
@@ -15,7 +37,7 @@ impl HubDesk {
         ensures feeds { FeedsPiece self.old connection piece.now result self.new }
         ensures stops { result < length piece.now → TakesNoMore (desk_state self.new) connection }
     {
-        if piece.is_empty() || self.wires.get(connection).is_none() {
+        if piece.is_empty() || !self.takes_more(connection) {
             return 0;
         }
         match self.wires.take_in(connection, piece) {

@@ -19,7 +19,7 @@ until_some moment was hearing some = ap (λ o. is_until o moment) some
 
 -- ---- who is found
 
-hears_by : (who : WhoHears) (client connection : ℕ) (o : Option Hearing) → who connection ≡ o
+pub hears_by : (who : WhoHears) (client connection : ℕ) (o : Option Hearing) → who connection ≡ o
     → is_of o client ≡ true → HearsOf who client connection
 hears_by who client connection None there of = absurd (cc)
 hears_by who client connection (Some hearing) there of = record {
@@ -28,7 +28,7 @@ hears_by who client connection (Some hearing) there of = record {
   same = eqb-true hearing.key.client client of;
 }
 
-is_of_by : (who : WhoHears) (client connection : ℕ) → HearsOf who client connection
+pub is_of_by : (who : WhoHears) (client connection : ℕ) → HearsOf who client connection
     → is_of (who connection) client ≡ true
 is_of_by who client connection hears = of_some client (who connection) hears.hearing hears.there
     ∙ eq-eqb hears.hearing.key.client client hears.same

@@ -1,92 +1,28 @@
--- For the requests of how many clients connections wait, where one waits more or less.
-use Rattle.std.proofs.Common.{◌≡◌, ◌≢◌, ◌≤◌, ◌+◌, ◌∷◌, ◌++◌, ◌∙◌, ◌⊎◌, inl, inr, ℕ, Bool, true, false, List}
-use Rattle.std.proofs.Common.{[], Contains, Option, Some, None, IfNone, IfSome, OnErr, OnOk, Result, Ok, Err}
-use Rattle.std.proofs.Common.{is_some, cond, map, refl, sym, ap, subst, arith, length-append}
-use Rattle.std.specs.Map.{keys_of, lookup}
-use Rattle.std.specs.Cmp.{nat_cmp_total}
-use Rattle.std.specs.Ordering.{eq_by_cmp, nat_cmp}
-use Rattle.std.specs.BTreeMap.{IsOrdered, btree_map_len}
-use Rattle.std.specs.declared.alloc.AllocError.{AllocError}
-use Rattle.std.proofs.lemmas.Bool.{cases_eq, false≢true, true≢false}
-use Rattle.std.proofs.lemmas.Cmp.{eq_by_cmp_equiv}
-use Rattle.std.proofs.lemmas.List.{length-map}
-use Rattle.std.proofs.lemmas.List.Elements.{Contains-append_cases, Contains-append_left}
-use Rattle.std.proofs.lemmas.List.Elements.{Contains-append_right, Contains-push, Contains-push_cases}
-use Rattle.std.proofs.lemmas.Map.Keys.{IsDistinct-from_sorted}
-use Rattle.std.proofs.lemmas.Map.Views.{lookup-from_Contains}
+-- Of which clients connections wait for a request, where one waits more or less.
+use Rattle.std.proofs.Common.{◌≡◌, ◌≢◌, ◌∙◌, ◌⊎◌, inl, inr, ℕ, Bool, true, false, List, Option, Some, None}
+use Rattle.std.proofs.Common.{◌<◌, Contains, IfNone, IfSome, arith, cond, get_or, is_some, length, nat_eq}
+use Rattle.std.proofs.Common.{refl, sym, ap, subst}
+use Rattle.std.specs.Prelude.{◌↔◌}
+use Rattle.std.specs.Cmp.{nat_eq_equiv}
+use Rattle.std.specs.HashSet.{HashSet, IsUnique, contains, hash_set_len}
+use Rattle.std.specs.List.{AllPairs, IsDistinct, list_any}
+use Rattle.std.specs.Map.{keys_of}
+use Rattle.std.proofs.lemmas.Bool.{cases_eq, eq-eqb, eqb-true, false≢true, true≢false}
+use Rattle.std.proofs.lemmas.List.{get_or-map}
+use Rattle.std.proofs.lemmas.List.Elements.{Contains-get_or}
+use Rattle.std.proofs.lemmas.Map.Entries.{length-keys_of}
+use Rattle.std.proofs.lemmas.Map.Keys.{apart_from_distinct}
+use Rattle.std.proofs.lemmas.Map.Views.{Contains-from_any, hash_set_contains_iff, list_any-from_Contains}
 use Rattle.std.proofs.lemmas.Option.{none-some, same_Some}
 use Rattle.rv_hearers.specs.declared.tables.Hearing.{Hearing}
 use Rattle.rv_hearers.specs.declared.tables.Tables.{Tables}
-use Rattle.rv_hearers.specs.Hearing.{AreHeard, CountsHeard, HasHearer, HearsOf, IsFirstHearer, SetsHearing}
-use Rattle.rv_hearers.specs.Hearing.{WhoHears, nobody}
-use Rattle.rv_hearers.specs.Indexed.{IsHeardCount, who_hears}
-use Rattle.rv_hearers.proofs.Numbering.{each_in, each_once, in_left, left_in, no_longer, once_each}
-use Rattle.rv_hearers.proofs.Numbering.{once_pushed, once_without, one_shorter, only_one, without}
-
--- ---- the same clients, one more, and one less
-
-same_heard : (old new : WhoHears) (n : ℕ) → ((client : ℕ) → HasHearer old client → HasHearer new client)
-    → ((client : ℕ) → HasHearer new client → HasHearer old client) → IsHeardCount old n → IsHeardCount new n
-same_heard old new n to from counts clients are =
-    counts clients (record {
-      once = are.once;
-      each = λ client. (
-        λ there. from client ((are.each client).0 there),
-        λ heard. (are.each client).1 (to client heard),
-      );
-    })
-
-one_more : (old new : WhoHears) (n client : ℕ) → (HasHearer old client → ⊥) → HasHearer new client
-    → ((c : ℕ) → HasHearer old c → HasHearer new c)
-    → ((c : ℕ) → HasHearer new c → HasHearer old c ⊎ (client ≡ c)) → IsHeardCount old n
-    → IsHeardCount new (n + 1)
-one_more old new n client fresh heard to from counts clients are =
-    let was = counts (without client clients) (record {
-      once = once_without client clients are.once;
-      each = λ c. (
-        λ there.
-            let left = left_in client c clients there in
-            by c left.0 (from c ((are.each c).0 left.1)),
-        λ is.
-            in_left client c clients (λ same. fresh (subst (HasHearer old) (sym same) is))
-            ((are.each c).1 (to c is)),
-      );
-    }) in
-    let shorter = one_shorter client clients are.once ((are.each client).1 heard) in
-    omega (arith, was, shorter)
-  where
-    by : (c : ℕ) → client ≢ c → HasHearer old c ⊎ (client ≡ c) → HasHearer old c
-    by c apart (inl is) = is
-    by c apart (inr same) = absurd (apart same)
-
-one_less : (old new : WhoHears) (n k client : ℕ) → HasHearer old client → (HasHearer new client → ⊥)
-    → ((c : ℕ) → client ≢ c → HasHearer old c → HasHearer new c)
-    → ((c : ℕ) → HasHearer new c → HasHearer old c) → k + 1 ≡ n → IsHeardCount old n → IsHeardCount new k
-one_less old new n k client heard gone to from less counts clients are =
-    let was = counts (clients ++ client ∷ []) (record {
-      once = once_pushed clients client are.once (λ there. gone ((are.each client).0 there));
-      each = λ c. (
-        λ there. in_old c (Contains-push_cases clients client c there),
-        λ is. in_list c is (cases_eq client c),
-      );
-    }) in
-    omega (arith, was, less, length-append clients (client ∷ []))
-  where
-    in_old : (c : ℕ) → Contains clients c ⊎ (client ≡ c) → HasHearer old c
-    in_old c (inl there) = from c ((are.each c).0 there)
-    in_old c (inr same) = subst (HasHearer old) same heard
-
-    in_list : (c : ℕ) → HasHearer old c → (client ≡ c) ⊎ (client ≢ c) → Contains (clients ++ client ∷ []) c
-    in_list c is (inl same) =
-        subst (Contains (clients ++ client ∷ [])) same (Contains-push clients client)
-    in_list c is (inr apart) =
-        Contains-append_left clients (client ∷ []) c ((are.each c).1 (to c apart is))
-
--- of a client that is heard the count is no 0
-pub counts_one : (who : WhoHears) (n client : ℕ) → CountsHeard who n → HasHearer who client → 1 ≤ n
-counts_one who n client counts heard =
-    let there = (counts.1.each client).1 heard in
-    let less = there.1 in omega (arith, less, counts.2)
+use Rattle.rv_hearers.specs.Hearing.{CountsHeard, HasHearer, HearsOf, IsFirstHearer, SetsHearing, WhoHears}
+use Rattle.rv_hearers.specs.Hearing.{nobody}
+use Rattle.rv_hearers.specs.Indexed.{IsIndexed, who_hears}
+use Rattle.rv_hearers.specs.Pairs.{some_under}
+use Rattle.rv_hearers.proofs.Finding.{hears_by, is_of_by}
+use Rattle.rv_hearers.proofs.Listed.{stands_from, stands_to}
+use Rattle.rv_hearers.proofs.Ordered.{Pair}
 
 -- ---- a connection waits, or does so no longer
 
@@ -122,17 +58,25 @@ module _ (old new : WhoHears) (connection : ℕ) (hearing : Hearing) where
       )
     ]
 
-    pub adds_same : (n : ℕ) → HasHearer old hearing.key.client → IsHeardCount old n → IsHeardCount new n
-    adds_same n heard counts = same_heard old new n still_heard (λ c is. back c (was_heard c is)) counts
+    -- the set with its client has all that are heard
+    pub adds_heard : (was now : ℕ → Bool)
+        → ((q : ℕ) → now q ≡ cond (nat_eq hearing.key.client q) true (was q))
+        → ((q : ℕ) → (was q ≡ true) ↔ HasHearer old q) → (q : ℕ) → (now q ≡ true) ↔ HasHearer new q
+    adds_heard was now sets counted q = by (nat_eq hearing.key.client q) refl
       where
-        back : (c : ℕ) → HasHearer old c ⊎ (hearing.key.client ≡ c) → HasHearer old c
-        back c (inl was) = was
-        back c (inr same) = subst (HasHearer old) same heard
-
-    pub adds_one : (n : ℕ) → (HasHearer old hearing.key.client → ⊥) → IsHeardCount old n
-        → IsHeardCount new (n + 1)
-    adds_one n fresh counts =
-        one_more old new n hearing.key.client fresh new_heard still_heard was_heard counts
+        by : (b : Bool) → nat_eq hearing.key.client q ≡ b → (now q ≡ true) ↔ HasHearer new q
+        by true own = (
+          λ _. subst (HasHearer new) (eqb-true hearing.key.client q own) new_heard,
+          λ _. sets q ∙ ap (λ b. cond b true (was q)) own,
+        )
+        by false other = (
+          λ is. still_heard q ((counted q).0 (sym (sets q ∙ ap (λ b. cond b true (was q)) other) ∙ is)),
+          λ heard.
+              sets q ∙ ap (λ b. cond b true (was q)) other ∙ (counted q).1 (elim (was_heard q heard) [
+                | inl was ↦ was
+                | inr same ↦ absurd (false≢true (sym other ∙ eq-eqb hearing.key.client q same))
+              ]),
+        )
 
   module _ (was : old connection ≡ Some hearing) (sets : SetsHearing old connection None new) where
     pub own_heard : HasHearer old hearing.key.client
@@ -163,24 +107,42 @@ module _ (old new : WhoHears) (connection : ℕ) (hearing : Hearing) where
           },
         )
 
-    pub leaves_same : (n : ℕ) → HasHearer new hearing.key.client → IsHeardCount old n → IsHeardCount new n
-    leaves_same n heard counts = same_heard old new n to from_old counts
+    -- the set stays, where another connection waits for a request of the client
+    pub leaves_same : (has : ℕ → Bool) → HasHearer new hearing.key.client
+        → ((q : ℕ) → (has q ≡ true) ↔ HasHearer old q) → (q : ℕ) → (has q ≡ true) ↔ HasHearer new q
+    leaves_same has heard counted q = (λ is. to ((counted q).0 is), λ is. (counted q).1 (from_old q is))
       where
-        to : (c : ℕ) → HasHearer old c → HasHearer new c
-        to c is = elim (cases_eq hearing.key.client c) [
+        to : HasHearer old q → HasHearer new q
+        to is = elim (cases_eq hearing.key.client q) [
           | inl same ↦ subst (HasHearer new) same heard
-          | inr apart ↦ others_heard c apart is
+          | inr apart ↦ others_heard q apart is
         ]
 
-    pub leaves_one : (n k : ℕ) → (HasHearer new hearing.key.client → ⊥) → k + 1 ≡ n → IsHeardCount old n
-        → IsHeardCount new k
-    leaves_one n k gone less counts =
-        one_less old new n k hearing.key.client own_heard gone others_heard from_old less counts
+    -- and without its client, where none does
+    pub leaves_one : (has now : ℕ → Bool) → (HasHearer new hearing.key.client → ⊥)
+        → ((q : ℕ) → now q ≡ cond (nat_eq hearing.key.client q) false (has q))
+        → ((q : ℕ) → (has q ≡ true) ↔ HasHearer old q) → (q : ℕ) → (now q ≡ true) ↔ HasHearer new q
+    leaves_one has now gone sets counted q = by (nat_eq hearing.key.client q) refl
+      where
+        by : (b : Bool) → nat_eq hearing.key.client q ≡ b → (now q ≡ true) ↔ HasHearer new q
+        by true own = (
+          λ is. absurd (false≢true (sym (sets q ∙ ap (λ b. cond b false (has q)) own) ∙ is)),
+          λ heard. absurd (gone (subst (HasHearer new) (sym (eqb-true hearing.key.client q own)) heard)),
+        )
+        by false other = (
+          λ is.
+              others_heard q (λ same. false≢true (sym other ∙ eq-eqb hearing.key.client q same))
+              ((counted q).0 (sym (sets q ∙ ap (λ b. cond b false (has q)) other) ∙ is)),
+          λ heard.
+              sets q ∙ ap (λ b. cond b false (has q)) other ∙ (counted q).1 (from_old q heard),
+        )
 
 -- who waited for nothing waits no longer
-pub leaves_none : (old new : WhoHears) (connection n : ℕ) → old connection ≡ None
-    → SetsHearing old connection None new → IsHeardCount old n → IsHeardCount new n
-leaves_none old new connection n none sets counts = same_heard old new n to from counts
+pub leaves_none : (old new : WhoHears) (connection : ℕ) (has : ℕ → Bool) → old connection ≡ None
+    → SetsHearing old connection None new → ((q : ℕ) → (has q ≡ true) ↔ HasHearer old q)
+    → (q : ℕ) → (has q ≡ true) ↔ HasHearer new q
+leaves_none old new connection has none sets counted q =
+    (λ is. to q ((counted q).0 is), λ is. (counted q).1 (from q is))
   where
     to : (c : ℕ) → HasHearer old c → HasHearer new c
     to c is =
@@ -206,95 +168,90 @@ leaves_none old new connection n none sets counts = same_heard old new n to from
           },
         )
 
--- nobody is heard at first
-pub counts_nobody : (who : WhoHears) → who ≡ nobody → IsHeardCount who 0
-counts_nobody who none [] are = refl
-counts_nobody who none (c ∷ clients) are =
-    let is = (are.each c).0 (0, omega arith, refl) in
-    absurd (none-some is.1.hearing (sym (ap (λ (w : WhoHears). w is.0) none) ∙ is.1.there))
+-- ---- the clients under whom connections stand
 
-pub counts_alike : (old new : WhoHears) (n : ℕ) → new ≡ old → IsHeardCount old n → IsHeardCount new n
-counts_alike old new n same counts = subst (λ (w : WhoHears). IsHeardCount w n) (sym same) counts
+number_in : (es : List Pair) (n : ℕ) → list_any (nat_eq n) (keys_of es) ≡ true → (c : ℕ) × Contains es (n, c)
+number_in es n any =
+    let there = Contains-from_any eqb-true n (keys_of es) any in
+    let less : there.0 < length es = omega (arith, there.1, length-keys_of es) in
+    let at : (get_or es there.0 (0, 0)).0 ≡ n =
+    sym (get_or-map (λ (e : Pair). e.0) es there.0 (0, 0) n less) ∙ there.2 in
+    let e = get_or es there.0 (0, 0) in
+    (e.1, subst (λ m. Contains es (m, e.1)) at (Contains-get_or es there.0 (0, 0) less))
 
--- ---- the clients, read off the connections
-
-abbrev client_in : ℕ × Hearing → ℕ
-client_in entry = entry.1.key.client
-
-among_by : (q : ℕ) (h : Hearing) (e : ℕ × Hearing) (entries : List (ℕ × Hearing))
-    → (lookup (eq_by_cmp nat_cmp q) entries ≡ Some h → Contains (map client_in entries) h.key.client)
-    → (b : Bool) → eq_by_cmp nat_cmp q e.0 ≡ b → lookup (eq_by_cmp nat_cmp q) (e ∷ entries) ≡ Some h
-    → Contains (map client_in (e ∷ entries)) h.key.client
-among_by q h e entries rest true own is =
-    let one : e.1 ≡ h =
-    same_Some _ _ (sym (ap (λ b. cond b (Some e.1) (lookup (eq_by_cmp nat_cmp q) entries)) own) ∙ is) in
-    (0, omega arith, ap (λ (x : Hearing). x.key.client) one)
-among_by q h e entries rest false other is =
-    Contains-append_right (client_in e ∷ []) (map client_in entries) h.key.client
-    (rest (sym (ap (λ b. cond b (Some e.1) (lookup (eq_by_cmp nat_cmp q) entries)) other) ∙ is))
-
-client_among : (q : ℕ) (h : Hearing) (entries : List (ℕ × Hearing))
-    → lookup (eq_by_cmp nat_cmp q) entries ≡ Some h → Contains (map client_in entries) h.key.client
-client_among q h [] is = absurd (none-some h is)
-client_among q h (e ∷ entries) is =
-    among_by q h e entries (client_among q h entries) (eq_by_cmp nat_cmp q e.0) refl is
-
--- one that stands there with the client
-entry_of : (c : ℕ) (entries : List (ℕ × Hearing)) → Contains (map client_in entries) c
-    → (e : ℕ × Hearing) × Contains entries e × (e.1.key.client ≡ c)
-entry_of c [] there = absurd (let less = there.1 in let no : ⊥ = omega (arith, less) in no)
-entry_of c (e ∷ entries) there =
-    by (Contains-append_cases (client_in e ∷ []) (map client_in entries) c there) (entry_of c entries)
-  where
-    by : Contains (client_in e ∷ []) c ⊎ Contains (map client_in entries) c
-        → (Contains (map client_in entries) c
-        → (e : ℕ × Hearing) × Contains entries e × (e.1.key.client ≡ c))
-        → (f : ℕ × Hearing) × Contains (e ∷ entries) f × (f.1.key.client ≡ c)
-    by (inl at) rest = (e, (0, omega arith, refl), only_one (client_in e) c at)
-    by (inr at) rest =
-        let found = rest at in
-        (found.0, Contains-append_right (e ∷ []) entries found.0 found.1, found.2)
-
-heard_list : (t : Tables) → IsOrdered nat_cmp t.hearings
-    → (clients : List ℕ) × AreHeard (who_hears t) clients
-heard_list t ordered =
-    let entries = t.hearings.entries in
-    let all = map client_in entries in
-    let found_by = λ (e : ℕ × Hearing). lookup-from_Contains (eq_by_cmp_equiv nat_cmp_total) e.0 e.1 entries
-    (IsDistinct-from_sorted nat_cmp (keys_of entries) ordered) in (
-      each_once all,
-      record {
-        once = once_each all;
-        each = λ c. (
-          λ there.
-              let found = entry_of c entries ((each_in all c).0 there) in (
-                found.0.0,
-                record {
-                  hearing = found.0.1;
-                  there = found_by found.0 found.1;
-                  same = found.2;
-                },
-              ),
-          λ is.
-              (each_in all c).1 (subst (Contains all) is.1.same
-              (client_among is.0 is.1.hearing entries is.1.there)),
-        );
-      },
+in_numbers : (es : List Pair) (n c : ℕ) → Contains es (n, c) → list_any (nat_eq n) (keys_of es) ≡ true
+in_numbers es n c there =
+    list_any-from_Contains nat_eq_equiv n (keys_of es) (
+      there.0,
+      omega (arith, there.1, length-keys_of es),
+      get_or-map (λ (e : Pair). e.0) es there.0 (n, c) n there.1 ∙ ap (λ (e : Pair). e.0) there.2,
     )
 
-pub counts : (t : Tables) (n : ℕ) → IsOrdered nat_cmp t.hearings → IsHeardCount (who_hears t) n
-    → CountsHeard (who_hears t) n
-counts t n ordered each = let list = heard_list t ordered in (list.0, list.1, each list.0 list.1)
+same_bool : (a b : Bool) → (a ≡ true → b ≡ true) → (b ≡ true → a ≡ true) → a ≡ b
+same_bool true b to from = sym (to refl)
+same_bool false true to from = from refl
+same_bool false false to from = refl
 
--- there are no more clients than connections
-pub no_more : (t : Tables) (n : ℕ) → CountsHeard (who_hears t) n → n ≤ btree_map_len t.hearings
-no_more t n counted =
-    let entries = t.hearings.entries in
-    let among = λ (c : ℕ) (there : Contains counted.0 c).
-    let is = (counted.1.each c).0 there in
-    subst (Contains (map client_in entries)) is.1.same (client_among is.0 is.1.hearing entries is.1.there) in
-    let few = no_longer counted.0 (map client_in entries) counted.1.once among in
-    omega (arith, few, counted.2, length-map entries client_in)
+module _ (t : Tables) (indexed : IsIndexed t) where
+  under_heard : (q : ℕ) → some_under t.clients q ≡ true → HasHearer (who_hears t) q
+  under_heard q some =
+      let found = number_in t.clients.pairs.keys q some in (
+        found.0,
+        hears_by (who_hears t) q found.0 (who_hears t found.0) refl
+            (sym (indexed.clients q found.0) ∙ stands_from t.clients q found.0 found.1),
+      )
+
+  heard_under : (q : ℕ) → HasHearer (who_hears t) q → some_under t.clients q ≡ true
+  heard_under q heard =
+      in_numbers t.clients.pairs.keys q heard.0 (stands_to t.clients q heard.0
+      (indexed.clients q heard.0 ∙ is_of_by (who_hears t) q heard.0 heard.1))
+
+  -- a set that has those clients has those that are heard, and the other way round
+  pub has_heard : (has : ℕ → Bool) → ((q : ℕ) → has q ≡ some_under t.clients q)
+      → (q : ℕ) → (has q ≡ true) ↔ HasHearer (who_hears t) q
+  has_heard has same q =
+      (λ is. under_heard q (sym (same q) ∙ is), λ heard. same q ∙ heard_under q heard)
+
+  pub has_under : (has : ℕ → Bool) → ((q : ℕ) → (has q ≡ true) ↔ HasHearer (who_hears t) q)
+      → (q : ℕ) → has q ≡ some_under t.clients q
+  has_under has is q = same_bool (has q) (some_under t.clients q) (λ there. heard_under q ((is q).0 there))
+      (λ some. (is q).1 (under_heard q some))
+
+-- nobody is heard at first
+pub hears_nobody : (who : WhoHears) (has : ℕ → Bool) → who ≡ nobody → ((q : ℕ) → has q ≡ false)
+    → (q : ℕ) → (has q ≡ true) ↔ HasHearer who q
+hears_nobody who has none lacks q = (
+  λ is. absurd (false≢true (sym (lacks q) ∙ is)),
+  λ is. absurd (none-some is.1.hearing (sym (ap (λ (w : WhoHears). w is.0) none) ∙ is.1.there)),
+)
+
+-- the same clients are heard, and the set has the same
+pub hears_same : (old new : WhoHears) (has now : ℕ → Bool) → new ≡ old → ((q : ℕ) → now q ≡ has q)
+    → ((q : ℕ) → (has q ≡ true) ↔ HasHearer old q) → (q : ℕ) → (now q ≡ true) ↔ HasHearer new q
+hears_same old new has now same sets counted q = (
+  λ is. subst (λ (w : WhoHears). HasHearer w q) (sym same) ((counted q).0 (sym (sets q) ∙ is)),
+  λ is. sets q ∙ (counted q).1 (subst (λ (w : WhoHears). HasHearer w q) same is),
+)
+
+-- ---- the clients, as the set lists them
+
+keys_apart : (keys : List ℕ) → IsDistinct nat_eq keys → AllPairs (λ one other. one ≢ other) keys
+keys_apart keys distinct i j d less within same =
+    false≢true (sym (apart_from_distinct nat_eq keys i j d distinct less within)
+    ∙ eq-eqb (get_or keys i d) (get_or keys j d) same)
+
+pub counts_heard : {S : Type 0} → (set : HashSet ℕ S) (who : WhoHears) → IsUnique nat_eq set
+    → ((q : ℕ) → (contains nat_eq set q ≡ true) ↔ HasHearer who q) → CountsHeard who (hash_set_len set)
+counts_heard set who unique counted = (
+  set.keys,
+  record {
+    once = keys_apart set.keys unique;
+    each = λ q.
+        let among = hash_set_contains_iff nat_eq_equiv eqb-true set q in
+        (λ there. (counted q).0 (among.1 there), λ heard. among.0 ((counted q).1 heard));
+  },
+  refl,
+)
 
 -- ---- what was found
 
@@ -308,13 +265,3 @@ pub none_heard : (who : WhoHears) (client : ℕ) (found : Option ℕ)
     → HasHearer who client → ⊥
 none_heard who client None none is heard = none heard.0 heard.1
 none_heard who client (Some connection) none is heard = absurd (true≢false is)
-
--- what was added to, or lacked memory, where the client is heard already
-pub added_heard : (old new : WhoHears) (connection : ℕ) (hearing : Hearing) (n : ℕ)
-    (result : Result (Unit {0}) AllocError) → old connection ≡ None
-    → OnOk result (SetsHearing old connection (Some hearing) new) → OnErr result (new ≡ old)
-    → HasHearer old hearing.key.client → IsHeardCount old n → IsHeardCount new n
-added_heard old new connection hearing n (Ok x) free added refused heard counted =
-    adds_same old new connection hearing free added n heard counted
-added_heard old new connection hearing n (Err e) free added refused heard counted =
-    counts_alike old new n refused counted

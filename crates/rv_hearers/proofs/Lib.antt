@@ -1,5 +1,4 @@
 pub mod Ordered
 pub mod Finding
 pub mod Listed
-pub mod Numbering
 pub mod Heard

@@ -102,10 +102,10 @@ none_left most rest none = subst (All (λ (q : Pair). most < q.0)) (sym none)
 pair_exact : CmpEqualImpliesEq pair_cmp
 pair_exact = exact_pairs nat_cmp nat_cmp exact_unsigned exact_unsigned
 
-stands_from : (p : Pairs) (n c : ℕ) → Contains p.pairs.keys (n, c) → stands_under p n c ≡ true
+pub stands_from : (p : Pairs) (n c : ℕ) → Contains p.pairs.keys (n, c) → stands_under p n c ≡ true
 stands_from p n c there = (btree_set_contains_iff pair_cmp_total pair_exact p.pairs (n, c)).1 there
 
-stands_to : (p : Pairs) (n c : ℕ) → stands_under p n c ≡ true → Contains p.pairs.keys (n, c)
+pub stands_to : (p : Pairs) (n c : ℕ) → stands_under p n c ≡ true → Contains p.pairs.keys (n, c)
 stands_to p n c stands = (btree_set_contains_iff pair_cmp_total pair_exact p.pairs (n, c)).0 stands
 
 module _ (p : Pairs) (most : ℕ) (listed : List ℕ) (rest : List Pair) (was : HasRead p most listed rest) where

@@ -1,12 +1,13 @@
 -- What the tables hold, for the proofs: the public words are those of `Hearing`.
-use Rattle.std.specs.Prelude.{ℕ, ◌≡◌, Bool, List, None, Option, Some, false, length, nat_eq}
+use Rattle.std.specs.Prelude.{ℕ, ◌≡◌, Bool, None, Option, Some, false, nat_eq}
+use Rattle.std.specs.HashSet.{contains}
 use Rattle.std.specs.Ordering.{nat_cmp}
 use Rattle.std.specs.BTreeMap.{get}
 use Rattle.rv_hearers.specs.declared.tables.Hearing.{Hearing}
 use Rattle.rv_hearers.specs.declared.tables.Tables.{Tables}
 use Rattle.rv_hearers.specs.declared.counted.Counted.{Counted}
-use Rattle.rv_hearers.specs.Hearing.{AreHeard, WhoHears}
-use Rattle.rv_hearers.specs.Pairs.{ChangesPairs, SamePairs, stands_under}
+use Rattle.rv_hearers.specs.Hearing.{WhoHears}
+use Rattle.rv_hearers.specs.Pairs.{ChangesPairs, SamePairs, some_under, stands_under}
 
 -- who waits
 abbrev pub who_hears : Tables → WhoHears
@@ -39,11 +40,7 @@ pub record SameTables (old new : Tables) : Type 0 where
   pub clients : SamePairs old.clients new.clients
   pub moments : SamePairs old.moments new.moments
 
--- there are so many of these clients, however they are listed
-abbrev pub IsHeardCount : WhoHears → ℕ → Type 0
-IsHeardCount who count = (clients : List ℕ) → AreHeard who clients → length clients ≡ count
-
--- the tables are indexed, and the count is that of the clients for whose requests connections wait
+-- the tables are indexed, and the set has each client under whom some connection stands
 pub record IsCounted (c : Counted) : Type 0 where
   pub indexed : IsIndexed c.tables
-  pub heard : IsHeardCount (who_hears c.tables) c.heard
+  pub heard : (client : ℕ) → contains nat_eq c.heard client ≡ some_under c.tables.clients client

@@ -1,5 +1,8 @@
 -- Which connections stand under which numbers.
-use Rattle.std.specs.Prelude.{ℕ, ◌≡◌, ◌≢◌, ◌⊎◌, ◌<◌, ◌≤◌, ◌↔◌, Bool, List, AllPairs, Contains, false, true}
+use Rattle.std.specs.Prelude.{ℕ, ◌≡◌, ◌≢◌, ◌⊎◌, ◌<◌, ◌≤◌, ◌↔◌, Bool, List, AllPairs, Contains, false, nat_eq}
+use Rattle.std.specs.Prelude.{true}
+use Rattle.std.specs.List.{list_any}
+use Rattle.std.specs.Map.{keys_of}
 use Rattle.std.specs.Ordering.{nat_cmp, ordering_then}
 use Rattle.std.specs.BTreeSet.{btree_set_len, contains}
 use Rattle.rv_hearers.specs.declared.pairs.Pairs.{Pairs}
@@ -8,6 +11,10 @@ use Rattle.rv_hearers.specs.declared.pairs.Pairs.{Pairs}
 abbrev pub stands_under : Pairs → ℕ → ℕ → Bool
 stands_under p number connection =
     contains (λ (x y : ℕ × ℕ). ordering_then (nat_cmp x.0 y.0) (nat_cmp x.1 y.1)) p.pairs (number, connection)
+
+-- whether some connection stands under the number
+abbrev pub some_under : Pairs → ℕ → Bool
+some_under p number = list_any (nat_eq number) (keys_of p.pairs.keys)
 
 -- the same connections stand under each number
 abbrev pub SamePairs : Pairs → Pairs → Type 0

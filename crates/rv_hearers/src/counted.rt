@@ -1,18 +1,20 @@
-//! The tables, with how many clients have a connection that waits for a request of theirs.
-ghost use Rattle.std.specs.Prelude.{◌≡◌, ◌+◌, ℕ, None, Some, OnErr, OnOk, if◌then◌else◌, is_ok, is_some};
+//! The tables, with the clients of whom a connection waits for a request.
+ghost use Rattle.std.specs.Prelude.{◌≡◌, ◌+◌, ◌↔◌, IsTrue, None, Some, OnErr, OnOk, if◌then◌else◌, is_ok};
+ghost use Rattle.std.specs.Prelude.{is_some};
 ghost use Rattle.std.specs.BTreeMap.{btree_map_len};
-ghost use Rattle.rv_hearers.specs.Hearing.{CountsHeard, SetsHearing, nobody};
+ghost use Rattle.rv_hearers.specs.Hearing.{CountsHeard, HasHearer, SetsHearing, nobody};
 ghost use Rattle.rv_hearers.specs.Indexed.{IsCounted, who_hears};
 
 use crate::tables::{ConnectionNumber, Hearing, Tables};
+use indexmap::IndexSet;
 use rv_text::NoMemory;
 use std::alloc::Global;
 
-// The waits of connections, and the number of clients for whose requests they wait.
+// The waits of connections, and the clients for whose requests they wait, which are looked up by their hash.
 #[derive(Drop)]
 pub(crate) struct Counted {
     pub(crate) tables: Tables,
-    pub(crate) heard: usize,
+    pub(crate) heard: IndexSet<u64>,
 }
 
 impl Counted {
@@ -23,7 +25,7 @@ impl Counted {
     {
         Counted {
             tables: Tables::empty(alloc),
-            heard: 0,
+            heard: IndexSet::new(alloc),
         }
     }
 
@@ -41,13 +43,9 @@ impl Counted {
         ensures count { btree_map_len self.new.tables.hearings
             ≡ btree_map_len self.old.tables.hearings + (if is_ok result then 1 else 0) }
     {
-        if self.tables.first_of(hearing.key.client).is_some() {
-            return self.tables.add(connection, hearing);
-        }
-        // There are no more clients than connections.
-        let _connections = self.tables.count();
+        self.heard.reserve(1)?;
         self.tables.add(connection, hearing)?;
-        self.heard += 1;
+        self.heard.insert(hearing.key.client).unwrap();
         Ok(())
     }
 
@@ -60,14 +58,20 @@ impl Counted {
         ensures count { btree_map_len self.new.tables.hearings + (if is_some result then 1 else 0)
             ≡ btree_map_len self.old.tables.hearings }
     {
-        // Whoever waits is one of them.
-        let _connections = self.tables.count();
         let hearing = self.tables.remove(connection)?;
         if self.tables.first_of(hearing.key.client).is_some() {
             return Some(hearing);
         }
-        self.heard -= 1;
+        self.heard.swap_remove(&hearing.key.client);
         Some(hearing)
+    }
+
+    // Whether some connection waits for a request of the client.
+    pub(crate) fn is_heard(&self, client: u64) -> bool
+        requires { IsCounted self.now }
+        ensures { IsTrue result ↔ HasHearer (who_hears self.now.tables) client }
+    {
+        self.heard.contains(&client)
     }
 
     // How many clients there are for a request of whom some connection waits.
@@ -75,7 +79,6 @@ impl Counted {
         requires { IsCounted self.now }
         ensures { CountsHeard (who_hears self.now.tables) result }
     {
-        let _connections = self.tables.count();
-        self.heard
+        self.heard.len()
     }
 }

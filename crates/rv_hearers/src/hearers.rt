@@ -9,8 +9,9 @@ use std::alloc::Global;
 /// The connections that wait for the reply of a request, each up to a moment. Several may wait for one
 /// request.
 ///
-/// Contracts see a function from the numbers of connections to what they wait for, if they wait. Each call
-/// takes time logarithmic in the number of those that wait.
+/// Contracts see a function from the numbers of connections to what they wait for, if they wait. `is_heard`
+/// and `clients_heard` take constant time, on average, each other call time logarithmic in the number of
+/// those that wait.
 #[derive(Drop)]
 pub struct Hearers {
     counted: Counted,
@@ -19,9 +20,9 @@ pub struct Hearers {
 
 impl Hearers {
     ghost use Rattle.std.specs.Prelude.{◌≡◌, ◌+◌, ℕ, None, Some, IfNone, IfSome, OnErr, OnOk};
-    ghost use Rattle.std.specs.Prelude.{if◌then◌else◌, is_ok, is_some};
-    ghost use Rattle.rv_hearers.specs.Hearing.{CountsHeard, HearsOf, IsFirstHearer, IsNextUntil, SetsHearing};
-    ghost use Rattle.rv_hearers.specs.Hearing.{nobody};
+    ghost use Rattle.std.specs.Prelude.{◌↔◌, IsTrue, if◌then◌else◌, is_ok, is_some};
+    ghost use Rattle.rv_hearers.specs.Hearing.{CountsHeard, HasHearer, HearsOf, IsFirstHearer, IsNextUntil};
+    ghost use Rattle.rv_hearers.specs.Hearing.{SetsHearing, nobody};
     ghost use Rattle.rv_hearers.specs.Hearers.{hearers_count, hearers_of};
 
     /// Nobody waits. It takes no memory yet.
@@ -76,7 +77,15 @@ impl Hearers {
     {
         self.counted.tables.next_until()
     }
-    /// How many clients there are for a request of whom some connection waits. It takes constant time.
+
+    /// Whether some connection waits for a request of the client.
+    pub fn is_heard(&self, client: u64) -> bool
+        ensures { IsTrue result ↔ HasHearer (hearers_of self.now) client }
+    {
+        self.counted.is_heard(client)
+    }
+
+    /// How many clients there are for a request of whom some connection waits.
     pub fn clients_heard(&self) -> usize
         ensures { CountsHeard (hearers_of self.now) result }
     {

@@ -11,7 +11,7 @@ use Rattle.rv_text.specs.declared.answer.Answer.TheVariants as answer
 use Rattle.rv_text.specs.declared.answer.Refusal.{Refusal}
 use Rattle.rv_text.specs.declared.answer.Refusal.TheVariants.{OldIncarnation}
 use Rattle.rv_text.specs.declared.answer.Reply.TheVariants.{Cancelled}
-use Rattle.rv_text.specs.Limits.{FitsMessage}
+use Rattle.rv_text.specs.Limits.{FitsKey, FitsMessage}
 use Rattle.rv_account.specs.declared.entry.Entry.{Entry}
 use Rattle.rv_account.specs.Account.{Account, own_moment}
 use Rattle.rv_account.specs.Limits.{max_moment}
@@ -71,10 +71,10 @@ own_before a s moment is before =
     let later = is.later in
     omega arith
 
-adds_none : (a : Account) → AddsEntries a [] a
+pub adds_none : (a : Account) → AddsEntries a [] a
 adds_none a = record { epoch = refl; opened = refl; entries = sym (append-nil a.entries) }
 
-adds_on : (a b c : Account) (one two : List Entry) → AddsEntries a one b → AddsEntries b two c
+pub adds_on : (a b c : Account) (one two : List Entry) → AddsEntries a one b → AddsEntries b two c
     → AddsEntries a (one ++ two) c
 adds_on a b c one two first second = record {
   epoch = second.epoch ∙ first.epoch;
@@ -161,7 +161,7 @@ at_moment limits s now m move k same none moves =
           (subst (λ n. StateNextAtUnder limits s n m move) (sym same) moves),
     )
 
-next_here : (limits : StepLimits) (s : State) (now : ℕ) (m : Message) (move : Move) → s.moment ≤ now
+pub next_here : (limits : StepLimits) (s : State) (now : ℕ) (m : Message) (move : Move) → s.moment ≤ now
     → now ≤ max_moment
     → due_at s now ≡ [] → StateNextAtUnder limits s now m move → StateNextUnder limits s now m move
 next_here limits s now m move before time none moves =
@@ -371,13 +371,18 @@ told_became a s key said is told incarnation last =
     subst (λ k. BecameOf a.entries k told.session.request)
     (same_key key a.epoch told.session.incarnation told.session.last own incarnation last) client.request
 
-told_public : (a : Account) (s : DeskState) (key : Key) (said : Answer) → IsHubAccount a s → key.number ≢ 0
+-- a key within its limits has no number 0
+pub fitting_number : (key : Key) → FitsKey key → key.number ≢ 0
+fitting_number key fits zero = let one = fits.3.0 in absurd (let no : ⊥ = omega (arith, one, zero) in no)
+
+told_public : (a : Account) (s : DeskState) (key : Key) (said : Answer) → IsHubAccount a s
     → (told : IsToldAgain s.book key said) → (told.session.incarnation ≡ key.incarnation)
     × (told.session.last ≡ key.number) × (said ≡ answer_told key (told_again told.session.request))
     → Answers a key said
-told_public a s key said is some told (incarnation, last, same) =
+told_public a s key said is told (incarnation, last, same) =
     subst (λ x. Answers a key x) (sym same)
-    (became_told a key told.session.request some (told_became a s key said is told incarnation last))
+    (became_told a key told.session.request (fitting_number key told.fits) (told_became a s key said is told
+    incarnation last))
 
 -- whoever's session has a greater incarnation
 old_refused : (a : Account) (s : DeskState) (key : Key) (said : Answer) → IsHubAccount a s
@@ -398,8 +403,8 @@ old_refused a s key said is told (lower, same) =
     )
 
 pub tells_public : TellsPublicReply
-tells_public terms s t a connection key said some is does =
+tells_public terms s t a connection key said is does =
     elim does.told.told [
-      | inl own ↦ inl (told_public a s key said is some does.told own)
+      | inl own ↦ inl (told_public a s key said is does.told own)
       | inr old ↦ inr (old_refused a s key said is does.told old)
     ]

@@ -170,7 +170,7 @@ either_public entries true now past one other = one
 either_public entries false now past one other = other
 
 -- the state's length is the account's
-entries_counted : (a : Account) (s : DeskState) (made : List Entry) → IsHubAccount a s
+pub entries_counted : (a : Account) (s : DeskState) (made : List Entry) → IsHubAccount a s
     → s.book.length + length made ≡ length (a.entries ++ made)
 entries_counted a s made is =
     let agree = (states_agree a is.legal).length in

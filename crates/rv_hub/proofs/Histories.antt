@@ -39,18 +39,22 @@ past_closed : (t : DeskState) (n : ℕ) (past : Past) → t.open_wires.wires n �
 past_closed t n past gone wire there = absurd (none-some wire (sym gone ∙ there))
 
 -- by whether the deed is its own
-own_or_not : (t : DeskState) (n m : ℕ) (own other : Past) → (n ≡ m → HasPast t n own)
-    → (n ≢ m → HasPast t n other)
-    → HasPast t n (cond (nat_eq n m) own other)
-own_or_not t n m own other is isnt =
+pub by_own : (P : Past → Type 0) (n m : ℕ) (own other : Past) → (n ≡ m → P own) → (n ≢ m → P other)
+    → P (cond (nat_eq n m) own other)
+by_own P n m own other is isnt =
     elim (cases_eq n m) [
       | inl same ↦
           (let test : nat_eq n m ≡ true = grind (arith, nat_tests) in
-          subst (λ b. HasPast t n (cond b own other)) (sym test) (is same))
+          subst (λ b. P (cond b own other)) (sym test) (is same))
       | inr apart ↦
           (let test : nat_eq n m ≡ false = grind (arith, nat_tests) in
-          subst (λ b. HasPast t n (cond b own other)) (sym test) (isnt apart))
+          subst (λ b. P (cond b own other)) (sym test) (isnt apart))
     ]
+
+own_or_not : (t : DeskState) (n m : ℕ) (own other : Past) → (n ≡ m → HasPast t n own)
+    → (n ≢ m → HasPast t n other)
+    → HasPast t n (cond (nat_eq n m) own other)
+own_or_not t n m own other is isnt = by_own (HasPast t n) n m own other is isnt
 
 -- ---- one whose bytes change
 

@@ -12,6 +12,9 @@ pub mod Histories
 pub mod Accounts
 pub mod Causes
 pub mod OneRun
+pub mod Repeating
 pub mod StepReplies
 pub mod HandedOver
+pub mod ComesOf
+pub mod Paired
 pub mod Checked

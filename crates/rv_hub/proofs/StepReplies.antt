@@ -80,7 +80,7 @@ answers_tell b key own told x (inr waits) is = absurd (waiting_differs own key t
 -- ---- the lines of a step
 
 -- what each line for a key leads to
-key_lines : (R : Refusal → Type 0) (L G T : Type 0) (a : Account) (key : Key)
+pub key_lines : (R : Refusal → Type 0) (L G T : Type 0) (a : Account) (key : Key)
     → ((refusal : Refusal) → R refusal → T) → (L → T) → (G → T) → KeyLines a key R L G → T
 key_lines R L G T a key refuses last above =
     RefuseOr-elim _ _ _ T (λ refusal due. refuses refusal)

@@ -1,11 +1,14 @@
 -- Events of a hub, one after another: their deeds, and what they are of the account.
-use Rattle.std.specs.Prelude.{ℕ, ◌≡◌, ◌≢◌, ◌≤◌, ◌⊎◌, Bool, List, [], ◌∷◌, ◌++◌, flat_map}
+use Rattle.std.specs.Prelude.{ℕ, ◌≡◌, ◌≤◌, ◌⊎◌, Bool, List, [], ◌∷◌, ◌++◌, Some, flat_map}
+use Rattle.rv_text.specs.declared.call.Call.{Call}
 use Rattle.rv_text.specs.declared.message.Key.{Key}
+use Rattle.rv_text.specs.declared.message.Message.TheVariants.{Request}
 use Rattle.rv_text.specs.declared.answer.Answer.{Answer}
 use Rattle.rv_text.specs.declared.answer.Answer.TheVariants as answer
 use Rattle.rv_text.specs.declared.answer.Refusal.{Refusal}
 use Rattle.rv_account.specs.declared.entry.Entry.{Entry}
-use Rattle.rv_account.specs.Account.{Account}
+use Rattle.rv_account.specs.declared.entry.Act.TheVariants.{Arrive}
+use Rattle.rv_account.specs.Account.{Account, act_at}
 use Rattle.rv_account.specs.Limits.{max_moment}
 use Rattle.rv_rules.specs.Legal.{Legal}
 use Rattle.rv_rules.specs.StepLimits.{AreStepLimits}
@@ -113,14 +116,22 @@ EventsLeadOn = (terms : DeskTerms) (events : List (List Deed)) (s t : DeskState)
     → AreStepLimits terms.limits → DoesEvents terms s events t → t.now ≤ max_moment → IsHubAccount a s
     → LeadsToAccount a (made_by events) t
 
--- what whoever waited for a request, none of number 0, is told is what the account says of it: its reply,
--- or that it waits; or the refusal that the account has due for a lower incarnation than its session's
+-- what whoever waited for a request is told is what the account says of it: its reply, or that it waits; or
+-- the refusal that the account has due for a lower incarnation than its session's
 abbrev pub TellsPublicReply : Type 0
 TellsPublicReply = (terms : DeskTerms) (s t : DeskState) (a : Account) (connection : ℕ) (key : Key)
-    (said : Answer) → key.number ≢ 0 → IsHubAccount a s → Does terms s (Told connection key said) t
+    (said : Answer) → IsHubAccount a s → Does terms s (Told connection key said) t
     → Answers a key said
     ⊎ ((refusal : Refusal) × OldIncarnationDue a key.client key.incarnation refusal
     × (said ≡ answer.Refused refusal))
+
+-- it is what a repeat of its request would be told: there is a step with it, which leaves the account, and
+-- has this answer
+abbrev pub TellsAsARepeat : Type 0
+TellsAsARepeat = (terms : DeskTerms) (s t : DeskState) (a : Account) (connection : ℕ) (key : Key)
+    (said : Answer) (call : Call) (place : ℕ) → s.now ≤ max_moment → IsHubAccount a s
+    → Does terms s (Told connection key said) t → act_at a.entries place ≡ Some (Arrive key call)
+    → NextUnder terms.limits a s.now (Request key call) a said
 
 -- and the answer to a step is that of the account's own step with the frame's message
 abbrev pub AnswersByRules : Type 0

@@ -5,6 +5,7 @@ pub mod EventDeeds
 pub mod Pasts
 pub mod HubRuns
 pub mod HandedOut
+pub mod Pairing
 -- What the fields hold: the public contracts cite it as a whole, `IsHub`.
 pub mod Hubs
 -- What private clauses and proofs cite.

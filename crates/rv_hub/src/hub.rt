@@ -14,6 +14,9 @@ use rv_text::NoMemory;
 use std::alloc::Global;
 use std::marker::Model;
 
+/// After how many milliseconds a request that waits is told so, where nobody wishes otherwise: ten seconds.
+pub const DEFAULT_PATIENCE: u32 = 10_000;
+
 /// The engine of a server: thousands of connections over one machine. Contracts see its parts, of which
 /// always holds what holds between two events.
 #[derive(Drop)]
@@ -54,7 +57,8 @@ impl Hub {
     ghost use Rattle.rv_hub.specs.Turns.{EventRefused, TakesEvent, TakesPiece};
 
     /// A hub over a machine, with the limits of each step. A request that waits is told so when it has
-    /// waited `patience` milliseconds for a frame, at least 1. Where a journal is kept, `Written` tells
+    /// waited `patience` milliseconds for a frame, at least 1 ([`DEFAULT_PATIENCE`] is meant to be usual).
+    /// The machine's entries so far count as written. From then on, where a journal is kept, `Written` tells
     /// what is written; else all is.
     pub fn new(
         alloc: Global,
@@ -74,6 +78,7 @@ impl Hub {
           changed = [];
           hears = nobody;
         }) }
+        ensures none_made { IfOk result (λ h. h.desk.entries.items ≡ []) }
         ensures terms { IfOk result (λ h. hub_terms h
             ≡ record { limits = limits; patience = max 1 patience }) }
         ensures journal { IfOk result (λ h. h.has_journal ≡ has_journal) }
@@ -110,8 +115,8 @@ impl Hub {
         self.parts.desk.entries()
     }
 
-    /// The connections that the last event changed, each once: of which bytes came, were answered, left or
-    /// may leave, whose input ended, or that were opened or closed.
+    /// The connections that the last event changed, each once: those that were opened or closed, that have an
+    /// answer more, whose input ended, and those of which bytes came, left, or may leave now.
     pub fn changed(&self) -> &[ConnectionNumber]
         ensures all { result.now ≡ (hub_state self.now).changed }
         ensures once { AllPairs (λ one other. one ≢ other) result.now }

@@ -11,5 +11,5 @@ mod parts;
 mod progress;
 
 pub use events::{EventRefusal, HubEvent};
-pub use hub::Hub;
+pub use hub::{DEFAULT_PATIENCE, Hub};
 pub use parts::HubParts;

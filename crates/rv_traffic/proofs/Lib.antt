@@ -2,3 +2,4 @@
 pub mod Tables
 pub mod WhatCame
 pub mod WhatLeft
+pub mod CallsRun

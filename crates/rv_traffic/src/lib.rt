@@ -3,6 +3,7 @@
 
 mod asking;
 mod giving_up;
+pub mod laws;
 mod outcomes;
 mod reading;
 mod traffic;

@@ -47,7 +47,7 @@ impl Wires {
         self.noted.slots.written
     }
 
-    /// OpensWire a connection, under a number that is free. If memory for it is refused nothing changes.
+    /// Opens a connection, under a number that is free. If memory for it is refused nothing changes.
     pub fn open(&mut self) -> Result<ConnectionNumber, NoMemory>
         ensures opened { IfOk result (λ connection.
             OpensWire (wires_in self.old) connection (wires_in self.new)) }
@@ -172,8 +172,8 @@ impl Wires {
         self.noted.slots.held
     }
 
-    /// The connections that changed since `clear_changed`, each once: of which bytes came, were answered,
-    /// left or may leave, whose input ended, or that were opened or closed.
+    /// The connections that changed since `clear_changed`, each once: those that were opened or closed, that
+    /// have an answer more, whose input ended, and those of which bytes came, left, or may leave now.
     pub fn changed(&self) -> &[ConnectionNumber]
         ensures all { result.now ≡ (tally_in self.now).changed }
         ensures once { AllPairs (λ one other. one ≢ other) result.now }

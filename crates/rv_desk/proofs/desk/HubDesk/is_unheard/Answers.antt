@@ -1,5 +1,7 @@
 -- Its last request waits, and nobody hears of it.
 use Rattle.std.proofs.Common.{sym}
+use Rattle.rv_hearers.specs.Hearers.{hearers_of}
+use Rattle.rv_desk.proofs.Unheard.{none_heard, not_heard}
 use Rattle.rv_desk.proofs.desk.HubDesk.is_unheard.Goals as goal
 
 pub returns-then-is_waiting : goal.returns-then-is_waiting
@@ -8,7 +10,10 @@ returns-then-is_waiting c = (
     session = c.in-Some.session.now;
     there = sym c.in-Some.ensures;
     waits = c.is_waiting.ensures.0 c.if-is_waiting.true;
-    nobody = c.hears_none.ensures.0 none;
+    nobody = not_heard (hearers_of c.args.self.now.hearers) c.args.client c.is_heard.result
+        c.is_heard.ensures.1
+        none;
   },
-  λ unheard. c.hears_none.ensures.1 unheard.nobody,
+  λ unheard. none_heard (hearers_of c.args.self.now.hearers) c.args.client c.is_heard.result
+      c.is_heard.ensures.0 unheard.nobody,
 )

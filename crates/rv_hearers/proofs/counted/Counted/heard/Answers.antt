@@ -1,7 +1,14 @@
--- Their list is read off the connections.
-use Rattle.rv_hearers.proofs.Heard.{counts}
+-- Their list is that of the set.
+use Rattle.std.proofs.Common.{nat_eq, subst, sym}
+use Rattle.std.specs.HashSet.{contains}
+use Rattle.rv_hearers.specs.Hearing.{CountsHeard}
+use Rattle.rv_hearers.specs.Indexed.{who_hears}
+use Rattle.rv_hearers.proofs.Heard.{counts_heard, has_heard}
 use Rattle.rv_hearers.proofs.counted.Counted.heard.Goals as goal
 
 pub returns : goal.returns
 returns c =
-    counts c.args.self.now.tables c.args.self.now.heard c.count-connections.ensures.ordered c.requires.heard
+    let now = c.args.self.now in
+    subst (CountsHeard (who_hears now.tables)) (sym c.len.ensures.len) (counts_heard now.heard
+    (who_hears now.tables) c.len.ensures.unique
+    (has_heard now.tables c.requires.indexed (contains nat_eq now.heard) c.requires.heard))

@@ -1,0 +1,98 @@
+-- The answers of a connection beside its frames, each at the place of its own.
+use Rattle.std.specs.Prelude.{ℕ, ◌≡◌, ◌≤◌, ◌⊎◌, List, Some, length, slice_get}
+use Rattle.rv_text.specs.declared.call.Call.{Call}
+use Rattle.rv_text.specs.declared.message.Key.{Key}
+use Rattle.rv_text.specs.declared.message.Message.{Message}
+use Rattle.rv_text.specs.declared.message.Message.TheVariants.{Request}
+use Rattle.rv_text.specs.declared.answer.Answer.{Answer}
+use Rattle.rv_text.specs.declared.answer.Answer.TheVariants.{Refused}
+use Rattle.rv_text.specs.declared.answer.Refusal.{Refusal}
+use Rattle.rv_text.specs.declared.answer.Refusal.TheVariants.{BadText, NoMemory}
+use Rattle.rv_text.specs.Bodies.{IsMessageBody, answer_text}
+use Rattle.rv_account.specs.declared.entry.Act.TheVariants.{Arrive}
+use Rattle.rv_account.specs.declared.entry.Entry.{Entry}
+use Rattle.rv_account.specs.Account.{Account, act_at}
+use Rattle.rv_account.specs.Limits.{max_moment}
+use Rattle.rv_rules.specs.StepLimits.{AreStepLimits, StepLimits}
+use Rattle.rv_rules.specs.Steps.{NextUnder}
+use Rattle.rv_connection.specs.History.{Given}
+use Rattle.rv_hearers.specs.declared.tables.Hearing.{Hearing}
+use Rattle.rv_wires.specs.Connections.{HasWire}
+use Rattle.rv_desk.specs.View.{DeskState, DeskTerms}
+use Rattle.rv_desk.specs.Deeds.{Deed}
+use Rattle.rv_hub.specs.EventDeeds.{all_deeds}
+use Rattle.rv_hub.specs.HubRuns.{AddsEntries, DoesEvents, IsHubAccount}
+use Rattle.rv_hub.specs.Pasts.{HasPast, Past, no_past, past_after}
+use Rattle.rv_hub.specs.Turns.{made_by}
+
+-- the second account is the first, or that with more entries
+abbrev pub IsFrontOf : Account → Account → Type 0
+IsFrontOf a b = (made : List Entry) × AddsEntries a made b
+
+-- what was given is the answer of a step with this message between two fronts of the account, and rests on
+-- all
+-- entries of the later one
+pub record IsAnswerOfStep (limits : StepLimits) (a : Account) (message : Message) (given : Given) :
+    Type 0 where
+  pub before : Account
+  pub after : Account
+  pub now : ℕ
+  pub said : Answer
+  pub steps : NextUnder limits before now message after said
+  pub body_is : given.body ≡ answer_text said
+  pub rests : given.rests_on ≡ length after.entries
+  pub later : IsFrontOf before after
+  pub front : IsFrontOf after a
+
+-- a refusal that rests on no entry
+abbrev pub on_nothing : Refusal → Given
+on_nothing refusal = record { body = answer_text (Refused refusal); rests_on = 0 }
+
+-- what a frame of this body was given: where that is no message's, the answer to bad text; or that for want
+-- of
+-- memory; or the answer of a step with its message
+abbrev pub IsAnswerTo : StepLimits → Account → List ℕ → Given → Type 0
+IsAnswerTo limits a body given =
+    (((message : Message) → ¬ IsMessageBody body message) × (given ≡ on_nothing BadText))
+    ⊎ ((given ≡ on_nothing NoMemory)
+    ⊎ ((message : Message) × IsMessageBody body message × IsAnswerOfStep limits a message given))
+
+-- each answer is that to the frame at its place
+abbrev pub ArePaired : StepLimits → Account → List (List ℕ) → List Given → Type 0
+ArePaired limits a frames answers = (i : ℕ) (body : List ℕ) (given : Given) → slice_get frames i ≡ Some body
+    → slice_get answers i ≡ Some given → IsAnswerTo limits a body given
+
+-- the first frame without an answer is that of the request with this key, as it arrived
+pub record WaitsFor (a : Account) (frames : List (List ℕ)) (answers : List Given) (key : Key) : Type 0 where
+  pub body : List ℕ
+  pub call : Call
+  pub place : ℕ
+  pub frame : slice_get frames (length answers) ≡ Some body
+  pub is : IsMessageBody body (Request key call)
+  pub arrived : act_at a.entries place ≡ Some (Arrive key call)
+
+-- that holds of a connection, and where it waits, it is open and does so for that frame
+pub record InPairs (limits : StepLimits) (a : Account) (s : DeskState) (n : ℕ) (frames : List (List ℕ))
+    (answers : List Given) : Type 0 where
+  pub paired : ArePaired limits a frames answers
+  pub waits : (hearing : Hearing) → s.hears n ≡ Some hearing
+      → HasWire s.open_wires n (λ wire. Unit {0}) × WaitsFor a frames answers hearing.key
+
+-- a past of a connection, with its answers beside its frames
+pub record HasPairs (limits : StepLimits) (a : Account) (s : DeskState) (n : ℕ) (past : Past) : Type 0 where
+  pub has : HasPast s n past
+  pub pairs : InPairs limits a s n past.frames past.answers
+
+-- where a number is free, and nobody waits under it, it has the past of none
+abbrev pub BeginsPairs : Type 0
+BeginsPairs = (limits : StepLimits) (a : Account) (s : DeskState) (n : ℕ)
+    → ((hearing : Hearing) → ¬ (s.hears n ≡ Some hearing)) → ¬ HasWire s.open_wires n (λ wire. Unit {0})
+    → HasPairs limits a s n no_past
+
+-- the events of a hub keep it, in the account with their entries
+abbrev pub FramesAreAnswered : Type 0
+FramesAreAnswered = (terms : DeskTerms) (events : List (List Deed)) (s t : DeskState) (a b : Account)
+    → AreStepLimits terms.limits
+    → DoesEvents terms s events t → t.now ≤ max_moment → IsHubAccount a s
+    → AddsEntries a (made_by events) b → (n : ℕ) (past : Past) → HasPairs terms.limits a s n past
+    → HasPairs terms.limits b t n (past_after n past s.book.length (all_deeds events))
