@@ -1,5 +1,6 @@
 //! The listener, and when it may be asked.
 use mio::net::{TcpListener, TcpStream};
+use std::io;
 use std::io::ErrorKind;
 
 // After so many milliseconds accepting is tried again, where the system lacked what it takes.
@@ -39,6 +40,14 @@ pub(crate) enum Accepted {
 pub(crate) struct Door {
     listener: TcpListener,
     state: DoorState,
+}
+
+// Whether no descriptor was left.
+fn lacks_descriptor(error: &io::Error) -> bool {
+    match error.raw_os_error() {
+        Some(code) => code == EMFILE || code == ENFILE,
+        None => false,
+    }
 }
 
 impl Door {
@@ -86,9 +95,10 @@ impl Door {
             ErrorKind::ConnectionAborted | ErrorKind::Interrupted => Accepted::Failed,
             _ => {
                 self.state = DoorState::At(now.saturating_add(ACCEPT_AGAIN));
-                match error.raw_os_error() {
-                    Some(EMFILE) | Some(ENFILE) => Accepted::NoDescriptor,
-                    _ => Accepted::Failed,
+                if lacks_descriptor(&error) {
+                    Accepted::NoDescriptor
+                } else {
+                    Accepted::Failed
                 }
             }
         }
