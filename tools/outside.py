@@ -28,7 +28,7 @@ OUTSIDE = [
     ["tests/model/compare.py", "--seed", SEED, "--lines", "10000", "--program", PROGRAM],
     ["tests/model/compare.py", "--play", "--seed", SEED, "--lines", "5000", "--program", PROGRAM],
     ["tests/model/compare.py", "--audit", "--seed", SEED, "--accounts", "2000", "--program", PROGRAM],
-    ["tests/model/compare.py", "--replies", "400", "--seed", SEED, "--program", PROGRAM],
+    ["tests/model/compare.py", "--replies", "100", "--records", "4", "--seed", SEED, "--program", PROGRAM],
     ["tests/model/compare.py", "--limits", "50", "4", "8", "--seed", SEED, "--lines", "5000", "--program", STEPS],
     ["tests/model/compare.py", "--limits", str(2**53 - 1), "65536", "100000", "--seed", SEED, "--lines", "3000",
      "--program", STEPS],

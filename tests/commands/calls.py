@@ -7,13 +7,18 @@ Each case has a name; what it expects is set beforehand. No wait lasts longer th
 usage: tests/commands/calls.py PROGRAM
 """
 import contextlib
+import fcntl
+import mmap
 import os
 import pathlib
+import select
 import socket
 import subprocess
 import sys
 import tempfile
+import termios
 import threading
+import time
 
 PROGRAM = os.path.abspath(sys.argv[1])
 PATIENCE = 120
@@ -374,6 +379,39 @@ def records_that_fail():
         judge("both full", (ran.stderr, ran.returncode, server.ended()), wanted)
 
 
+def record_in_a_full_pipe():
+    """A line is appended by one write, before its reply is printed: to a named pipe with room for all but its last byte nothing is
+    written, and nothing printed, until the pipe is read."""
+    line = entry(take(), item(b"a"))
+    with tempfile.TemporaryDirectory() as folder, open(os.path.join(folder, "lines"), "w+b") as lines:
+        path = os.path.join(folder, "told")
+        os.mkfifo(path)
+        lines.write(TAKE_LINE)
+        lines.seek(0)
+        pipe = os.open(path, os.O_RDWR | os.O_NONBLOCK)
+        filled = fcntl.fcntl(pipe, fcntl.F_SETPIPE_SZ, mmap.PAGESIZE) - len(line) + 1
+        os.write(pipe, bytes(filled))
+        server = Server([frame(WELCOME), frame(item(b"a"))])
+        with subprocess.Popen([PROGRAM, *record_words(path, server.address)], stdin=lines, stdout=subprocess.PIPE,
+                              stderr=subprocess.PIPE) as process:
+            wait_for_a_full_pipe(process)
+            early = select.select([process.stdout], [], [], 0)[0], int.from_bytes(
+                fcntl.ioctl(pipe, termios.FIONREAD, bytes(4)), sys.byteorder)
+            os.read(pipe, filled)
+            printed, said = process.communicate(timeout=PATIENCE)
+        judge("a record in a full pipe", (early, printed, said, process.returncode, os.read(pipe, filled), server.ended()),
+              (([], filled), item(b"a") + b"\n", b"", 0, line, [HELLO, take()]))
+        os.close(pipe)
+
+
+def wait_for_a_full_pipe(process):
+    """Waits until the program waits for room in a pipe; at most two seconds, where the system doesn't tell."""
+    waits = pathlib.Path("/proc", str(process.pid), "wchan")
+    ends = time.monotonic() + 2
+    while time.monotonic() < ends and "pipe" not in waits.read_text():
+        time.sleep(0.01)
+
+
 def words_of_records():
     """Words that name no record."""
     options = spelled("call", CALL)[1:]
@@ -468,7 +506,7 @@ def at_no_address(name, given):
 
 
 for part in [hand_over, hellos, versions, receipts, calls, drains, printed_at_once, devices, records, records_that_fail,
-             words_of_records, addresses, words]:
+             record_in_a_full_pipe, words_of_records, addresses, words]:
     part()
 print(f"{counts[True]} passed, {counts[False]} failed")
 sys.exit(counts[False] > 0)

@@ -3,9 +3,12 @@
 
 usage: tests/commands/replies.py PROGRAM
 """
+import contextlib
 import os
 import pathlib
 import pty
+import re
+import signal
 import subprocess
 import sys
 import tempfile
@@ -19,6 +22,8 @@ from tests.commands.audits import GREETED, HANG, HEAD, WORKED, hello, last_with,
 FOREVER, NOW = '"forever"', '"now"'
 # Longer than the program pauses before it asks a file again, so that it mostly sees each piece by itself.
 BETWEEN = 0.25
+# Seconds between two lines of progress, what takes one away, and the bytes of a megabyte.
+PAUSE, ERASED, MEGABYTE = 2, b"\r\x1b[K", 1_000_000
 
 
 def transfer(client, number):
@@ -144,21 +149,29 @@ def by_words():
     yield "a folder for a record", run(["ACCOUNT", "--replies", "/"], account, kept), ([], "run fault 1\n", 1)
 
 
-def followed(pieces, lines=None):
-    """What is printed of a file that grows by these pieces, the first word of what is said, and the status."""
+def followed(pieces, lines=None, begun=""):
+    """What is printed of a file that begins by this text and grows by these pieces, all that is said, and the status."""
     with tempfile.TemporaryDirectory() as folder:
-        account, replies = pathlib.Path(folder, "account"), pathlib.Path(folder, "record")
-        account.write_bytes(b"")
+        account, replies, said = (pathlib.Path(folder, name) for name in ("account", "record", "said"))
+        account.write_text(begun)
         replies.write_text(lines or "")
         words = [account, "--follow", *(["--replies", replies] if lines is not None else [])]
-        with subprocess.Popen([sys.argv[1], "verify", *words], stdout=subprocess.PIPE, stderr=subprocess.PIPE, text=True) as process:
-            first = process.stderr.readline()
+        with (open(said, "wb") as errors,
+              subprocess.Popen([sys.argv[1], "verify", *words], stdout=subprocess.PIPE, stderr=errors, text=True) as process):
+            wait_until(process, lambda: said.stat().st_size > 0)
             with open(account, "ab", buffering=0) as file:
                 for piece in pieces:
                     file.write(piece.encode())
                     time.sleep(BETWEEN)
             printed, _ = process.communicate(timeout=HANG)
-    return printed.splitlines(), first, process.returncode
+        return printed.splitlines(), said.read_text(), process.returncode
+
+
+def wait_until(process, holds):
+    """Waits until it holds, or the process has ended, or hangs."""
+    ends = time.monotonic() + HANG
+    while not holds() and process.poll() is None and time.monotonic() < ends:
+        time.sleep(0.001)
 
 
 def by_growth():
@@ -172,30 +185,23 @@ def by_growth():
     yield "a closed place", followed([joined(last_with(" 2 ", " 1 "))]), (["fault 4 P2"], said, 1)
     yield "no room", followed([joined([HEAD, GREETED, *(f"0 - {put(number)}" for number in range(1, 100_002))])]), (
         ["beyond limits 100001"], said, 4)
+    yield "six entries first", followed(["x", "\n"], None, joined(ACCOUNT)), (["bad line 8"], "6 entries so far\n", 1)
     yield "a record beside it", followed([joined(ACCOUNT[:4]), joined(ACCOUNT[4:]), "x\n"], joined(KEPT)), (
         ["bad line 8", "1 kept", "2 kept", "3 kept", *counted(3)], said, 1)
 
 
-def at_a_terminal():
-    """What a run tells at a terminal of lines that come slowly, until it has told how far it is; and what it prints."""
+@contextlib.contextmanager
+def at_a_terminal(words, **streams):
+    """The program on these words, with a terminal for its standard error, and what that was told so far: all, once it ended."""
     ours, theirs = pty.openpty()
-    with subprocess.Popen([sys.argv[1], "verify", "-"], stdin=subprocess.PIPE, stdout=subprocess.PIPE, stderr=theirs) as process:
+    shown = bytearray()
+    reader = threading.Thread(target=read_all, args=[ours, shown], daemon=True)
+    with subprocess.Popen([sys.argv[1], "verify", *words], stdout=subprocess.PIPE, stderr=theirs, **streams) as process:
         os.close(theirs)
-        shown = bytearray()
-        reader = threading.Thread(target=lambda: read_all(ours, shown), daemon=True)
         reader.start()
-        process.stdin.write((HEAD + "\n" + GREETED + "\n").encode())
-        ends = time.monotonic() + HANG
-        for number in range(1, 1_000_000):
-            process.stdin.write(f"0 - {put(number)}\n".encode())
-            process.stdin.flush()
-            if shown or time.monotonic() > ends:
-                break
-            time.sleep(0.05)
-        printed, _ = process.communicate(timeout=HANG)
-        reader.join(HANG)
+        yield process, shown
+    reader.join(HANG)
     os.close(ours)
-    return bytes(shown), printed
 
 
 def read_all(terminal, shown):
@@ -207,12 +213,74 @@ def read_all(terminal, shown):
         pass
 
 
+def slowly():
+    """What a terminal is told of lines that come slowly, until it was told how far it is; and what is printed."""
+    with at_a_terminal(["-"], stdin=subprocess.PIPE) as (process, shown):
+        process.stdin.write((HEAD + "\n" + GREETED + "\n").encode())
+        ends = time.monotonic() + HANG
+        for number in range(1, 1_000_000):
+            process.stdin.write(f"0 - {put(number)}\n".encode())
+            process.stdin.flush()
+            if shown or time.monotonic() > ends:
+                break
+            time.sleep(0.05)
+        printed, _ = process.communicate(timeout=HANG)
+    return bytes(shown), printed
+
+
+def stopped(text):
+    """What a terminal is told of a file with this text, in whose midst the program is stopped until a line is due; what is printed;
+    and the seconds that it took at most. A run that ends before it is stopped is tried again."""
+    with tempfile.NamedTemporaryFile() as file:
+        file.write(text.encode())
+        file.flush()
+        for _ in range(5):
+            began = time.monotonic()
+            with at_a_terminal([file.name]) as (process, shown):
+                wait_until(process, lambda: has_read_of(process, file.name))
+                process.send_signal(signal.SIGSTOP)
+                time.sleep(PAUSE + 0.1)
+                process.send_signal(signal.SIGCONT)
+                printed, _ = process.communicate(timeout=HANG)
+            if shown:
+                break
+    return bytes(shown), printed, int(time.monotonic() - began) + 1
+
+
+def has_read_of(process, name):
+    """Whether a process has read some of the file with this name."""
+    folder = pathlib.Path("/proc", str(process.pid))
+    try:
+        numbers = [fd.name for fd in (folder / "fd").iterdir() if os.readlink(fd) == name]
+        return any(not (folder / "fdinfo" / number).read_text().startswith("pos:\t0\n") for number in numbers)
+    except OSError:
+        return False
+
+
+def tells_progress(part, text, most):
+    """Whether it is told exactly how far a reading of this text is, after some seconds, so many at most."""
+    told = re.fullmatch(r"(\d+) lines, (\d+) of (\d+) MB, about (\d+) s still", part)
+    if not told:
+        return False
+    lines, read, size, left = map(int, told.groups())
+    first = sum(len(line) for line in text.splitlines(keepends=True)[:lines])
+    behind = len(text) + 1 if first == len(text) else text.index("\n", first) + 1
+    return size == len(text) // MEGABYTE and any(
+        read == count // MEGABYTE and left == (len(text) - count) * seconds // count
+        for count in range(max(first, 1), behind) for seconds in range(PAUSE, most + 1))
+
+
 def by_terminals():
     """What stands at a terminal: a line, which is taken away, and then nothing."""
-    shown, printed = at_a_terminal()
-    parts = shown.split(b"\r\x1b[K")
+    shown, printed = slowly()
+    parts = shown.split(ERASED)
     got = parts[0], parts[-1], len(parts) > 2 and all(b" lines, 0 MB" in part for part in parts[1:-1]), printed
     yield "progress at a terminal", got, (b"", b"", True, b"legal\n")
+    text = joined([HEAD, GREETED, *(f"0 - {put(number)}" for number in range(1, 40_001))])
+    shown, printed, took = stopped(text)
+    parts = shown.decode().split(ERASED.decode())
+    got = parts[0], parts[-1], len(parts) > 2 and [part for part in parts[1:-1] if not tells_progress(part, text, took)], printed
+    yield "progress of a file", got, ("", "", [], b"legal\n")
 
 
 def main():

@@ -1,13 +1,15 @@
 #!/usr/bin/env python3
-"""Runs `rv verify` of the built program: on the accounts that `rv audit` is tried on, on longer ones, on torn ends and from a pipe.
+"""Runs `rv verify` of the built program: on the accounts that `rv audit` is tried on, on longer ones, on torn ends and from pipes.
 
 usage: tests/commands/verify.py PROGRAM
 """
 import itertools
+import os
 import pathlib
 import subprocess
 import sys
 import tempfile
+import threading
 
 ROOT = pathlib.Path(__file__).resolve().parents[2]
 sys.dont_write_bytecode, sys.path[0] = True, str(ROOT)
@@ -16,6 +18,8 @@ from tests.commands.audits import GREETED, HEAD, WORKED, hello, last_with, put, 
 from tests.model.verdicts import verdict  # noqa: E402
 
 TORN, BEYOND, UNTOLD = 3, 4, 5
+# Seconds behind which a run on a named pipe hangs.
+PIPE_HANG = 60
 # What `rv verify` says of accounts that are past a limit of `rv audit`.
 PAST = {"a partner above the greatest": "fault 4 P1", "a second partner above the greatest": "fault 6 P1",
         "one entry too many": "fault 100000 M3"}
@@ -123,6 +127,27 @@ def by_pipes():
         yield f"{name}, from a pipe", ran(["-"], input=joined(lines).encode()), expected
 
 
+def of_named_pipe(lines, *options):
+    """What the program printed, said and ended with on a named pipe, to which these lines are written once."""
+    with tempfile.TemporaryDirectory() as folder:
+        pipe = pathlib.Path(folder, "account")
+        os.mkfifo(pipe)
+        threading.Thread(target=pipe.write_text, args=[joined(lines)], daemon=True).start()
+        try:
+            run = subprocess.run([sys.argv[1], "verify", pipe, *options], capture_output=True, timeout=PIPE_HANG, text=True)
+        except subprocess.TimeoutExpired:
+            return "it hangs"
+    return run.stdout, run.stderr, run.returncode
+
+
+def by_named_pipes():
+    """The same from a named pipe: a second opening would wait for ever for who writes."""
+    closed = last_with(" 2 ", " 1 ")
+    yield "a legal account, from a named pipe", of_named_pipe(WORKED), ("legal\n", "", 0)
+    yield "a closed place, from a named pipe", of_named_pipe(closed), (UNSURE, "", UNTOLD)
+    yield "a closed place, from a named pipe that grows", of_named_pipe(closed, "--follow"), (UNSURE, "", UNTOLD)
+
+
 def of_words():
     """Files that can't be read, and words that name no account."""
     with tempfile.TemporaryDirectory() as folder:
@@ -140,7 +165,7 @@ def of_words():
 
 def main():
     passed = failed = 0
-    for name, got, expected in itertools.chain(by_files(), by_pipes(), of_words()):
+    for name, got, expected in itertools.chain(by_files(), by_pipes(), by_named_pipes(), of_words()):
         passed, failed = passed + (got == expected), failed + (got != expected)
         if got != expected:
             print(f"FAILED: {name}: {got}, not {expected}")

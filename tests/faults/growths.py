@@ -1,7 +1,7 @@
 #!/usr/bin/env python3
 """Runs the built program on nineteen worked rows, each with the same lines again behind it, on the worked plays and on the worked
-account, and a server that nobody comes to, with each growth of memory refused in turn; on rows and plays as they are,
-with each growth refused and all behind it; and on lines that take no memory before their answer's text, with that and
+account, a server that nobody comes to, an account beside a record, and a client that keeps a record, with each growth of memory
+refused in turn; on rows and plays as they are, with each growth refused and all behind it; and on lines that take no memory before their answer's text, with that and
 all growths behind it refused.
 
 A run ends by a fault with nothing printed, and a play also by a fault behind the results of the lines before; or one line
@@ -13,15 +13,19 @@ as some line, none with a later growth refused prints less than the lines before
 
 usage: tests/faults/growths.py PROGRAM
 """
+import contextlib
 import os
 import pathlib
 import re
+import socket
 import subprocess
 import sys
 import tempfile
+import threading
 
 ROOT = pathlib.Path(__file__).resolve().parents[2]
 sys.dont_write_bytecode, sys.path[0] = True, str(ROOT)
+from tests.commands.replies import ACCOUNT, KEPT, counted  # noqa: E402
 from tests.faults.preload import built, switches  # noqa: E402
 from tests.model.account import Account  # noqa: E402
 from tests.model.rows import ANEW, DRAINED, DRAIN_ROW, ROWS, drain_texts, pairs_of, play_pairs  # noqa: E402
@@ -85,6 +89,15 @@ TAKE_NO_MEMORY = [
     ("a repeat of a reply", TWO + "1#1 take 3 now => empty", "@1 1#1 take 3 now => empty", "1#1 take 3 now => empty",
      "empty"),
 ]
+# What a client that keeps a record asks, is told, and records.
+WELCOME = b'{"client":2,"epoch":1,"incarnation":1,"kind":"welcome"}'
+RECORDED_BY = ["--client", "2", "--incarnation", "1", "--tries", "1", "--speak", "1"]
+RECORDED = b'{"call":"take","queue":3,"wait":"now"}\n' * 2
+ASKED = [b'{"call":"take","client":2,"epoch":1,"incarnation":1,"kind":"request","number":%d,"queue":3,"wait":"now"}' % number
+         for number in (1, 2)]
+TOLD = [b'{"client":2,"epoch":1,"incarnation":1,"item":"a","kind":"reply","number":1,"reply":"item"}',
+        b'{"client":2,"epoch":1,"incarnation":1,"kind":"reply","number":2,"reply":"empty"}']
+RECORD_LINES = [b'{"asked":%b,"told":%b}\n' % pair for pair in zip(ASKED, TOLD)]
 NO_MEMORY = '{"code":11,"kind":"refused"}'
 GOOD, RUN_FAULT = (0, ""), (1, "run fault 3\n")
 BEFORE_THE_LINES = [(2, "command fault 2\n"), RUN_FAULT]
@@ -199,6 +212,15 @@ def serve_row():
     return "a server that nobody comes to", words, [], head, ends
 
 
+def verify_row(folder):
+    """The same of an account beside a record that it keeps: nothing is printed where there is no memory."""
+    record = folder / "record"
+    record.write_bytes(text_of(KEPT))
+    kept = [f"{number} kept" for number in range(1, len(KEPT) + 1)]
+    words = ["verify", "-", "--replies", str(record)]
+    return "an account beside a record", words, ACCOUNT, ["legal", *kept, *counted(len(KEPT))], []
+
+
 def begun(words, printed, end, ample):
     """The number of the line that met the refused growth: -1 where no line was begun, and None where nothing differs, so
     that it can't be told."""
@@ -273,6 +295,49 @@ def refuse_each(folder, name, words, lines, ample, allowed):
     return counts["before"] + counts["during"] + bool(good), counts["failed"] + (not good) + bool(fault)
 
 
+def answer(listener, answers):
+    """Answers each frame of one connection by the next of these, and then closes it."""
+    with contextlib.suppress(OSError), listener.accept()[0] as connection, connection.makefile("rb") as source:
+        for body in answers:
+            source.read(int.from_bytes(source.read(2), "big"))
+            connection.sendall(len(body).to_bytes(2, "big") + body)
+
+
+def run_recorded(folder, growth):
+    """What a client printed that keeps a record, with one growth refused; its status; its record; and whether it came so far."""
+    record = folder / "told"
+    record.unlink(missing_ok=True)
+    with socket.create_server(("127.0.0.1", 0)) as listener:
+        server = threading.Thread(target=answer, args=[listener, [WELCOME, *TOLD]], daemon=True)
+        server.start()
+        address = "127.0.0.1:%d" % listener.getsockname()[1]
+        words = ["record", "--to", str(record), "--connect", address, *RECORDED_BY]
+        printed, end, is_refused = run(folder, words, RECORDED, growth)
+        listener.shutdown(socket.SHUT_RDWR)
+    server.join()
+    return printed, end[0], record.read_bytes() if record.exists() else b"", is_refused
+
+
+def refuse_recorded(folder):
+    """The numbers of good and of bad runs of a client that keeps a record, with each growth refused and with none: what it printed is a
+    front of its replies, and its record has their lines, where the last may lack that found no memory; then the run ends."""
+    told = [body.decode() for body in TOLD]
+    lines, passed, failed = RECORD_LINES, 0, 0
+    for growth in range(1, MOST_GROWTHS):
+        printed, status, record, is_refused = run_recorded(folder, growth)
+        count = len([line for line in printed if line in told])
+        ends = {(b"".join(lines[:count]), 0 if count == len(told) else status), (b"".join(lines[: count - 1]), 1)}
+        good = printed[:count] == told[:count] and (record, status) in ends
+        good = good and (is_refused or (count, status) == (len(told), 0))
+        passed, failed = passed + good, failed + (not good)
+        if not good:
+            print(f"FAILED: a client that keeps a record: growth {growth} refused: {status}", *printed, record, sep="\n")
+        if not is_refused:
+            break
+    print(f"a client that keeps a record: {passed} runs with a growth refused, and one with none")
+    return passed, failed + (passed < 2)
+
+
 def count_growths(folder, lines):
     """How many growths a run over these lines makes."""
     text, least, most = text_of(lines), 0, MOST_GROWTHS
@@ -313,9 +378,10 @@ def main():
              play_row("a receipt of version 2 over a link", list(play_pairs(NAMED_PLAY)))]
     with tempfile.TemporaryDirectory(prefix="growths-") as name:
         folder = pathlib.Path(name)
-        counts = [refuse_each(folder, *row) for row in [*books, *plays, *audit_rows(), serve_row()]]
+        counts = [refuse_each(folder, *row) for row in [*books, *plays, *audit_rows(), serve_row(), verify_row(folder)]]
         counts += [refuse_from(folder, *row[:4]) for row in [*books, *plays] if row[0] in ALL_REFUSED_IN]
         counts += [refuse_behind(folder, *case) for case in TAKE_NO_MEMORY]
+        counts.append(refuse_recorded(folder))
     passed, failed = map(sum, zip(*counts))
     print(f"{passed} passed, {failed} failed")
     sys.exit(failed > 0)

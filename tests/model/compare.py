@@ -141,7 +141,8 @@ def main():
     parser.add_argument("--play", action="store_true", help="events of worlds, in place of messages to books")
     parser.add_argument("--audit", action="store_true", help="accounts, in place of messages to books")
     parser.add_argument("--accounts", type=int, default=2_000, help="how many of them")
-    parser.add_argument("--replies", type=int, metavar="RECORDS", help="so many records beside accounts")
+    parser.add_argument("--replies", type=int, metavar="ACCOUNTS", help="records of so many accounts, each reply changed in turn")
+    parser.add_argument("--records", type=int, default=1, help="how many of each account")
     parser.add_argument("--limits", nargs=3, metavar=("ENTRIES", "CLIENTS", "OPEN"), help="messages to a machine under these")
     parser.add_argument("--anew", action="store_true", help="a machine that is made anew behind each line")
     parser.add_argument("--selftest", action="store_true", help="test the model itself, with no program")
@@ -153,7 +154,7 @@ def main():
     if asked.audit:
         same = compare_audits(program, asked.seed, asked.accounts)
     elif asked.replies:
-        same = compare_records(program, asked.seed, asked.replies)
+        same = compare_records(program, asked.seed, asked.replies, asked.records)
     elif asked.limits:
         same = compare_steps(program, asked.seed, asked.lines, Machines(limits_of(asked.limits), asked.anew))
     else:

@@ -1,5 +1,6 @@
-"""Compares what `rv verify --replies` says of records with the model: of random accounts, most of them legal, each with the record
-of all replies that it gives, in which some lines are written otherwise, and each reply is changed in turn."""
+"""Compares what `rv verify --replies` says of records with the model: of random accounts, each with a record of all replies that it
+gives, in which some lines are written otherwise, and beside them one line for each reply, in which that is changed; and with more
+records of the same account, which may be cut or spoilt."""
 import json
 import os
 import pathlib
@@ -21,10 +22,9 @@ from tests.model.tables import table_audit
 from tests.model.texts import MAX_DRAIN, NoReading, members_of, written
 from tests.model.verdicts import verdict
 
-# How many records are made for one account, and how many of them are at hand at a time.
-RECORDS = 4
+# How many records are at hand at a time.
 AT_HAND = 400
-# A run of so many has to meet each finding.
+# A run of so many records has to meet each finding.
 FULL_RUN = 200
 TORN, UNKEPT = 3, 6
 # A reply of each word.
@@ -155,37 +155,36 @@ class Pair:
     whole: bool
 
 
-def make_record(chance, account):
-    """A record beside an account: now and then the right lines alone, else changed ones among them; and the changed ones."""
+def make_record(chance, account, is_first):
+    """A record beside an account: the right lines, and among them changed ones, which but the first may lack; and the changed ones."""
     record = Record(chance, account)
     lines = record.right()
-    wrong = [] if chance.random() < 0.2 else record.wrong()
+    wrong = record.wrong() if is_first or chance.random() < 0.8 else []
     for line in wrong:
         lines.insert(chance.randint(0, len(lines)), line)
     text = b"".join(line + b"\n" for line in lines)
     return text.removesuffix(b"\n") if lines and lines[-1] and chance.random() < 0.3 else text, wrong
 
 
-def make_pairs(seed, count):
-    """So many accounts with a record each, and the lines of that which are changed."""
-    made = 0
-    while made < count:
-        chance = random.Random(f"{seed} {made}")
+def make_pairs(seed, accounts, records):
+    """So many accounts, each with so many records, and the lines of these which are changed: in the first one of each account, which
+    is whole, each reply."""
+    for number in range(1, accounts + 1):
+        chance = random.Random(f"{seed} {number}")
         script = AccountScript(chance)
         for _ in range(chance.choice([10, 20, 40, 60, 80])):
             script.line()
-        for _ in range(min(RECORDS, count - made)):
-            made += 1
-            text, whole = make_account(chance, script)
+        for record in range(1, records + 1):
+            whole = account_text(script.account)
+            text = whole if record == 1 else make_account(chance, script, whole)
             if not is_past(text + b"\n"):
-                yield Pair(f"record {made} of seed {seed}", text, *make_record(chance, script.account), whole)
+                name = f"record {record} of account {number} of seed {seed}"
+                yield Pair(name, text, *make_record(chance, script.account, record == 1), text == whole)
 
 
-def make_account(chance, script):
-    """The text of a book's account, and whether that is all of it: else it was spoilt, or its end is torn."""
-    whole = account_text(script.account)
-    text = chance.choices([whole, make_text(chance, script), whole[: -chance.randint(1, 40)]], [7, 2, 1])[0]
-    return text, text == whole
+def make_account(chance, script, whole):
+    """The text of a book's account, mostly all of it: else it was spoilt, or its end is torn."""
+    return chance.choices([whole, make_text(chance, script), whole[: -chance.randint(1, 40)]], [7, 2, 1])[0]
 
 
 def parted(text):
@@ -254,9 +253,9 @@ def outcome(program, pair):
     return found, (printed, status, b""), ran(program, pair.text, pair.record), told_wrongly(pair, found)
 
 
-def compare_records(program, seed, count):
-    """Compares so many records, in which each finding is to be met."""
-    met, pairs, done = Counter(), make_pairs(seed, count), 0
+def compare_records(program, seed, accounts, records):
+    """Compares so many records of each of so many accounts, in which each finding is to be met."""
+    met, pairs, done = Counter(), make_pairs(seed, accounts, records), 0
     with ThreadPoolExecutor(os.cpu_count()) as several:
         while part := list(islice(pairs, AT_HAND)):
             for pair, (found, wanted, got, wrong) in zip(part, several.map(lambda pair: outcome(program, pair), part)):
@@ -265,11 +264,11 @@ def compare_records(program, seed, count):
                     several.shutdown(wait=False, cancel_futures=True)
                     return show(pair, wanted, got, wrong)
             done += len(part)
-    print(f"seed {seed}: {done} records, each line as the model has it: " + ", ".join(f"{what} {met[what]}" for what in FINDINGS))
+    print(f"seed {seed}: {accounts} accounts, {done} records, each line as the model has it: " + ", ".join(f"{what} {met[what]}" for what in FINDINGS))
     missed = [finding for finding in FINDINGS if not met[finding]]
-    if missed and count >= FULL_RUN:
+    if missed and done >= FULL_RUN:
         print(f"FAILED: no line is told: {', '.join(missed)}")
-    return count < FULL_RUN or not missed
+    return done < FULL_RUN or not missed
 
 
 def show(pair, wanted, got, wrong):

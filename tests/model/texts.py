@@ -1,5 +1,6 @@
 """Bodies and lines: how a line of `rv book` is read, and how a body is written (docs/FORMATS.md, sections 1 and 4)."""
 import json
+import re
 
 from tests.model.account import Call, Cancel, Hello, Key, Request
 from tests.model.calls import KINDS
@@ -12,6 +13,9 @@ MAX_IDENTIFIER = 2**53 - 1
 MAX_WAIT = 86_400_000
 MAX_DRAIN = 16
 KEY = ("epoch", "client", "incarnation", "number")
+SURROGATE = re.compile("[\ud800-\udfff]")
+# What may nest in a JSON text, and the texts in it, of which nothing does.
+BRACKET = re.compile(r'"(?:[^"\\]|\\.)*"|[][{}]', re.DOTALL)
 # Behind the epoch, which is the answer's, the key of a consumer that an answer names.
 TAKER = ("by_client", "by_incarnation", "by_number")
 
@@ -112,13 +116,8 @@ def read_json(body):
     """The value that the bytes are the JSON text of."""
     try:
         text = body.decode("utf-8")
-        value = json.loads(
-            text,
-            object_pairs_hook=object_of,
-            parse_int=number,
-            parse_float=fraction,
-            parse_constant=no_constant,
-        )
+        demand(not text.startswith("\ufeff"))
+        value = DECODER.decode(text)
     except (ValueError, RecursionError) as error:
         raise NoReading from error
     no_surrogate(value)
@@ -158,21 +157,19 @@ def no_surrogate(value):
         for part in value:
             no_surrogate(part)
     if isinstance(value, str):
-        demand(not any("\ud800" <= letter <= "\udfff" for letter in value))
+        demand(not SURROGATE.search(value))
 
 
 def depth(text):
     """How deep a JSON text nests."""
-    deepest, level, in_text, escaped = 0, 0, False, False
-    for letter in text:
-        if in_text:
-            in_text = escaped or letter != '"'
-            escaped = letter == "\\" and not escaped
-        elif letter == '"':
-            in_text = True
-        elif letter in "[{":
+    deepest = level = 0
+    for bracket in BRACKET.findall(text):
+        if bracket in "[{":
             level += 1
             deepest = max(deepest, level)
-        elif letter in "]}":
+        elif bracket in "]}":
             level -= 1
     return deepest
+
+
+DECODER = json.JSONDecoder(object_pairs_hook=object_of, parse_int=number, parse_float=fraction, parse_constant=no_constant)

@@ -1,3 +1,5 @@
 -- What a reader must agree with: all that the public contracts cite.
 pub mod Accounts
 pub mod Audits
+-- What private clauses cite.
+pub mod Progress

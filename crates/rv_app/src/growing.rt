@@ -1,4 +1,7 @@
 //! Audits an account as its file grows.
+ghost use Rattle.std.specs.Prelude.{◌≡◌, ◌↔◌, false, IfOk, IsTrue};
+ghost use Rattle.rv_app.specs.Progress.{IsProgressDue};
+
 use crate::verify::{buffered, run_fault};
 use rv_findings::AccountFinding;
 use rv_replies::Records;
@@ -15,77 +18,72 @@ const PAUSE_MILLIS: u64 = 200;
 // How many seconds pass at least before it is told again how far it is.
 const TELL_SECONDS: u64 = 60;
 
-/// Reads an account as its file grows, until a rule is broken, a line is bad, or its state has no room. On
-/// standard error it says at most once a minute how many entries there were.
+/// Reads an account as its file grows, until a rule is broken, a line is bad, or its state has no room. What
+/// is told is of whole lines, so no end is torn. On standard error it says at most once a minute how many
+/// entries there were.
 pub(crate) fn follow<T: Wait + time::Clock, F: Read + Drop>(
     rt: &HostRuntime,
     waits: &T,
     file: F,
     records: &mut Records,
-) -> Result<AccountFinding, RunFault> {
+) -> Result<AccountFinding, RunFault>
+    ensures { IfOk result (λ found. found.torn ≡ false) }
+{
     let alloc = rt.alloc();
     let mut reader = buffered(alloc, file)?;
     let mut audit = OngoingAudit::new(alloc);
     let mut told = HowFar::new();
     for _ in waits.forever() {
-        match audit
-            .read_on(alloc, &mut reader, records)
-            .map_err(run_fault)?
-        {
-            Pause::Fault => return Ok(ended(audit.break_off())),
-            Pause::End => {
-                told.tell(rt, audit.entries());
-                thread::sleep(waits, Duration::from_millis(PAUSE_MILLIS));
-            }
+        match audit.read_on(alloc, &mut reader, records) {
+            Ok(Pause::Fault) => return Ok(audit.break_off()),
+            Ok(Pause::End) => told.tell(rt, audit.entries()),
+            Err(fault) => return Err(run_fault(fault)),
         }
+        thread::sleep(waits, Duration::from_millis(PAUSE_MILLIS));
     }
     unreachable!()
 }
 
-// The same of an account whose end nobody looked for.
-fn ended(found: AccountFinding) -> AccountFinding {
-    AccountFinding {
-        epoch: found.epoch,
-        verdict: found.verdict,
-        torn: false,
+// Whether it is told how far it is: nothing was told yet, or other than so many entries, so many seconds ago.
+fn is_due(told: Option<u64>, entries: u64, seconds: u64) -> bool
+    ensures { IsTrue result ↔ IsProgressDue told entries seconds }
+{
+    match told {
+        None => true,
+        Some(before) => before != entries && seconds >= TELL_SECONDS,
     }
 }
 
-// How many entries were told, and when.
+// How many entries were told last, if any were, and when.
 #[derive(Drop)]
 struct HowFar {
-    entries: u64,
-    told: bool,
+    told: Option<u64>,
     at: Option<Instant>,
 }
 
 impl HowFar {
     fn new() -> HowFar {
         HowFar {
-            entries: 0,
-            told: false,
+            told: None,
             at: None,
         }
     }
 
-    // Tells how many entries there were, if they are more than those that were told a minute ago.
+    // Tells how many entries there were, if that is due.
     fn tell(&mut self, rt: &HostRuntime, entries: u64) {
-        if !self.is_due(rt, entries) {
+        if !is_due(self.told, entries, self.seconds(rt)) {
             return;
         }
         let _ = eprintln!(rt; "{entries} entries so far");
-        self.entries = entries;
-        self.told = true;
+        self.told = Some(entries);
         self.at = Instant::now(rt).ok();
     }
 
-    fn is_due(&self, rt: &HostRuntime, entries: u64) -> bool {
+    // How many seconds ago they were told, or 0 if the clock doesn't tell.
+    fn seconds(&self, rt: &HostRuntime) -> u64 {
         match self.at {
-            None => !self.told,
-            Some(at) => {
-                entries != self.entries
-                    && at.elapsed(rt).map_or(0, |since| since.as_secs()) >= TELL_SECONDS
-            }
+            None => 0,
+            Some(at) => at.elapsed(rt).map_or(0, |since| since.as_secs()),
         }
     }
 }

@@ -79,31 +79,42 @@ fn verify_file<T: Wait + time::Clock>(
 ) -> Result<ExitCode, ProgramFault>
     requires { AreNew records.old }
 {
+    let regular = is_regular(&file);
     if words.follow {
         let found = follow(rt, waits, file, records)?;
-        return tell_file(rt, words, &found, records);
+        return tell_file(rt, words, regular, &found, records);
     }
     let found = found_in(rt, size_of(&file), file, records)?;
-    tell_file(rt, words, &found, records)
+    tell_file(rt, words, regular, &found, records)
 }
 
-// Tells what was found in a file, which is opened once more where an entry names a closed place.
+// Tells what was found in a file. Where an entry names a closed place it is opened once more, if it is a
+// regular one: another may give no byte twice, and a named pipe waits for who writes.
 fn tell_file(
     rt: &HostRuntime,
     words: &VerifyWords<'_>,
+    regular: bool,
     found: &AccountFinding,
     records: &Records,
 ) -> Result<ExitCode, ProgramFault> {
     let AccountVerdict::NotOpen { place, entry } = &found.verdict else {
         return tell(rt, words, found, None, records);
     };
+    if !regular {
+        return tell(rt, words, found, None, records);
+    }
     match File::open(rt, words.file) {
         Ok(again) => {
-            let rule = rule_in(rt, *place, entry, again)?;
+            let rule = rule_in(rt, *place, entry, size_of(&again), again)?;
             tell(rt, words, found, rule, records)
         }
         Err(error) => Ok(unread(rt, "account", words.file, &error)),
     }
+}
+
+// Whether a file is known to be a regular one.
+fn is_regular(file: &File) -> bool {
+    file.metadata().map_or(false, |about| about.is_file())
 }
 
 // How many bytes a file has, or 0 if nobody knows.
@@ -178,9 +189,28 @@ fn found_watched<F: Read + Drop>(
 }
 
 // The rule that the entry at a place breaks, which names a closed place, by a reader with the same account's
-// bytes.
+// bytes: so many, or 0 if nobody knows how many.
 fn rule_in<F: Read + Drop>(
     rt: &HostRuntime,
+    place: Place,
+    entry: &Entry,
+    size: u64,
+    input: F,
+) -> Result<Option<Rule>, RunFault>
+    ensures { (all : List (List ℕ)) (bytes : List ℕ) → F.remaining input ≡ Some bytes
+        → TellsNotOpen all place entry.now → BeginAlike all (lines bytes) place
+        → IfOk result (IsRuleAt all place) }
+{
+    let mut watch = Watch::new(rt, size);
+    let rule = rule_watched(rt, &mut watch, place, entry, input);
+    watch.erase();
+    rule
+}
+
+// The same, watched.
+fn rule_watched<F: Read + Drop>(
+    rt: &HostRuntime,
+    watch: &mut Watch<'_>,
     place: Place,
     entry: &Entry,
     input: F,
@@ -189,7 +219,7 @@ fn rule_in<F: Read + Drop>(
         → TellsNotOpen all place entry.now → BeginAlike all (lines bytes) place
         → IfOk result (IsRuleAt all place) }
 {
-    let mut reader = buffered(rt.alloc(), input)?;
+    let mut reader = buffered(rt.alloc(), Watched::new(watch, input))?;
     match rule_at(rt.alloc(), &mut reader, place, entry) {
         Ok(rule) => Ok(rule),
         Err(fault) => Err(run_fault(fault)),

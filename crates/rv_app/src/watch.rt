@@ -1,5 +1,6 @@
 //! Tells on a terminal how far a reading is.
-ghost use Rattle.std.specs.Prelude.{◌≡◌};
+ghost use Rattle.std.specs.Prelude.{◌≡◌, IfOk, string_bytes};
+ghost use Rattle.rv_app.specs.Progress.{progress_text, seconds_left};
 
 use rv_text::NoMemory;
 use std::alloc::Global;
@@ -117,7 +118,9 @@ fn progress_text(
     bytes: u64,
     size: u64,
     seconds: u64,
-) -> Result<String, NoMemory> {
+) -> Result<String, NoMemory>
+    ensures { IfOk result (λ s. string_bytes s ≡ progress_text lines bytes size seconds) }
+{
     let read = bytes / MEGABYTE;
     if size == 0 {
         return format!(in alloc; "{lines} lines, {read} MB");
@@ -127,11 +130,12 @@ fn progress_text(
 }
 
 // About how many seconds the rest of so many bytes takes, if the first took so many.
-fn seconds_left(bytes: u64, size: u64, seconds: u64) -> u64 {
+fn seconds_left(bytes: u64, size: u64, seconds: u64) -> u128
+    ensures { result ≡ seconds_left bytes size seconds }
+{
     if bytes == 0 {
         return 0;
     }
     let rest = size.saturating_sub(bytes) as u128;
-    let left = rest * seconds as u128 / bytes as u128;
-    u64::try_from(left).unwrap_or(u64::MAX)
+    rest * seconds as u128 / bytes as u128
 }

@@ -2,3 +2,5 @@
 pub mod Judged
 pub mod KeptTold
 pub mod Names
+pub mod OneFinding
+pub mod Suited

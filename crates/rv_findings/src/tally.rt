@@ -21,18 +21,6 @@ pub fn are_kept(findings: &[Finding]) -> bool
 }
 
 impl Finding {
-    /// All findings, in the order in which they are told.
-    pub const ALL: [Finding; 8] = [
-        Finding::Kept,
-        Finding::OtherReply,
-        Finding::OtherCall,
-        Finding::NoRequest,
-        Finding::Waiting,
-        Finding::OtherEpoch,
-        Finding::Impossible,
-        Finding::NoRecord,
-    ];
-
     /// Its words, as they are printed.
     pub fn words(self) -> &'static str
         ensures { result.now ≡ words_of self }

@@ -1,2 +1,4 @@
 -- The lemmas that the proofs of this crate share.
 pub mod Finding
+pub mod SameLine
+pub mod Counted

@@ -1,11 +1,17 @@
 //! The lines that are printed.
-ghost use Rattle.std.specs.Prelude.{◌≡◌, ◌<◌, ◌∷◌, ◌++◌, IfOk, codes, length, string_bytes};
-ghost use Rattle.std.specs.Fmt.{decimal};
-ghost use Rattle.rv_inspect.specs.Lines.{fault_text, verdict_text};
+ghost use Rattle.std.specs.Prelude.{◌≡◌, ◌<◌, ◌+◌, IfOk, None, Some, length, option_map, slice_get};
+ghost use Rattle.std.specs.Prelude.{string_bytes};
+ghost use Rattle.rv_account.specs.Account.{Account};
+ghost use Rattle.rv_findings.specs.declared.findings.Told as replies;
+ghost use Rattle.rv_replies.specs.Standing.{HasNoted};
+ghost use Rattle.rv_replies.specs.declared.records.Line.TheVariants as kinds;
+ghost use Rattle.rv_inspect.specs.Lines.{SaysFate, call_said, differs_text, fault_text, finding_text};
+ghost use Rattle.rv_inspect.specs.Lines.{first_counts, instead_said, last_counts, next_counts, reply_said};
+ghost use Rattle.rv_inspect.specs.Lines.{verdict_text};
 
 use rv_audit::Rule;
-use rv_findings::{AccountVerdict, Fate, Finding};
-use rv_replies::{Line, Records};
+use rv_findings::{AccountVerdict, Fate, Finding, count_of};
+use rv_replies::{Flaw, Line, Records};
 use rv_text::{Answer, Key, Message, NoMemory, Reply, encode_answer, encode_message};
 use std::alloc::Global;
 
@@ -40,15 +46,49 @@ fn fault_line(alloc: Global, place: usize, rule: &str) -> Result<String, NoMemor
     format!(in alloc; "fault {place} {rule}")
 }
 
-/// A finding, and how many lines have it.
-pub(crate) fn count_line(alloc: Global, words: &str, count: usize) -> Result<String, NoMemory>
-    ensures { IfOk result (λ s. string_bytes s ≡ words.now ++ 32 ∷ decimal count) }
+/// How many lines are kept, tell another reply or another call, or of no such request: a line each, with LF
+/// between each two.
+pub(crate) fn first_counts(alloc: Global, findings: &[Finding]) -> Result<String, NoMemory>
+    ensures { IfOk result (λ s. string_bytes s ≡ first_counts findings.now) }
 {
-    format!(in alloc; "{words} {count}")
+    let kept = count_of(findings, Finding::Kept);
+    let reply = count_of(findings, Finding::OtherReply);
+    let call = count_of(findings, Finding::OtherCall);
+    let none = count_of(findings, Finding::NoRequest);
+    format!(in alloc;
+        "kept {kept}\nanother reply {reply}\nanother call {call}\nno such request {none}"
+    )
+}
+
+/// The same of those of which the request waits, or which are of another epoch or tell what can't be.
+pub(crate) fn next_counts(alloc: Global, findings: &[Finding]) -> Result<String, NoMemory>
+    ensures { IfOk result (λ s. string_bytes s ≡ next_counts findings.now) }
+{
+    let waiting = count_of(findings, Finding::Waiting);
+    let epoch = count_of(findings, Finding::OtherEpoch);
+    let (words, never) = (
+        Finding::Impossible.words(),
+        count_of(findings, Finding::Impossible),
+    );
+    format!(in alloc; "still waiting {waiting}\nanother epoch {epoch}\n{words} {never}")
+}
+
+/// The same of those that are no record, and of those that differ from the first one of their key.
+pub(crate) fn last_counts(
+    alloc: Global,
+    findings: &[Finding],
+    differing: usize,
+) -> Result<String, NoMemory>
+    ensures { IfOk result (λ s. string_bytes s ≡ last_counts findings.now differing) }
+{
+    let flawed = count_of(findings, Finding::NoRecord);
+    format!(in alloc; "no record {flawed}\ndiffering {differing}")
 }
 
 /// The line which tells that a line of a record tells another reply than the first one of its key.
-pub(crate) fn differs_line(alloc: Global, index: usize, first: usize) -> Result<String, NoMemory> {
+pub(crate) fn differs_line(alloc: Global, index: usize, first: usize) -> Result<String, NoMemory>
+    ensures { IfOk result (λ s. string_bytes s ≡ differs_text (index + 1) (first + 1)) }
+{
     let (number, other) = (index as u128 + 1, first as u128 + 1);
     format!(in alloc; "{number} differs from line {other}")
 }
@@ -61,38 +101,79 @@ pub(crate) fn finding_line(
     finding: Finding,
 ) -> Result<String, NoMemory>
     requires { index < length records.now.lines.items }
+    ensures told { (a : Account) (told : replies.Told)
+        → slice_get records.now.lines.items index ≡ Some (kinds.Told told) → HasNoted records.now a
+        → IfOk result (λ s. SaysFate a told (index + 1) finding (string_bytes s)) }
+    ensures flawed { (flaw : Flaw) → slice_get records.now.lines.items index ≡ Some (kinds.Flawed flaw)
+        → IfOk result (λ s. string_bytes s ≡ finding_text (index + 1) finding None) }
 {
-    let (number, words) = (index as u64 + 1, finding.words());
-    match said_instead(alloc, records, index, finding)? {
-        Some(body) => format!(in alloc; "{number} {words} {body}"),
-        None => format!(in alloc; "{number} {words}"),
+    match records.line(index) {
+        Line::Told(told) => match records.fate(index) {
+            Some(fate) => fate_line(alloc, index, told.key, fate, finding),
+            None => plain_line(alloc, index, finding),
+        },
+        Line::Flawed(_) => plain_line(alloc, index, finding),
     }
+}
+
+// The same by what became of the request with a key.
+fn fate_line(
+    alloc: Global,
+    index: usize,
+    key: Key,
+    fate: &Fate,
+    finding: Finding,
+) -> Result<String, NoMemory>
+    ensures { IfOk result (λ s.
+        string_bytes s ≡ finding_text (index + 1) finding (instead_said finding key fate.now)) }
+{
+    match said_instead(alloc, key, fate, finding)? {
+        Some(body) => body_line(alloc, index, finding, body.as_str()),
+        None => plain_line(alloc, index, finding),
+    }
+}
+
+// The same with a body.
+fn body_line(alloc: Global, index: usize, finding: Finding, body: &str) -> Result<String, NoMemory>
+    ensures { IfOk result (λ s. string_bytes s ≡ finding_text (index + 1) finding (Some body.now)) }
+{
+    let (number, words) = (index as u128 + 1, finding.words());
+    format!(in alloc; "{number} {words} {body}")
+}
+
+// The same with none.
+fn plain_line(alloc: Global, index: usize, finding: Finding) -> Result<String, NoMemory>
+    ensures { IfOk result (λ s. string_bytes s ≡ finding_text (index + 1) finding None) }
+{
+    let (number, words) = (index as u128 + 1, finding.words());
+    format!(in alloc; "{number} {words}")
 }
 
 // The body of the other reply or of the other call.
 fn said_instead(
     alloc: Global,
-    records: &Records,
-    index: usize,
+    key: Key,
+    fate: &Fate,
     finding: Finding,
 ) -> Result<Option<String>, NoMemory>
-    requires { index < length records.now.lines.items }
+    ensures { IfOk result (λ said. option_map string_bytes said ≡ instead_said finding key fate.now) }
 {
-    let Line::Told(told) = records.line(index) else {
-        return Ok(None);
-    };
-    let Some(fate) = records.fate(index) else {
-        return Ok(None);
-    };
     match finding {
-        Finding::OtherReply => reply_body(alloc, told.key, fate),
-        Finding::OtherCall => call_body(alloc, told.key, fate),
-        _ => Ok(None),
+        Finding::OtherReply => reply_body(alloc, key, fate),
+        Finding::OtherCall => call_body(alloc, key, fate),
+        Finding::Kept => Ok(None),
+        Finding::OtherEpoch => Ok(None),
+        Finding::Impossible => Ok(None),
+        Finding::Waiting => Ok(None),
+        Finding::NoRequest => Ok(None),
+        Finding::NoRecord => Ok(None),
     }
 }
 
 // The body of the reply that a request has.
-fn reply_body(alloc: Global, key: Key, fate: &Fate) -> Result<Option<String>, NoMemory> {
+fn reply_body(alloc: Global, key: Key, fate: &Fate) -> Result<Option<String>, NoMemory>
+    ensures { IfOk result (λ said. option_map string_bytes said ≡ reply_said key fate.now) }
+{
     let reply = match fate {
         Fate::RepliedTo { reply, .. } => reply.copy(alloc)?,
         Fate::CancelledUnseen => Reply::Cancelled,
@@ -103,7 +184,9 @@ fn reply_body(alloc: Global, key: Key, fate: &Fate) -> Result<Option<String>, No
 }
 
 // The body of a request as it came.
-fn call_body(alloc: Global, key: Key, fate: &Fate) -> Result<Option<String>, NoMemory> {
+fn call_body(alloc: Global, key: Key, fate: &Fate) -> Result<Option<String>, NoMemory>
+    ensures { IfOk result (λ said. option_map string_bytes said ≡ call_said key fate.now) }
+{
     let call = match fate {
         Fate::Waits { call } => call.copy(alloc)?,
         Fate::RepliedTo { call, .. } => call.copy(alloc)?,

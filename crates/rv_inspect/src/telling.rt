@@ -1,12 +1,14 @@
 //! Prints what was found of an account and of a record, and gives the status that tells it.
-ghost use Rattle.std.specs.Prelude.{◌≡◌, ◌∷◌, ◌++◌, [], IfOk, OnOk, length, option_map};
-ghost use Rattle.rv_inspect.specs.Lines.{FindsFirst};
+ghost use Rattle.std.specs.Prelude.{◌≡◌, ◌<◌, ◌≤◌, ◌+◌, ◌∷◌, ◌++◌, [], IfOk, OnOk, length, option_map};
+ghost use Rattle.rv_inspect.specs.Lines.{CountsDiffering, FindsFirst};
 ghost use Rattle.rv_inspect.specs.Statuses.{IsKeptBeside, TellsFound, TellsKept};
 
-use crate::lines::{count_line, differs_line, finding_line, verdict_line};
+use crate::lines::{
+    differs_line, finding_line, first_counts, last_counts, next_counts, verdict_line,
+};
 use crate::pieces::Pieces;
 use rv_audit::Rule;
-use rv_findings::{AccountFinding, Finding, are_kept, count_of, status_of};
+use rv_findings::{AccountFinding, Finding, are_kept, status_of};
 use rv_frame::Sink;
 use rv_replies::Records;
 use rv_run::RunFault;
@@ -132,17 +134,35 @@ fn tell_counts<W: Write>(
     findings: &[Finding],
     pieces: &mut Pieces<'_, W>,
 ) -> Result<(), RunFault> {
-    for finding in Finding::ALL {
-        let line = count_line(alloc, finding.words(), count_of(findings, finding))?;
-        pieces.line(line.as_str())?;
-    }
-    let line = count_line(alloc, "differing", differing(records))?;
-    pieces.line(line.as_str())
+    let first = first_counts(alloc, findings)?;
+    pieces.line(first.as_str())?;
+    let next = next_counts(alloc, findings)?;
+    pieces.line(next.as_str())?;
+    let last = last_counts(alloc, findings, differing(records))?;
+    pieces.line(last.as_str())
 }
 
 // How many lines tell another reply than the first one of their key.
-fn differing(records: &Records) -> usize {
-    (0..records.len())
-        .filter(|index| records.differs_from(*index).is_some())
-        .count()
+fn differing(records: &Records) -> usize
+    ensures { CountsDiffering records.now (length records.now.lines.items) result }
+{
+    let mut count = 0;
+    for index in 0..records.len() {
+        count = with_line(records, index, count);
+    }
+    count
+}
+
+// So many of the lines before the one with an index, or one more if it too tells another reply.
+fn with_line(records: &Records, index: usize, count: usize) -> usize
+    requires inside { index < length records.now.lines.items }
+    requires few { count ≤ index }
+    ensures few { result ≤ index + 1 }
+    ensures counted { CountsDiffering records.now index count
+        → CountsDiffering records.now (index + 1) result }
+{
+    match records.differs_from(index) {
+        Some(_) => count + 1,
+        None => count,
+    }
 }

@@ -11,12 +11,12 @@ use Rattle.rv_frame.specs.Stream.{HasFed, Stream}
 use Rattle.rv_frame.specs.declared.source.Source.{Source}
 use Rattle.rv_frame.specs.declared.sink.Sink.{Sink}
 use Rattle.rv_frame.proofs.Cuts.{row_append}
-use Rattle.rv_server.specs.Asking.{Cover, GetsStamps}
+use Rattle.rv_locked.specs.Asking.{Cover, GetsStamps}
 use Rattle.rv_server.specs.Progress.{AnswersFrame, Out, Progress, StopsAtFrame, out}
 use Rattle.rv_server.specs.Reading.{FailsAtSink, ReadsOn, ReadsOut, TakesFrame}
-use Rattle.rv_server.specs.Stamps.{Numbered, added_entries}
-use Rattle.rv_server.specs.AnsweredFrames.{AnsweredFrame, AreAnsweredFrames, AreFor, IsAnsweredFrame, IsFor}
-use Rattle.rv_server.specs.AnsweredFrames.{stamps_of}
+use Rattle.rv_locked.specs.Stamps.{Numbered, added_entries}
+use Rattle.rv_locked.specs.FrameStamps.{AreFor, IsFor}
+use Rattle.rv_server.specs.AnsweredFrames.{AnsweredFrame, AreAnsweredFrames, IsAnsweredFrame, stamps_of}
 use Rattle.rv_server.specs.Works.{AreForNext, Connection, Listed, StopsBetween, Worked, Works, connection}
 use Rattle.rv_server.specs.Works.{max_frames, nothing}
 use Rattle.rv_server.specs.declared.fault.WorkFault.{WorkFault}

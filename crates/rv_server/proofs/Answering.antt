@@ -1,60 +1,25 @@
 -- One frame is answered: from what was got and told of it to the answered frame.
-use Rattle.std.proofs.Common.{inl, inr, ◌≡◌, ◌<◌, ◌++◌, ◌∷◌, [], ℕ, List, Err, IsErrAnd, IfErr, IfOk, Ok}
-use Rattle.std.proofs.Common.{OnErr, OnOk, Option, Result, arith, length, refl, subst, sym, take, true}
-use Rattle.rv_text.specs.Bodies.{HasBodyLength}
-use Rattle.rv_frame.specs.Cut.{IsFrameBody, frame_bytes}
+use Rattle.std.proofs.Common.{inl, inr, ◌≡◌, ◌++◌, ◌∷◌, [], ℕ, List, Err, IsErrAnd, IfErr, Ok}
+use Rattle.std.proofs.Common.{Option, Result, arith, refl, subst, sym}
+use Rattle.rv_frame.specs.Cut.{IsFrameBody}
 use Rattle.rv_frame.specs.Sink.{SinkTakes, sink_failed}
 use Rattle.rv_frame.specs.declared.sink.Sink.{Sink}
-use Rattle.rv_frame.specs.declared.sink.WriteFault.{WriteFault as SinkFault}
 use Rattle.std.proofs.KnownBytes.{Appends-nil, Appends-trans}
-use Rattle.rv_server.specs.Asking.{GetsStamps, GetsTold, StopsAsking, TellsFrame}
+use Rattle.rv_locked.specs.Asking.{GetsStamps, GetsTold, TellsFrame}
+use Rattle.rv_server.specs.Asking.{StopsAsking}
 use Rattle.rv_server.specs.Progress.{AnswersFrame, Out, StopsAtFrame}
-use Rattle.rv_server.specs.Stamps.{Numbered}
+use Rattle.rv_locked.specs.Stamps.{Numbered}
 use Rattle.rv_server.specs.AnsweredFrames.{AnsweredFrame, BodySays, IsAnsweredFrame}
 use Rattle.rv_server.specs.Works.{Listed}
-use Rattle.rv_server.specs.Writing.{IsAnswer, WritesAnswer, WritesPart}
-use Rattle.rv_server.specs.declared.asking.FrameAnswer.{FrameAnswer}
-use Rattle.rv_server.specs.declared.asking.FrameAnswer.TheVariants as told
+use Rattle.rv_locked.specs.Writing.{IsAnswer, WritesAnswer, WritesPart}
+use Rattle.rv_locked.specs.declared.asking.FrameAnswer.{FrameAnswer}
+use Rattle.rv_locked.specs.declared.asking.FrameAnswer.TheVariants as told
 use Rattle.rv_server.specs.declared.fault.WorkFault.{WorkFault}
 use Rattle.rv_server.specs.declared.fault.WorkFault.TheVariants.{BadLength, CutFrame, NoMemory, ReadFault}
 use Rattle.rv_server.specs.declared.fault.WorkFault.TheVariants.{TooLong, WriteFault}
-use Rattle.rv_server.proofs.Getting.{nothing_got}
-use Rattle.rv_server.specs.declared.served.Item.{Item}
-use Rattle.rv_server.specs.declared.served.Item.TheVariants as item
-
--- a body of a text is short enough for a frame
-fits_frame : (body : List ℕ) → HasBodyLength body → IsFrameBody body
-fits_frame body long = (long.0, omega (arith, long.1))
-
-module _ {W : Type 0} (contents : W → Option (List ℕ)) where
-  pub whole_written : (old new : Sink W) (t : FrameAnswer) (i : Item) (body : List ℕ)
-      (r : Result Item SinkFault) → IsAnswer t i body → HasBodyLength body
-      → IfOk r (λ written. written ≡ i) → OnOk r (SinkTakes contents old new (frame_bytes body))
-      → IfOk r (WritesAnswer contents old new t)
-  whole_written old new t i body (Ok written) is fits same takes =
-      subst (λ (own : Item). WritesAnswer contents old new t own) (sym same) (record {
-        answer = body;
-        is = is;
-        fits = fits_frame body fits;
-        written = takes;
-      })
-  whole_written old new t i body (Err fault) is fits same takes = tt
-
-  pub part_written : (old new : Sink W) (t : FrameAnswer) (i : Item) (body : List ℕ)
-      (r : Result Item SinkFault) → IsAnswer t i body → HasBodyLength body
-      → IfErr r (λ fault. SinkTakes contents old new (take fault.sent (frame_bytes body)))
-      → IfErr r (λ fault. fault.sent < length (frame_bytes body))
-      → OnErr r (sink_failed new ≡ true) → IfErr r (λ fault. WritesPart contents old new t fault.sent)
-  part_written old new t i body (Ok written) is fits takes part failed = tt
-  part_written old new t i body (Err fault) is fits takes part failed = record {
-    item = i;
-    answer = body;
-    is = is;
-    fits = fits_frame body fits;
-    part = part;
-    written = takes;
-    failed = failed;
-  }
+use Rattle.rv_locked.proofs.Getting.{nothing_got}
+use Rattle.rv_locked.specs.declared.item.Item.{Item}
+use Rattle.rv_locked.specs.declared.item.Item.TheVariants as item
 
 -- what is told of a frame and the item that stands for it say what the answer says
 says_of : (body : List ℕ) (got : List Numbered) (t : FrameAnswer) (i : Item) (answer : List ℕ)

@@ -1,18 +1,19 @@
 -- Stamps that are got for a frame, one behind the other.
 use Rattle.std.proofs.Common.{add-zero, ◌≡◌, ◌∙◌, ◌+◌, ◌++◌, ◌∷◌, ◌≤◌, [], ℕ, Bool, List, true, ap, arith}
-use Rattle.std.proofs.Common.{refl, subst, sym, append-nil, append_assoc}
+use Rattle.std.proofs.Common.{subst, sym, append_assoc}
 use Rattle.std.specs.List.{All}
 use Rattle.std.proofs.lemmas.List.Elements.{All-append, All-cons, All-head, All-nil, All-tail}
 use Rattle.std.proofs.lemmas.List.Sums.{sum_by-append, sum_by-cons}
 use Rattle.rv_text.specs.declared.answer.Answer.{Answer}
-use Rattle.rv_server.specs.Asking.{Cover, GetsSome, GetsStamps, GetsTold, OnlyWaited, StopsAsking, TellsFrame}
-use Rattle.rv_server.specs.Asking.{Waits}
-use Rattle.rv_server.specs.Stamps.{Covers, Numbered, Stamped, added_entries, added_by}
-use Rattle.rv_server.specs.AnsweredFrames.{IsFor, IsWaiting, LastSays, WaitsBetween}
+use Rattle.rv_locked.specs.Asking.{Cover, GetsStamps, GetsTold, TellsFrame}
+use Rattle.rv_locked.proofs.Getting.{nothing_got}
+use Rattle.rv_server.specs.Asking.{GetsSome, OnlyWaited, StopsAsking, Waits}
+use Rattle.rv_locked.specs.Stamps.{Covers, Numbered, added_entries, added_by}
+use Rattle.rv_locked.specs.FrameStamps.{IsFor, IsWaiting, LastSays, WaitsBetween}
 use Rattle.rv_server.specs.declared.fault.WorkFault.{WorkFault}
 use Rattle.rv_server.specs.declared.fault.WorkFault.TheVariants as fault
-use Rattle.rv_server.specs.declared.asking.FrameAnswer.{FrameAnswer}
-use Rattle.rv_server.specs.declared.asking.FrameAnswer.TheVariants.{BadText, NoMemory, Said}
+use Rattle.rv_locked.specs.declared.asking.FrameAnswer.{FrameAnswer}
+use Rattle.rv_locked.specs.declared.asking.FrameAnswer.TheVariants.{BadText, NoMemory, Said}
 
 pub added_append : (front stamps : List Numbered)
     → added_entries (front ++ stamps) ≡ added_entries front + added_entries stamps
@@ -59,26 +60,6 @@ covers_at own (first ∷ front) back stamp covers =
 pub covers_all : (own : ℕ) (stamps : List Numbered) → Cover own stamps → Covers own stamps
 covers_all own stamps covers front back stamp is = covers_at own front back stamp
     (subst (λ (l : List Numbered). Cover own l) is covers)
-
-pub nothing_got : (number : ℕ) (body : List ℕ) (share : ℕ) (old : List Numbered)
-    → GetsStamps number body share old share old []
-nothing_got number body share old = record {
-  behind = sym (append-nil old);
-  own = record { each = All-nil (IsFor number body); waited = tt };
-  adds = omega arith;
-  cover = tt;
-}
-
--- the desk wasn't asked
-pub nothing_told : (number : ℕ) (body : List ℕ) (share : ℕ) (old new : List Numbered) (told : FrameAnswer)
-    → new ≡ old → TellsFrame body [] told
-    → GetsTold number body share old share new told
-nothing_told number body share old new told same tells = record {
-  got = [];
-  gets = subst (λ (l : List Numbered). GetsStamps number body share old share l []) (sym same)
-      (nothing_got number body share old);
-  tells = tells;
-}
 
 join_got : (number : ℕ) (body : List ℕ) (share share' share'' : ℕ) (old mid new got more : List Numbered)
     → All AnswerWaits got → GetsStamps number body share old share' mid got

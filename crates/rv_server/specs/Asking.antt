@@ -1,59 +1,20 @@
 -- What is got for one frame, by asking the desk for it once or more often.
-use Rattle.std.specs.Prelude.{ℕ, ◌≡◌, ◌+◌, ◌≤◌, ◌∷◌, ◌++◌, [], Bool, IfOk, List, Result, true}
+use Rattle.std.specs.Prelude.{ℕ, ◌≡◌, Bool, List, true}
 use Rattle.std.specs.List.{All}
-use Rattle.rv_text.specs.Limits.{FitsAnswer}
 use Rattle.rv_text.specs.declared.answer.Answer.{Answer}
-use Rattle.rv_text.specs.declared.message.Message.{Message}
-use Rattle.rv_server.specs.Stamps.{Numbered, Stamped, added_entries, added_by}
-use Rattle.rv_server.specs.AnsweredFrames.{AreFor, IsNoMessage, IsWaiting, LastSays}
+use Rattle.rv_locked.specs.Asking.{GetsStamps}
+use Rattle.rv_locked.specs.Stamps.{Numbered}
+use Rattle.rv_locked.specs.FrameStamps.{IsWaiting}
+use Rattle.rv_locked.specs.declared.asking.FrameAnswer.{FrameAnswer}
+use Rattle.rv_locked.specs.declared.asking.FrameAnswer.TheVariants.{Said}
 use Rattle.rv_server.specs.declared.fault.WorkFault.{WorkFault}
 use Rattle.rv_server.specs.declared.fault.WorkFault.TheVariants as fault
-use Rattle.rv_server.specs.declared.asking.FrameAnswer.{FrameAnswer}
-use Rattle.rv_server.specs.declared.asking.FrameAnswer.TheVariants.{BadText, NoMemory, Said}
-
--- the desk handled this message for the seat, and this is its stamp, with the stamp's answer, if its text
--- found memory
-pub record IsAsked {S E : Type 0} (stamped : S → Stamped) (message : Message) (share share' : ℕ)
-    (result : S × Result Answer E) : Type 0 where
-  pub asked : (stamped result.0).asked ≡ message
-  pub adds : share' ≡ share + added_by (stamped result.0)
-  pub within : share' ≤ (stamped result.0).length
-  pub grows : (stamped result.0).before ≤ (stamped result.0).length
-  pub said : IfOk result.1 (λ answer. answer ≡ (stamped result.0).said)
-  pub fits : FitsAnswer (stamped result.0).said
-
--- the same as `Covers`, stamp by stamp
-abbrev pub Cover : ℕ → List Numbered → Type 0
-Cover own [] = Unit {0}
-Cover own (stamp ∷ stamps) = (own + added_by stamp.1 ≤ stamp.1.length) × Cover (own + added_by stamp.1) stamps
-
--- for the frame of this number and body these stamps were got, behind those that were there, and they added
--- to the seat's share what they say
-pub record GetsStamps (number : ℕ) (body : List ℕ) (share : ℕ) (old : List Numbered) (share' : ℕ)
-    (new got : List Numbered) : Type 0 where
-  pub behind : new ≡ old ++ got
-  pub own : AreFor number body got
-  pub adds : share' ≡ share + added_entries got
-  pub cover : Cover share got
-
--- what is told of the frame, by its body and the stamps that were got for it
-abbrev pub TellsFrame : List ℕ → List Numbered → FrameAnswer → Type 0
-TellsFrame body got BadText = IsNoMessage body
-TellsFrame body got NoMemory = Unit {0}
-TellsFrame body got (Said answer) = LastSays got answer × FitsAnswer answer
 
 -- it is told that the request waits
 pub record Waits (told : FrameAnswer) : Type 0 where
   pub answer : Answer
   pub is : told ≡ Said answer
   pub waiting : IsWaiting answer
-
--- such stamps were got, and this is told by them
-pub record GetsTold (number : ℕ) (body : List ℕ) (share : ℕ) (old : List Numbered) (share' : ℕ)
-    (new : List Numbered) (told : FrameAnswer) : Type 0 where
-  pub got : List Numbered
-  pub gets : GetsStamps number body share old share' new got
-  pub tells : TellsFrame body got told
 
 -- such stamps were got
 pub record GetsSome (number : ℕ) (body : List ℕ) (share : ℕ) (old : List Numbered) (share' : ℕ)

@@ -1,5 +1,4 @@
 -- What a reader must agree with: all that the public contracts cite.
-pub mod Stamps
 pub mod AnsweredFrames
 pub mod Works
 pub mod Serving
@@ -7,6 +6,5 @@ pub mod Books
 -- What only private clauses and proofs cite.
 pub mod Reading
 pub mod Asking
-pub mod Writing
 pub mod Sending
 pub mod Progress

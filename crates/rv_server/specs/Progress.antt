@@ -7,9 +7,10 @@ use Rattle.rv_frame.specs.declared.sink.Sink.{Sink}
 use Rattle.rv_frame.specs.Source.{SourceGives}
 use Rattle.rv_server.specs.declared.fault.WorkFault.{WorkFault}
 use Rattle.rv_server.specs.declared.fault.WorkFault.TheVariants.{NoMemory, WriteFault}
-use Rattle.rv_server.specs.Stamps.{Numbered, added_entries}
+use Rattle.rv_locked.specs.Stamps.{Numbered, added_entries}
 use Rattle.rv_server.specs.AnsweredFrames.{AnsweredFrame, AreAnsweredFrames, IsAnsweredFrame, stamps_of}
-use Rattle.rv_server.specs.Asking.{Cover, GetsStamps, OnlyWaited}
+use Rattle.rv_locked.specs.Asking.{Cover, GetsStamps}
+use Rattle.rv_server.specs.Asking.{OnlyWaited}
 use Rattle.rv_server.specs.Works.{Connection, Listed}
 
 -- where answers go: the sink, and the share of the seat

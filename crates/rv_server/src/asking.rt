@@ -1,15 +1,15 @@
 //! Asks the desk for one frame, until its answer is one that doesn't wait.
 ghost use Rattle.std.specs.Prelude.{◌≡◌, [], false, true, IfErr, IfOk, IsTrue, OnErr};
 ghost use Rattle.rv_frame.specs.Sink.{SinkTakes, sink_failed};
-ghost use Rattle.rv_server.specs.Asking.{GetsTold, StopsAsking, Waits};
-ghost use Rattle.rv_server.specs.Stamps.{shown_stamps};
+ghost use Rattle.rv_locked.specs.Asking.{GetsTold};
+ghost use Rattle.rv_locked.specs.Stamps.{shown_stamps};
+ghost use Rattle.rv_server.specs.Asking.{StopsAsking, Waits};
 
 use crate::context::WorkerContext;
-use crate::desk::{Clock, Desk, Gate};
 use crate::fault::WorkFault;
-use crate::shared::Seat;
 use rv_frame::{Sink, WriteFault};
-use rv_text::{Answer, NoMemory, TextFault, decode_message};
+use rv_locked::{Clock, Desk, FrameAnswer, Gate, Seat};
+use rv_text::{Answer, NoMemory};
 use std::io::Write;
 use std::sync::Wait;
 use std::sync::ledger::Ledger;
@@ -17,28 +17,18 @@ use std::sync::ledger::Ledger;
 /// The most pauses for one frame whose request waits.
 pub(crate) const MAX_PAUSES: usize = 200;
 
-// The answer to a frame, before it is written.
-#[derive(Drop)]
-pub(crate) enum FrameAnswer {
-    BadText,
-    NoMemory,
-    Said(Answer),
-}
-
-impl FrameAnswer {
-    // Whether it is said that the request waits.
-    fn waits(&self) -> bool
-        ensures { IsTrue result → Waits self.now }
-    {
-        match self {
-            FrameAnswer::Said(Answer::Waiting { .. }) => true,
-            _ => false,
-        }
+// Whether it is told that the request waits.
+fn waits(told: &FrameAnswer) -> bool
+    ensures { IsTrue result → Waits told.now }
+{
+    match told {
+        FrameAnswer::Said(Answer::Waiting { .. }) => true,
+        _ => false,
     }
 }
 
 impl<'a, T: Wait, D: Desk, L: Ledger, C: Clock, G: Gate> WorkerContext<'a, T, D, L, C, G> {
-    // Asks for the frame once. Room for the stamp is made before the desk is asked.
+    // Asks for the frame once.
     fn ask_once(
         &self,
         seat: &mut Seat<L>,
@@ -50,20 +40,16 @@ impl<'a, T: Wait, D: Desk, L: Ledger, C: Clock, G: Gate> WorkerContext<'a, T, D,
             (shown_stamps D.stamped stamps.old.items) seat.new (shown_stamps D.stamped stamps.new.items)) }
         ensures refused { OnErr result ((seat.new ≡ seat.old) × (stamps.new.items ≡ stamps.old.items)) }
     {
-        stamps.reserve(1)?;
-        let message = match decode_message(self.alloc, body) {
-            Ok(message) => message,
-            Err(TextFault::NoMemory) => return Ok(FrameAnswer::NoMemory),
-            Err(TextFault::NotJson) => return Ok(FrameAnswer::BadText),
-            Err(TextFault::NotMessage) => return Ok(FrameAnswer::BadText),
-        };
-        let now = self.clock.now();
-        let (stamp, answer) = self.shared.ask(self.rt, self.alloc, seat, now, message);
-        stamps.push_reserved((number, stamp));
-        match answer {
-            Ok(answer) => Ok(FrameAnswer::Said(answer)),
-            Err(_) => Ok(FrameAnswer::NoMemory),
-        }
+        rv_locked::ask_once(
+            self.rt,
+            self.alloc,
+            self.shared,
+            self.clock,
+            seat,
+            stamps,
+            number,
+            body,
+        )
     }
 
     // Pauses. Over a sink that has failed it never does.
@@ -103,7 +89,7 @@ impl<'a, T: Wait, D: Desk, L: Ledger, C: Clock, G: Gate> WorkerContext<'a, T, D,
     {
         for _paused in 0..MAX_PAUSES {
             let told = self.ask_once(seat, stamps, number, body)?;
-            if !told.waits() {
+            if !waits(&told) {
                 return Ok(told);
             }
             self.flush_and_pause(sink)?;

@@ -1,6 +1,5 @@
 //! The parts that all workers of a server share.
-use crate::desk::Desk;
-use crate::shared::Shared;
+use rv_locked::{Desk, Shared};
 use std::alloc::Global;
 use std::sync::ledger::Ledger;
 

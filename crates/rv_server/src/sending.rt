@@ -7,12 +7,11 @@ ghost use Rattle.rv_server.specs.Sending.{IsFirstFault, WorksThrough, held_behin
 ghost use Rattle.rv_server.specs.Works.{listing_of};
 
 use crate::context::WorkerContext;
-use crate::desk::{Clock, Desk, Gate};
 use crate::fault::WorkFault;
 use crate::served::Served;
-use crate::shared::Seat;
 use crate::worker::work;
 use rv_frame::{Sink, Source};
+use rv_locked::{Clock, Desk, Gate, Seat};
 use std::alloc::Global;
 use std::io;
 use std::io::{BufWriter, Read, Write};

@@ -1,17 +1,6 @@
 //! A worker's report on the frames of a connection.
-use crate::desk::Desk;
+use rv_locked::{Desk, Item};
 use std::alloc::Global;
-
-/// The kind of body that answered a frame.
-#[derive(Clone, Copy, Debug, PartialEq, Eq)]
-pub enum Item {
-    /// That of refusal 1: the frame's own body is no message's.
-    BadText,
-    /// That of refusal 11: memory was refused for reading the frame's body or for the answer's text.
-    NoMemory,
-    /// That of the answer which the frame's last stamp stands for.
-    Said,
-}
 
 /// A worker's report on the frames of a connection: one item for each frame that was answered whole, and all
 /// stamps in the order in which they came. Frames are numbered from 0.

@@ -1,21 +1,14 @@
 //! Answers the frames of a connection, one by one, until it ends.
-ghost use Rattle.std.specs.Prelude.{◌≡◌, ◌<◌, None, Some, IfErr, IfOk, OnErr, OnOk, length, take, true};
-ghost use Rattle.rv_text.specs.Bodies.{HasBodyLength};
-ghost use Rattle.rv_frame.specs.Cut.{frame_bytes};
-ghost use Rattle.rv_frame.specs.Sink.{SinkTakes, sink_failed};
+ghost use Rattle.std.specs.Prelude.{◌≡◌, None, Some, IfErr, IfOk, OnOk};
 ghost use Rattle.rv_server.specs.Works.{Works, connection, listing_of, nothing};
-ghost use Rattle.rv_server.specs.Writing.{FitsTold, WritesAnswer, WritesPart};
 ghost use Rattle.rv_server.specs.Progress.{AnswersFrame, StopsAtFrame, out};
 
-use crate::asking::FrameAnswer;
 use crate::context::WorkerContext;
-use crate::desk::{Clock, Desk, Gate};
 use crate::fault::WorkFault;
 use crate::inlet::Inlet;
-use crate::served::{Item, Served};
-use crate::shared::{Seat, Shared};
-use rv_frame::{Sink, Source, WriteFault, write_frame};
-use rv_text::{bad_text_body, encode_answer, no_memory_body};
+use crate::served::Served;
+use rv_frame::{Sink, Source};
+use rv_locked::{Clock, Desk, Gate, Seat, Shared, write_told};
 use std::alloc::Global;
 use std::io::{Read, Write};
 use std::sync::Wait;
@@ -23,40 +16,6 @@ use std::sync::ledger::Ledger;
 
 /// The most frames of a connection.
 pub const MAX_FRAMES: u32 = 65_536;
-
-// Writes the frame of this body, for which this item stands.
-fn write_item<W: Write>(sink: &mut Sink<W>, item: Item, body: &[u8]) -> Result<Item, WriteFault>
-    requires { HasBodyLength body.now }
-    ensures item { IfOk result (λ written. written ≡ item) }
-    ensures frame { OnOk result (SinkTakes W.contents sink.old sink.new (frame_bytes body.now)) }
-    ensures sent { IfErr result (λ fault.
-        SinkTakes W.contents sink.old sink.new (take fault.sent (frame_bytes body.now))) }
-    ensures part { IfErr result (λ fault. fault.sent < length (frame_bytes body.now)) }
-    ensures failed { OnErr result (sink_failed sink.new ≡ true) }
-{
-    write_frame(sink, body)?;
-    Ok(item)
-}
-
-// Writes the frame that answers, and gives the item that stands for it.
-fn write_told<W: Write>(
-    alloc: Global,
-    sink: &mut Sink<W>,
-    told: &FrameAnswer,
-) -> Result<Item, WriteFault>
-    requires { FitsTold told.now }
-    ensures whole { IfOk result (WritesAnswer W.contents sink.old sink.new told.now) }
-    ensures part { IfErr result (λ fault. WritesPart W.contents sink.old sink.new told.now fault.sent) }
-{
-    match told {
-        FrameAnswer::BadText => write_item(sink, Item::BadText, bad_text_body()),
-        FrameAnswer::NoMemory => write_item(sink, Item::NoMemory, no_memory_body()),
-        FrameAnswer::Said(answer) => match encode_answer(alloc, answer) {
-            Ok(text) => write_item(sink, Item::Said, text.as_bytes()),
-            Err(_) => write_item(sink, Item::NoMemory, no_memory_body()),
-        },
-    }
-}
 
 impl<'a, T: Wait, D: Desk, L: Ledger, C: Clock, G: Gate> WorkerContext<'a, T, D, L, C, G> {
     // Answers one frame. Room for its item is made first.

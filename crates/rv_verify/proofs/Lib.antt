@@ -9,6 +9,8 @@ pub mod Joining
 pub mod Through
 pub mod Running
 pub mod Closing
+pub mod Wider
+pub mod Small
 pub mod Agreeing
 pub mod Meeting
 pub mod Again

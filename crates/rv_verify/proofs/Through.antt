@@ -1,13 +1,11 @@
 -- What a read through the next LF gives.
 use Rattle.std.proofs.Common.{◌≡◌, ◌≢◌, ◌⊎◌, ◌∷◌, ◌++◌, ◌∙◌, ℕ, List, [], cond, length, length-append}
-use Rattle.std.proofs.Common.{Option, None, Some, IfSome, Result, Ok, Err, IfOk, IsOk}
+use Rattle.std.proofs.Common.{Option, None, Some, IfSome}
 use Rattle.std.proofs.Common.{refl, sym, ap, subst, eq-eqb, ne_eqb, inl, inr, arith, append_assoc}
 use Rattle.std.specs.Io.BufRead.{drop_through, take_through}
 use Rattle.std.proofs.lemmas.Bool.{cases_order}
 use Rattle.std.proofs.lemmas.List.{same_from_push}
 use Rattle.std.proofs.lemmas.List.Elements.{All-cons, All-nil}
-use Rattle.rv_account.specs.declared.entry.Entry.{Entry}
-use Rattle.rv_lines.specs.declared.fault.LineFault.{LineFault}
 use Rattle.rv_lines.proofs.Cutting.{Lacks, not_lacking}
 use Rattle.rv_lines.proofs.OneLine.{line_append}
 use Rattle.rv_verify.specs.Reading.{IsNext}
@@ -111,9 +109,3 @@ pub known_or : (left : Option (List ℕ)) (Holds : List ℕ → Type 0)
     → ((bytes : List ℕ) → left ≡ Some bytes → Holds bytes) → IfSome left Holds
 known_or None Holds told = tt
 known_or (Some bytes) Holds told = told bytes refl
-
--- what was read says an entry
-pub read_there : (read : Result Entry LineFault) (Says : Entry → Type 0) → IsOk read → IfOk read Says
-    → (e : Entry) × Says e
-read_there (Ok e) Says there says = (e, says)
-read_there (Err fault) Says there says = absurd (cc)

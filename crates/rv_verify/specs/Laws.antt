@@ -28,11 +28,14 @@ SayTheSame (tells.Fault place rule) (verdict.NotOpen other e) = (place ≡ other
 SayTheSame (tells.Fault place rule) (verdict.BadLine n) = ⊥
 SayTheSame (tells.Fault place rule) (verdict.BeyondLimits other) = ⊥
 
--- of lines that an audit reads as an account, whose state has had room after each of its entries, the verdict
--- says what the audit tells
+-- of lines that an audit reads as an account the verdict says what the audit tells
 abbrev pub VerdictsAgree : Type 0
 VerdictsAgree = (lines : List (List ℕ)) (a : Account) (told : Audit) (said : AccountVerdict)
-    → ReadsAccount lines a → HadRoom a → IsToldOf a told → IsVerdictOn lines said → SayTheSame told said
+    → ReadsAccount lines a → IsToldOf a told → IsVerdictOn lines said → SayTheSame told said
+
+-- of lines that an audit reads as a legal account the state has had room after each entry
+abbrev pub LegalHadRoom : Type 0
+LegalHadRoom = (lines : List (List ℕ)) (a : Account) → ReadsAccount lines a → Legal a → HadRoom a
 
 -- of lines that are read as a legal account, whose state has had room after each entry, that is the account
 -- of which a record of replies notes what passed

@@ -1,5 +1,5 @@
 -- How far an audit has gone on with an account that grows.
-use Rattle.std.specs.Prelude.{◌≡◌, ◌≢◌, ◌<◌, ◌≤◌, ◌-◌, ◌++◌, [], true, ℕ, List, Option, Some, length, take}
+use Rattle.std.specs.Prelude.{◌≡◌, ◌≢◌, ◌<◌, ◌≤◌, ◌-◌, ◌++◌, [], ℕ, List, Option, Some, length, take}
 use Rattle.std.specs.List.{All}
 use Rattle.rv_lines.specs.Lines.{lines}
 use Rattle.rv_replies.specs.declared.records.Records.{Records}
@@ -66,8 +66,7 @@ pub record HasGoneOn (until : Until) (before : List (List ℕ)) (bytes : List �
 abbrev pub IsFoundOfBytes : List ℕ → Records → AccountFinding → Type 0
 IsFoundOfBytes bytes r found = IsToldOfBytes bytes found × IsNotedOfBytes bytes found r
 
--- the same of whole lines, whose end counts as torn
+-- the same of whole lines
 pub record IsFoundOfLines (lines : List (List ℕ)) (r : Records) (found : AccountFinding) : Type 0 where
   pub verdict : IsVerdictOn lines found.verdict
   pub noted : HasNotedOf lines found.epoch r
-  pub torn : found.torn ≡ true

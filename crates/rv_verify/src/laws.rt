@@ -1,10 +1,14 @@
 //! Laws of what is told of an account: each function is its contract, over the definitions alone.
-ghost use Rattle.rv_verify.specs.Laws.{LegalIsNoted, VerdictsAgree};
+ghost use Rattle.rv_verify.specs.Laws.{LegalHadRoom, LegalIsNoted, VerdictsAgree};
 
-/// Of lines that an audit reads as an account, whose state has had room after each of its entries, the
-/// verdict says what the audit tells.
+/// Of lines that an audit reads as an account the verdict says what the audit tells.
 pub fn verdicts_agree()
     ensures { VerdictsAgree }
+{}
+
+/// Of lines that an audit reads as a legal account the state has had room after each entry.
+pub fn legal_had_room()
+    ensures { LegalHadRoom }
 {}
 
 /// Of lines that are read as a legal account, whose state has had room after each entry, the account on which

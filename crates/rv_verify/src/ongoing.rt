@@ -1,5 +1,5 @@
 //! Audits an account as it comes, also while it grows.
-ghost use Rattle.std.specs.Prelude.{◌≡◌, ◌∷◌, ◌++◌, [], ℕ, List, Some, IfOk, OnOk};
+ghost use Rattle.std.specs.Prelude.{◌≡◌, ◌≢◌, ◌↔◌, ◌∷◌, ◌++◌, [], ℕ, List, Some, IfOk, IsTrue, OnOk};
 ghost use Rattle.rv_replies.specs.declared.records.Records as records;
 ghost use Rattle.rv_lines.specs.Lines.{lines};
 ghost use Rattle.rv_verify.specs.Ends.{AreWholeLines};
@@ -72,6 +72,7 @@ impl OngoingAudit {
             → HasReadPart before self.old records.old → B.remaining reader.old ≡ Some bytes
             → IfOk result (HasGoneOn Until.Fault before (self.old.piece.items ++ bytes) self.new records.new
             (B.remaining reader.new)) }
+        ensures none_kept { IfOk result (λ why. why ≡ Pause.Fault → self.new.piece.items ≡ []) }
     {
         self.read_until(alloc, reader, records, Until::Fault)
     }
@@ -92,6 +93,7 @@ impl OngoingAudit {
             → HasReadPart before self.old records.old → B.remaining reader.old ≡ Some bytes
             → IfOk result (HasGoneOn until before (self.old.piece.items ++ bytes) self.new records.new
             (B.remaining reader.new)) }
+        ensures none_kept { IfOk result (λ why. why ≡ Pause.Fault → self.new.piece.items ≡ []) }
     {
         for _turn in 0..u64::MAX {
             match more_of_line(reader, &mut self.piece)? {
@@ -170,13 +172,16 @@ impl OngoingAudit {
         Ok(finding_on(&mut self.stage, false))
     }
 
-    /// What is told of an account that goes on: of its whole lines alone.
+    /// What is told of an account that goes on: of its whole lines alone. Its end is torn if bytes behind
+    /// them were read.
     pub fn break_off(self) -> AccountFinding
         ensures found { (read : List (List ℕ)) (r : records.Records) → HasReadLines read self.stage r
             → IsFoundOfLines read r result }
+        ensures torn { IsTrue result.torn ↔ (self.piece.items ≢ []) }
     {
         let mut audit = self;
-        finding_on(&mut audit.stage, true)
+        let torn = !audit.piece.is_empty();
+        finding_on(&mut audit.stage, torn)
     }
 }
 

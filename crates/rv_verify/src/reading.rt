@@ -1,5 +1,5 @@
 //! Reads an account to its end, and tells what it is.
-ghost use Rattle.std.specs.Prelude.{◌≡◌, Ok, Err, IfOk, IfSome, IsOk, true, false};
+ghost use Rattle.std.specs.Prelude.{◌≡◌, Ok, IfOk, IfSome, true, false};
 ghost use Rattle.rv_account.specs.declared.entry.Entry as entries;
 ghost use Rattle.rv_verify.specs.Ends.{IsToldOfBytes};
 ghost use Rattle.rv_verify.specs.Noting.{IsNotedOfBytes};
@@ -8,11 +8,8 @@ ghost use Rattle.rv_verify.specs.Verdicts.{ReadsLongEntry};
 
 use crate::fault::VerifyFault;
 use crate::ongoing::OngoingAudit;
-use rv_account::Entry;
 use rv_findings::AccountFinding;
-use rv_lines::{LineFault, read_entry};
 use rv_replies::Records;
-use rv_text::MAX_IDENTIFIER;
 use std::alloc::Global;
 use std::io::BufRead;
 
@@ -41,18 +38,8 @@ pub(crate) fn is_torn(alloc: Global, piece: &[u8]) -> Result<bool, VerifyFault>
     ensures yes { result ≡ Ok true → (e : entries.Entry) → ¬ ReadsLongEntry piece.now e }
     ensures no { result ≡ Ok false → (e : entries.Entry) × ReadsLongEntry piece.now e }
 {
-    let read = read_entry(alloc, piece, MAX_IDENTIFIER);
-    tells_torn(&read)
-}
-
-// Whether a piece that was read says no entry.
-fn tells_torn(read: &Result<Entry, LineFault>) -> Result<bool, VerifyFault>
-    ensures yes { result ≡ Ok true → read.now ≡ Err LineFault.Bad }
-    ensures no { result ≡ Ok false → IsOk read.now }
-{
-    match read {
-        Ok(_) => Ok(false),
-        Err(LineFault::Bad) => Ok(true),
-        Err(LineFault::NoMemory) => Err(VerifyFault::NoMemory),
+    match rv_torn::is_torn(alloc, piece) {
+        Ok(torn) => Ok(torn),
+        Err(_) => Err(VerifyFault::NoMemory),
     }
 }

@@ -1,12 +1,5 @@
--- A piece is torn where it is read as no entry.
-use Rattle.rv_verify.proofs.Through.{read_there}
-use Rattle.rv_verify.specs.Verdicts.{ReadsLongEntry}
+-- A piece is torn where rv_torn says so.
 use Rattle.rv_verify.proofs.reading.is_torn.Goals as goal
 
-pub returns-clause-yes : goal.returns-clause-yes
-returns-clause-yes c told = c.read_entry-read.ensures.bad (c.tells_torn.ensures.yes told)
-
-pub returns-clause-no : goal.returns-clause-no
-returns-clause-no c told =
-    read_there c.read_entry-read.result (ReadsLongEntry c.args.piece.now) (c.tells_torn.ensures.no told)
-    c.read_entry-read.ensures.reads
+pub returns-in-Ok-clause-yes : goal.returns-in-Ok-clause-yes
+returns-in-Ok-clause-yes c told = c.in-Ok.ensures.yes (cc)

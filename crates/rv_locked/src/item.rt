@@ -1,0 +1,12 @@
+//! What kind of body answers a frame.
+
+/// The kind of body that answered a frame.
+#[derive(Clone, Copy, Debug, PartialEq, Eq)]
+pub enum Item {
+    /// That of refusal 1: the frame's own body is no message's.
+    BadText,
+    /// That of refusal 11: memory was refused for reading the frame's body or for the answer's text.
+    NoMemory,
+    /// That of the answer which the frame's last stamp stands for.
+    Said,
+}

@@ -1,0 +1,2 @@
+-- The lemma that a proof of this crate cites.
+pub mod Told
