@@ -57,7 +57,8 @@ BESIDE = ("src/laws.rt", "src/testing.rt")
 NO_WRONG_BODY = (r"\w+::swap::Swap\w*::new", r"\w+::waiters::Waiters\w*::empty", r"\w+::shared::Shared\w*::lock",
                  r"\w+::account::Account\w*::allocator", r"\w+::\w+::Verifier\w*::machine", r"\w+::records::Records\w*::new",
                  r"\w+::desk::HubDesk\w*::machine", r"\w+::desk::HubDesk\w*::wires",
-                 r"\w+::hub::Hub\w*::machine")
+                 r"\w+::hub::Hub\w*::machine", r"\w+::engine::Engine\w*::hub",
+                 r"\w+::traffic::Switchboard\w*::engine", r"\w+::traffic::Switchboard\w*::links")
 # Names of types and definitions that two crates declare: in each they mean the same. Of `Item` one crate has what a producer
 # hands over, the other what a frame was answered by; of `Clients` one has the sessions, the other the processes.
 SHARED = ("Clients", "Item", "NoMemory", "Place", "Stamp")

@@ -19,7 +19,9 @@ pub use audit::{AuditSaid, audit_run};
 use fault::ProgramFault;
 pub use rv_calls::{CallSaid, RecordFault, RecordingFault, call_run, record_run};
 pub use rv_command::{Command, CommandFault, read_command, read_record, read_verify};
+use rv_command::{HelpAnswer, read_help, words_of_host};
 use rv_frame::{Sink, Source};
+use rv_host::run_host;
 pub use rv_play::play_run;
 pub use rv_run::{OutputFault, RunFault};
 use rv_server::ServeFault;
@@ -66,12 +68,27 @@ fn run_words<T: Threads + Wait + AllocGlobal + time::Clock + Sync>(
     threads: &T,
     words: &[&str],
 ) -> Result<ExitCode, ProgramFault> {
+    if let Some(own) = words_of_host(words) {
+        return Ok(ExitCode::from(run_host(rt, own)));
+    }
+    if let Some(code) = run_help(rt, words)? {
+        return Ok(code);
+    }
     if let Some((file, call)) = read_record(rt.alloc(), words)? {
         return run_recorded(rt, file, &call);
     }
     if let Some(verify) = read_verify(rt.alloc(), words)? {
         return run_verify(rt, threads, &verify);
     }
+    run_command(rt, threads, words)
+}
+
+// Runs one of the other commands.
+fn run_command<T: Threads + Wait + AllocGlobal + time::Clock + Sync>(
+    rt: &HostRuntime,
+    threads: &T,
+    words: &[&str],
+) -> Result<ExitCode, ProgramFault> {
     match read_command(rt.alloc(), words)? {
         Command::Book(epoch) => run_book(rt, epoch)?,
         Command::Play => run_play(rt)?,
@@ -98,6 +115,25 @@ fn run_words<T: Threads + Wait + AllocGlobal + time::Clock + Sync>(
         } => return run_call(rt, connect, client, incarnation, speak, tries),
     }
     Ok(ExitCode::SUCCESS)
+}
+
+// Prints help, if the words ask for it, and gives the status.
+fn run_help(rt: &HostRuntime, words: &[&str]) -> Result<Option<ExitCode>, CommandFault> {
+    match read_help(rt.alloc(), words)? {
+        Some(help) => Ok(Some(tell_help(rt, &help))),
+        None => Ok(None),
+    }
+}
+
+// Prints the help that was asked for, or why there is none.
+fn tell_help(rt: &HostRuntime, help: &HelpAnswer) -> ExitCode {
+    let status = help.status();
+    let _ = if status == 0 {
+        print!(rt; "{help}")
+    } else {
+        eprint!(rt; "{help}")
+    };
+    ExitCode::from(status)
 }
 
 // The words of the command line. Words that are no UTF-8 name no command.

@@ -3,3 +3,4 @@ pub mod Options
 pub mod Commands
 pub mod RecordWords
 pub mod OwnWords
+pub mod Helps

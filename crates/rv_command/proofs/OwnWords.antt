@@ -1,17 +1,17 @@
--- Words that begin as those of an account to be verified.
-use Rattle.std.proofs.Common.{◌≡◌, ◌≤◌, ◌-◌, ◌∷◌, ◌∙◌, [], Bor, List, arith, codes, drop, length}
+-- Words that begin by a command's name.
+use Rattle.std.proofs.Common.{◌≡◌, ◌≤◌, ◌-◌, ◌∷◌, ◌∙◌, [], Bor, List, arith, drop, length}
 use Rattle.std.proofs.Common.{slice_index_or, take}
 use Rattle.std.proofs.lemmas.List.{take_rest}
 use Rattle.clap.specs.Words.{Text}
 use Rattle.clap.specs.Walk.{texts}
 
-pub verify_words : (words : List (Bor Text)) (d : Bor Text) → 2 ≤ length words
-    → (slice_index_or words 1 d).now ≡ codes "verify"
-    → (name : Text) × (rest : List Text) × (texts words ≡ name ∷ codes "verify" ∷ rest)
-    × (texts (take (length words - 1) (drop 1 words)) ≡ codes "verify" ∷ rest)
-verify_words [] d long is = absurd (omega (arith, long))
-verify_words (a ∷ []) d long is = absurd (omega (arith, long))
-verify_words (a ∷ b ∷ rest) d long is = (
+pub begin_by : (word : Text) (words : List (Bor Text)) (d : Bor Text) → 2 ≤ length words
+    → (slice_index_or words 1 d).now ≡ word
+    → (name : Text) × (rest : List Text) × (texts words ≡ name ∷ word ∷ rest)
+    × (texts (take (length words - 1) (drop 1 words)) ≡ word ∷ rest)
+begin_by word [] d long is = absurd (omega (arith, long))
+begin_by word (a ∷ []) d long is = absurd (omega (arith, long))
+begin_by word (a ∷ b ∷ rest) d long is = (
   a.now,
   texts rest,
   λ i. a.now ∷ is i ∷ texts rest,

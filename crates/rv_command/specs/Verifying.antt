@@ -3,6 +3,7 @@ use Rattle.std.specs.Prelude.{codes, List, Some, true, IsTrue, [], ◌∷◌, �
 use Rattle.clap.specs.Words.{App, Row, Rule, Text, fault_of, first_of, matches_of, new_app, new_rule}
 use Rattle.clap.specs.Words.{with_rule}
 use Rattle.clap.specs.declared.builder.ArgAction.TheVariants.{Set, SetTrue}
+use Rattle.rv_command.specs.Beginning.{BeginWithout}
 use Rattle.rv_command.specs.declared.verifying.VerifyWords.{VerifyWords}
 
 -- a value that has to be given, with no option before it
@@ -45,4 +46,4 @@ NamesNoVerify words = (v : VerifyWords) → ¬ NamesVerify words v
 
 -- behind the program's name, if there is one, stands another word or none
 abbrev pub BeginOtherwise : List Text → Type 0
-BeginOtherwise words = (name : Text) (rest : List Text) → ¬ (words ≡ name ∷ codes "verify" ∷ rest)
+BeginOtherwise = BeginWithout (codes "verify")

@@ -3,7 +3,7 @@ ghost use Rattle.std.specs.Prelude.{IfOk, IfSome, IsErrOf, None, codes, false, o
 ghost use Rattle.std.specs.Prelude.{ℕ, ◌≡◌, []};
 ghost use Rattle.std.specs.Option.{IsSomeAnd};
 ghost use Rattle.clap.specs.Words.{HasMatchesOf, Text, app_of, fault_of, first_of, found_of};
-ghost use Rattle.clap.specs.Words.{is_simple_and_free, kind_of, rows_of, rule_of};
+ghost use Rattle.clap.specs.Words.{is_simple_and_free, kind_of, new_app, rows_of, rule_of};
 ghost use Rattle.clap.specs.Words.{shape_of, subcommand_of, subcommand_rows_of};
 ghost use Rattle.clap.specs.declared.Command.TheViews.{out-Command};
 ghost use Rattle.clap.specs.Walk.{texts};
@@ -14,6 +14,7 @@ ghost use Rattle.rv_command.specs.Command.{play_app, required_option, rv_app, se
 ghost use Rattle.rv_command.specs.declared.command.CommandFault.TheVariants.{Bad, NoMemory};
 ghost use Rattle.clap.specs.declared.error.ErrorKind.TheVariants.{OutOfMemory};
 
+use crate::texts::{about, option_help};
 use clap::error::ErrorKind;
 use clap::{Arg, ArgAction, ArgMatches};
 use rv_lines::{read_between, read_identifier};
@@ -245,8 +246,8 @@ pub(crate) fn taken<'a>(
     Ok(command.try_get_matches_from(words)?)
 }
 
-// The program, as clap reads it.
-fn program<'a>(alloc: Global) -> Result<clap::Command<'a>, AllocError>
+/// The program, as clap reads it.
+pub(crate) fn program<'a>(alloc: Global) -> Result<clap::Command<'a>, AllocError>
     ensures { IfOk result (λ c. app_of c ≡ rv_app) }
 {
     local_program(alloc)?
@@ -258,7 +259,7 @@ fn program<'a>(alloc: Global) -> Result<clap::Command<'a>, AllocError>
 fn local_program<'a>(alloc: Global) -> Result<clap::Command<'a>, AllocError>
     ensures { IfOk result (λ c. app_of c ≡ local_app) }
 {
-    clap::Command::new(alloc, "rv")
+    named(alloc, "rv")
         .subcommand(book_words(alloc)?)?
         .subcommand(play_words(alloc))?
         .subcommand(audit_words(alloc))
@@ -269,7 +270,7 @@ fn book_words<'a>(alloc: Global) -> Result<clap::Command<'a>, AllocError>
     ensures shape { IfOk result (λ c. shape_of c ≡ book_app.top) }
     ensures local { IfOk result (λ c. (out-Command c).has_globals ≡ false) }
 {
-    clap::Command::new(alloc, "book").arg(required_option(alloc, "epoch"))
+    named(alloc, "book").arg(required_option(alloc, "epoch"))
 }
 
 // `play`, as clap reads it.
@@ -277,7 +278,7 @@ fn play_words<'a>(alloc: Global) -> clap::Command<'a>
     ensures shape { shape_of result ≡ play_app.top }
     ensures local { (out-Command result).has_globals ≡ false }
 {
-    clap::Command::new(alloc, "play")
+    named(alloc, "play")
 }
 
 // `audit`, as clap reads it.
@@ -285,7 +286,7 @@ fn audit_words<'a>(alloc: Global) -> clap::Command<'a>
     ensures shape { shape_of result ≡ audit_app.top }
     ensures local { (out-Command result).has_globals ≡ false }
 {
-    clap::Command::new(alloc, "audit")
+    named(alloc, "audit")
 }
 
 // `serve --listen ADDR --epoch E --workers W --connections N`, as clap reads it.
@@ -293,7 +294,7 @@ fn serve_words<'a>(alloc: Global) -> Result<clap::Command<'a>, AllocError>
     ensures shape { IfOk result (λ c. shape_of c ≡ serve_app.top) }
     ensures local { IfOk result (λ c. (out-Command c).has_globals ≡ false) }
 {
-    clap::Command::new(alloc, "serve")
+    named(alloc, "serve")
         .arg(required_option(alloc, "listen"))?
         .arg(required_option(alloc, "epoch"))?
         .arg(required_option(alloc, "workers"))?
@@ -315,14 +316,22 @@ fn caller_words<'a>(alloc: Global) -> Result<clap::Command<'a>, AllocError>
     ensures shape { IfOk result (λ c. shape_of c ≡ caller_app.top) }
     ensures local { IfOk result (λ c. (out-Command c).has_globals ≡ false) }
 {
-    clap::Command::new(alloc, "call")
+    named(alloc, "call")
         .arg(required_option(alloc, "connect"))?
         .arg(required_option(alloc, "client"))?
         .arg(required_option(alloc, "incarnation"))
 }
 
-// An option `--name VALUE` that has to be given.
-fn required_option<'a>(alloc: Global, name: &'a str) -> Arg<'a>
+/// A command of this name, with no option yet, and what help says of it.
+pub(crate) fn named<'a>(alloc: Global, name: &'a str) -> clap::Command<'a>
+    ensures app { app_of result ≡ new_app name.entry.now }
+    ensures local { (out-Command result).has_globals ≡ false }
+{
+    clap::Command::new(alloc, name).about(about(name))
+}
+
+/// An option `--name VALUE` that has to be given.
+pub(crate) fn required_option<'a>(alloc: Global, name: &'a str) -> Arg<'a>
     ensures rule { rule_of result ≡ required_option name.entry.now }
     ensures local { result.global ≡ false }
 {
@@ -330,4 +339,5 @@ fn required_option<'a>(alloc: Global, name: &'a str) -> Arg<'a>
         .long(name)
         .required(true)
         .action(ArgAction::Set)
+        .help(option_help(name))
 }

@@ -2,12 +2,15 @@
 ghost use Rattle.std.specs.Prelude.{◌≡◌, ◌∷◌, ◌↔◌, [], codes, false, IfOk, IfSome, IsErrOf, IsTrue};
 ghost use Rattle.std.specs.Prelude.{List, None, Some};
 ghost use Rattle.clap.specs.Words.{Text, app_of, fault_of, first_of, found_of, matches_of, rows_of, rule_of};
+ghost use Rattle.clap.specs.Words.{shape_of};
 ghost use Rattle.clap.specs.Walk.{texts};
+ghost use Rattle.clap.specs.declared.Command.TheViews.{out-Command};
 ghost use Rattle.rv_command.specs.Verifying.{BeginOtherwise, ClapSays, NamesNoVerify, NamesVerify};
 ghost use Rattle.rv_command.specs.Verifying.{SaysVerify};
 ghost use Rattle.rv_command.specs.Verifying.{file_rule, follow_rule, replies_rule, verify_app};
 
-use crate::command::{CommandFault, taken, text_of};
+use crate::command::{CommandFault, named, taken, text_of};
+use crate::words::words_of_verify;
 use clap::{Arg, ArgAction, ArgMatches};
 use std::alloc::{AllocError, Global};
 
@@ -35,21 +38,9 @@ pub fn read_verify<'a>(
     ensures other { IfOk result (λ found. found ≡ None → BeginOtherwise (texts words.entry.now)) }
     ensures bad { IsErrOf result CommandFault.Bad → NamesNoVerify (texts words.entry.now) }
 {
-    match own_words(words) {
+    match words_of_verify(words) {
         Some(own) => Ok(Some(said(alloc, own)?)),
         None => Ok(None),
-    }
-}
-
-// The words from `verify` on.
-fn own_words<'a>(words: &'a [&'a str]) -> Option<&'a [&'a str]>
-    ensures some { IfSome result (λ own. (name : Text) × (rest : List Text)
-        × (texts words.entry.now ≡ name ∷ codes "verify" ∷ rest) × (texts own.now ≡ codes "verify" ∷ rest)) }
-    ensures none { result ≡ None → BeginOtherwise (texts words.entry.now) }
-{
-    match words {
-        [_, "verify", ..] => Some(&words[1..]),
-        _ => None,
     }
 }
 
@@ -107,11 +98,13 @@ fn matches_in<'a>(alloc: Global, own: &'a [&'a str]) -> Result<ArgMatches<'a>, C
     taken(command(alloc)?, own)
 }
 
-// `verify FILE --replies FILE --follow`, as clap reads it.
-fn command<'a>(alloc: Global) -> Result<clap::Command<'a>, AllocError>
-    ensures { IfOk result (λ c. app_of c ≡ verify_app) }
+/// `verify FILE --replies FILE --follow`, as clap reads it.
+pub(crate) fn command<'a>(alloc: Global) -> Result<clap::Command<'a>, AllocError>
+    ensures app { IfOk result (λ c. app_of c ≡ verify_app) }
+    ensures shape { IfOk result (λ c. shape_of c ≡ verify_app.top) }
+    ensures local { IfOk result (λ c. (out-Command c).has_globals ≡ false) }
 {
-    clap::Command::new(alloc, "verify")
+    named(alloc, "verify")
         .arg(file_word(alloc))?
         .arg(replies_option(alloc))?
         .arg(follow_flag(alloc))
@@ -125,6 +118,7 @@ fn file_word<'a>(alloc: Global) -> Arg<'a>
     Arg::new(alloc, "FILE")
         .required(true)
         .action(ArgAction::Set)
+        .help("The account's file, or - for standard input")
 }
 
 // An option `--replies FILE`, which may lack.
@@ -135,6 +129,7 @@ fn replies_option<'a>(alloc: Global) -> Arg<'a>
     Arg::new(alloc, "replies")
         .long("replies")
         .action(ArgAction::Set)
+        .help("A file of recorded replies, each of which the account has to keep")
 }
 
 // A flag `--follow`.
@@ -145,4 +140,5 @@ fn follow_flag<'a>(alloc: Global) -> Arg<'a>
     Arg::new(alloc, "follow")
         .long("follow")
         .action(ArgAction::SetTrue)
+        .help("Go on as the file grows")
 }

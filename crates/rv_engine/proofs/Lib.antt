@@ -1,0 +1,7 @@
+-- The lemmas that the proofs of this crate share.
+pub mod Gathered
+pub mod Looking
+pub mod Through
+pub mod Sure
+pub mod Written
+pub mod Running

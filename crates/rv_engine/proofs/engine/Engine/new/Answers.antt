@@ -1,0 +1,25 @@
+-- No line is gathered, no entry left, and no connection listed.
+use Rattle.std.proofs.Common.{◌∙◌, ap, arith, length, sym}
+use Rattle.rv_engine.proofs.Through.{all_gathered, state_is}
+use Rattle.rv_engine.proofs.engine.Engine.new.Goals as goal
+
+pub invariant_of-result : goal.invariant_of-result
+invariant_of-result c = record {
+  looks = c.in_ok-looks.ensures.sound;
+  round = c.in_ok-round.ensures.sound;
+  room = c.in_ok-round.ensures.room ∙ sym c.in_ok-looks.ensures.room;
+  account = c.in_ok-hub.ensures.journal;
+  within = omega (arith, ap length c.entries-gathered.ensures);
+  nothing = λ _. record {
+    lines = c.new-4.ensures.bytes;
+    left = all_gathered c.entries-gathered.result.now c.in_ok-hub.hub.desk.entries.items
+        c.entries-gathered.ensures;
+  };
+}
+
+pub returns-clause-state : goal.returns-clause-state
+returns-clause-state c =
+    state_is _ _ c.args.room c.in_ok-hub.ensures.state c.new-4.ensures.bytes
+    (all_gathered c.entries-gathered.result.now c.in_ok-hub.hub.desk.entries.items
+    c.entries-gathered.ensures) c.in_ok-looks.ensures.none c.in_ok-round.ensures.none
+    c.in_ok-looks.ensures.room

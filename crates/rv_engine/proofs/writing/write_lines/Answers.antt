@@ -1,0 +1,58 @@
+-- What is written behind a gathering.
+use Rattle.std.proofs.Common.{◌≡◌, ◌<◌, ◌∙◌, ℕ, List, [], ap, arith, length, refl, subst, sym, take}
+use Rattle.rv_frame.specs.Sink.{SinkTakes}
+use Rattle.rv_hub.specs.declared.parts.HubParts.{HubParts}
+use Rattle.rv_hub.specs.Hubs.{hub_terms}
+use Rattle.rv_engine.specs.declared.parts.EngineParts.{EngineParts}
+use Rattle.rv_engine.specs.Engines.{EngineState, engine_state}
+use Rattle.rv_engine.specs.Handing.{Gathers, TellsWritten, WritesLines, all_gone}
+use Rattle.rv_engine.proofs.Written.{all_lines, gone_is, wrote_some}
+use Rattle.rv_engine.proofs.writing.write_lines.Goals as goal
+
+pub returns-in-Err-clause-not_told : goal.returns-in-Err-clause-not_told
+returns-in-Err-clause-not_told g c =
+    subst (λ (e : EngineParts). Gathers (engine_state c.args.parts.now) (engine_state e)
+    × SinkTakes g.W.Write.contents c.args.file.now c.write_gathered.new.file
+    (take c.in-Err.why.sent (engine_state e).lines)) (sym c.in-Err.ensures.same)
+    (c.catch_up.ensures.gathers, c.in-Err.ensures.part)
+
+pub returns-then-not-is_caught_up-clause-not_told : goal.returns-then-not-is_caught_up-clause-not_told
+returns-then-not-is_caught_up-clause-not_told g c =
+    let old = engine_state c.args.parts.now in
+    let mid = engine_state c.catch_up.new.parts in
+    let gone = c.in_default.ensures.gone in
+    let same : length (engine_state c.write_gathered.new.parts).left ≡ length mid.left =
+    ap (λ (x : EngineState). length x.left) gone in
+    subst (λ (x : EngineState). (0 < length x.left) × (x.lines ≡ []) × (bytes : List ℕ)
+    × SinkTakes g.W.Write.contents c.args.file.now c.write_gathered.new.file bytes
+    × WritesLines old bytes x) (sym gone) (
+      omega (arith, same, c.if-not-is_caught_up.ensures.no),
+      refl,
+      mid.lines,
+      c.in_default.ensures.written,
+      wrote_some old mid c.catch_up.ensures.gathers,
+    )
+
+pub returns-clause-written : goal.returns-clause-written
+returns-clause-written g c =
+    let old = engine_state c.args.parts.now in
+    let mid = engine_state c.catch_up.new.parts in
+    let none : mid.left ≡ [] = sym (ap (λ (x : EngineState). x.left) c.in_default.ensures.gone)
+    ∙ c.if-not-is_caught_up.ensures.yes in
+    subst (λ (l : List ℕ). SinkTakes g.W.Write.contents c.args.file.now c.write_gathered.new.file l)
+    (all_lines old mid c.catch_up.ensures.gathers none) c.in_default.ensures.written
+
+pub returns-clause-tells : goal.returns-clause-tells
+returns-clause-tells g c =
+    let old = engine_state c.args.parts.now in
+    let mid = engine_state c.catch_up.new.parts in
+    let none : mid.left ≡ [] = sym (ap (λ (x : EngineState). x.left) c.in_default.ensures.gone)
+    ∙ c.if-not-is_caught_up.ensures.yes in
+    let wrote = c.write_gathered.new.parts in
+    let made = c.tell_written.new.parts.hub.desk.entries.items in
+    let new = engine_state c.tell_written.new.parts in
+    subst (λ (h : HubParts). TellsWritten h.has_journal (hub_terms h) (all_gone old) c.args.now made
+    c.tell_written.result new) (c.write_gathered.ensures.hub ∙ c.catch_up.ensures.hub)
+    (subst (λ (x : EngineState). TellsWritten wrote.hub.has_journal (hub_terms wrote.hub) x c.args.now made
+    c.tell_written.result new) (c.in_default.ensures.gone ∙ gone_is old mid c.catch_up.ensures.gathers none)
+    c.tell_written.ensures.tells)

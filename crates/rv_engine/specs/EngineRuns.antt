@@ -1,0 +1,116 @@
+-- Calls of an engine, one after another: of the hub the run of exactly the events that were handed on, and of
+-- the account the lines of all entries that these made, in order.
+use Rattle.std.specs.Prelude.{ℕ, ◌≡◌, ◌≤◌, ◌+◌, Bool, true, List, [], ◌∷◌, ◌++◌, length}
+use Rattle.rv_account.specs.declared.entry.Entry.{Entry}
+use Rattle.rv_account.specs.Account.{Account}
+use Rattle.rv_account.specs.Limits.{max_moment}
+use Rattle.rv_rules.specs.StepLimits.{AreStepLimits}
+use Rattle.rv_lines.specs.Lines.{printed_lines}
+use Rattle.rv_lines.specs.Written.{account_lines}
+use Rattle.rv_desk.specs.View.{DeskTerms}
+use Rattle.rv_hub.specs.declared.events.HubEvent.{HubEvent}
+use Rattle.rv_hub.specs.HubRuns.{AddsEntries, HubAnswer, IsHubAccount, RefusedEvent, RunsHub, TookEvent}
+use Rattle.rv_hub.specs.HubRuns.{made_in}
+use Rattle.rv_engine.specs.declared.events.EngineFault.{EngineFault}
+use Rattle.rv_engine.specs.declared.events.EngineFault.TheVariants as fault
+use Rattle.rv_engine.specs.Engines.{EngineState}
+use Rattle.rv_engine.specs.Handing.{GathersFront, HandsOn, IsRefused, WritesLines, entries_kept}
+use Rattle.rv_engine.specs.Handing.{gathered_count, unwritten}
+
+-- what came of an event, or of lines
+pub data EngineDeed : Type 0 where
+  -- the event was handed on at a moment and taken, made these entries and gave this
+  HandedOn : (handed : ℕ) (what : HubEvent) (made : List Entry) (given : ℕ) → EngineDeed
+  -- it wasn't taken
+  NotTaken : (what : HubEvent) (why : EngineFault) → EngineDeed
+  -- lines were gathered, and these were written
+  WroteLines : (bytes : List ℕ) → EngineDeed
+  -- others are to be looked at
+  Looked : EngineDeed
+
+-- all but whom to look at is as it was
+pub record ChangesLooks (s t : EngineState) : Type 0 where
+  pub hub : t.hub ≡ s.hub
+  pub lines : t.lines ≡ s.lines
+  pub left : t.left ≡ s.left
+
+abbrev pub DoesDeed : Bool → DeskTerms → EngineState → EngineDeed → EngineState → Type 0
+DoesDeed journal terms s (HandedOn handed what made given) t = HandsOn journal terms s handed what made given
+    t
+DoesDeed journal terms s (NotTaken what why) t = IsRefused s what why t
+DoesDeed journal terms s (WroteLines bytes) t = WritesLines s bytes t
+DoesDeed journal terms s Looked t = ChangesLooks s t
+
+abbrev pub RunsEngine : Bool → DeskTerms → EngineState → List EngineDeed → EngineState → Type 0
+RunsEngine journal terms s [] t = t ≡ s
+RunsEngine journal terms s (deed ∷ deeds) t =
+    (between : EngineState) × DoesDeed journal terms s deed between × RunsEngine journal terms between deeds t
+
+-- what came of the events that were handed on
+abbrev pub answers_in : List EngineDeed → List HubAnswer
+answers_in [] = []
+answers_in (HandedOn handed what made given ∷ deeds) = TookEvent handed what made given ∷ answers_in deeds
+answers_in (NotTaken what (fault.Refused why) ∷ deeds) = RefusedEvent ∷ answers_in deeds
+answers_in (NotTaken what fault.NoMemory ∷ deeds) = answers_in deeds
+answers_in (NotTaken what (fault.NotWritten why) ∷ deeds) = answers_in deeds
+answers_in (WroteLines bytes ∷ deeds) = answers_in deeds
+answers_in (Looked ∷ deeds) = answers_in deeds
+
+-- all bytes that were written, in order
+abbrev pub bytes_written : List EngineDeed → List ℕ
+bytes_written [] = []
+bytes_written (HandedOn handed what made given ∷ deeds) = bytes_written deeds
+bytes_written (NotTaken what why ∷ deeds) = bytes_written deeds
+bytes_written (WroteLines bytes ∷ deeds) = bytes ++ bytes_written deeds
+bytes_written (Looked ∷ deeds) = bytes_written deeds
+
+-- the hub behind a run is that of the events that were handed on, in order; and of the entries that were left
+-- before and those that these made, where an account is kept, a front has its lines written or gathered, in
+-- order, and the others are left
+pub record IsEngineRun (journal : Bool) (terms : DeskTerms) (s : EngineState) (deeds : List EngineDeed)
+    (t : EngineState) : Type 0
+  where
+    pub hub : RunsHub journal terms s.hub (answers_in deeds) t.hub
+    pub account : GathersFront (s.left ++ entries_kept journal (made_in (answers_in deeds))) s.lines t.left
+        (bytes_written deeds ++ t.lines)
+
+abbrev pub EnginesAreRuns : Type 0
+EnginesAreRuns = (journal : Bool) (terms : DeskTerms) (deeds : List EngineDeed) (s t : EngineState)
+    → RunsEngine journal terms s deeds t → IsEngineRun journal terms s deeds t
+
+-- ---- the account, where one is kept, from an engine on of which all is written
+
+pub record IsAllWritten (s : EngineState) : Type 0 where
+  pub lines : s.lines ≡ []
+  pub left : s.left ≡ []
+
+-- what is written and gathered are the lines of a front of the entries: of all, where none is left
+pub record AreCounted (s : EngineState) (made : List Entry) (bytes : List ℕ) (t : EngineState) : Type 0 where
+  pub gathers : GathersFront made [] t.left (bytes ++ t.lines)
+  pub count : gathered_count t ≡ s.hub.book.length + length gathers.front
+
+abbrev pub WrittenAreCounted : Type 0
+WrittenAreCounted = (terms : DeskTerms) (deeds : List EngineDeed) (s t : EngineState)
+    → RunsEngine true terms s deeds t → IsAllWritten s
+    → AreCounted s (made_in (answers_in deeds)) (bytes_written deeds) t
+
+-- behind the lines of a legal account, what is written and what isn't yet are those of a legal account, of
+-- which the hub has the state
+pub record KeepsAccount (a : Account) (bytes : List ℕ) (t : EngineState) (made : List Entry) : Type 0 where
+  pub after : Account
+  pub adds : AddsEntries a made after
+  pub is : IsHubAccount after t.hub
+  pub text : printed_lines (account_lines after) ≡ printed_lines (account_lines a) ++ (bytes ++ unwritten t)
+
+abbrev pub AccountsAreKept : Type 0
+AccountsAreKept = (terms : DeskTerms) (deeds : List EngineDeed) (s t : EngineState) (a : Account)
+    → AreStepLimits terms.limits → RunsEngine true terms s deeds t → IsAllWritten s
+    → t.hub.now ≤ max_moment → IsHubAccount a s.hub
+    → KeepsAccount a (bytes_written deeds) t (made_in (answers_in deeds))
+
+-- ---- want of memory
+
+-- where no entry is left the next event is handed on: it isn't refused for want of memory to earlier lines
+abbrev pub HandsOnNext : Type 0
+HandsOnNext = (old new : EngineState) (what : HubEvent) → old.left ≡ []
+    → ¬ IsRefused old what fault.NoMemory new

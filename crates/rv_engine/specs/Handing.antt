@@ -1,0 +1,158 @@
+-- What comes of an event that a shell tells an engine.
+use Rattle.std.specs.Prelude.{ℕ, ◌≡◌, ◌<◌, ◌≤◌, ◌-◌, ◌↔◌, ◌⊎◌, Bool, false, true, List, [], ◌++◌, Contains}
+use Rattle.std.specs.Prelude.{length}
+use Rattle.std.specs.Prelude.{None, Option, Some, map, take}
+use Rattle.rv_account.specs.declared.entry.Entry.{Entry}
+use Rattle.rv_frame.specs.declared.sink.Sink.{Sink}
+use Rattle.rv_frame.specs.Sink.{SinkTakes}
+use Rattle.rv_lines.specs.Lines.{printed_lines}
+use Rattle.rv_lines.specs.Written.{entry_text}
+use Rattle.rv_desk.specs.View.{DeskTerms, begun}
+use Rattle.rv_desk.specs.Runs.{ListsChanged}
+use Rattle.rv_hub.specs.declared.events.EventRefusal.{EventRefusal}
+use Rattle.rv_hub.specs.declared.events.HubEvent.{HubEvent}
+use Rattle.rv_hub.specs.declared.events.HubEvent.TheVariants as event
+use Rattle.rv_hub.specs.Turns.{EventRefused, TakesEvent, TakesPiece}
+use Rattle.rv_engine.specs.declared.events.EngineFault.{EngineFault}
+use Rattle.rv_engine.specs.declared.events.EngineFault.TheVariants as fault
+use Rattle.rv_engine.specs.declared.events.LinkEvent.{LinkEvent}
+use Rattle.rv_engine.specs.declared.events.LinkEvent.TheVariants as link
+use Rattle.rv_engine.specs.Engines.{EngineState}
+
+-- the same event, as the hub is told
+abbrev pub told_hub : LinkEvent → HubEvent
+told_hub link.Opened = event.Opened
+told_hub (link.Came connection piece) = event.Came connection piece
+told_hub (link.Ended connection) = event.Ended connection
+told_hub (link.Gone connection) = event.Gone connection
+told_hub (link.Took connection count) = event.Took connection count
+told_hub link.Passed = event.Passed
+
+-- any event but that a connection is to be opened
+abbrev pub IsNoOpening : HubEvent → Type 0
+IsNoOpening event.Opened = ⊥
+IsNoOpening (event.Came connection piece) = Unit {0}
+IsNoOpening (event.Ended connection) = Unit {0}
+IsNoOpening (event.Gone connection) = Unit {0}
+IsNoOpening (event.Took connection count) = Unit {0}
+IsNoOpening (event.Written entries) = Unit {0}
+IsNoOpening event.Passed = Unit {0}
+
+-- ---- the account
+
+-- the lines of entries, as they are written for an account
+abbrev pub entry_lines : List Entry → List ℕ
+entry_lines entries = printed_lines (map entry_text entries)
+
+-- all lines that aren't written: those that are gathered, and of the entries that are left
+abbrev pub unwritten : EngineState → List ℕ
+unwritten s = s.lines ++ entry_lines s.left
+
+-- the entries that are to be written, where an account is kept; else none
+abbrev pub entries_kept : Bool → List Entry → List Entry
+entries_kept true made = made
+entries_kept false made = []
+
+-- the lines of a front of the entries are gathered behind those that were, and the other entries are left
+pub record GathersFront (entries : List Entry) (before : List ℕ) (left : List Entry) (lines : List ℕ) :
+    Type 0
+  where
+    pub front : List Entry
+    pub parts : entries ≡ front ++ left
+    pub gathered : lines ≡ before ++ entry_lines front
+
+-- how many entries have their line gathered or written
+abbrev pub gathered_count : EngineState → ℕ
+gathered_count s = s.hub.book.length - length s.left
+
+-- ---- whom to look at
+
+-- listed are those that were, and of these all below the room
+abbrev pub AddsLooks : ℕ → List ℕ → List ℕ → List ℕ → Type 0
+AddsLooks room old numbers new = (n : ℕ)
+    → Contains new n ↔ (Contains old n ⊎ (Contains numbers n × (n < room)))
+
+pub record SameLooks (old new : EngineState) : Type 0 where
+  pub looks : new.looks ≡ old.looks
+  pub round : new.round ≡ old.round
+  pub room : new.room ≡ old.room
+
+-- these are to be looked at too, in the next round
+pub record LooksAt (old : EngineState) (numbers : List ℕ) (new : EngineState) : Type 0 where
+  pub looks : AddsLooks old.room old.looks numbers new.looks
+  pub round : new.round ≡ old.round
+  pub room : new.room ≡ old.room
+
+-- ---- events
+
+-- the lines of entries that are left are gathered, as far as memory allows, and nothing else changes
+pub record Gathers (old new : EngineState) : Type 0 where
+  pub gathers : GathersFront old.left old.lines new.left new.lines
+  pub hub : new.hub ≡ old.hub
+  pub looks : SameLooks old new
+
+-- the event was handed on, once all lines of earlier entries were gathered, and the hub took it. Of the
+-- entries that it made the lines are gathered too, or they are left; and each that changed is to be looked at
+pub record HandsOn (journal : Bool) (terms : DeskTerms) (old : EngineState) (handed : ℕ) (what : HubEvent)
+    (made : List Entry) (given : ℕ) (new : EngineState) : Type 0
+  where
+    pub takes : TakesEvent journal terms old.hub handed what made given new.hub
+    pub gathers : GathersFront (entries_kept journal made) (unwritten old) new.left new.lines
+    pub piece : TakesPiece what given new.hub
+    pub listed : ListsChanged (begun old.hub) new.hub
+    pub looks : LooksAt old new.hub.changed new
+
+-- memory was refused to lines of earlier entries: the event wasn't handed on
+pub record NotHandedOn (old new : EngineState) : Type 0 where
+  pub gathers : Gathers old new
+  pub some : 0 < length new.left
+
+-- the hub refused the event, once all lines of earlier entries were gathered
+pub record RefusedByHub (old : EngineState) (what : HubEvent) (why : EventRefusal) (new : EngineState) :
+    Type 0 where
+  pub refused : EventRefused old.hub what why
+  pub hub : new.hub ≡ begun old.hub
+  pub left : new.left ≡ []
+  pub lines : new.lines ≡ unwritten old
+  pub looks : SameLooks old new
+
+-- why an event isn't taken
+abbrev pub IsRefused : EngineState → HubEvent → EngineFault → EngineState → Type 0
+IsRefused old what (fault.Refused why) new = RefusedByHub old what why new
+IsRefused old what fault.NoMemory new = NotHandedOn old new
+IsRefused old what (fault.NotWritten why) new = ⊥
+
+-- ---- writing
+
+-- of the lines that aren't written these are now, first ones, and of those left some may be gathered
+pub record WritesLines (old : EngineState) (bytes : List ℕ) (new : EngineState) : Type 0 where
+  pub gathers : GathersFront old.left old.lines new.left (bytes ++ new.lines)
+  pub hub : new.hub ≡ old.hub
+  pub looks : SameLooks old new
+
+-- all lines are gathered and written
+abbrev pub all_gone : EngineState → EngineState
+all_gone s = record s { lines = []; left = [] }
+
+-- the hub is told of all its entries
+abbrev pub written_event : EngineState → HubEvent
+written_event s = event.Written s.hub.book.length
+
+-- the hub is told that all its entries are written, and gives this, where it knows of fewer
+abbrev pub TellsWritten : Bool → DeskTerms → EngineState → ℕ → List Entry → Option ℕ → EngineState → Type 0
+TellsWritten journal terms old now made None new =
+    (old.hub.book.length ≤ old.hub.open_wires.written) × (new ≡ old)
+TellsWritten journal terms old now made (Some given) new =
+    (old.hub.open_wires.written < old.hub.book.length)
+    × HandsOn journal terms old now (written_event old) made given new
+
+-- why the hub isn't told: the device took a part alone of the lines that were gathered, which are gathered
+-- still; or it took them all, but memory was refused to others
+abbrev pub IsNotTold : {W : Type 0} → (W → Option (List ℕ)) → EngineState → Sink W → EngineFault → EngineState
+    → Sink W → Type 0
+IsNotTold contents old before (fault.NotWritten why) new after =
+    Gathers old new × SinkTakes contents before after (take why.sent new.lines)
+IsNotTold contents old before fault.NoMemory new after =
+    (0 < length new.left) × (new.lines ≡ []) × (bytes : List ℕ) × SinkTakes contents before after bytes
+    × WritesLines old bytes new
+IsNotTold contents old before (fault.Refused why) new after = ⊥

@@ -1,0 +1,4 @@
+-- What a reader must agree with: all that the public contracts and the laws cite.
+pub mod Engines
+pub mod Handing
+pub mod EngineRuns

@@ -1,0 +1,222 @@
+//! The engine: what a shell tells it, and what is asked of it.
+ghost use Rattle.std.specs.Prelude.{◌≡◌};
+
+use crate::events::{EngineFault, LinkEvent, hub_event};
+use crate::looks::LookList;
+use crate::parts::EngineParts;
+use crate::{handing, writing};
+use rv_frame::Sink;
+use rv_hearers::ConnectionNumber;
+use rv_hub::Hub;
+use rv_machine::Machine;
+use rv_rules::Limits;
+use rv_text::NoMemory;
+use std::alloc::Global;
+use std::io::Write;
+use std::marker::Model;
+
+/// A hub with what is to be written of its account, if one is kept, and the connections that are to be looked
+/// at. Contracts see its parts, of which always holds what holds between two calls.
+#[derive(Drop)]
+pub struct Engine {
+    parts: EngineParts,
+}
+
+impl Model for Engine {
+    ghost use Rattle.rv_engine.specs.declared.parts.EngineParts.{EngineParts};
+    ghost use Rattle.rv_engine.specs.contracts.parts.EngineParts as row;
+
+    ghost Value = { EngineParts };
+
+    ghost coded = { row.the_row.coded };
+
+    ghost use Rattle.rv_engine.specs.Engines.{IsEngine};
+
+    ghost view = { λ e. e.parts };
+
+    ghost invariant = { λ e. IsEngine e.parts };
+}
+
+impl Engine {
+    ghost use Rattle.std.specs.Prelude.{◌↔◌, ◌<◌, ◌∷◌, ◌++◌, [], IfErr, IfNone, IfOk, IfSome, IsTrue, OnOk};
+    ghost use Rattle.std.specs.Prelude.{length, max};
+    ghost use Rattle.std.specs.Bool.{OnFalse, OnTrue};
+    ghost use Rattle.rv_frame.specs.Sink.{SinkTakes};
+    ghost use Rattle.rv_machine.specs.Machines.{IsWhole, state_in};
+    ghost use Rattle.rv_machine.specs.Numbering.{AreNumbered};
+    ghost use Rattle.rv_resume.specs.Resuming.{CanResume};
+    ghost use Rattle.rv_rules.specs.StepLimits.{AreStepLimits};
+    ghost use Rattle.rv_hearers.specs.Hearing.{nobody};
+    ghost use Rattle.rv_wires.specs.Connections.{none_open};
+    ghost use Rattle.rv_hub.specs.Hubs.{hub_terms};
+    ghost use Rattle.rv_engine.specs.Engines.{engine_state};
+    ghost use Rattle.rv_hub.specs.Events.{EventCan};
+    ghost use Rattle.rv_engine.specs.Handing.{Gathers, HandsOn, IsNoOpening, IsNotTold, IsRefused, LooksAt};
+    ghost use Rattle.rv_engine.specs.Handing.{TellsWritten, all_gone, told_hub, unwritten};
+
+    /// An engine over a machine, with the limits of each step. A request that waits is told so when it has
+    /// waited `patience` milliseconds for a frame, at least 1. Only connections below `room` are listed.
+    pub fn new(
+        alloc: Global,
+        machine: Machine,
+        limits: Limits,
+        patience: u32,
+        has_account: bool,
+        room: usize,
+    ) -> Result<Engine, NoMemory>
+        requires whole { IsWhole machine }
+        requires numbered { AreNumbered (state_in machine) }
+        requires resumes { CanResume (state_in machine) }
+        requires limits { AreStepLimits limits }
+        ensures state { IfOk result (λ e. engine_state e ≡ record {
+          hub = record {
+            book = state_in machine;
+            now = (state_in machine).moment;
+            open_wires = none_open (state_in machine).length;
+            changed = [];
+            hears = nobody;
+          };
+          lines = [];
+          left = [];
+          looks = [];
+          round = [];
+          room = room;
+        }) }
+        ensures terms { IfOk result (λ e. hub_terms e.hub
+            ≡ record { limits = limits; patience = max 1 patience }) }
+        ensures journal { IfOk result (λ e. e.hub.has_journal ≡ has_account) }
+    {
+        let looks = LookList::new(alloc, room)?;
+        let round = LookList::new(alloc, room)?;
+        let hub = Hub::new(alloc, machine, limits, patience, has_account)?;
+        let gathered = hub.entries().len();
+        Ok(Engine {
+            parts: EngineParts {
+                alloc,
+                hub,
+                has_account,
+                lines: String::new(alloc),
+                gathered,
+                looks,
+                round,
+            },
+        })
+    }
+
+    /// Hands an event on that came at a moment in milliseconds, once all lines of earlier entries are
+    /// gathered. It gives the number of a connection that was opened, or how many bytes of a piece were
+    /// taken, else 0.
+    pub fn tell(&mut self, now: u64, event: LinkEvent<'_>) -> Result<usize, EngineFault>
+        ensures takes { IfOk result (λ given. HandsOn self.old.hub.has_journal (hub_terms self.old.hub)
+            (engine_state self.old) now (told_hub event.entry) self.new.hub.desk.entries.items given
+            (engine_state self.new)) }
+        ensures refused { IfErr result (λ why. IsRefused (engine_state self.old) (told_hub event.entry) why
+            (engine_state self.new)) }
+        ensures terms { hub_terms self.new.hub ≡ hub_terms self.old.hub }
+        ensures journal { self.new.hub.has_journal ≡ self.old.hub.has_journal }
+    {
+        handing::hand_on(&mut self.parts, now, hub_event(event))
+    }
+
+    /// Hands on an event that can be, where no entry is left: then it isn't refused. It gives what
+    /// `tell` does.
+    pub fn hand(&mut self, now: u64, event: LinkEvent<'_>) -> usize
+        requires none_left { (engine_state self.old).left ≡ [] }
+        requires can { EventCan (engine_state self.old).hub (told_hub event) }
+        requires no_opening { IsNoOpening (told_hub event) }
+        ensures takes { HandsOn self.old.hub.has_journal (hub_terms self.old.hub) (engine_state self.old) now
+            (told_hub event.entry) self.new.hub.desk.entries.items result (engine_state self.new) }
+        ensures terms { hub_terms self.new.hub ≡ hub_terms self.old.hub }
+        ensures journal { self.new.hub.has_journal ≡ self.old.hub.has_journal }
+    {
+        handing::hand_sure(&mut self.parts, now, hub_event(event))
+    }
+
+    /// Writes all lines that aren't written, and tells the hub that all entries are, where it knows of fewer:
+    /// then it gives what the hub does.
+    /// Where the device doesn't take all lines that are gathered, they are gathered still; where memory is
+    /// refused to some, those before them are written. Then the hub isn't told.
+    pub fn write_lines<W: Write>(
+        &mut self,
+        now: u64,
+        file: &mut Sink<W>,
+    ) -> Result<Option<usize>, EngineFault>
+        ensures written { OnOk result (SinkTakes W.contents file.old file.new
+            (unwritten (engine_state self.old))) }
+        ensures tells { IfOk result (λ told. TellsWritten self.old.hub.has_journal (hub_terms self.old.hub)
+            (all_gone (engine_state self.old)) now self.new.hub.desk.entries.items told
+            (engine_state self.new)) }
+        ensures not_told { IfErr result (λ why. IsNotTold W.contents (engine_state self.old) file.old why
+            (engine_state self.new) file.new) }
+        ensures terms { hub_terms self.new.hub ≡ hub_terms self.old.hub }
+        ensures journal { self.new.hub.has_journal ≡ self.old.hub.has_journal }
+    {
+        writing::write_lines(&mut self.parts, now, file)
+    }
+
+    /// The lines that are gathered and not written.
+    pub fn lines(&self) -> &str
+        ensures { result.now ≡ (engine_state self.now).lines }
+    {
+        &self.parts.lines
+    }
+
+    /// Gathers the lines of entries that are left since memory was refused, as far as memory allows now. It
+    /// gives whether none is left: then the next event is handed on.
+    pub fn catch_up(&mut self) -> bool
+        ensures gathers { Gathers (engine_state self.old) (engine_state self.new) }
+        ensures hub { self.new.hub ≡ self.old.hub }
+        ensures yes { OnTrue result ((engine_state self.new).left ≡ []) }
+        ensures no { OnFalse result (0 < length (engine_state self.new).left) }
+    {
+        handing::try_to_catch_up(&mut self.parts)
+    }
+
+    /// A connection is to be looked at in the next round.
+    pub fn look_at(&mut self, number: ConnectionNumber)
+        ensures looks { LooksAt (engine_state self.old) (number ∷ []) (engine_state self.new) }
+        ensures hub { self.new.hub ≡ self.old.hub }
+        ensures lines { (engine_state self.new).lines ≡ (engine_state self.old).lines }
+        ensures left { (engine_state self.new).left ≡ (engine_state self.old).left }
+    {
+        handing::look_at(&mut self.parts, number);
+    }
+
+    /// Those that are to be looked at become the round. Those of the last round that are left are to be
+    /// looked at in the next one.
+    pub fn begin_round(&mut self)
+        ensures round { engine_state self.new ≡ record (engine_state self.old) {
+          looks = (engine_state self.old).round;
+          round = (engine_state self.old).looks;
+        } }
+        ensures hub { self.new.hub ≡ self.old.hub }
+    {
+        std::mem::swap(&mut self.parts.looks, &mut self.parts.round);
+    }
+
+    /// The next connection of the round, if one is left.
+    pub fn next_look(&mut self) -> Option<ConnectionNumber>
+        ensures some { IfSome result (λ number. (engine_state self.old).round
+            ≡ (engine_state self.new).round ++ number ∷ []) }
+        ensures none { IfNone result ((engine_state self.old).round ≡ []) }
+        ensures rest { engine_state self.new
+            ≡ record (engine_state self.old) { round = (engine_state self.new).round } }
+        ensures hub { self.new.hub ≡ self.old.hub }
+    {
+        self.parts.round.pop()
+    }
+
+    /// Whether nobody is to be looked at in the next round.
+    pub fn is_quiet(&self) -> bool
+        ensures { IsTrue result ↔ ((engine_state self.now).looks ≡ []) }
+    {
+        self.parts.looks.is_empty()
+    }
+
+    /// The hub.
+    pub fn hub(&self) -> &Hub
+        ensures { result.now ≡ self.now.hub }
+    {
+        &self.parts.hub
+    }
+}

@@ -1,0 +1,54 @@
+//! What a shell tells an engine, and why an event isn't taken.
+ghost use Rattle.std.specs.Prelude.{◌≡◌};
+ghost use Rattle.rv_engine.specs.Handing.{told_hub};
+
+use rv_frame::WriteFault;
+use rv_hearers::ConnectionNumber;
+use rv_hub::{EventRefusal, HubEvent};
+use thiserror::Error;
+
+/// What happened to a connection, or that time went on. That entries are written is no such event: the engine
+/// itself tells the hub so.
+#[derive(Clone, Copy, Debug)]
+pub enum LinkEvent<'a> {
+    /// A connection was opened.
+    Opened,
+    /// A piece of a connection's input came.
+    Came(ConnectionNumber, &'a [u8]),
+    /// A connection's input ended.
+    Ended(ConnectionNumber),
+    /// A connection's peer is gone.
+    Gone(ConnectionNumber),
+    /// A connection's peer took so many of the bytes that it was offered.
+    Took(ConnectionNumber, usize),
+    /// Time went on.
+    Passed,
+}
+
+/// Why an event isn't taken, or lines aren't written.
+#[derive(Clone, Copy, Debug, PartialEq, Eq, Error)]
+pub enum EngineFault {
+    /// The hub refused the event.
+    #[error("the hub refused an event: {0}")]
+    Refused(EventRefusal),
+    /// Memory was refused to the lines of entries that were made before: no event was handed on.
+    #[error("out of memory")]
+    NoMemory,
+    /// The account's device didn't take all lines: no event was handed on.
+    #[error("the account isn't written: {0}")]
+    NotWritten(WriteFault),
+}
+
+// The same event, as the hub is told.
+pub(crate) fn hub_event<'a>(event: LinkEvent<'a>) -> HubEvent<'a>
+    ensures { result ≡ told_hub event.entry }
+{
+    match event {
+        LinkEvent::Opened => HubEvent::Opened,
+        LinkEvent::Came(connection, piece) => HubEvent::Came(connection, piece),
+        LinkEvent::Ended(connection) => HubEvent::Ended(connection),
+        LinkEvent::Gone(connection) => HubEvent::Gone(connection),
+        LinkEvent::Took(connection, count) => HubEvent::Took(connection, count),
+        LinkEvent::Passed => HubEvent::Passed,
+    }
+}

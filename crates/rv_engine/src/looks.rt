@@ -1,0 +1,110 @@
+//! Numbers of connections, each at most once, in room that was made before.
+ghost use Rattle.std.specs.Prelude.{IsTrue, ◌↔◌};
+ghost use Rattle.std.specs.Prelude.{◌≡◌, ◌≤◌, ◌<◌, ◌++◌, ◌∷◌, [], length, vec_capacity, IfOk, IfNone, IfSome};
+ghost use Rattle.rv_wires.specs.Connections.{ListsOne};
+ghost use Rattle.rv_engine.specs.Engines.{IsLooks};
+ghost use Rattle.rv_engine.specs.Handing.{AddsLooks};
+
+use rv_hearers::ConnectionNumber;
+use std::alloc::{AllocError, Global};
+
+// The numbers that are listed, with room for all that have a flag.
+#[derive(Drop)]
+pub(crate) struct LookList {
+    pub(crate) numbers: Vec<ConnectionNumber>,
+    // Of each number whether it is listed.
+    pub(crate) flags: Vec<bool>,
+}
+
+impl LookList {
+    /// None is listed, and all below this number may be.
+    pub(crate) fn new(alloc: Global, most: usize) -> Result<LookList, AllocError>
+        ensures sound { IfOk result IsLooks }
+        ensures none { IfOk result (λ list. list.numbers.items ≡ []) }
+        ensures room { IfOk result (λ list. length list.flags.items ≡ most) }
+    {
+        let mut list = LookList {
+            numbers: Vec::with_capacity(alloc, most)?,
+            flags: Vec::with_capacity(alloc, most)?,
+        };
+        list.add_flags(most);
+        Ok(list)
+    }
+
+    pub(crate) fn is_empty(&self) -> bool
+        ensures { IsTrue result ↔ (self.now.numbers.items ≡ []) }
+    {
+        self.numbers.is_empty()
+    }
+
+    // Gives each number below this one a flag.
+    fn add_flags(&mut self, most: usize)
+        requires sound { IsLooks self.old }
+        requires none { self.old.flags.items ≡ [] }
+        requires numbers { most ≤ vec_capacity self.old.numbers }
+        requires flags { most ≤ vec_capacity self.old.flags }
+        ensures sound { IsLooks self.new }
+        ensures same { self.new.numbers ≡ self.old.numbers }
+        ensures room { length self.new.flags.items ≡ most }
+    {
+        while self.flags.len() < most {
+            self.flags.push_reserved(false);
+        }
+    }
+
+    // A number that has a flag is listed, if it isn't yet.
+    fn mark(&mut self, number: ConnectionNumber)
+        requires sound { IsLooks self.old }
+        requires room { number < length self.old.flags.items }
+        ensures sound { IsLooks self.new }
+        ensures listed { ListsOne self.old.numbers.items number self.new.numbers.items }
+        ensures room { length self.new.flags.items ≡ length self.old.flags.items }
+    {
+        if self.flags[number] {
+            return;
+        }
+        self.flags[number] = true;
+        self.numbers.push_reserved(number);
+    }
+
+    /// A number is listed, if it may be and isn't yet.
+    pub(crate) fn add(&mut self, number: ConnectionNumber)
+        requires { IsLooks self.old }
+        ensures sound { IsLooks self.new }
+        ensures adds { AddsLooks (length self.old.flags.items) self.old.numbers.items (number ∷ [])
+            self.new.numbers.items }
+        ensures room { length self.new.flags.items ≡ length self.old.flags.items }
+    {
+        if number < self.flags.len() {
+            self.mark(number);
+        }
+    }
+
+    /// So are these.
+    pub(crate) fn add_all(&mut self, numbers: &[ConnectionNumber])
+        requires { IsLooks self.old }
+        ensures sound { IsLooks self.new }
+        ensures adds { AddsLooks (length self.old.flags.items) self.old.numbers.items numbers.now
+            self.new.numbers.items }
+        ensures room { length self.new.flags.items ≡ length self.old.flags.items }
+    {
+        for number in numbers {
+            self.add(*number);
+        }
+    }
+
+    /// The last that is listed, which is listed no longer.
+    pub(crate) fn pop(&mut self) -> Option<ConnectionNumber>
+        requires { IsLooks self.old }
+        ensures sound { IsLooks self.new }
+        ensures some { IfSome result (λ number. self.old.numbers.items
+            ≡ self.new.numbers.items ++ number ∷ []) }
+        ensures none { IfNone result (self.old.numbers.items ≡ []) }
+        ensures none_same { IfNone result (self.new.numbers.items ≡ []) }
+        ensures room { length self.new.flags.items ≡ length self.old.flags.items }
+    {
+        let number = self.numbers.pop()?;
+        self.flags[number] = false;
+        Some(number)
+    }
+}

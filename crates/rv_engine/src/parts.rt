@@ -1,0 +1,20 @@
+//! What an engine is made of.
+use crate::looks::LookList;
+use rv_hub::Hub;
+use std::alloc::Global;
+
+/// A hub, with what is to be written of its account, and whom to look at: contracts see an engine so.
+#[derive(Drop)]
+pub struct EngineParts {
+    pub(crate) alloc: Global,
+    pub(crate) hub: Hub,
+    // Whether an account is kept; else no line is gathered.
+    pub(crate) has_account: bool,
+    // The lines that are gathered and not written.
+    pub(crate) lines: String,
+    // Of how many entries of the last event the lines are gathered.
+    pub(crate) gathered: usize,
+    // Those to look at in the next round, and those of this round that are left.
+    pub(crate) looks: LookList,
+    pub(crate) round: LookList,
+}

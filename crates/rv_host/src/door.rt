@@ -1,0 +1,106 @@
+//! The listener, and when it may be asked.
+use mio::net::{TcpListener, TcpStream};
+use std::io;
+use std::io::ErrorKind;
+
+// After so many milliseconds accepting is tried again, where the system lacked what it takes.
+const ACCEPT_AGAIN: u64 = 100;
+
+// No descriptor was left to the process, or to the system.
+const EMFILE: i32 = 24;
+
+const ENFILE: i32 = 23;
+
+// When the listener may be asked.
+#[derive(Clone, Copy, PartialEq, Eq)]
+enum DoorState {
+    // It told that someone waits.
+    Now,
+    // Nobody waits.
+    WhenTold,
+    // There was no descriptor: at this moment.
+    At(u64),
+}
+
+/// What came of asking the listener.
+#[derive(Drop)]
+pub(crate) enum Accepted {
+    /// A connection.
+    Stream(TcpStream),
+    /// Nobody waits.
+    Nobody,
+    /// No descriptor was left.
+    NoDescriptor,
+    /// Whoever waited is gone, or the system failed otherwise.
+    Failed,
+}
+
+/// A listener that is asked until it tells that nobody waits.
+#[derive(Drop)]
+pub(crate) struct Door {
+    listener: TcpListener,
+    state: DoorState,
+}
+
+// Whether no descriptor was left.
+fn lacks_descriptor(error: &io::Error) -> bool {
+    match error.raw_os_error() {
+        Some(code) => code == EMFILE || code == ENFILE,
+        None => false,
+    }
+}
+
+impl Door {
+    pub(crate) fn new(listener: TcpListener) -> Door {
+        Door {
+            listener,
+            state: DoorState::Now,
+        }
+    }
+
+    /// The poll told that someone waits.
+    pub(crate) fn knock(&mut self) {
+        self.state = DoorState::Now;
+    }
+
+    /// Whether it is to be asked at a moment.
+    pub(crate) fn is_asked(&self, now: u64) -> bool {
+        match self.state {
+            DoorState::Now => true,
+            DoorState::WhenTold => false,
+            DoorState::At(moment) => moment <= now,
+        }
+    }
+
+    /// The moment at which it is to be asked again without being told, if there is one.
+    pub(crate) fn again(&self) -> Option<u64> {
+        match self.state {
+            DoorState::At(moment) => Some(moment),
+            _ => None,
+        }
+    }
+
+    /// Asks for one connection.
+    pub(crate) fn accept(&mut self, now: u64) -> Accepted {
+        let error = match self.listener.accept() {
+            Ok((stream, _)) => return Accepted::Stream(stream),
+            Err(error) => error,
+        };
+        match error.kind() {
+            ErrorKind::WouldBlock => {
+                self.state = DoorState::WhenTold;
+                Accepted::Nobody
+            }
+            // Whoever waited is gone: the next is asked for.
+            ErrorKind::ConnectionAborted | ErrorKind::Interrupted => Accepted::Failed,
+            _ => {
+                self.state = DoorState::At(now.saturating_add(ACCEPT_AGAIN));
+                if lacks_descriptor(&error) {
+                    Accepted::NoDescriptor
+                } else {
+                    Accepted::Failed
+                }
+            }
+        }
+    }
+}

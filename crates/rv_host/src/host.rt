@@ -1,0 +1,89 @@
+//! The life of a server: from its words to its end.
+ghost use Rattle.std.specs.Prelude.{◌≡◌};
+ghost use Rattle.clap.specs.Walk.{texts};
+ghost use Rattle.rv_options.specs.Faults.{status_of};
+ghost use Rattle.rv_options.specs.Options.{FitOptions, NamesOptions};
+ghost use Rattle.rv_options.specs.declared.options.HostOptions.{HostOptions as Options};
+ghost use Rattle.rv_host.specs.Statuses.{RefusesWords};
+
+use crate::fault::HostEnd;
+use crate::report::HostReport;
+use crate::shell::Shell;
+use crate::start::begin;
+use os::errno;
+use rv_options::{HostFault, HostOptions, read_host};
+use std::io;
+use std::io::Write;
+
+/// `rv host` with its options, the word `host` first: serves until it is killed, or can't go on, and gives
+/// the status: 0 where help was asked for, 2 for bad options, else 1. Standard error tells why.
+pub fn run_host(rt: &HostRuntime, words: &[&str]) -> u8
+    ensures refused { ((options : Options) → ¬ NamesOptions (texts words.entry.now) options)
+        → RefusesWords (texts words.entry.now) result }
+{
+    match read_host(rt.alloc(), words) {
+        Ok(options) => serve(rt, &options),
+        Err(fault) => tell_fault(rt, &fault),
+    }
+}
+
+// Says what is wrong with the words, or the help that they ask for.
+fn tell_fault(rt: &HostRuntime, fault: &HostFault<'_>) -> u8
+    ensures { result ≡ status_of fault.now }
+{
+    let status = fault.status();
+    // What clap says ends by LF.
+    let end = match fault {
+        HostFault::Refused(_) => "",
+        _ => "\n",
+    };
+    let _ = if status == 0 {
+        print!(rt; "{fault}{end}")
+    } else {
+        eprint!(rt; "{fault}{end}")
+    };
+    status
+}
+
+// Starts a server, and serves.
+fn serve(rt: &HostRuntime, options: &HostOptions<'_>) -> u8
+    requires { FitOptions options.now }
+{
+    let report = HostReport::new(rt, options.quiet);
+    let is_there = report.is_there();
+    match begin(rt, options, report) {
+        Ok(mut shell) => go_on(rt, options, &mut shell),
+        Err(end) => {
+            if is_there {
+                let _ = eprintln!(rt; "{end}");
+            }
+            1
+        }
+    }
+}
+
+// Serves to the end, which is told.
+fn go_on(rt: &HostRuntime, options: &HostOptions<'_>, shell: &mut Shell) -> u8 {
+    match shell.serve(rt) {
+        Ok(()) => 0,
+        Err(end) => {
+            tell_end(rt, options, &shell.report, &end);
+            1
+        }
+    }
+}
+
+// Says why a server ends. What the system had against a write it still tells.
+fn tell_end(rt: &HostRuntime, options: &HostOptions<'_>, report: &HostReport, end: &HostEnd) {
+    let why = io::Error::from_raw_os_error(errno());
+    let text = match (end, options.account) {
+        (HostEnd::Account(fault), Some(path)) => {
+            format!(in rt.alloc(); "rv host ends: {path}: {fault}: {why}")
+        }
+        _ => format!(in rt.alloc(); "rv host ends: {end}"),
+    };
+    match text {
+        Ok(text) => report.end(rt, &text),
+        Err(_) => report.end(rt, "rv host ends: no memory"),
+    }
+}

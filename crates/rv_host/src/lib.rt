@@ -1,0 +1,13 @@
+//! The server that stays, `rv host`: one thread, one poll, and an engine behind them.
+#![tactic(auto)]
+
+mod door;
+mod fault;
+mod host;
+mod journal;
+mod report;
+mod shell;
+mod start;
+mod watch;
+
+pub use host::run_host;

@@ -1,0 +1,326 @@
+//! The shell of a server: what the poll tells is handed to the traffic of its sockets, turn by turn.
+use crate::door::{Accepted, Door};
+use crate::fault::HostEnd;
+use crate::report::{FaultKind, HostReport};
+use libc::net::{IPPROTO_TCP, SO_KEEPALIVE, SOL_SOCKET, TCP_USER_TIMEOUT, setsockopt};
+use mio::net::{TcpListener, TcpStream};
+use mio::{Events, Interest, Poll, Token};
+use rv_engine::{Engine, EngineFault};
+use rv_frame::Sink;
+use rv_hearers::ConnectionNumber;
+use rv_links::Links;
+use rv_options::HostOptions;
+use rv_traffic::{Reading, Switchboard, Writing};
+use std::fs::File;
+use std::os::fd::AsRawFd;
+use std::time::{Clock, Duration};
+
+const LISTENER: Token = Token(usize::MAX);
+
+// The most events of one poll, and the most accepts of one turn.
+const EVENTS: usize = 1_024;
+
+// Connections are looked over every so many milliseconds, and no poll waits longer than the other.
+pub(crate) const LOOK_OVER: u64 = 1_000;
+
+const LONGEST_WAIT: u64 = 60_000;
+
+// Lines that found no memory are tried again after so many milliseconds.
+const MEMORY_AGAIN: u64 = 10;
+
+// The system asks a silent peer whether it is there, and gives up one that takes nothing for a minute. If it
+// refuses to, the connection goes on without.
+fn keep_alive(stream: &TcpStream) {
+    let number = stream.as_raw_fd();
+    let mut value = [0u8; 16];
+    value[0] = 1;
+    let _ = unsafe { setsockopt(number, SOL_SOCKET, SO_KEEPALIVE, &value, 4) };
+    let [first, second, ..] = 60_000u32.to_le_bytes();
+    value[0] = first;
+    value[1] = second;
+    let _ = unsafe { setsockopt(number, IPPROTO_TCP, TCP_USER_TIMEOUT, &value, 4) };
+}
+
+/// A server's poll, listener and account, over the traffic of its sockets.
+#[derive(Drop)]
+pub(crate) struct Shell {
+    start: Duration,
+    poll: Poll,
+    events: Events,
+    door: Door,
+    pub(crate) traffic: Switchboard<TcpStream>,
+    account: Option<Sink<File>>,
+    pub(crate) report: HostReport,
+    // At most so many connections are open.
+    pub(crate) connections: usize,
+    pub(crate) memory: u128,
+    pub(crate) idle: u64,
+    pub(crate) stall: u64,
+    // When all were looked over.
+    pub(crate) looked_over: u64,
+    // The unread bytes of the hub, as they were when all were looked over.
+    pub(crate) unread: usize,
+}
+
+// What of a shell the system or memory may refuse.
+#[derive(Drop)]
+struct ShellParts {
+    start: Duration,
+    poll: Poll,
+    events: Events,
+    links: Links<TcpStream>,
+}
+
+// A poll that tells of a listener, and room for so many sockets.
+fn make_parts(
+    rt: &HostRuntime,
+    listener: &mut TcpListener,
+    connections: usize,
+) -> Result<ShellParts, HostEnd> {
+    let alloc = rt.alloc();
+    let links = Links::new(alloc, connections)?;
+    let events = Events::with_capacity(alloc, EVENTS)?;
+    let start = rt.monotonic()?;
+    let poll = Poll::new(rt)?;
+    poll.registry()
+        .register(listener, LISTENER, Interest::READABLE)?;
+    Ok(ShellParts {
+        start,
+        poll,
+        events,
+        links,
+    })
+}
+
+impl Shell {
+    pub(crate) fn new(
+        rt: &HostRuntime,
+        engine: Engine,
+        account: Option<Sink<File>>,
+        mut listener: TcpListener,
+        report: HostReport,
+        options: &HostOptions<'_>,
+        connections: usize,
+    ) -> Result<Shell, HostEnd> {
+        match make_parts(rt, &mut listener, connections) {
+            Ok(
+                ShellParts {
+                    start,
+                    poll,
+                    events,
+                    links,
+                },
+            ) => Ok(Shell {
+                start,
+                poll,
+                events,
+                door: Door::new(listener),
+                traffic: Switchboard::new(engine, links),
+                account,
+                report,
+                connections,
+                memory: options.memory as u128 * 1_048_576,
+                idle: options.idle.saturating_mul(1_000),
+                stall: options.stall.saturating_mul(1_000),
+                looked_over: 0,
+                unread: 0,
+            }),
+            Err(end) => Err(end),
+        }
+    }
+
+    /// Serves until it can't go on.
+    pub(crate) fn serve(&mut self, rt: &HostRuntime) -> Result<(), HostEnd> {
+        for _ in 0..u64::MAX {
+            self.turn(rt)?;
+        }
+        Ok(())
+    }
+
+    // The milliseconds since the start. A clock that fails stands still.
+    fn now(&self, rt: &HostRuntime) -> u64 {
+        match rt.monotonic() {
+            Ok(since) => {
+                let passed = since.saturating_sub(self.start).as_millis();
+                u64::try_from(passed).unwrap_or(u64::MAX)
+            }
+            Err(_) => self.traffic.engine().hub().now(),
+        }
+    }
+
+    // One turn: all that came is taken, and then the answers go out.
+    fn turn(&mut self, rt: &HostRuntime) -> Result<(), HostEnd> {
+        let wait = self.wait(self.now(rt));
+        self.poll
+            .poll(&mut self.events, Some(Duration::from_millis(wait)))?;
+        let now = self.now(rt);
+        self.heed();
+        if self.traffic.catch_up() {
+            self.traffic.pass(now);
+        }
+        self.accept(now);
+        self.read_all(now);
+        self.write_account(now)?;
+        self.write_all(now);
+        self.look_over(rt, now);
+        Ok(())
+    }
+
+    // For how many milliseconds the poll may wait.
+    fn wait(&mut self, now: u64) -> u64 {
+        if !self.traffic.catch_up() {
+            self.report.note(FaultKind::Behind);
+            return MEMORY_AGAIN;
+        }
+        let may_accept = self.traffic.links().len() < self.connections;
+        if !self.is_quiet() || (may_accept && self.door.is_asked(now)) {
+            return 0;
+        }
+        let mut until = self
+            .traffic
+            .engine()
+            .hub()
+            .next_moment()
+            .unwrap_or(u64::MAX);
+        if self.traffic.links().len() > 0 || self.report.has_untold() {
+            until = until.min(self.looked_over.saturating_add(LOOK_OVER));
+        }
+        if may_accept {
+            until = until.min(self.door.again().unwrap_or(u64::MAX));
+        }
+        until.saturating_sub(now).min(LONGEST_WAIT)
+    }
+
+    // Whether nobody is to be looked at, and all entries are written.
+    fn is_quiet(&self) -> bool {
+        let engine = self.traffic.engine();
+        engine.is_quiet() && engine.hub().written() >= engine.hub().machine().length() as u64
+    }
+
+    // Takes in what the poll tells.
+    fn heed(&mut self) {
+        for event in self.events.iter() {
+            if event.token() == LISTENER {
+                self.door.knock();
+            } else {
+                let is_over = event.is_error();
+                let is_readable = event.is_readable() || event.is_read_closed() || is_over;
+                let is_writable = event.is_writable() || event.is_write_closed() || is_over;
+                self.traffic.heed(event.token().0, is_readable, is_writable);
+            }
+        }
+    }
+
+    // Writes what was gathered of the account, and tells the hub.
+    fn write_account(&mut self, now: u64) -> Result<(), HostEnd> {
+        let Some(file) = &mut self.account else {
+            return Ok(());
+        };
+        match self.traffic.write_lines(now, file) {
+            Err(EngineFault::NotWritten(fault)) => Err(HostEnd::Account(fault)),
+            _ => Ok(()),
+        }
+    }
+
+    // Accepts those that wait, up to a number.
+    fn accept(&mut self, now: u64) {
+        for _ in 0..EVENTS {
+            let is_full = self.traffic.links().len() >= self.connections;
+            if is_full || !self.door.is_asked(now) || !self.traffic.catch_up() {
+                break;
+            }
+            match self.door.accept(now) {
+                Accepted::Stream(stream) => self.open(now, stream),
+                Accepted::Nobody => {}
+                Accepted::NoDescriptor => self.report.note(FaultKind::NoDescriptor),
+                Accepted::Failed => self.report.note(FaultKind::NotAccepted),
+            }
+        }
+    }
+
+    // Opens a connection that was accepted.
+    fn open(&mut self, now: u64, mut stream: TcpStream) {
+        let _ = stream.set_nodelay(true);
+        keep_alive(&stream);
+        let Ok(number) = self.traffic.open(now) else {
+            self.report.note(FaultKind::NotOpened);
+            return;
+        };
+        if number >= self.traffic.links().room() || !self.register(number, &mut stream) {
+            self.report.note(FaultKind::NotOpened);
+            self.traffic.give_up(now, number);
+            return;
+        }
+        self.traffic.attach(now, number, stream);
+    }
+
+    // The poll tells of a socket from now on, by the number of its connection.
+    fn register(&self, number: ConnectionNumber, stream: &mut TcpStream) -> bool {
+        let both = Interest::READABLE | Interest::WRITABLE;
+        self.poll
+            .registry()
+            .register(stream, Token(number), both)
+            .is_ok()
+    }
+
+    // Reads once from each that is looked at, all of which are to be written to.
+    fn read_all(&mut self, now: u64) {
+        self.traffic.begin_round();
+        for _ in 0..self.traffic.links().room() {
+            let Some(number) = self.traffic.next_look() else {
+                break;
+            };
+            self.read_one(now, number);
+            self.traffic.look_at(number);
+        }
+    }
+
+    // Reads once from a connection. Nothing is read while lines of the account find no memory, since no event
+    // would be taken.
+    fn read_one(&mut self, now: u64, number: ConnectionNumber) {
+        if !self.traffic.catch_up() {
+            return;
+        }
+        match self.traffic.read_one(now, number) {
+            Reading::Broken => self.report.note(FaultKind::Link),
+            Reading::NoMemory => self.report.note(FaultKind::NotOpened),
+            Reading::Nothing | Reading::Offered | Reading::Ended => {}
+        }
+    }
+
+    // Writes once to each that is looked at. Those of which something more can be done at once are looked
+    // at in the next turn.
+    fn write_all(&mut self, now: u64) {
+        self.traffic.begin_round();
+        for _ in 0..self.traffic.links().room() {
+            let Some(number) = self.traffic.next_look() else {
+                break;
+            };
+            if !self.write_one(now, number) || self.is_busy(number) {
+                self.traffic.look_at(number);
+            }
+        }
+    }
+
+    // Writes once to a connection, and gives whether that could be told: nothing is written while lines of
+    // the account find no memory.
+    fn write_one(&mut self, now: u64, number: ConnectionNumber) -> bool {
+        if !self.traffic.catch_up() {
+            return false;
+        }
+        if self.traffic.write_one(now, number) == Writing::Broken {
+            self.report.note(FaultKind::Link);
+        }
+        true
+    }
+
+    // Whether something can be read from a connection or written to it at once.
+    fn is_busy(&self, number: ConnectionNumber) -> bool {
+        let Some(wire) = self.traffic.engine().hub().wire(number) else {
+            return false;
+        };
+        let links = self.traffic.links();
+        (links.has_input(number) && wire.may_offer())
+            || (links.is_writable(number) && !wire.ready().is_empty())
+    }
+}

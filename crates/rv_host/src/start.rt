@@ -1,0 +1,220 @@
+//! The start of a server: its address, its account, its limits, and what it says of them.
+ghost use Rattle.rv_options.specs.Numbers.{Fits};
+ghost use Rattle.rv_options.specs.Options.{FitOptions};
+ghost use Rattle.rv_options.specs.declared.number.HostNumber.TheVariants as number;
+
+use crate::fault::HostEnd;
+use crate::journal::begin_account;
+use crate::report::HostReport;
+use crate::shell::Shell;
+use libc::types::rlimit;
+use libc::{RLIMIT_NOFILE, getrlimit};
+use mio::net::TcpListener;
+use os::errno;
+use rv_engine::Engine;
+use rv_frame::Sink;
+use rv_log::{StartSaid, call_text, start_text};
+use rv_machine::Machine;
+use rv_options::HostOptions;
+use rv_rules::Limits;
+use std::fs::{File, OpenOptions};
+use std::io;
+use std::io::IsTerminal;
+use std::net::ToSocketAddrs;
+use std::time::Clock;
+
+// A request that waits is told so every 10 seconds.
+const PATIENCE: u32 = 10_000;
+
+// The descriptors that a server needs beside its connections.
+const SPARE: u64 = 16;
+
+const MOST_ENTRIES: usize = 9_007_199_254_740_991;
+
+/// A server that listens, and has said so.
+pub(crate) fn begin(
+    rt: &HostRuntime,
+    options: &HostOptions<'_>,
+    mut report: HostReport,
+) -> Result<Shell, HostEnd>
+    requires { FitOptions options.now }
+{
+    let epoch = options.epoch.epoch(wall_clock(rt));
+    let listener = listening(rt, options.listen)?;
+    let account = account_of(rt, options, epoch)?;
+    let open_files = open_files();
+    let connections = open_files
+        .saturating_sub(SPARE)
+        .max(1)
+        .min(options.connections);
+    let engine = engine_of(rt, options, epoch, connections as usize)?;
+    tell_start(
+        rt,
+        options,
+        &mut report,
+        &listener,
+        epoch,
+        open_files,
+        connections,
+    )?;
+    Shell::new(
+        rt,
+        engine,
+        account,
+        listener,
+        report,
+        options,
+        connections as usize,
+    )
+}
+
+// The wall clock's milliseconds.
+fn wall_clock(rt: &HostRuntime) -> u64 {
+    match rt.since_1970() {
+        Ok(since) => u64::try_from(since.as_millis()).unwrap_or(1),
+        Err(_) => 1,
+    }
+}
+
+// A listener at the first address of a name that takes one.
+fn listening(rt: &HostRuntime, name: &str) -> Result<TcpListener, HostEnd> {
+    let addresses = match name.to_socket_addrs(rt) {
+        Ok(addresses) => addresses,
+        Err(error) => return Err(named(rt, name, error)),
+    };
+    let mut last = io::Error::from(io::ErrorKind::AddrNotAvailable);
+    for address in addresses {
+        match TcpListener::bind(rt, address) {
+            Ok(listener) => return Ok(listener),
+            Err(error) => last = error,
+        }
+    }
+    Err(named(rt, name, last))
+}
+
+// The account of an epoch, begun in a new file, if one is named.
+fn account_of(
+    rt: &HostRuntime,
+    options: &HostOptions<'_>,
+    epoch: u64,
+) -> Result<Option<Sink<File>>, HostEnd> {
+    let Some(path) = options.account else {
+        return Ok(None);
+    };
+    match OpenOptions::new()
+        .write(true)
+        .create_new(true)
+        .open(rt, path)
+    {
+        Ok(file) => begun(rt, path, file, epoch),
+        Err(error) => Err(named(rt, path, error)),
+    }
+}
+
+// The account of an epoch, begun in an open file. What the system had against a write it still tells.
+fn begun(
+    rt: &HostRuntime,
+    path: &str,
+    file: File,
+    epoch: u64,
+) -> Result<Option<Sink<File>>, HostEnd> {
+    match begin_account(rt.alloc(), file, epoch) {
+        Ok(sink) => Ok(Some(sink)),
+        Err(HostEnd::Account(_)) => Err(named(rt, path, io::Error::from_raw_os_error(errno()))),
+        Err(end) => Err(end),
+    }
+}
+
+// The end of a server that finds no such address or file.
+fn named(rt: &HostRuntime, name: &str, error: io::Error) -> HostEnd {
+    match String::from_str(rt.alloc(), name) {
+        Ok(name) => HostEnd::Named(name, error),
+        Err(_) => HostEnd::NoMemory,
+    }
+}
+
+fn engine_of(
+    rt: &HostRuntime,
+    options: &HostOptions<'_>,
+    epoch: u64,
+    connections: usize,
+) -> Result<Engine, HostEnd>
+    requires { Fits number.Epoch epoch }
+{
+    let machine = Machine::open(rt.alloc(), epoch, 0)?;
+    let Some(limits) = Limits::new(
+        MOST_ENTRIES,
+        options.clients as usize,
+        Some(options.open_places as usize),
+    ) else {
+        return Err(HostEnd::Limits);
+    };
+    let engine = Engine::new(
+        rt.alloc(),
+        machine,
+        limits,
+        PATIENCE,
+        options.account.is_some(),
+        connections,
+    )?;
+    Ok(engine)
+}
+
+// The limit of open files.
+fn open_files() -> u64 {
+    let mut limit = rlimit {
+        rlim_cur: 0,
+        rlim_max: 0,
+    };
+    if getrlimit(RLIMIT_NOFILE, &mut limit) == 0 {
+        limit.rlim_cur
+    } else {
+        1_024
+    }
+}
+
+// Says where a server listens, and its limits; and that nobody is asked who he is, if others reach it.
+fn tell_start(
+    rt: &HostRuntime,
+    options: &HostOptions<'_>,
+    report: &mut HostReport,
+    listener: &TcpListener,
+    epoch: u64,
+    open_files: u64,
+    connections: u64,
+) -> Result<(), HostEnd> {
+    let address = listener.local_addr()?;
+    let name = format!(in rt.alloc(); "{address}")?;
+    let said = StartSaid {
+        address: &name,
+        epoch,
+        connections,
+        open_files,
+        clients: options.clients,
+        open_places: options.open_places,
+        memory: options.memory,
+    };
+    report.say(rt, &start_text(rt.alloc(), &said)?);
+    if !address.ip().is_loopback() {
+        report.say(
+            rt,
+            "other machines may reach this address: there is no authentication",
+        );
+    }
+    if rt.stderr().is_terminal() {
+        greet(rt, report, &name)?;
+    }
+    Ok(())
+}
+
+// The calls of a first consumer, and of a first producer.
+const TAKE: &str = "{\"call\":\"take\",\"queue\":1,\"wait\":60000}";
+
+const TRANSFER: &str = "{\"call\":\"transfer\",\"item\":\"a\",\"queue\":1,\"wait\":60000}";
+
+// Says how they connect.
+fn greet(rt: &HostRuntime, report: &mut HostReport, address: &str) -> Result<(), HostEnd> {
+    report.say(rt, &call_text(rt.alloc(), TAKE, address, 1)?);
+    report.say(rt, &call_text(rt.alloc(), TRANSFER, address, 2)?);
+    Ok(())
+}

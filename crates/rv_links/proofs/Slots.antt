@@ -1,0 +1,49 @@
+-- A socket that is there.
+use Rattle.std.proofs.Common.{◌≡◌, ◌++◌, ℕ, List, Option, Some, ap, drop, refl, subst, sym}
+use Rattle.rv_links.specs.declared.link.ReadOutcome.{ReadOutcome}
+use Rattle.rv_links.specs.declared.link.Socket.{Socket}
+use Rattle.rv_links.specs.declared.link.WriteOutcome.{WriteOutcome}
+use Rattle.rv_links.specs.Reading.{ReadsOnce}
+use Rattle.rv_links.specs.Writing.{WritesOnce}
+use Rattle.rv_links.specs.Table.{HasPending, PendsSlot, ReadsSlot, SameSlot, SameStream, WritesSlot}
+use Rattle.rv_links.specs.Table.{pending_of}
+
+module _ {S : Type 0} where
+  pub read_some : (remaining : S → Option (List ℕ)) (o : Option (Socket S)) (link : Socket S) (came :
+      ReadOutcome)
+      (bytes : List ℕ) (after : Socket S) → o ≡ Some link → ReadsOnce remaining link came bytes after
+      → ReadsSlot remaining o came bytes (Some after)
+  read_some remaining o link came bytes after is reads =
+      subst (λ (x : Option (Socket S)). ReadsSlot remaining x came bytes (Some after)) (sym is)
+      (after, reads, refl)
+
+  pub write_some : (contents : S → Option (List ℕ)) (o : Option (Socket S)) (link : Socket S) (ready : List ℕ)
+      (what : WriteOutcome) (after : Socket S) → o ≡ Some link → WritesOnce contents link ready what after
+      → WritesSlot contents o ready what (Some after)
+  write_some contents o link ready what after is writes =
+      subst (λ (x : Option (Socket S)). WritesSlot contents x ready what (Some after)) (sym is)
+      (after, writes, refl)
+
+  pub same_some : (o : Option (Socket S)) (link after : Socket S) → o ≡ Some link → SameStream link after
+      → SameSlot o (Some after)
+  same_some o link after is same =
+      subst (λ (x : Option (Socket S)). SameSlot x (Some after)) (sym is) (after, same, refl)
+
+  pub same_pending : (o : Option (Socket S)) (link after : Socket S) → o ≡ Some link
+      → HasPending link link.pending.items after → PendsSlot o (pending_of o) (Some after)
+  same_pending o link after is has =
+      subst (λ (x : Option (Socket S)). PendsSlot x (pending_of x) (Some after)) (sym is) (after, has, refl)
+
+  pub more_pending : (o : Option (Socket S)) (link after : Socket S) (rest : List ℕ) → o ≡ Some link
+      → HasPending link (link.pending.items ++ rest) after
+      → PendsSlot o (pending_of o ++ rest) (Some after)
+  more_pending o link after rest is has =
+      subst (λ (x : Option (Socket S)). PendsSlot x (pending_of x ++ rest) (Some after)) (sym is)
+      (after, has, refl)
+
+  pub less_pending : (o : Option (Socket S)) (link after : Socket S) (count : ℕ) → o ≡ Some link
+      → HasPending link (drop count link.pending.items) after
+      → PendsSlot o (drop count (pending_of o)) (Some after)
+  less_pending o link after count is has =
+      subst (λ (x : Option (Socket S)). PendsSlot x (drop count (pending_of x)) (Some after)) (sym is)
+      (after, has, refl)

@@ -1,0 +1,42 @@
+-- What a read of a connection's socket gives.
+use Rattle.std.specs.Prelude.{ℕ, ◌≡◌, ◌<◌, List, [], Option, length, true}
+use Rattle.std.specs.Io.KnownBytes.{Consumes, IsAtEnd, Keeps}
+use Rattle.rv_links.specs.declared.link.ReadOutcome.{ReadOutcome}
+use Rattle.rv_links.specs.declared.link.ReadOutcome.TheVariants as input
+use Rattle.rv_links.specs.declared.link.Socket.{Socket}
+
+-- a socket that was accepted at a moment, of which nothing is pending
+abbrev pub fresh_link : {S : Type 0} → S → ℕ → ℕ → Socket S
+fresh_link stream now spare = record {
+  stream = stream;
+  pending = record { items = []; spare = spare };
+  is_readable = true;
+  is_writable = true;
+  heard = now;
+  moved = now;
+}
+
+-- what a read leaves as it was
+pub record KeepsOutput {S : Type 0} (old new : Socket S) : Type 0 where
+  pub pending : new.pending ≡ old.pending
+  pub writable : new.is_writable ≡ old.is_writable
+  pub moved : new.moved ≡ old.moved
+
+-- bytes came from the socket, if it may be read, and these are all that it gave
+abbrev pub GivesInput : {S : Type 0} → (S → Option (List ℕ)) → Socket S → ReadOutcome → List ℕ → Socket S
+    → Type 0
+GivesInput remaining old input.Piece bytes new = (0 < length bytes) × (old.is_readable ≡ true)
+    × Consumes (remaining old.stream) (remaining new.stream) bytes
+GivesInput remaining old input.End bytes new = (bytes ≡ []) × (old.is_readable ≡ true)
+    × IsAtEnd (remaining new.stream) × Consumes (remaining old.stream) (remaining new.stream) bytes
+GivesInput remaining old input.Nothing bytes new = (bytes ≡ [])
+    × Keeps (remaining old.stream) (remaining new.stream)
+GivesInput remaining old input.Broken bytes new = (bytes ≡ []) × (old.is_readable ≡ true)
+    × Keeps (remaining old.stream) (remaining new.stream)
+
+-- one read
+pub record ReadsOnce {S : Type 0} (remaining : S → Option (List ℕ)) (old : Socket S) (came : ReadOutcome)
+    (bytes : List ℕ) (new : Socket S) : Type 0
+  where
+    pub gives : GivesInput remaining old came bytes new
+    pub rest : KeepsOutput old new

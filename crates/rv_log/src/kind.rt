@@ -1,0 +1,58 @@
+//! The kinds of fault that a server tells, once a minute each.
+ghost use Rattle.std.specs.Prelude.{◌≡◌};
+ghost use Rattle.rv_log.specs.Texts.{kind_words};
+
+/// A kind of fault.
+#[derive(Clone, Copy, Debug, PartialEq, Eq)]
+pub enum FaultKind {
+    /// A connection that was accepted found no memory or no place in the poll.
+    NotOpened,
+    /// The system had no descriptor for a connection.
+    NoDescriptor,
+    /// An accept failed.
+    NotAccepted,
+    /// A connection's read or write failed.
+    Link,
+    /// A connection said nothing for too long.
+    Idle,
+    /// A connection stopped in the middle of a frame, or took no answer.
+    Stall,
+    /// Lines of the account found no memory.
+    Behind,
+    /// A connection held most when all held too much.
+    MostHeld,
+    /// A line that standard error didn't take.
+    Dropped,
+}
+
+impl FaultKind {
+    /// All kinds, in the order in which they are told.
+    pub const ALL: [FaultKind; 9] = [
+        FaultKind::NotOpened,
+        FaultKind::NoDescriptor,
+        FaultKind::NotAccepted,
+        FaultKind::Link,
+        FaultKind::Idle,
+        FaultKind::Stall,
+        FaultKind::Behind,
+        FaultKind::MostHeld,
+        FaultKind::Dropped,
+    ];
+
+    /// What is counted of it, in words.
+    pub fn words(self) -> &'static str
+        ensures { result.now ≡ kind_words self }
+    {
+        match self {
+            FaultKind::NotOpened => "connections that found no memory",
+            FaultKind::NoDescriptor => "accepts without a descriptor (ulimit -n)",
+            FaultKind::NotAccepted => "accepts that failed",
+            FaultKind::Link => "links that broke",
+            FaultKind::Idle => "idle connections closed (--idle)",
+            FaultKind::Stall => "stalled connections closed (--stall)",
+            FaultKind::Behind => "turns in which lines of the account found no memory",
+            FaultKind::MostHeld => "connections closed that held most (--memory)",
+            FaultKind::Dropped => "lines that standard error didn't take",
+        }
+    }
+}

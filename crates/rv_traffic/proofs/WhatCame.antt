@@ -1,0 +1,263 @@
+-- What is read of a connection.
+use Rattle.std.proofs.Common.{◌≡◌, ◌∙◌, ◌++◌, ◌⊎◌, ℕ, Bool, IsSome, List, [], None, Option, Some, ap}
+use Rattle.std.proofs.Common.{append-nil}
+use Rattle.std.proofs.Common.{drop, inl, inr, refl, subst, sym}
+use Rattle.std.proofs.lemmas.Bool.{false≢true}
+use Rattle.std.proofs.lemmas.Option.{same_Some}
+use Rattle.std.specs.Io.KnownBytes.{Consumes}
+use Rattle.rv_desk.specs.View.{DeskTerms}
+use Rattle.rv_hub.specs.declared.events.HubEvent.{HubEvent}
+use Rattle.rv_engine.specs.Engines.{EngineState}
+use Rattle.rv_engine.specs.Handing.{HandsOn}
+use Rattle.rv_account.specs.declared.entry.Entry.{Entry}
+use Rattle.rv_links.specs.declared.link.ReadOutcome.TheVariants as input
+use Rattle.rv_links.specs.declared.link.Socket.{Socket}
+use Rattle.rv_links.specs.Table.{ChangesOne, PendsSlot, ReadsSlot, link_at, pending_of}
+use Rattle.rv_traffic.specs.declared.outcomes.Reading.{Reading}
+use Rattle.rv_traffic.specs.declared.outcomes.Reading.TheVariants as reading
+use Rattle.rv_traffic.specs.Calls.{ChangesLink, GaveEnd, GivesUp, Hands, KeepsUntaken, LosesRest}
+use Rattle.rv_traffic.specs.Calls.{NoneCame, Offers, OffersPiece, ReadsOne}
+use Rattle.rv_traffic.specs.Views.{IsPieceOf, TrafficState}
+use Rattle.rv_traffic.proofs.Tables.{consumes_none, none_changed, one_then}
+
+module _ {S : Type 0} where
+  -- what is pending was offered
+  pub pending_offered : (remaining : S → Option (List ℕ)) (old new : List (Option (Socket S))) (n : ℕ)
+      (what : HubEvent) (given count : ℕ) → IsSome (link_at old n)
+      → IsPieceOf what n (pending_of (link_at old n))
+      → drop count (pending_of (link_at old n)) ≡ drop given (pending_of (link_at old n))
+      → PendsSlot (link_at old n) (drop count (pending_of (link_at old n))) (link_at new n)
+      → ChangesOne old n new
+      → ChangesLink old n (λ link after. Consumes (remaining link.stream) (remaining after.stream) []
+      × IsPieceOf what n (link.pending.items ++ [])
+      × (after.pending.items ≡ drop given (link.pending.items ++ []))) new
+  pending_offered remaining old new n what given count there piece same pends others =
+      at (link_at old n) refl there piece same pends
+    where
+      at : (o : Option (Socket S)) → link_at old n ≡ o → IsSome o → IsPieceOf what n (pending_of o)
+          → drop count (pending_of o) ≡ drop given (pending_of o)
+          → PendsSlot o (drop count (pending_of o)) (link_at new n)
+          → ChangesLink old n (λ link after. Consumes (remaining link.stream) (remaining after.stream) []
+          × IsPieceOf what n (link.pending.items ++ [])
+          × (after.pending.items ≡ drop given (link.pending.items ++ []))) new
+      at None is some offered so is_new = absurd (false≢true some)
+      at (Some link) is some offered so (after, has, is_new) = record {
+        link = link;
+        after = after;
+        there = is;
+        changes = (
+          subst (λ (s : S). Consumes (remaining link.stream) (remaining s) []) (sym has.stream)
+              (consumes_none (remaining link.stream)),
+          subst (IsPieceOf what n) (sym (append-nil link.pending.items)) offered,
+          has.pending ∙ so ∙ ap (drop given) (sym (append-nil link.pending.items)),
+        );
+        is = is_new;
+        others = others;
+      }
+
+  -- what the hub didn't take of a piece is pending
+  pub rest_kept : (old new : List (Option (Socket S))) (n : ℕ) (bytes : List ℕ) (given count : ℕ)
+      → IsSome (link_at old n) → pending_of (link_at old n) ≡ [] → drop count bytes ≡ drop given bytes
+      → PendsSlot (link_at old n) (pending_of (link_at old n) ++ drop count bytes) (link_at new n)
+      → ChangesOne old n new
+      → ChangesLink old n (λ link after. (after.stream ≡ link.stream) × (after.pending.items ≡ drop given
+      bytes))
+      new
+  rest_kept old new n bytes given count there none same pends others =
+      at (link_at old n) refl there none pends
+    where
+      at : (o : Option (Socket S)) → link_at old n ≡ o → IsSome o → pending_of o ≡ []
+          → PendsSlot o (pending_of o ++ drop count bytes) (link_at new n)
+          → ChangesLink old n (λ link after. (after.stream ≡ link.stream)
+          × (after.pending.items ≡ drop given bytes)) new
+      at None is some empty is_new = absurd (false≢true some)
+      at (Some link) is some empty (after, has, is_new) = record {
+        link = link;
+        after = after;
+        there = is;
+        changes = (has.stream, has.pending ∙ ap (λ (l : List ℕ). l ++ drop count bytes) empty ∙ same);
+        is = is_new;
+        others = others;
+      }
+
+  some_after : (new : Option (Socket S)) (after : Socket S) → new ≡ Some after → IsSome new
+  some_after new after is = subst IsSome (sym is) refl
+
+  -- a piece came of a socket
+  pub piece_there : (remaining : S → Option (List ℕ)) (o : Option (Socket S)) (bytes : List ℕ)
+      (new : Option (Socket S)) → ReadsSlot remaining o input.Piece bytes new → pending_of o ≡ []
+      → IsSome new × (pending_of new ≡ [])
+  piece_there remaining None bytes new (none, empty, is) pending =
+      absurd (let differ : input.Piece ≡ input.Nothing = none in cc)
+  piece_there remaining (Some link) bytes new (after, reads, is) pending = (
+    some_after new after is,
+    ap pending_of is ∙ ap (λ p. p.items) reads.rest.pending ∙ pending,
+  )
+
+  came_then : (remaining : S → Option (List ℕ)) (old mid new : List (Option (Socket S))) (n : ℕ)
+      (bytes : List ℕ) (what : HubEvent) (given : ℕ) → pending_of (link_at old n) ≡ []
+      → ReadsSlot remaining (link_at old n) input.Piece bytes (link_at mid n) → ChangesOne old n mid
+      → IsPieceOf what n bytes
+      → ChangesLink mid n (λ link after. (after.stream ≡ link.stream) × (after.pending.items ≡ drop given
+      bytes))
+      new
+      → ChangesLink old n (λ link after. Consumes (remaining link.stream) (remaining after.stream) bytes
+      × IsPieceOf what n (link.pending.items ++ bytes)
+      × (after.pending.items ≡ drop given (link.pending.items ++ bytes))) new
+  came_then remaining old mid new n bytes what given none reads first piece later =
+      at (link_at old n) refl none reads
+    where
+      at : (o : Option (Socket S)) → link_at old n ≡ o → pending_of o ≡ []
+          → ReadsSlot remaining o input.Piece bytes (link_at mid n)
+          → ChangesLink old n (λ link after. Consumes (remaining link.stream) (remaining after.stream) bytes
+          × IsPieceOf what n (link.pending.items ++ bytes)
+          × (after.pending.items ≡ drop given (link.pending.items ++ bytes))) new
+      at None is empty (nothing, no_bytes, is_mid) =
+          absurd (let differ : input.Piece ≡ input.Nothing = nothing in cc)
+      at (Some link) is empty (between, read, is_mid) =
+          let same : later.link ≡ between = same_Some later.link between (sym later.there ∙ is_mid) in
+          let all : bytes ≡ link.pending.items ++ bytes = ap (λ (l : List ℕ). l ++ bytes) (sym empty) in
+          record {
+            link = link;
+            after = later.after;
+            there = is;
+            changes = (
+              subst (λ (s : S). Consumes (remaining link.stream) (remaining s) bytes)
+                  (sym (later.changes.0 ∙ ap (λ (l : Socket S). l.stream) same)) read.gives.2,
+              subst (IsPieceOf what n) all piece,
+              later.changes.1 ∙ ap (drop given) all,
+            );
+            is = later.is;
+            others = one_then old mid new n first later.others;
+          }
+
+  -- what came of a piece is what came of the read
+  pub piece_read : (remaining : S → Option (List ℕ)) (journal : Bool) (terms : DeskTerms) (now n : ℕ)
+      (old mid : TrafficState S) (bytes : List ℕ) (result : Reading) (new : TrafficState S)
+      → mid.engine ≡ old.engine → pending_of (link_at old.table n) ≡ []
+      → ReadsSlot remaining (link_at old.table n) input.Piece bytes (link_at mid.table n)
+      → ChangesOne old.table n mid.table → OffersPiece journal terms now n bytes mid result new
+      → ReadsOne remaining journal terms now n old result new
+  piece_read remaining journal terms now n old mid bytes reading.Nothing new same none reads first is =
+      absurd is
+  piece_read remaining journal terms now n old mid bytes reading.Offered new same none reads first is =
+      record {
+        bytes = bytes;
+        what = is.what;
+        given = is.given;
+        hands = subst (λ (e : EngineState). Hands journal terms e now is.what is.given new.engine) same
+            is.hands;
+        link = came_then remaining old.table mid.table new.table n bytes is.what is.given none reads first
+            is.piece
+            is.link;
+      }
+  piece_read remaining journal terms now n old mid bytes reading.Ended new same none reads first is =
+      absurd is
+  piece_read remaining journal terms now n old mid bytes reading.Broken new same none reads first is =
+      absurd is
+  piece_read remaining journal terms now n old mid bytes reading.NoMemory new same none reads first is = (
+    bytes,
+    record {
+      what = is.what;
+      piece = is.piece;
+      given = is.given;
+      between = is.between;
+      hands = subst (λ (e : EngineState). Hands journal terms e now is.what is.given is.between.engine) same
+          is.hands;
+      others = one_then old.table mid.table is.between.table n first is.others;
+      gives_up = is.gives_up;
+    },
+  )
+
+  -- nothing came
+  pub nothing_came : (remaining : S → Option (List ℕ)) (old new : List (Option (Socket S))) (n : ℕ)
+      (bytes : List ℕ) → ReadsSlot remaining (link_at old n) input.Nothing bytes (link_at new n)
+      → ChangesOne old n new → NoneCame remaining n old new
+  nothing_came remaining old new n bytes reads others = at (link_at old n) refl reads
+    where
+      at : (o : Option (Socket S)) → link_at old n ≡ o
+          → ReadsSlot remaining o input.Nothing bytes (link_at new n) → NoneCame remaining n old new
+      at None is (nothing, no_bytes, is_new) = inl (is, none_changed old new n others (is_new ∙ sym is))
+      at (Some link) is (after, read, is_new) = inr (record {
+        link = link;
+        after = after;
+        there = is;
+        changes = record { keeps = read.gives.1; pending = read.rest.pending };
+        is = is_new;
+        others = others;
+      })
+
+  -- the end came
+  pub end_came : (remaining : S → Option (List ℕ)) (old new : List (Option (Socket S))) (n : ℕ)
+      (bytes : List ℕ) → ReadsSlot remaining (link_at old n) input.End bytes (link_at new n)
+      → ChangesOne old n new → ChangesLink old n (GaveEnd remaining) new
+  end_came remaining old new n bytes reads others = at (link_at old n) refl reads
+    where
+      at : (o : Option (Socket S)) → link_at old n ≡ o → ReadsSlot remaining o input.End bytes (link_at new n)
+          → ChangesLink old n (GaveEnd remaining) new
+      at None is (nothing, no_bytes, is_new) = absurd (let differ : input.End ≡ input.Nothing = nothing in cc)
+      at (Some link) is (after, read, is_new) = record {
+        link = link;
+        after = after;
+        there = is;
+        changes = record {
+          is_end = read.gives.2;
+          none = subst (λ (l : List ℕ). Consumes (remaining link.stream) (remaining after.stream) l)
+              read.gives.0
+              read.gives.3;
+          pending = read.rest.pending;
+        };
+        is = is_new;
+        others = others;
+      }
+
+  -- what is pending was offered, as a whole
+  pub offers_made : (remaining : S → Option (List ℕ)) (journal : Bool) (terms : DeskTerms) (now n : ℕ)
+      (old new : TrafficState S) (what : HubEvent) (made : List Entry) (given count : ℕ)
+      → HandsOn journal terms old.engine now what made given new.engine → IsSome (link_at old.table n)
+      → IsPieceOf what n (pending_of (link_at old.table n))
+      → drop count (pending_of (link_at old.table n)) ≡ drop given (pending_of (link_at old.table n))
+      → PendsSlot (link_at old.table n) (drop count (pending_of (link_at old.table n))) (link_at new.table n)
+      → ChangesOne old.table n new.table → Offers remaining journal terms now n old new
+  offers_made remaining journal terms now n old new what made given count does there piece same pends others =
+      record {
+        bytes = [];
+        what = what;
+        given = given;
+        hands = record { made = made; hands = does };
+        link = pending_offered remaining old.table new.table n what given count there piece same pends others;
+      }
+
+  -- a piece was offered, and the rest is pending
+  pub keeps_made : (journal : Bool) (terms : DeskTerms) (now n : ℕ) (bytes : List ℕ)
+      (old new : TrafficState S) (what : HubEvent) (made : List Entry) (given count : ℕ)
+      → HandsOn journal terms old.engine now what made given new.engine → IsSome (link_at old.table n)
+      → pending_of (link_at old.table n) ≡ [] → IsPieceOf what n bytes
+      → drop count bytes ≡ drop given bytes
+      → PendsSlot (link_at old.table n) (pending_of (link_at old.table n) ++ drop count bytes)
+      (link_at new.table n)
+      → ChangesOne old.table n new.table → KeepsUntaken journal terms now n bytes old new
+  keeps_made journal terms now n bytes old new what made given count does there none piece same pends others =
+      record {
+        what = what;
+        piece = piece;
+        given = given;
+        hands = record { made = made; hands = does };
+        link = rest_kept old.table new.table n bytes given count there none same pends others;
+      }
+
+  -- or the connection is given up
+  pub loses_made : (journal : Bool) (terms : DeskTerms) (now n : ℕ) (bytes : List ℕ)
+      (old between new : TrafficState S) (what : HubEvent) (made : List Entry) (given : ℕ)
+      → HandsOn journal terms old.engine now what made given between.engine → IsPieceOf what n bytes
+      → ChangesOne old.table n between.table → GivesUp journal terms now n between new
+      → LosesRest journal terms now n bytes old new
+  loses_made journal terms now n bytes old between new what made given does piece others gives = record {
+    what = what;
+    piece = piece;
+    given = given;
+    between = between;
+    hands = record { made = made; hands = does };
+    others = others;
+    gives_up = gives;
+  }

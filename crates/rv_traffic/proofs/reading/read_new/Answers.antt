@@ -1,0 +1,57 @@
+-- What came of a read.
+use Rattle.std.proofs.Common.{inr, refl}
+use Rattle.rv_hub.specs.Hubs.{hub_terms}
+use Rattle.rv_engine.specs.Engines.{engine_state}
+use Rattle.rv_traffic.specs.Views.{traffic_state}
+use Rattle.rv_traffic.proofs.WhatCame.{end_came, nothing_came, piece_read, piece_there}
+use Rattle.rv_traffic.proofs.Tables.{gives_up_then, may_end}
+use Rattle.rv_traffic.proofs.reading.read_new.Goals as goal
+
+pub offer_piece-requires-clause-none_pending : goal.offer_piece-requires-clause-none_pending
+offer_piece-requires-clause-none_pending g c =
+    (piece_there g.S.Read.remaining _ _ _ c.in-Piece.ensures.reads c.requires.none_pending).1
+
+pub offer_piece-requires-clause-there : goal.offer_piece-requires-clause-there
+offer_piece-requires-clause-there g c =
+    (piece_there g.S.Read.remaining _ _ _ c.in-Piece.ensures.reads c.requires.none_pending).0
+
+pub hand-requires-clause-can : goal.hand-requires-clause-can
+hand-requires-clause-can g c = may_end (engine_state c.args.traffic.now.engine).hub c.args.number
+    c.requires.may
+
+pub returns-in-Piece-clause-reads : goal.returns-in-Piece-clause-reads
+returns-in-Piece-clause-reads g c =
+    piece_read g.S.Read.remaining c.args.traffic.now.engine.hub.has_journal
+    (hub_terms c.args.traffic.now.engine.hub) c.args.now c.args.number (traffic_state c.args.traffic.now)
+    (record {
+      engine = engine_state c.args.traffic.now.engine;
+      table = c.read.new.self.table.items;
+    }) c.read.new.self.buffer.items c.offer_piece.result (traffic_state c.offer_piece.new.traffic) refl
+    c.requires.none_pending c.in-Piece.ensures.reads c.read.ensures.others c.offer_piece.ensures.offers
+
+pub returns-in-End-clause-reads : goal.returns-in-End-clause-reads
+returns-in-End-clause-reads g c = record {
+  given = c.hand.result;
+  hands = record { made = c.hand.new.self.hub.desk.entries.items; hands = c.hand.ensures.takes };
+  link = end_came g.S.Read.remaining c.args.traffic.now.links.table.items c.read.new.self.table.items
+      c.args.number c.read.new.self.buffer.items c.in-End.ensures.reads c.read.ensures.others;
+}
+
+pub returns-in-Nothing-clause-reads : goal.returns-in-Nothing-clause-reads
+returns-in-Nothing-clause-reads g c = record {
+  engine = refl;
+  why = inr (
+    c.requires.none_pending,
+    nothing_came g.S.Read.remaining c.args.traffic.now.links.table.items c.read.new.self.table.items
+        c.args.number c.read.new.self.buffer.items c.in-Nothing.ensures.reads c.read.ensures.others,
+  );
+}
+
+pub returns-in-Broken-clause-reads : goal.returns-in-Broken-clause-reads
+returns-in-Broken-clause-reads g c =
+    gives_up_then c.args.traffic.now.engine.hub.has_journal (hub_terms c.args.traffic.now.engine.hub)
+    c.args.now c.args.number (traffic_state c.args.traffic.now)
+    (record {
+      engine = engine_state c.args.traffic.now.engine;
+      table = c.read.new.self.table.items;
+    }) (traffic_state c.give_up.new.traffic) refl c.read.ensures.others c.give_up.ensures.gives_up

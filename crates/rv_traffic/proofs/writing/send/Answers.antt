@@ -1,0 +1,58 @@
+-- What a socket took.
+use Rattle.std.proofs.Common.{◌≤◌, ℕ, List, inr, length, refl, subst}
+use Rattle.rv_hub.specs.Hubs.{hub_terms}
+use Rattle.rv_engine.specs.Engines.{engine_state}
+use Rattle.rv_traffic.specs.Views.{traffic_state}
+use Rattle.rv_traffic.proofs.Tables.{gives_up_then}
+use Rattle.rv_traffic.proofs.WhatLeft.{same_none, took_none, took_ready, took_within}
+use Rattle.rv_traffic.proofs.writing.send.Goals as goal
+
+pub hand-requires-clause-can : goal.hand-requires-clause-can
+hand-requires-clause-can g c =
+    let is = c.ready_of-ready.ensures c.requires.is_open.wire c.requires.is_open.there in
+    record {
+      wire = c.requires.is_open.wire;
+      there = c.requires.is_open.there;
+      so = subst (λ (l : List ℕ). c.in-Took.count ≤ length l) is
+          (took_within g.S.Write.contents _ _ _ _ c.in-Took.ensures.writes);
+    }
+
+pub returns-then-is_empty-clause-writes : goal.returns-then-is_empty-clause-writes
+returns-then-is_empty-clause-writes g c = record {
+  engine = refl;
+  why = inr (same_none g.S.Write.contents c.args.traffic.now.links.table.items c.rest.new.self.table.items
+      c.args.number c.requires.there c.rest.ensures.same c.rest.ensures.others);
+}
+
+pub returns-in-Took-clause-writes : goal.returns-in-Took-clause-writes
+returns-in-Took-clause-writes g c =
+    let is = c.ready_of-ready.ensures c.requires.is_open.wire c.requires.is_open.there in
+    record {
+      wire = c.requires.is_open.wire;
+      is_open = c.requires.is_open.there;
+      count = c.in-Took.count;
+      within = subst (λ (l : List ℕ). c.in-Took.count ≤ length l) is
+          (took_within g.S.Write.contents _ _ _ _ c.in-Took.ensures.writes);
+      given = c.hand.result;
+      hands = record { made = c.hand.new.self.hub.desk.entries.items; hands = c.hand.ensures.takes };
+      link = took_ready g.S.Write.contents c.args.traffic.now.links.table.items c.write.new.self.table.items
+          c.args.number c.ready_of-ready.result.now c.requires.is_open.wire.ready c.in-Took.count is
+          c.in-Took.ensures.writes c.write.ensures.others;
+    }
+
+pub returns-in-Nothing-clause-writes : goal.returns-in-Nothing-clause-writes
+returns-in-Nothing-clause-writes g c = record {
+  engine = refl;
+  why = inr (took_none g.S.Write.contents c.args.traffic.now.links.table.items c.write.new.self.table.items
+      c.args.number c.ready_of-ready.result.now c.requires.there c.in-Nothing.ensures.writes
+      c.write.ensures.others);
+}
+
+pub returns-in-Broken-clause-writes : goal.returns-in-Broken-clause-writes
+returns-in-Broken-clause-writes g c =
+    gives_up_then c.args.traffic.now.engine.hub.has_journal (hub_terms c.args.traffic.now.engine.hub)
+    c.args.now c.args.number (traffic_state c.args.traffic.now)
+    (record {
+      engine = engine_state c.args.traffic.now.engine;
+      table = c.write.new.self.table.items;
+    }) (traffic_state c.give_up.new.traffic) refl c.write.ensures.others c.give_up.ensures.gives_up

@@ -1,0 +1,220 @@
+-- What is read, written and told of one connection, and of all.
+use Rattle.std.specs.Prelude.{ℕ, ◌≡◌, ◌<◌, ◌≤◌, ◌⊎◌, Bool, List, [], ◌∷◌, ◌++◌, None, Option, Some}
+use Rattle.std.specs.Prelude.{drop, length, take}
+use Rattle.std.specs.Io.KnownBytes.{Appends, Consumes, IsAtEnd, Keeps}
+use Rattle.rv_account.specs.declared.entry.Entry.{Entry}
+use Rattle.rv_connection.specs.Traffic.{MayOffer, Traffic}
+use Rattle.rv_wires.specs.Connections.{HasWire}
+use Rattle.rv_desk.specs.View.{DeskState, DeskTerms}
+use Rattle.rv_hub.specs.declared.events.HubEvent.{HubEvent}
+use Rattle.rv_hub.specs.declared.events.HubEvent.TheVariants as event
+use Rattle.rv_engine.specs.Engines.{EngineState}
+use Rattle.rv_engine.specs.Handing.{Gathers, HandsOn, LooksAt}
+use Rattle.rv_links.specs.declared.link.Socket.{Socket}
+use Rattle.rv_links.specs.Table.{ChangesOne, link_at, pending_of}
+use Rattle.rv_traffic.specs.declared.outcomes.Reading.{Reading}
+use Rattle.rv_traffic.specs.declared.outcomes.Reading.TheVariants as reading
+use Rattle.rv_traffic.specs.declared.outcomes.Writing.{Writing}
+use Rattle.rv_traffic.specs.declared.outcomes.Writing.TheVariants as writing
+use Rattle.rv_traffic.specs.Views.{IsPieceOf, TrafficState}
+
+-- more of a connection's input may be offered
+abbrev pub MayBeOffered : DeskState → ℕ → Type 0
+MayBeOffered s number = HasWire s.open_wires number MayOffer
+
+-- its socket is another value now, and that of all others as it was
+pub record ChangesLink {S : Type 0} (old : List (Option (Socket S))) (number : ℕ)
+    (so : Socket S → Socket S → Type 0) (new : List (Option (Socket S))) : Type 0
+  where
+    pub link : Socket S
+    pub after : Socket S
+    pub there : link_at old number ≡ Some link
+    pub changes : so link after
+    pub is : link_at new number ≡ Some after
+    pub others : ChangesOne old number new
+
+-- it has none
+pub record LetsGo {S : Type 0} (old : List (Option (Socket S))) (number : ℕ)
+    (new : List (Option (Socket S))) :
+    Type 0
+  where
+    pub none : link_at new number ≡ None
+    pub others : ChangesOne old number new
+
+-- ---- an event
+
+-- an event was handed on: it made these entries and gave this
+pub record Hands (journal : Bool) (terms : DeskTerms) (old : EngineState) (now : ℕ) (what : HubEvent)
+    (given : ℕ) (new : EngineState) : Type 0
+  where
+    pub made : List Entry
+    pub hands : HandsOn journal terms old now what made given new
+
+-- bytes that came from the socket are offered behind those that were pending, of which the hub takes some:
+-- the
+-- others are pending
+pub record Offers {S : Type 0} (remaining : S → Option (List ℕ)) (journal : Bool) (terms : DeskTerms)
+    (now number : ℕ) (old new : TrafficState S) : Type 0
+  where
+    pub bytes : List ℕ
+    pub what : HubEvent
+    pub given : ℕ
+    pub hands : Hands journal terms old.engine now what given new.engine
+    pub link : ChangesLink old.table number (λ link after. Consumes (remaining link.stream)
+        (remaining after.stream) bytes × IsPieceOf what number (link.pending.items ++ bytes)
+        × (after.pending.items ≡ drop given (link.pending.items ++ bytes))) new.table
+
+-- memory is refused to lines of the account, or a connection isn't open: it is to be looked at
+pub record LooksLater (old : EngineState) (number : ℕ) (new : EngineState) : Type 0 where
+  pub mid : EngineState
+  pub gathers : Gathers old mid
+  pub why : (0 < length mid.left) ⊎ (mid.hub.open_wires.wires number ≡ None)
+  pub looks : LooksAt mid (number ∷ []) new
+  pub hub : new.hub ≡ mid.hub
+  pub lines : new.lines ≡ mid.lines
+  pub left : new.left ≡ mid.left
+
+-- the hub is told that a connection is gone, or that is done later
+abbrev pub TellsGone : Bool → DeskTerms → EngineState → ℕ → ℕ → EngineState → Type 0
+TellsGone journal terms old now number new =
+    ((given : ℕ) × Hands journal terms old now (event.Gone number) given new) ⊎ LooksLater old number new
+
+-- a connection is given up: its socket is let go, and the hub is told that it is gone, or will be
+pub record GivesUp {S : Type 0} (journal : Bool) (terms : DeskTerms) (now number : ℕ)
+    (old new : TrafficState S) : Type 0
+  where
+    pub link : LetsGo old.table number new.table
+    pub told : TellsGone journal terms old.engine now number new.engine
+
+-- ---- reading
+
+-- no byte came of the socket, if there is one, and what is pending is as it was
+pub record GaveNone {S : Type 0} (remaining : S → Option (List ℕ)) (link after : Socket S) : Type 0 where
+  pub keeps : Keeps (remaining link.stream) (remaining after.stream)
+  pub pending : after.pending ≡ link.pending
+
+-- nothing came of its socket, or it has none
+abbrev pub NoneCame : {S : Type 0} → (S → Option (List ℕ)) → ℕ → List (Option (Socket S))
+    → List (Option (Socket S))
+    → Type 0
+NoneCame remaining number old new = ((link_at old number ≡ None) × (new ≡ old))
+    ⊎ ChangesLink old number (GaveNone remaining) new
+
+-- the input ended
+pub record GaveEnd {S : Type 0} (remaining : S → Option (List ℕ)) (link after : Socket S) : Type 0 where
+  pub is_end : IsAtEnd (remaining after.stream)
+  pub none : Consumes (remaining link.stream) (remaining after.stream) []
+  pub pending : after.pending ≡ link.pending
+
+-- nothing is handed on: it may not be offered more, or nothing is pending and nothing came
+pub record ReadsNothing {S : Type 0} (remaining : S → Option (List ℕ)) (number : ℕ) (old new :
+    TrafficState S) :
+    Type 0
+  where
+    pub engine : new.engine ≡ old.engine
+    pub why : ((¬ MayBeOffered old.engine.hub number) × (new.table ≡ old.table))
+        ⊎ ((pending_of (link_at old.table number) ≡ [])
+        × NoneCame remaining number old.table new.table)
+
+-- its input ended, and the hub is told so
+pub record EndsInput {S : Type 0} (remaining : S → Option (List ℕ)) (journal : Bool) (terms : DeskTerms)
+    (now number : ℕ) (old new : TrafficState S) : Type 0
+  where
+    pub given : ℕ
+    pub hands : Hands journal terms old.engine now (event.Ended number) given new.engine
+    pub link : ChangesLink old.table number (GaveEnd remaining) new.table
+
+-- a piece was offered, of which the hub takes some: the others are pending
+pub record KeepsUntaken {S : Type 0} (journal : Bool) (terms : DeskTerms) (now number : ℕ) (bytes : List ℕ)
+    (old new : TrafficState S) : Type 0
+  where
+    pub what : HubEvent
+    pub piece : IsPieceOf what number bytes
+    pub given : ℕ
+    pub hands : Hands journal terms old.engine now what given new.engine
+    pub link : ChangesLink old.table number (λ link after. (after.stream ≡ link.stream)
+        × (after.pending.items ≡ drop given bytes)) new.table
+
+-- or memory was refused to the others: the connection is given up
+pub record LosesRest {S : Type 0} (journal : Bool) (terms : DeskTerms) (now number : ℕ) (bytes : List ℕ)
+    (old new : TrafficState S) : Type 0
+  where
+    pub what : HubEvent
+    pub piece : IsPieceOf what number bytes
+    pub given : ℕ
+    pub between : TrafficState S
+    pub hands : Hands journal terms old.engine now what given between.engine
+    pub others : ChangesOne old.table number between.table
+    pub gives_up : GivesUp journal terms now number between new
+
+-- what comes of one connection's turn to be read
+abbrev pub ReadsOne : {S : Type 0} → (S → Option (List ℕ)) → Bool → DeskTerms → ℕ → ℕ → TrafficState S
+    → Reading → TrafficState S → Type 0
+ReadsOne remaining journal terms now number old reading.Nothing new = ReadsNothing remaining number old new
+ReadsOne remaining journal terms now number old reading.Offered new =
+    Offers remaining journal terms now number old new
+ReadsOne remaining journal terms now number old reading.Ended new =
+    EndsInput remaining journal terms now number old new
+ReadsOne remaining journal terms now number old reading.Broken new = GivesUp journal terms now number old new
+ReadsOne remaining journal terms now number old reading.NoMemory new =
+    (bytes : List ℕ) × LosesRest journal terms now number bytes old new
+
+-- what comes of a piece that was read of a connection of which nothing was pending
+abbrev pub OffersPiece : {S : Type 0} → Bool → DeskTerms → ℕ → ℕ → List ℕ → TrafficState S → Reading
+    → TrafficState S → Type 0
+OffersPiece journal terms now number bytes old reading.Nothing new = ⊥
+OffersPiece journal terms now number bytes old reading.Offered new =
+    KeepsUntaken journal terms now number bytes old new
+OffersPiece journal terms now number bytes old reading.Ended new = ⊥
+OffersPiece journal terms now number bytes old reading.Broken new = ⊥
+OffersPiece journal terms now number bytes old reading.NoMemory new =
+    LosesRest journal terms now number bytes old new
+
+-- ---- writing
+
+-- the socket took the first of the bytes that the hub offers, and the hub is told exactly how many
+pub record Sends {S : Type 0} (contents : S → Option (List ℕ)) (journal : Bool) (terms : DeskTerms)
+    (now number : ℕ) (old new : TrafficState S) : Type 0
+  where
+    pub wire : Traffic
+    pub is_open : old.engine.hub.open_wires.wires number ≡ Some wire
+    pub count : ℕ
+    pub within : count ≤ length wire.ready
+    pub given : ℕ
+    pub hands : Hands journal terms old.engine now (event.Took number count) given new.engine
+    pub link : ChangesLink old.table number (λ link after.
+        Appends (contents link.stream) (contents after.stream) (take count wire.ready)
+        × (after.pending ≡ link.pending)) new.table
+
+-- the socket took none
+pub record TookNone {S : Type 0} (contents : S → Option (List ℕ)) (link after : Socket S) : Type 0 where
+  pub keeps : Keeps (contents link.stream) (contents after.stream)
+  pub pending : after.pending ≡ link.pending
+
+-- nothing is written or told: nothing may leave, or the socket took none
+pub record SendsNothing {S : Type 0} (contents : S → Option (List ℕ)) (number : ℕ) (old new :
+    TrafficState S) :
+    Type 0
+  where
+    pub engine : new.engine ≡ old.engine
+    pub why : ((link_at old.table number ≡ None) × (new.table ≡ old.table)
+        × (old.engine.hub.open_wires.wires number ≡ None))
+        ⊎ ChangesLink old.table number (TookNone contents) new.table
+
+-- a connection that isn't open has no socket any more
+pub record ClosesSocket {S : Type 0} (number : ℕ) (old new : TrafficState S) : Type 0 where
+  pub closed : old.engine.hub.open_wires.wires number ≡ None
+  pub engine : new.engine ≡ old.engine
+  pub link : LetsGo old.table number new.table
+
+-- what comes of one connection's turn to be written to
+abbrev pub WritesOne : {S : Type 0} → (S → Option (List ℕ)) → Bool → DeskTerms → ℕ → ℕ → TrafficState S
+    → Writing → TrafficState S → Type 0
+WritesOne contents journal terms now number old writing.Nothing new = SendsNothing contents number old new
+WritesOne contents journal terms now number old writing.Sent new =
+    Sends contents journal terms now number old new
+WritesOne contents journal terms now number old writing.Closed new = ClosesSocket number old new
+WritesOne contents journal terms now number old writing.Gone new =
+    (link_at old.table number ≡ None) × (new.table ≡ old.table) × (given : ℕ)
+    × Hands journal terms old.engine now (event.Gone number) given new.engine
+WritesOne contents journal terms now number old writing.Broken new = GivesUp journal terms now number old new

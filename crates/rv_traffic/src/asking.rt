@@ -1,0 +1,52 @@
+//! What is asked of a connection before its turn.
+ghost use Rattle.std.specs.Prelude.{◌≡◌, [], None, Some};
+ghost use Rattle.std.specs.Bool.{OnFalse, OnTrue};
+ghost use Rattle.rv_connection.specs.Traffic.{Traffic};
+ghost use Rattle.rv_wires.specs.Connections.{HasWire};
+ghost use Rattle.rv_links.specs.Table.{link_at, pending_of};
+ghost use Rattle.rv_engine.specs.Engines.{engine_state};
+ghost use Rattle.rv_traffic.specs.Calls.{MayBeOffered};
+
+use rv_engine::Engine;
+use rv_hearers::ConnectionNumber;
+use rv_links::Links;
+
+// Whether more of a connection's input may be offered.
+pub(crate) fn may_offer(engine: &Engine, number: ConnectionNumber) -> bool
+    ensures yes { OnTrue result (MayBeOffered (engine_state engine.now).hub number) }
+    ensures no { OnFalse result (¬ MayBeOffered (engine_state engine.now).hub number) }
+{
+    match engine.hub().wire(number) {
+        Some(wire) => wire.may_offer(),
+        None => false,
+    }
+}
+
+// Whether a connection is open.
+pub(crate) fn is_open(engine: &Engine, number: ConnectionNumber) -> bool
+    ensures yes { OnTrue result (HasWire (engine_state engine.now).hub.open_wires number (λ wire. Unit {0})) }
+    ensures no { OnFalse result ((engine_state engine.now).hub.open_wires.wires number ≡ None) }
+{
+    match engine.hub().wire(number) {
+        Some(_) => true,
+        None => false,
+    }
+}
+
+// Whether nothing is pending of a connection.
+pub(crate) fn is_none_pending<S: Drop>(links: &Links<S>, number: ConnectionNumber) -> bool
+    ensures { OnTrue result (pending_of (link_at links.now.table.items number) ≡ []) }
+{
+    links.pending(number).is_empty()
+}
+
+// The bytes that may leave of an open connection.
+pub(crate) fn ready_of(engine: &Engine, number: ConnectionNumber) -> &[u8]
+    ensures { (wire : Traffic) → (engine_state engine.now).hub.open_wires.wires number ≡ Some wire
+        → result.now ≡ wire.ready }
+{
+    match engine.hub().wire(number) {
+        Some(wire) => wire.ready(),
+        None => &[],
+    }
+}

@@ -1,0 +1,13 @@
+//! An engine over the sockets of its connections: what is read of each is handed on, and what leaves is told.
+#![tactic(auto)]
+
+mod asking;
+mod giving_up;
+pub mod laws;
+mod outcomes;
+mod reading;
+mod traffic;
+mod writing;
+
+pub use outcomes::{Reading, Writing};
+pub use traffic::Switchboard;

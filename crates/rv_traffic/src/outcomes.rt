@@ -1,0 +1,31 @@
+//! What comes of a connection's turn.
+
+/// What came of a connection's turn to be read.
+#[derive(Clone, Copy, Debug, PartialEq, Eq)]
+pub enum Reading {
+    /// Nothing was handed on.
+    Nothing,
+    /// Bytes were.
+    Offered,
+    /// Its input ended.
+    Ended,
+    /// Its socket failed: it is given up.
+    Broken,
+    /// Memory was refused to what the hub didn't take: it is given up.
+    NoMemory,
+}
+
+/// What came of a connection's turn to be written to.
+#[derive(Clone, Copy, Debug, PartialEq, Eq)]
+pub enum Writing {
+    /// Nothing was written.
+    Nothing,
+    /// Its socket took bytes, and the hub was told how many.
+    Sent,
+    /// It isn't open: its socket is let go.
+    Closed,
+    /// It has no socket: the hub was told that it is gone.
+    Gone,
+    /// Its socket failed: it is given up.
+    Broken,
+}

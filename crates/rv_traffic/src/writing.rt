@@ -1,0 +1,92 @@
+//! Writes once to a connection what may leave.
+ghost use Rattle.std.specs.Prelude.{◌≡◌, [], None, IsSome};
+ghost use Rattle.rv_wires.specs.Connections.{HasWire};
+ghost use Rattle.rv_hub.specs.Hubs.{hub_terms};
+ghost use Rattle.rv_engine.specs.Engines.{engine_state};
+ghost use Rattle.rv_links.specs.Table.{link_at};
+ghost use Rattle.rv_traffic.specs.Calls.{WritesOne};
+ghost use Rattle.rv_traffic.specs.Views.{SameTerms, traffic_state};
+
+use crate::asking::{is_open, ready_of};
+use crate::giving_up::give_up;
+use crate::outcomes::Writing;
+use crate::traffic::Switchboard;
+use rv_engine::LinkEvent;
+use rv_hearers::ConnectionNumber;
+use rv_links::WriteOutcome;
+use std::io::Write;
+
+// Writes once to an open connection's socket, and tells the hub how many bytes that took.
+fn send<S: Write + Drop>(
+    traffic: &mut Switchboard<S>,
+    now: u64,
+    number: ConnectionNumber,
+) -> Writing
+    requires none_left { (engine_state traffic.old.engine).left ≡ [] }
+    requires there { IsSome (link_at traffic.old.links.table.items number) }
+    requires is_open { HasWire (engine_state traffic.old.engine).hub.open_wires number (λ wire. Unit {0}) }
+    ensures writes { WritesOne S.contents traffic.old.engine.hub.has_journal
+        (hub_terms traffic.old.engine.hub) now number (traffic_state traffic.old) result
+        (traffic_state traffic.new) }
+    ensures terms { SameTerms traffic.old traffic.new }
+{
+    let ready = ready_of(&traffic.engine, number);
+    if ready.is_empty() {
+        traffic.links.rest(number, now);
+        return Writing::Nothing;
+    }
+    match traffic.links.write(number, now, ready) {
+        WriteOutcome::Took(count) => {
+            traffic.engine.hand(now, LinkEvent::Took(number, count));
+            Writing::Sent
+        }
+        WriteOutcome::Nothing => Writing::Nothing,
+        WriteOutcome::Broken => {
+            give_up(traffic, now, number);
+            Writing::Broken
+        }
+    }
+}
+
+// Tells the hub that a connection without a socket is gone, if it is open.
+fn tell_lost<S: Write + Drop>(
+    traffic: &mut Switchboard<S>,
+    now: u64,
+    number: ConnectionNumber,
+) -> Writing
+    requires none_left { (engine_state traffic.old.engine).left ≡ [] }
+    requires none { link_at traffic.old.links.table.items number ≡ None }
+    ensures writes { WritesOne S.contents traffic.old.engine.hub.has_journal
+        (hub_terms traffic.old.engine.hub) now number (traffic_state traffic.old) result
+        (traffic_state traffic.new) }
+    ensures terms { SameTerms traffic.old traffic.new }
+{
+    if !is_open(&traffic.engine, number) {
+        return Writing::Nothing;
+    }
+    traffic.engine.hand(now, LinkEvent::Gone(number));
+    Writing::Gone
+}
+
+// Writes once to a connection. One that the hub closed loses its socket, and the hub is told of one that has
+// none.
+pub(crate) fn write_one<S: Write + Drop>(
+    traffic: &mut Switchboard<S>,
+    now: u64,
+    number: ConnectionNumber,
+) -> Writing
+    requires none_left { (engine_state traffic.old.engine).left ≡ [] }
+    ensures writes { WritesOne S.contents traffic.old.engine.hub.has_journal
+        (hub_terms traffic.old.engine.hub) now number (traffic_state traffic.old) result
+        (traffic_state traffic.new) }
+    ensures terms { SameTerms traffic.old traffic.new }
+{
+    if !traffic.links.is_there(number) {
+        return tell_lost(traffic, now, number);
+    }
+    if !is_open(&traffic.engine, number) {
+        traffic.links.remove(number);
+        return Writing::Closed;
+    }
+    send(traffic, now, number)
+}
