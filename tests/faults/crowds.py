@@ -4,7 +4,7 @@ import random
 import signal
 import time
 
-from tests.faults.system import HostileServer, System
+from tests.faults.system import System, hostile_serving
 from tests.sockets import crowds
 from tests.sockets.crowds import take_the_rest
 from tests.sockets.driver import Ledger, drive
@@ -66,7 +66,7 @@ def one_crowd(program, chance, size, beside=None, **odds):
     """A crowd while the system is hostile so, and what must hold behind it. `beside` is done with the server meanwhile,
     until an event is set. It gives the system."""
     system, ledger = System(chance.randrange(2**31)), Ledger()
-    with HostileServer(program, system, size + 1, epoch=chance.choice([1, 7, 2**53 - 1])) as server:
+    with hostile_serving(program, system, size + 1, epoch=chance.choice([1, 7, 2**53 - 1])) as server:
         server.connect().close()
         clients = [Stubborn(server, ledger, number, random.Random(chance.random())) for number in range(1, size + 1)]
         system.be(**odds)
