@@ -167,4 +167,3 @@ def many_frames(program: str) -> None:
 
 
 CASES = [half_frames, idle_connections, deaf_peers, resets_at_each_byte, a_flood, many_frames]
-WITH_MANY = [silent_connections]

@@ -48,7 +48,7 @@ class Host(Served):
         """It has no last connection: behind all others it serves one more, and says nothing where nothing is asked."""
         with self.connect() as peer:
             peer.end()
-            demand(not peer.more(), f"a connection that asked nothing was answered {peer.got!r}")
+            peer.expect_end()
 
     def halt(self, patience: float = PATIENCE) -> None:
         """Kills it once it does nothing more: until then it must have run, and have said lines of no more than their length."""
