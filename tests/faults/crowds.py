@@ -103,6 +103,12 @@ def all_at_once(program, seed):
                       failed_write=3_000, accept=5, clock=50, sleep=20)
 
 
+def all_but_clocks(program, seed):
+    """The same of a server that never pauses, and whose system can tell the time."""
+    crowd_after_crowd(program, f"all but clocks {seed}", 10, growth=200, cut_read=3, failed_read=3_000, cut_write=3,
+                      failed_write=3_000, accept=5)
+
+
 def stop_and_go(chance, server, done):
     """Stops a server and lets it go on, at random."""
     try:

@@ -205,17 +205,24 @@ static ssize_t write_file(int file, const void *bytes, size_t count) {
     return taken;
 }
 
+/* Whether calls of a socket never wait. Then EAGAIN promises to tell when it is ready, and no write takes nothing: neither is
+   a fault that a system has. */
+static int never_waits(int device) { return fcntl(device, F_GETFL) & O_NONBLOCK; }
+
 /* A read that fails, with whatever error. */
-static ssize_t no_read(void) {
-    static const int errors[] = {ECONNRESET, EIO, EINTR, EAGAIN, ETIMEDOUT};
-    return any_of(errors, 5);
+static ssize_t no_read(int device) {
+    static const int errors[] = {ECONNRESET, EIO, EINTR, ETIMEDOUT, EAGAIN};
+    return any_of(errors, never_waits(device) ? 4 : 5);
 }
 
 /* A write that fails, with whatever error, or takes nothing. One that is only interrupted may be made again, so where a
    write is to fail behind so many bytes, and no odds are given, it isn't of that kind. */
-static ssize_t no_write(void) {
-    static const int errors[] = {EPIPE, EIO, EAGAIN, ENOBUFS, EINTR};
-    return chance() % 6 ? any_of(errors, page->odds[FAILED_WRITE] ? 5 : 4) : 0;
+static ssize_t no_write(int device) {
+    static const int errors[] = {EPIPE, EIO, ENOBUFS, EINTR}, waiting[] = {EPIPE, EIO, ENOBUFS, EAGAIN, EINTR};
+    int interrupted = page->odds[FAILED_WRITE] > 0;
+    if (never_waits(device))
+        return any_of(errors, 3 + interrupted);
+    return chance() % 6 ? any_of(waiting, 4 + interrupted) : 0;
 }
 
 /* One more than the bytes that pass before the next read or write fails; 0 is not known yet. */
@@ -271,13 +278,13 @@ ssize_t read(int device, void *bytes, size_t count) {
     if (device == STDIN_FILENO)
         return read_input(bytes, count);
     if (count && is_socket(device) && !(count = readable(count)))
-        return no_read();
+        return no_read(device);
     return went(READS, syscall(SYS_read, device, bytes, count));
 }
 
 ssize_t recv(int device, void *bytes, size_t count, int flags) {
     if (count && page && !(count = readable(count)))
-        return no_read();
+        return no_read(device);
     return went(READS, syscall(SYS_recvfrom, device, bytes, count, flags, NULL, NULL));
 }
 
@@ -287,13 +294,13 @@ ssize_t write(int device, const void *bytes, size_t count) {
     if (count && is_file(device))
         return write_file(device, bytes, count);
     if (count && is_socket(device) && !(count = writable(count)))
-        return no_write();
+        return no_write(device);
     return went(WRITES, syscall(SYS_write, device, bytes, count));
 }
 
 ssize_t send(int device, const void *bytes, size_t count, int flags) {
     if (count && page && !(count = writable(count)))
-        return no_write();
+        return no_write(device);
     return went(WRITES, syscall(SYS_sendto, device, bytes, count, flags, NULL, 0));
 }
 

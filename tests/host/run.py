@@ -40,8 +40,8 @@ SHARED = [
 # The same with a seed; in a hostile system; and of the clients.
 RANDOM = [*crowds.CASES, *noisy.CASES]
 HOSTILE = [faulty_crowds.growths_refused, faulty_crowds.links_broken, faulty_crowds.connections_not_accepted,
-           faulty_crowds.all_at_once, faulty_crowds.stopped_and_gone_on, *callers.CASES]
-IN_TURN = [turns.each_growth_of_a_server, turns.each_read_of_a_server, turns.each_byte_of_a_server]
+           faulty_crowds.all_but_clocks, faulty_crowds.stopped_and_gone_on, *callers.CASES]
+IN_TURN = [turns.each_growth_of_a_server, turns.each_byte_of_a_server]
 CLIENTS = [*cancelled_tasks.CASES, *interrupted.CASES]
 # What the double can do wrong, and the case that must see it; none of these hangs on who is first.
 WRONGS = [

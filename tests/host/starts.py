@@ -18,14 +18,14 @@ HOLDERS, HELD, MEBIBYTES = 40, 40_000, 1
 
 
 def back_at_once(program: str, many: int, seconds: float | None = None) -> str:
-    """So many clients wait, and the host is killed. All come back at once behind its next start: each is welcome, learns that its
+    """So many clients wait, and the host is killed. All come back at once behind its next start, at its address: each is welcome, learns that its
     old epoch ended, and waits anew."""
     with Host(program, epoch=1) as before, closing(connected(before.port, many)) as peers:
         greeted(peers, 1, 1)
         for client, peer in enumerate(peers, 1):
             peer.send(frame(request(Key(1, client, 1, 1), take("forever", queue=client % 64))))
         before.kill()
-    with Host(program, epoch=2) as after:
+    with Host(program, epoch=2, port=before.port) as after:
         after.connect().close()
         began = time.monotonic()
         with closing(connected(after.port, many)) as peers:

@@ -29,6 +29,8 @@ HEAD = len(b"epoch 1 opened 0\n")
 # At most so much of a processor a host takes that lacks descriptors, over so many seconds.
 SHARE, WATCHED = 0.5, 1.0
 HOUR, DAY = 3_600, 86_400
+# So many seconds later a host has looked over its connections, and told what went wrong.
+SETTLES = 2
 # The status of `rv verify` where the end is torn.
 TORN = 3
 
@@ -245,13 +247,13 @@ def nobody_reads_what_it_says(program: str) -> None:
     try:
         fcntl.fcntl(write, fcntl.F_SETPIPE_SZ, 4_096)
         os.write(write, b"x" * 4_096)
-        with Host(program, options=("--idle", "1"), stderr=write) as host:
-            with host.greeted(1) as peer, host.greeted(2) as idle:
+        with Host(program, stderr=write) as host:
+            with host.greeted(1) as peer, host.greeted(2) as other:
                 asked, told = a_talk(peer, 1, TALK)
-                idle.expect_end()
-                peer.reset()
-            with host.greeted(3) as peer:
-                peer.expect(hello(3), welcome(3))
+                other.send(frame(hello(2)))
+                other.reset()
+                time.sleep(SETTLES)
+                peer.expect(hello(1), welcome(1))
             host.judged(asked, told)
     finally:
         os.close(read)

@@ -130,11 +130,11 @@ class Served(Process):
     # What it says where somebody took the port before it did.
     port_is_taken = b"address fault\n"
 
-    def __init__(self, program, epoch, **more):
+    def __init__(self, program, epoch, port=None, **more):
         self.program, self.epoch, self.listens = program, epoch, False
         self.made, self.lock = 0, threading.Lock()
         for _ in range(TRIES):
-            self.port = free_port()
+            self.port = port or free_port()
             super().__init__([program, *self.command()], **more)
             if not self.taken():
                 return
