@@ -12,6 +12,7 @@ import os
 import pathlib
 import random
 import sys
+import time
 from collections.abc import Callable
 
 ROOT = pathlib.Path(__file__).resolve().parents[2]
@@ -87,10 +88,9 @@ def run(program: HostProgram, asked: argparse.Namespace, count: Count) -> None:
         count.run(name_of(case), case, program)
     count.run(name_of(hostile.silent_connections), hostile.silent_connections, program, min(asked.silent, many.room()))
     count.run(name_of(starts.back_at_once), starts.back_at_once, program, min(SILENT, many.room()))
-    for case in [*RANDOM, *HOSTILE, *CLIENTS]:
+    run_random(program, asked.seed, count)
+    for case in CLIENTS:
         count.run(f"{name_of(case)}, seed {asked.seed}", case, program, asked.seed)
-    spoilt = next(case for case in mutants.CASES if case.__name__ == "spoilt_frames")
-    count.run(f"{name_of(spoilt)}, seed {asked.seed}", spoilt, program, asked.seed, SPOILT)
     count.run(name_of(client_crowds.a_crowd), client_crowds.a_crowd, program, asked.seed, asked.seconds)
     if java.missing():
         print(f"Java was left out: {java.missing()}", flush=True)
@@ -98,6 +98,22 @@ def run(program: HostProgram, asked: argparse.Namespace, count: Count) -> None:
     for case in receipts.WITH_JAVA:
         count.run(name_of(case), case, program)
     count.run(name_of(client_crowds.beside_the_jdk), client_crowds.beside_the_jdk, program, asked.seed, SCRIPTS)
+
+
+def run_random(program: HostProgram, seed: int, count: Count) -> None:
+    """Runs the cases that are random."""
+    for case in [*RANDOM, *HOSTILE]:
+        count.run(f"{name_of(case)}, seed {seed}", case, program, seed)
+    spoilt = next(case for case in mutants.CASES if case.__name__ == "spoilt_frames")
+    count.run(f"{name_of(spoilt)}, seed {seed}", spoilt, program, seed, SPOILT)
+
+
+def torture(program: HostProgram, asked: argparse.Namespace, count: Count) -> None:
+    """Runs the random cases with one seed after another, for so many seconds."""
+    ends, seed = time.monotonic() + asked.torture, asked.seed
+    while time.monotonic() < ends:
+        run_random(program, seed, count)
+        seed += 1
 
 
 def of_double(wrong: str, name: str) -> tuple[str | None, object, float]:
@@ -115,6 +131,7 @@ def main() -> None:
     parser.add_argument("--seconds", type=float, default=CROWD, help="how long the clients' crowd asks")
     parser.add_argument("--silent", type=int, default=SILENT, help="silent connections, at most")
     parser.add_argument("--back", type=int, help="in place of all that so many clients that come back within ten seconds")
+    parser.add_argument("--torture", type=float, help="in place of all that the random cases, for so many seconds")
     parser.add_argument("--selftest", action="store_true", help="test the cases themselves, on hosts that are wrong")
     parser.add_argument("--only", default="", help="only the cases with these words in their name")
     parser.add_argument("--verbose", action="store_true", help="tell also what passed, with its seconds")
@@ -128,6 +145,8 @@ def main() -> None:
             count.try_doubles(WRONGS, of_double)
         elif asked.back:
             count.run(name_of(starts.in_time), starts.in_time, program, min(asked.back, many.room()))
+        elif asked.torture:
+            torture(program, asked, count)
         else:
             run(program, asked, count)
     count.end()
