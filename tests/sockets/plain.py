@@ -121,9 +121,9 @@ def one_after_the_other(program):
             second.expect(request(poll, take("now")), replied(poll, reply="item", item="a"))
         server.judged({put: give("put", "a"), poll: take("now")},
                       [(put, {"reply": "done"}), (poll, {"reply": "item", "item": "a"})])
-        head, *entries = server.printed.splitlines()
+        head, *entries = server.written().splitlines()
         got = [head, *(line.partition(b" ")[2] for line in entries)]
-        demand(got == ONE_BY_ONE, f"the account is {server.printed!r}")
+        demand(got == ONE_BY_ONE, f"the account is {server.written()!r}")
 
 
 def a_consumer_that_waits(program):
