@@ -2,7 +2,7 @@
 PREFIX ?= /usr/local
 PROGRAM = crates/rv_app/out/rv_app
 
-.PHONY: run demo test check edits torture install bench build
+.PHONY: run demo test check edits torture soak install bench build
 
 # the four answers of the first example, and a hand-over between two programs, by the proved program
 run: build
@@ -37,6 +37,11 @@ torture: build
 	@command -v python3 > /dev/null || { echo "python3 is missing: the script is written in it" >&2; exit 1; }
 	@tests/faults/torture.py --seconds $(or $(SECONDS),3500) $(PROGRAM)
 
+# rv host under crowds on bad links, whose clients are killed, for ten minutes or SECONDS; then 20,000,000 entries, or ENTRIES
+soak: build
+	@command -v python3 > /dev/null || { echo "python3 is missing: the script is written in it" >&2; exit 1; }
+	@tests/host/soak.py $(PROGRAM) --seconds $(or $(SECONDS),600) --entries $(or $(ENTRIES),20000000)
+
 # the proved program, as PREFIX/bin/rv
 install: build
 	@mkdir -p "$(PREFIX)/bin"
@@ -46,7 +51,7 @@ install: build
 # what a machine and rv verify take as entries grow, and what a machine holds; what a hub's connection holds and its events cost; the
 # instructions of a line, if valgrind is there;
 # lines a second and memory a line, beside a plain loop that reads and writes the same JSON; what a line costs in full tables,
-# with OLD=PROGRAM beside that of another build
+# with OLD=PROGRAM beside that of another build; and rv host beside redis-server
 bench: build
 	@command -v python3 > /dev/null || { echo "python3 is missing: the measurement is written in it" >&2; exit 1; }
 	@tools/build.py rv_bench
@@ -58,6 +63,7 @@ bench: build
 	@tools/bench/verified.py $(PROGRAM)
 	@tools/bench/instructions.py $(PROGRAM) crates/rv_bench/out/rv_bench
 	@tools/bench/bench.py $(PROGRAM) crates/rv_bench/out/rv_bench $(if $(OLD),--old $(OLD))
+	@tools/bench/host.py $(PROGRAM)
 
 # the proved program: as it is where its mark fits the sources, else proved and built
 build:

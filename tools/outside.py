@@ -42,6 +42,8 @@ OUTSIDE = [
     ["tests/faults/hub_growths.py", HUB_STEPS],
     ["tests/sockets/serve.py", "--seed", SEED, PROGRAM],
     ["tests/sockets/serve.py", "--selftest"],
+    ["tests/host/run.py", "--seed", SEED, PROGRAM],
+    ["tests/host/run.py", "--selftest"],
     ["tests/faults/devices.py", PROGRAM],
     ["tests/faults/growths.py", PROGRAM],
     ["tests/faults/torture.py", "--seed", SEED, PROGRAM],

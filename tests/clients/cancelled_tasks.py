@@ -10,7 +10,7 @@ import time
 import rendezvous as rv
 from record_lines import lines_of
 from rendezvous import aio
-from tests.sockets.programs import Server
+from tests.sockets.hosts import serving
 from tests.sockets.wire import demand
 
 QUEUE, WORKERS = 3, 16
@@ -70,7 +70,7 @@ async def takes(port, seed, how_many, record):
 def cancelled_takes(program, seed, how_many=TAKES):
     """Each item is given once, in the order in which they were put, whether its take was cancelled or not."""
     began = time.monotonic()
-    with Server(program, WORKERS, AT_ALL_EVENTS + EACH_TAKE * how_many) as server, \
+    with serving(program, WORKERS, AT_ALL_EVENTS + EACH_TAKE * how_many) as server, \
             tempfile.TemporaryDirectory(prefix="rv-record-") as folder:
         server.connect().close()
         record = pathlib.Path(folder, "record")

@@ -17,7 +17,7 @@ from tests.clients.proxy import Proxy
 from tests.clients.records import Ended, Reader, judged, judged_java
 from tests.sockets.cases import DOUBLE
 from tests.sockets.driver import Ledger, drive
-from tests.sockets.programs import Server
+from tests.sockets.hosts import serving
 from tests.sockets.wire import PATIENCE, demand, key_of, reply_of
 
 PYTHONS, JAVAS, WORKERS = 6, 4, 48
@@ -38,8 +38,8 @@ def add(ledger, call, answer):
 class Client:
     """A Python client that asks random calls, and gives up some that wait."""
 
-    def __init__(self, address, number, chance, ledger, record):
-        self.session = rv.Session(address, number, 1, version=1 + number % 2, patience=PATIENCE, answer=2, record=record)
+    def __init__(self, address, number, chance, ledger, record, incarnation=1):
+        self.session = rv.Session(address, number, incarnation, version=1 + number % 2, patience=PATIENCE, answer=2, record=record)
         self.chance, self.ledger, self.number, self.items = chance, ledger, number, 0
         self.record = Reader(record, number)
 
@@ -141,7 +141,7 @@ def a_crowd(program, seed, seconds, at_all_events=AT_ALL_EVENTS):
     """Python's and Java's clients at once; then what they were told is looked up in the account."""
     ledger, chance = Ledger(), random.Random(seed)
     began, connections = time.monotonic(), at_all_events + int(CONNECTIONS * seconds)
-    with Server(program, WORKERS, connections) as server, Proxy(server, seed, connections * 3 // 4) as proxy, \
+    with serving(program, WORKERS, connections) as server, Proxy(server, seed, connections * 3 // 4) as proxy, \
             tempfile.TemporaryDirectory(prefix="rv-record-") as folder:
         address, record = ("127.0.0.1", proxy.port), pathlib.Path(folder, "record")
 
@@ -169,7 +169,7 @@ def at_the_double():
 
 def beside_the_jdk(program, seed, scripts):
     """The JDK's own classes and those of the server, on random scripts."""
-    with Server(program, 8, 20_000) as server:
+    with serving(program, 8, 20_000) as server:
         server.connect().close()
         words = java.command("rendezvous.BesideJdk", server.port, scripts, seed)
         ran = subprocess.run(words, capture_output=True, text=True, timeout=900)

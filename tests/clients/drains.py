@@ -2,7 +2,7 @@
 import rendezvous as rv
 from tests.clients import java
 from tests.clients.receipts import judged, session
-from tests.sockets.programs import Server
+from tests.sockets.hosts import serving
 from tests.sockets.wire import demand, together, until
 
 # An item of as many bytes as an item may have, each of which is written in six.
@@ -11,7 +11,7 @@ LONGEST = "\u0001" * 512
 
 def both_drain_in_order(program):
     """Two clients give, by puts and by a transfer that waits; a third takes what is there, oldest first."""
-    with Server(program, 4, 3) as server:
+    with serving(program, 4, 3) as server:
         with session(server, 1) as giver, session(server, 2) as waiter, session(server, 3) as taker:
             giver.put(3, "a")
 
@@ -28,7 +28,7 @@ def both_drain_in_order(program):
 
 def the_longest_answer(program):
     """Sixteen items of as many bytes as there may be, each in Python and in Java."""
-    with Server(program, 2, 1 if java.missing() else 2) as server:
+    with serving(program, 2, 1 if java.missing() else 2) as server:
         with session(server, 1) as one:
             for _ in range(36):
                 one.put(3, LONGEST)

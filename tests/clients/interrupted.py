@@ -18,7 +18,7 @@ from record_lines import lines_of
 from tests.clients.interrupted_judged import LIMIT, Book, calls_of, faults_of, the_judge_finds_lies
 from tests.model.account import Request, reply
 from tests.model.tables import table_audit
-from tests.sockets.programs import Server
+from tests.sockets.hosts import Host, serving
 from tests.sockets.wire import demand, together
 
 PROCESSES, WORKERS = 8, 64
@@ -158,7 +158,10 @@ class Crowd:
 
 
 def use_up(server):
-    """Makes the connections that are left, so that the server ends; how many."""
+    """Makes the connections that are left, so that the server ends; how many. A host has no last one."""
+    if isinstance(server, Host):
+        server.use_up()
+        return 0
     made = []
 
     def makes():
@@ -179,7 +182,7 @@ def an_epoch(program, chance, epoch, calls, sums):
     """A server and its crowd; the record must be true by the account, which must be legal."""
     connections = AT_ALL_EVENTS + int(EACH_CALL * calls)
     with tempfile.TemporaryDirectory(prefix="rv-fire-") as folder, \
-            Server(program, WORKERS, connections, epoch=epoch) as server:
+            serving(program, WORKERS, connections, epoch=epoch) as server:
         crowd = Crowd(server, chance, calls, folder)
         try:
             crowd.fire()

@@ -7,7 +7,7 @@ import sys
 import tempfile
 
 from tests import ROOT
-from tests.sockets.programs import Server
+from tests.sockets.hosts import serving
 from tests.sockets.wire import PATIENCE, demand
 
 PAGE = ROOT / "clients/python/README.md"
@@ -50,7 +50,7 @@ def the_page_of_python(program):
     gives, *workers = programs()
     demand(len(workers) == 2, f"the page has {len(workers)} workers")
     for worker in workers:
-        with Server(program, 8, 1_000) as server, tempfile.TemporaryDirectory(prefix="rv-page-") as folder, \
+        with serving(program, 8, 1_000) as server, tempfile.TemporaryDirectory(prefix="rv-page-") as folder, \
                 Program(worker, server, folder) as works:
             with Program(gives, server, folder) as giver:
                 printed, said, status = giver.ends()

@@ -2,7 +2,7 @@
 import rendezvous as rv
 from tests.clients import java
 from tests.model.tables import table_audit
-from tests.sockets.programs import Server
+from tests.sockets.hosts import serving
 from tests.sockets.wire import demand, together
 
 
@@ -29,7 +29,7 @@ def handed_over(giver, taker, by):
 def of_each_version(program):
     """A session of version 2 is told who received its item, whatever version the consumer speaks; one of
     version 1 is not."""
-    with Server(program, 6, 3) as server:
+    with serving(program, 6, 3) as server:
         with session(server, 1) as first, session(server, 2, version=1) as second, \
                 session(server, 3) as third:
             handed_over(first, second, rv.Key(1, 2, 1, 1))
@@ -40,7 +40,7 @@ def of_each_version(program):
 
 def one_version_a_session(program):
     """A hello in another version than its session's is refused; a greater incarnation may speak another."""
-    with Server(program, 8, 6) as server:
+    with serving(program, 8, 6) as server:
         with session(server, 1), session(server, 2, version=1):
             for number, version in [(1, 1), (2, 2)]:
                 fault = refused(server, number, version)
@@ -64,7 +64,7 @@ def refused(server, number, version):
 
 def between_python_and_java(program):
     """Python gives to Java and Java to Python, and each is told who received."""
-    with Server(program, 4, 2) as server, session(server, 1) as one:
+    with serving(program, 4, 2) as server, session(server, 1) as one:
         with java.driver() as driver:
             driver.expect(f"open {server.port} 2 120000", "result open")
             receipt, taken = together(lambda: one.transfer(3, "a"), lambda: driver.tell("take"))

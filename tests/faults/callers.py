@@ -4,7 +4,7 @@ import socket
 import subprocess
 
 from tests.faults.mutants import EDGES, Mutants
-from tests.faults.system import HostileServer, System, file_of
+from tests.faults.system import System, file_of, hostile_serving
 from tests.model.account import Hello, Key
 from tests.model.answers import CODES, LEAST, MOST, REPLIES, read_answer
 from tests.model.texts import KEY, MAX_DRAIN, MAX_IDENTIFIER, TAKER, NoReading, members_of_version, written
@@ -38,7 +38,7 @@ def hostile_callers(program, seed):
     """Each reply that a caller printed stands in the account, in the order of its lines, and nothing else was asked."""
     chance, ledger = random.Random(f"callers {seed}"), Ledger()
     system = System(chance.randrange(2**31))
-    with HostileServer(program, system, workers=CALLERS + 1) as server:
+    with hostile_serving(program, system, workers=CALLERS + 1) as server:
         server.connect().close()
         system.be(growth=500, cut_read=3, failed_read=6_000, cut_write=3, failed_write=6_000, accept=9, sleep=2)
 

@@ -4,7 +4,7 @@ import random
 import signal
 import time
 
-from tests.faults.system import HostileServer, System
+from tests.faults.system import System, hostile_serving
 from tests.sockets import crowds
 from tests.sockets.crowds import take_the_rest
 from tests.sockets.driver import Ledger, drive
@@ -66,7 +66,7 @@ def one_crowd(program, chance, size, beside=None, **odds):
     """A crowd while the system is hostile so, and what must hold behind it. `beside` is done with the server meanwhile,
     until an event is set. It gives the system."""
     system, ledger = System(chance.randrange(2**31)), Ledger()
-    with HostileServer(program, system, size + 1, epoch=chance.choice([1, 7, 2**53 - 1])) as server:
+    with hostile_serving(program, system, size + 1, epoch=chance.choice([1, 7, 2**53 - 1])) as server:
         server.connect().close()
         clients = [Stubborn(server, ledger, number, random.Random(chance.random())) for number in range(1, size + 1)]
         system.be(**odds)
@@ -101,6 +101,12 @@ def all_at_once(program, seed):
     """Growths, reads, writes, accepts, clocks and pauses, all of them."""
     crowd_after_crowd(program, f"all {seed}", 10, growth=200, cut_read=3, failed_read=3_000, cut_write=3,
                       failed_write=3_000, accept=5, clock=50, sleep=20)
+
+
+def all_but_clocks(program, seed):
+    """The same of a server that never pauses, and whose system can tell the time."""
+    crowd_after_crowd(program, f"all but clocks {seed}", 10, growth=200, cut_read=3, failed_read=3_000, cut_write=3,
+                      failed_write=3_000, accept=5)
 
 
 def stop_and_go(chance, server, done):

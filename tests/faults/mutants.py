@@ -14,7 +14,7 @@ from tests.model.scripts import (
 from tests.model.steps import told
 from tests.model.texts import MAX_DRAIN, MAX_IDENTIFIER, MAX_ITEM_BYTES, MAX_PLACE, MAX_WAIT, written
 from tests.model.verdicts import verdict
-from tests.sockets.programs import Server
+from tests.sockets.hosts import serving
 from tests.sockets.wire import MAX_FRAME, demand, frame
 
 # How many mutants go through one process: the model's account of them stays short.
@@ -316,7 +316,7 @@ class Stream:
 def frames(program, chance, count):
     """So many frames, spoilt and cut into streams, over connections to one server."""
     account, done = Account(1, 0), 0
-    with Server(program, workers=1, connections=STREAMS) as server:
+    with serving(program, workers=1, connections=STREAMS) as server:
         for _ in range(STREAMS):
             stream = Stream(chance, account)
             for _ in range(STREAM):

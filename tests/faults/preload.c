@@ -10,8 +10,8 @@
    one letter for each call, r or w.
 
    The system. Growths are refused, what is read from and written to sockets is cut short or fails, connections can't be
-   accepted, threads can't be started, the clock can't be read, a sleep ends at once, and the time-outs of sockets are
-   shorter. How often stands in the file FAULT_PAGE, a row of 32-bit numbers that may be changed at any time from outside.
+   accepted, threads can't be started, the clock can't be read, a sleep ends at once, the time-outs of sockets are
+   shorter, the disk is full, and the wall clock shows another time. How often stands in the file FAULT_PAGE, a row of 32-bit numbers that may be changed at any time from outside.
    Of the odds, 0 is never, and n is once in n at random, with the seed FAULT_SEED; so 1 is always. A read and a write fail
    once in so many bytes. Behind them stand how many times each of these was done, and how many reads and writes of sockets
    were asked for. */
@@ -59,9 +59,10 @@ enum { READS, WRITES, WAYS };
    is refused and the read that fails, and `room` is one more than the bytes that may be written before a write fails;
    with 0 none is. The odds of growths hold behind the first `calm` ones. `thread_at` counts down to the thread that can't
    be started. Time-outs are `haste` times as short, where it is not 0, and of what is written to a connection that was
-   accepted the system keeps `kept` bytes, about. */
+   accepted the system keeps `kept` bytes, about. Files take `disk` - 1 bytes more, and then there is no space; with 0 there
+   always is. The wall clock is so many seconds ahead by `wall`, a number with a sign. */
 struct page {
-    uint32_t odds[ODDS], most, growth_at, read_at, room, calm, thread_at, haste, kept, made[ODDS], asked[WAYS];
+    uint32_t odds[ODDS], most, growth_at, read_at, room, calm, thread_at, haste, kept, disk, wall, made[ODDS], asked[WAYS];
 };
 
 static volatile struct page *page;
@@ -187,17 +188,41 @@ static int is_socket(int device) {
     return page && !fstat(device, &about) && S_ISSOCK(about.st_mode);
 }
 
+static int is_file(int device) {
+    struct stat about;
+    return page && page->disk && !fstat(device, &about) && S_ISREG(about.st_mode);
+}
+
+/* A write to a file, of which the disk takes what there is space for. */
+static ssize_t write_file(int file, const void *bytes, size_t count) {
+    count = least(count, page->disk - 1);
+    if (count == 0) {
+        errno = ENOSPC;
+        return -1;
+    }
+    ssize_t taken = syscall(SYS_write, file, bytes, count);
+    page->disk -= taken > 0 ? taken : 0;
+    return taken;
+}
+
+/* Whether calls of a socket never wait. Then EAGAIN promises to tell when it is ready, and no write takes nothing: neither is
+   a fault that a system has. */
+static int never_waits(int device) { return fcntl(device, F_GETFL) & O_NONBLOCK; }
+
 /* A read that fails, with whatever error. */
-static ssize_t no_read(void) {
-    static const int errors[] = {ECONNRESET, EIO, EINTR, EAGAIN, ETIMEDOUT};
-    return any_of(errors, 5);
+static ssize_t no_read(int device) {
+    static const int errors[] = {ECONNRESET, EIO, EINTR, ETIMEDOUT, EAGAIN};
+    return any_of(errors, never_waits(device) ? 4 : 5);
 }
 
 /* A write that fails, with whatever error, or takes nothing. One that is only interrupted may be made again, so where a
    write is to fail behind so many bytes, and no odds are given, it isn't of that kind. */
-static ssize_t no_write(void) {
-    static const int errors[] = {EPIPE, EIO, EAGAIN, ENOBUFS, EINTR};
-    return chance() % 6 ? any_of(errors, page->odds[FAILED_WRITE] ? 5 : 4) : 0;
+static ssize_t no_write(int device) {
+    static const int errors[] = {EPIPE, EIO, ENOBUFS, EINTR}, waiting[] = {EPIPE, EIO, ENOBUFS, EAGAIN, EINTR};
+    int interrupted = page->odds[FAILED_WRITE] > 0;
+    if (never_waits(device))
+        return any_of(errors, 3 + interrupted);
+    return chance() % 6 ? any_of(waiting, 4 + interrupted) : 0;
 }
 
 /* One more than the bytes that pass before the next read or write fails; 0 is not known yet. */
@@ -253,27 +278,29 @@ ssize_t read(int device, void *bytes, size_t count) {
     if (device == STDIN_FILENO)
         return read_input(bytes, count);
     if (count && is_socket(device) && !(count = readable(count)))
-        return no_read();
+        return no_read(device);
     return went(READS, syscall(SYS_read, device, bytes, count));
 }
 
 ssize_t recv(int device, void *bytes, size_t count, int flags) {
     if (count && page && !(count = readable(count)))
-        return no_read();
+        return no_read(device);
     return went(READS, syscall(SYS_recvfrom, device, bytes, count, flags, NULL, NULL));
 }
 
 ssize_t write(int device, const void *bytes, size_t count) {
     if (device == STDOUT_FILENO)
         return write_output(bytes, count);
+    if (count && is_file(device))
+        return write_file(device, bytes, count);
     if (count && is_socket(device) && !(count = writable(count)))
-        return no_write();
+        return no_write(device);
     return went(WRITES, syscall(SYS_write, device, bytes, count));
 }
 
 ssize_t send(int device, const void *bytes, size_t count, int flags) {
     if (count && page && !(count = writable(count)))
-        return no_write();
+        return no_write(device);
     return went(WRITES, syscall(SYS_sendto, device, bytes, count, flags, NULL, 0));
 }
 
@@ -319,7 +346,12 @@ int pthread_create(pthread_t *thread, const pthread_attr_t *how, void *(*run)(vo
 
 int clock_gettime(clockid_t clock, struct timespec *now) {
     static const int errors[] = {EINVAL, EPERM};
-    return happens(CLOCK) ? any_of(errors, 2) : syscall(SYS_clock_gettime, clock, now);
+    if (happens(CLOCK))
+        return any_of(errors, 2);
+    int read = syscall(SYS_clock_gettime, clock, now);
+    if (read == 0 && page && clock == CLOCK_REALTIME)
+        now->tv_sec += (int32_t)page->wall;
+    return read;
 }
 
 int nanosleep(const struct timespec *wanted, struct timespec *rest) {

@@ -6,13 +6,14 @@ import struct
 import tempfile
 
 from tests.faults import preload
+from tests.sockets.hosts import Host, HostProgram
 from tests.sockets.programs import Server
 from tests.sockets.wire import Peer
 
 # What happens by odds, and the other numbers, in the order of the page; then how often each of the odds happened, and how
 # many reads and writes of sockets were asked for.
 ODDS = ("growth", "cut_read", "failed_read", "cut_write", "failed_write", "accept", "thread", "clock", "sleep")
-NUMBERS = (*ODDS, "most", "growth_at", "read_at", "room", "calm", "thread_at", "haste", "kept")
+NUMBERS = (*ODDS, "most", "growth_at", "read_at", "room", "calm", "thread_at", "haste", "kept", "disk", "wall")
 WAYS = ("reads", "writes")
 PAGE = struct.Struct(f"={len(NUMBERS) + len(ODDS) + len(WAYS)}I")
 # Connections that a server may be asked for: it ends when so many could not be accepted.
@@ -35,7 +36,7 @@ class System:
     def be(self, **numbers):
         """Sets these numbers, and all others to 0."""
         for at, name in enumerate(NUMBERS):
-            self.page[4 * at : 4 * at + 4] = struct.pack("=I", numbers.get(name, 0))
+            self.page[4 * at : 4 * at + 4] = struct.pack("=I", numbers.get(name, 0) % 2**32)
 
     def number(self, name):
         """A number as it stands now."""
@@ -97,3 +98,25 @@ class HostileServer(Server):
         with contextlib.suppress(ConnectionError):
             # The accept that waits already is not refused.
             self.connect().close()
+
+
+class HostileHost(Host):
+    """A host in a system of its own."""
+
+    peer = LossyPeer
+
+    def __init__(self, program, system, epoch=1, **more):
+        self.system = system
+        super().__init__(program, epoch, env=system.env, **more)
+
+    def no_more(self):
+        """The system is calm from now on, and the host serves one more: it does not end by itself."""
+        self.system.be()
+        self.use_up()
+
+
+def hostile_serving(program, system, workers, **more):
+    """A server in a system of its own: `rv serve` of so many workers, or of a HostProgram `rv host`."""
+    if isinstance(program, HostProgram):
+        return HostileHost(program, system, **more)
+    return HostileServer(program, system, workers, **more)

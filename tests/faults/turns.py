@@ -5,7 +5,7 @@ import socket
 import subprocess
 
 from tests.faults.crowds import NO_MEMORY
-from tests.faults.system import HostileServer, System, file_of
+from tests.faults.system import System, file_of, hostile_serving
 from tests.model.account import Key
 from tests.model.texts import written
 from tests.sockets.listening import Listening
@@ -68,7 +68,7 @@ def turns(program, counts_down, check, **more):
     """A server's talks with one client after another, in each of which a further growth, read or byte fails, until none
     does. `check` gets the turn and what the client was told over the connection that met it."""
     system, met = System(), 0
-    with HostileServer(program, system, workers=1) as server:
+    with hostile_serving(program, system, workers=1) as server:
         with server.connect() as peer:
             see_end(peer)
         for turn in range(1, MOST_TURNS):

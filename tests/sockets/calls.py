@@ -8,7 +8,8 @@ import time
 from tests.model.account import Key
 from tests.model.texts import written
 from tests.sockets.plain import EXCHANGES, Looker, none_waits
-from tests.sockets.programs import Caller, Server
+from tests.sockets.hosts import serving
+from tests.sockets.programs import Caller
 from tests.sockets.wire import (
     BAD_TEXT, PATIENCE, Peer, Wrong, demand, frame, give, hello, refused, replied, request, take, until, waits, welcome)
 
@@ -43,7 +44,7 @@ def two_callers(program):
 def hand_over(program, gives, takes, receipt):
     """Two callers of these versions."""
     gift, first, second = give("transfer", "a", "forever"), *(swapped(item) for item in "bc")
-    with Server(program, workers=2, connections=2) as server:
+    with serving(program, workers=2, connections=2) as server:
         given, got = Key(1, 1, 1, 1), Key(1, 2, 1, 1)
         after = [Key(1, client, 1, 2) for client in (1, 2)]
         with Caller(program, server.port, 1, lines(gift, first), speak=gives) as giver:
@@ -59,7 +60,7 @@ def two_recorders(program):
     """Two callers hand an item over, and append to one record: it has each one's line, in whichever order."""
     gift, given, got = give("transfer", "a", "forever"), Key(1, 1, 1, 1), Key(1, 2, 1, 1)
     received, taken = replied(given, reply="received"), replied(got, reply="item", item="a")
-    with tempfile.TemporaryDirectory() as folder, Server(program, workers=2, connections=2) as server:
+    with tempfile.TemporaryDirectory() as folder, serving(program, workers=2, connections=2) as server:
         record = pathlib.Path(folder) / "told"
         with Caller(program, server.port, 1, lines(gift), record=record) as giver:
             with Caller(program, server.port, 2, lines(WISH), record=record) as taker:
@@ -78,7 +79,7 @@ def swapped(item):
 
 def a_line_as_soon_as_it_is_settled(program):
     """What was settled is printed, to a pipe, while the next call still waits."""
-    with Server(program, workers=2, connections=2) as server:
+    with serving(program, workers=2, connections=2) as server:
         with server.greeted(1) as peer, Caller(program, server.port, 2, lines(give("put", "x", queue=4), WISH)) as caller:
             until("the first line is printed", lambda: len(caller.lines()) == 1)
             demand(caller.lines() == [replied(ONE, reply="done")], f"call printed {caller.printed}")
@@ -89,7 +90,7 @@ def a_line_as_soon_as_it_is_settled(program):
 
 def settled_in_turn(program):
     """Each line is printed while the next one waits for what comes later."""
-    with Server(program, workers=2, connections=2) as server:
+    with serving(program, workers=2, connections=2) as server:
         with server.greeted(1) as peer, Caller(program, server.port, 2, lines(WISH, WISH, WISH)) as caller:
             wanted = []
             for number, item in enumerate("abc", 1):
@@ -116,7 +117,7 @@ def started_again(program):
         (2, 1, lines(take("now")), "refused 4"),
         (2, 2, b"", []),
     ]
-    with Server(program, workers=1, connections=len(runs) + 1) as server:
+    with serving(program, workers=1, connections=len(runs) + 1) as server:
         server.greeted(9).close()
         for client, incarnation, text, wanted in runs:
             with Caller(program, server.port, client, text, incarnation, tries=2) as caller:
@@ -134,7 +135,7 @@ def started_in_another_version(program):
     gift = lines(give("transfer", "a", "now"))
     runs = [(1, 2, None), (1, 1, b"refused 12"), (1, 2, None), (2, 1, None), (2, 2, b"refused 12"), (1, 1, b"refused 4"),
             (1, 2, b"refused 4"), (3, 2, None)]
-    with Server(program, workers=1, connections=len(runs) + 1) as server:
+    with serving(program, workers=1, connections=len(runs) + 1) as server:
         server.greeted(9).close()
         for incarnation, speak, word in runs:
             with Caller(program, server.port, 1, gift, incarnation, tries=2, speak=speak) as caller:
@@ -146,7 +147,7 @@ def started_in_another_version(program):
 def started_while_it_waits(program):
     """A second start of the same incarnation is told the same reply as the first, or nothing that settles where its
     call is another; one of a greater incarnation ends the first."""
-    with Server(program, workers=5, connections=6) as server, Looker(server) as looker:
+    with serving(program, workers=5, connections=6) as server, Looker(server) as looker:
         with Caller(program, server.port, 1, lines(WISH)) as first:
             looker.sees(consumers=1)
             with Caller(program, server.port, 1, lines(WISH)) as second:

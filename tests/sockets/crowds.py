@@ -5,7 +5,7 @@ import time
 
 from tests.model.account import Key
 from tests.sockets.driver import Ledger, drive
-from tests.sockets.programs import Server
+from tests.sockets.hosts import serving
 from tests.sockets.wire import (
     cancel, demand, drain, frame, give, hello, key_of, members_of, refused, reply_of, request, swap, take, welcome)
 
@@ -224,7 +224,7 @@ def one_crowd(program, size, chance):
     """A crowd, and what must hold behind it."""
     epoch = chance.choice([1, 2, 2**53 - 1])
     ledger = Ledger()
-    with Server(program, workers=size, connections=CONNECTIONS * size, epoch=epoch) as server:
+    with serving(program, workers=size, connections=CONNECTIONS * size, epoch=epoch) as server:
         clients = [Client(server, ledger, number, random.Random(chance.random())) for number in range(1, size + 1)]
         drive(server, ledger, [client.run for client in clients], rest=lambda: take_the_rest(server, ledger, size + 1),
               end=server.use_up)

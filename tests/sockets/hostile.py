@@ -6,7 +6,7 @@ import time
 
 from tests.model.account import Hello, Key
 from tests.sockets.driver import Ledger, drive
-from tests.sockets.programs import Server
+from tests.sockets.hosts import serving
 from tests.sockets.wire import (
     BAD_TEXT, demand, frame, give, hello, replied, request, take, welcome)
 
@@ -154,7 +154,7 @@ class Good:
 def a_thousand_hostile_connections(program, seed):
     """They are of many kinds, some at once, and none of them hurts the good client nor the server."""
     chance = random.Random(f"hostile {seed}")
-    with Server(program, workers=WORKERS, connections=CONNECTIONS + 10) as server:
+    with serving(program, workers=WORKERS, connections=CONNECTIONS + 10) as server:
         ledger, left = Ledger(), Left(CONNECTIONS)
         hostile = [Hostile(server, random.Random(chance.random()), client) for client in HOSTILE]
         bad = [lambda: never_reads(server, ledger, NEVER_READS), *(lambda one=one: one.run(left) for one in hostile)]

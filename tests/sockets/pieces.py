@@ -6,7 +6,7 @@ from tests.model.account import Account, Request, limit
 from tests.model.scripts import Script
 from tests.model.steps import told
 from tests.model.texts import MAX_BODY_BYTES
-from tests.sockets.programs import Server
+from tests.sockets.hosts import serving
 from tests.sockets.wire import demand, frame, together
 
 CONNECTIONS, FRAMES = 12, 420
@@ -93,7 +93,7 @@ def one_connection(program, chance):
     script = Talk(chance, epoch)
     talk = [script.frame() for _ in range(FRAMES)]
     data = b"".join(frame(body) for body, _ in talk)
-    with Server(program, workers=1, connections=1, epoch=epoch) as server:
+    with serving(program, workers=1, connections=1, epoch=epoch) as server:
         with server.connect() as peer:
             together(lambda: send(chance, peer, data), lambda: hear(peer, talk))
         demand(shape(server.ended()) == shape(script.account), "the account has other entries than the model's")

@@ -9,7 +9,8 @@ import threading
 import time
 
 from tests.model.account import Key, receipt
-from tests.sockets.programs import Server, taken_port
+from tests.sockets.hosts import serving
+from tests.sockets.programs import taken_port
 from tests.sockets.wire import (
     BAD_TEXT, MAX_FRAME, PATIENCE, Peer, cancel, demand, drain, frame, give, hello, members_of, refused, replied,
     reply_of, request, take, together, until, waits, welcome)
@@ -82,7 +83,7 @@ def in_its_own_frame(peer, key, call, **reply):
 
 def a_hand_over(program):
     """Two clients over two connections that are open at once; each asks again and gets its reply again."""
-    with Server(program, workers=2, connections=2, epoch=7) as server:
+    with serving(program, workers=2, connections=2, epoch=7) as server:
         giver, taker, told = Key(7, 1, 1, 1), Key(7, 2, 1, 1), []
         gift, wish = give("transfer", "a", "forever"), take("forever")
         with server.greeted(1) as one, server.greeted(2) as two:
@@ -113,21 +114,21 @@ def one_after_the_other(program):
     """A client puts and closes, and then another one connects, polls and closes: what each is told, and the account, line
     for line but for the moments."""
     put, poll = Key(1, 1, 1, 1), Key(1, 2, 1, 1)
-    with Server(program, workers=2, connections=2) as server:
+    with serving(program, workers=2, connections=2) as server:
         with server.greeted(1) as first:
             first.expect(request(put, give("put", "a")), replied(put, reply="done"))
         with server.greeted(2) as second:
             second.expect(request(poll, take("now")), replied(poll, reply="item", item="a"))
         server.judged({put: give("put", "a"), poll: take("now")},
                       [(put, {"reply": "done"}), (poll, {"reply": "item", "item": "a"})])
-        head, *entries = server.printed.splitlines()
+        head, *entries = server.written().splitlines()
         got = [head, *(line.partition(b" ")[2] for line in entries)]
-        demand(got == ONE_BY_ONE, f"the account is {server.printed!r}")
+        demand(got == ONE_BY_ONE, f"the account is {server.written()!r}")
 
 
 def a_consumer_that_waits(program):
     """A take that waits in one connection is met by a put from another, and told so in its own frame."""
-    with Server(program, workers=3, connections=3) as server:
+    with serving(program, workers=3, connections=3) as server:
         asked = {}
         with server.greeted(1) as giver, server.greeted(2) as taker, Looker(server) as looker:
             def attempt(number):
@@ -145,7 +146,7 @@ def a_consumer_that_waits(program):
 def an_answer_before_a_wait(program):
     """What is asked in one piece before a request that waits is answered while that waits: an item comes for it once its
     client has the welcome."""
-    with Server(program, workers=2, connections=ATTEMPTS + 1) as server:
+    with serving(program, workers=2, connections=ATTEMPTS + 1) as server:
         with server.greeted(1000) as giver:
             attempted(lambda number: is_met_behind_its_welcome(server, giver, number + 1))
         server.use_up()
@@ -166,7 +167,7 @@ def is_met_behind_its_welcome(server, giver, client):
 def a_drain(program):
     """It takes the oldest items in one step, of a transfer that waits in another connection too, which is told so in its own
     frame; its repeat is told the same, and what it did not take stays. Its longest reply comes in one frame."""
-    with Server(program, workers=3, connections=3) as server:
+    with serving(program, workers=3, connections=3) as server:
         (ones, twos), asked, told = (itertools.count(1), itertools.count(1)), {}, []
         with server.greeted(1) as giver, server.greeted(2) as taker, Looker(server) as looker:
             def ask(client, call):
@@ -203,7 +204,7 @@ def a_drain(program):
 
 def a_request_that_waits_alone(program):
     """It is asked again for about a second, each in a connection anew; one with a limit is told so in its own frame."""
-    with Server(program, workers=1, connections=1) as server:
+    with serving(program, workers=1, connections=1) as server:
         first, second, third, fourth = (Key(1, 1, 1, number) for number in range(1, 5))
         with server.greeted(1) as peer:
             for key in (first, first, third):
@@ -223,7 +224,7 @@ def a_request_that_waits_alone(program):
 def repeats(program):
     """What is asked again is told the same and not done again, and an item whose giver was told that nobody took it goes to
     nobody."""
-    with Server(program, workers=1, connections=1) as server:
+    with serving(program, workers=1, connections=1) as server:
         numbers, asked, told = itertools.count(1), {}, []
         with server.greeted(1) as peer:
             def twice(call, **reply):
@@ -245,7 +246,7 @@ def repeats(program):
 def sessions_of_both_versions(program):
     """A hello tells its session's version, which no other hello of its incarnation changes. In the second a transfer is
     told who took its item: in its own frame where it waits, at once where a consumer does, and again."""
-    with Server(program, workers=4, connections=4) as server:
+    with serving(program, workers=4, connections=4) as server:
         asked, told, numbers = {}, [], {client: itertools.count(1) for client in (1, 2, 3)}
 
         def ask(client, call):
@@ -286,7 +287,7 @@ def sessions_of_both_versions(program):
 def many_that_wait(program):
     """Requests that wait at once, each in a connection of its own, wait beside each other: were the book locked while
     one pauses, the last would be told so much later. Then each gets one of as many items."""
-    with Server(program, workers=WAITING + 1, connections=WAITING + 1) as server:
+    with serving(program, workers=WAITING + 1, connections=WAITING + 1) as server:
         keys = [Key(1, client, 1, 1) for client in range(1, WAITING + 1)]
         peers = [server.greeted(key.client) for key in keys]
         first, asked = Key(1, 1, 1, 1), {}
@@ -351,7 +352,7 @@ def told_that_it_waits(peer, key, asked):
 
 def a_new_incarnation(program):
     """A client that starts anew ends what waits, also while it is asked for in another connection."""
-    with Server(program, workers=3, connections=4) as server:
+    with serving(program, workers=3, connections=4) as server:
         gift, asked, told = give("transfer", "a", "forever"), {}, []
         with server.greeted(1) as old, server.connect() as new, Looker(server) as looker:
             def attempt(number):
@@ -378,7 +379,7 @@ def a_new_incarnation(program):
 
 def long_texts(program):
     """Bodies and items of the greatest length, and one byte more."""
-    with Server(program, workers=1, connections=1, epoch=GREATEST) as server:
+    with serving(program, workers=1, connections=1, epoch=GREATEST) as server:
         items = ["x" * 512, "\x01" * 512, "é" * 256, ""]
         asked = {}
         with server.connect() as peer:
@@ -398,7 +399,7 @@ def ends_of_connections(program):
     """Frames before a cut frame or a bad length are answered, and nothing behind it."""
     cut = [b"", b"\x00", b"\x00\x2b{", b"\x10\x01", b"\xff\xff", b"\xff\xff" + 5_000 * b"x", b"\xff\xff" + 65_534 * b"x"]
     ends = [*cut, b"\x00\x00", b"\x00\x00" + frame(hello(1)), b"\x00\x00" + 5_000 * b"x"]
-    with Server(program, workers=2, connections=2 * len(ends) + 1) as server:
+    with serving(program, workers=2, connections=2 * len(ends) + 1) as server:
         for end in ends:
             for count in (0, 3):
                 with server.connect() as peer:
@@ -416,7 +417,7 @@ def ends_of_connections(program):
 
 def too_many_frames(program):
     """One connection's frames up to the most are answered, and then it ends."""
-    with Server(program, workers=1, connections=2) as server:
+    with serving(program, workers=1, connections=2) as server:
         with server.connect() as peer:
             peer.socket.settimeout(2 * PATIENCE)
             data, wanted = frame(hello(1)) * (FRAMES + 1), frame(welcome(1)) * FRAMES
@@ -440,7 +441,7 @@ def too_many_frames(program):
 
 def no_packet_waits(program):
     """A request costs one exchange of packets: none of an answer waits until the one before it was acknowledged."""
-    with Server(program, workers=1, connections=1) as server:
+    with serving(program, workers=1, connections=1) as server:
         with server.greeted(1) as peer:
             numbers = itertools.count(1)
 
@@ -472,7 +473,7 @@ def none_waits(round_of_pairs):
 def its_connections(program):
     """A server ends after its connections, and not before; with none it ends at once."""
     for count in (0, 1, 5):
-        with Server(program, workers=3, connections=count) as server:
+        with serving(program, workers=3, connections=count) as server:
             for client in range(1, count + 1):
                 demand(server.runs(), f"serve ended before its connection {client}")
                 server.greeted(client).close()
@@ -481,7 +482,7 @@ def its_connections(program):
 
 def a_late_client(program):
     """Who comes after the last accept is refused, and not left waiting, though a connection is still served."""
-    with Server(program, workers=2, connections=1) as server:
+    with serving(program, workers=2, connections=1) as server:
         with server.greeted(1) as peer:
             def is_refused():
                 try:
@@ -506,7 +507,7 @@ def a_late_client(program):
 
 def a_silent_peer(program):
     """It holds its worker, while others are served by another; one more waits until a worker is free."""
-    with Server(program, workers=2, connections=4) as server:
+    with serving(program, workers=2, connections=4) as server:
         silent = server.connect()
         with server.greeted(1) as peer:
             peer.expect(hello(1), welcome(1))
@@ -529,7 +530,7 @@ def a_silent_peer(program):
 
 def many_at_once(program):
     """As many connections as workers, all open at once; each is answered, and all are served again after it."""
-    with Server(program, workers=64, connections=128) as server:
+    with serving(program, workers=64, connections=128) as server:
         for _ in range(2):
             peers = [server.connect() for _ in range(64)]
             for client, peer in enumerate(peers, 1):
@@ -572,14 +573,14 @@ def broken_input():
 def broken_streams(program):
     """A caller whose input can't be read asks nothing; where printing fails it says so, and so does a server that prints
     its account."""
-    with Server(program, workers=1, connections=2) as server:
+    with serving(program, workers=1, connections=2) as server:
         server.greeted(1).close()
         words = call_words(connect=f"127.0.0.1:{server.port}")
         with broken_input() as broken:
             ran = subprocess.run([program, *words], stdin=broken, capture_output=True, timeout=PATIENCE)
         judge(words, ran, 1, b"run fault 1\n")
         demand(len(server.ended().entries) == 1, "the account has other than one entry")
-    with Server(program, workers=1, connections=2) as server, open("/dev/full", "wb") as full:
+    with serving(program, workers=1, connections=2) as server, open("/dev/full", "wb") as full:
         server.greeted(2).close()
         words = call_words(connect=f"127.0.0.1:{server.port}")
         text = b'{"call":"put","item":"a","queue":3}\n' * 2

@@ -59,6 +59,14 @@ def listens_at(pid, port):
     return False
 
 
+def is_socket(path):
+    """Whether this descriptor of a process is a socket; not where it was closed meanwhile."""
+    try:
+        return os.readlink(path).startswith("socket:")
+    except OSError:
+        return False
+
+
 class Process:
     """A process of the program. At the end of its block it is killed where it still runs."""
 
@@ -76,7 +84,7 @@ class Process:
             self.printed += piece
 
     def read_said(self):
-        while piece := self.process.stderr.read1(65_536):
+        while self.process.stderr and (piece := self.process.stderr.read1(65_536)):
             self.said += piece
 
     def __enter__(self):
@@ -114,28 +122,41 @@ class Process:
         return status
 
 
-class Server(Process):
-    """A server, on a port that was free. A client that comes before it listens tries again."""
+class Served(Process):
+    """A program that serves, on a port that was free. A client that comes before it listens tries again."""
 
     # A client's end of a connection.
     peer = Peer
+    # What it says where somebody took the port before it did.
+    port_is_taken = b"address fault\n"
 
-    def __init__(self, program, workers, connections, epoch=1, **more):
-        self.program, self.epoch, self.connections, self.listens = program, epoch, connections, False
+    def __init__(self, program, epoch, port=None, **more):
+        self.program, self.epoch, self.listens = program, epoch, False
         self.made, self.lock = 0, threading.Lock()
         for _ in range(TRIES):
-            self.port = free_port()
-            super().__init__([program, "serve", "--listen", f"127.0.0.1:{self.port}", "--epoch", str(epoch),
-                              "--workers", str(workers), "--connections", str(connections)], **more)
+            self.port = port or free_port()
+            super().__init__([program, *self.command()], **more)
             if not self.taken():
                 return
             self.kill()
         raise Wrong("no port is free")
 
+    def command(self):
+        """The words behind the program's name."""
+        raise NotImplementedError
+
+    def written(self):
+        """The bytes of its account."""
+        return self.printed
+
+    def ended(self, patience=PATIENCE):
+        """The account of all that it did, when it has ended, which must be a good one."""
+        raise NotImplementedError
+
     def taken(self):
         """Whether somebody took the port before the server did: it has not begun to listen, and soon ends."""
         until("the server listens, or ends", lambda: listens_at(self.process.pid, self.port) or not self.runs())
-        return not self.runs() and self.status() == 1 and self.said == b"address fault\n"
+        return not self.runs() and self.status() == 1 and self.port_is_taken in self.said
 
     def connect(self, receive=None):
         """A connection to the server; `receive` is how many bytes the system is to keep for the client, at least."""
@@ -180,8 +201,47 @@ class Server(Process):
 
     def accepted(self):
         """How many connections it has accepted that are open; it listens."""
-        opened = pathlib.Path(f"/proc/{self.process.pid}/fd").glob("*")
-        return sum(os.readlink(path).startswith("socket:") for path in opened) - 1
+        return sum(map(is_socket, pathlib.Path(f"/proc/{self.process.pid}/fd").glob("*"))) - 1
+
+    def judged(self, asked, told, patience=PATIENCE):
+        """Ends with an account in which all that was told stands; `asked` has each key's call."""
+        account = self.ended(patience)
+        fault = account_fault(account, asked, told)
+        demand(not fault, f"the account: {fault}")
+        self.audited()
+        self.verified(asked, told)
+        return account
+
+    def verified(self, asked, told):
+        """By the program's own word the account must keep each reply that was told to one of these calls."""
+        self.keeps(b"".join(record_line(key, asked[key], reply) for key, reply in told))
+
+    def keeps(self, record):
+        """By the program's own word the account must keep each line of the record."""
+        with tempfile.TemporaryDirectory(prefix="rv-verify-") as folder:
+            account, replies = pathlib.Path(folder, "account"), pathlib.Path(folder, "replies")
+            account.write_bytes(self.written())
+            replies.write_bytes(record)
+            ran = subprocess.run([self.program, "verify", account, "--replies", replies], capture_output=True, timeout=4 * PATIENCE)
+        demand((ran.returncode, ran.stderr) == (0, b""), f"rv verify says {ran.stdout[-2_000:]} and {ran.stderr}")
+
+    def audited(self):
+        """The program's own audit must find the account legal."""
+        ran = subprocess.run([self.program, "audit"], input=self.written(), capture_output=True, timeout=4 * PATIENCE)
+        told = (ran.stdout, ran.stderr, ran.returncode)
+        demand(told == (b"legal\n", b"", 0), f"rv audit says {told} of the account")
+
+
+class Server(Served):
+    """A server of so many workers, which ends behind so many connections and then prints its account."""
+
+    def __init__(self, program, workers, connections, epoch=1, **more):
+        self.workers, self.connections = workers, connections
+        super().__init__(program, epoch, **more)
+
+    def command(self):
+        return ["serve", "--listen", f"127.0.0.1:{self.port}", "--epoch", str(self.epoch), "--workers", str(self.workers),
+                "--connections", str(self.connections)]
 
     def use_up(self):
         """Makes the connections that are left, one by one, so that the server ends: it must serve these and no more."""
@@ -204,34 +264,6 @@ class Server(Process):
         account = read_account(self.printed)
         demand(account.epoch == self.epoch and account.opened == 0, "the account's first line is another")
         return account
-
-    def judged(self, asked, told, patience=PATIENCE):
-        """Ends with an account in which all that was told stands; `asked` has each key's call."""
-        account = self.ended(patience)
-        fault = account_fault(account, asked, told)
-        demand(not fault, f"the account: {fault}")
-        self.audited()
-        self.verified(asked, told)
-        return account
-
-    def verified(self, asked, told):
-        """By the program's own word the account must keep each reply that was told to one of these calls."""
-        self.keeps(b"".join(record_line(key, asked[key], reply) for key, reply in told))
-
-    def keeps(self, record):
-        """By the program's own word the account must keep each line of the record."""
-        with tempfile.TemporaryDirectory(prefix="rv-verify-") as folder:
-            account, replies = pathlib.Path(folder, "account"), pathlib.Path(folder, "replies")
-            account.write_bytes(self.printed)
-            replies.write_bytes(record)
-            ran = subprocess.run([self.program, "verify", account, "--replies", replies], capture_output=True, timeout=4 * PATIENCE)
-        demand((ran.returncode, ran.stderr) == (0, b""), f"rv verify says {ran.stdout[-2_000:]} and {ran.stderr}")
-
-    def audited(self):
-        """The program's own audit must find the account legal."""
-        ran = subprocess.run([self.program, "audit"], input=self.printed, capture_output=True, timeout=4 * PATIENCE)
-        told = (ran.stdout, ran.stderr, ran.returncode)
-        demand(told == (b"legal\n", b"", 0), f"rv audit says {told} of the account")
 
 
 class Caller(Process):

@@ -4,7 +4,7 @@ import time
 
 from tests.model.account import Key, Request
 from tests.sockets.plain import DELAY, in_its_own_frame, told_that_it_waits
-from tests.sockets.programs import Server
+from tests.sockets.hosts import serving
 from tests.sockets.wire import demand, frame, give, hello, replied, request, take, together, until, welcome
 
 # So often an item is waited for, until one comes before a packet that waits would, in seconds.
@@ -24,7 +24,7 @@ OFFERED = 5
 def an_item_behind_an_answer(program):
     """A count and a take that waits come in one piece: the take's item leaves though the count's answer was not
     acknowledged. The client acknowledges late each time, so that no item comes early where packets wait for that."""
-    with Server(program, workers=2, connections=2) as server:
+    with serving(program, workers=2, connections=2) as server:
         asked = {}
         with server.greeted(1) as taker, server.greeted(2) as giver:
             took = (seconds_to_item(taker, giver, number, asked) for number in range(ITEMS))
@@ -50,7 +50,7 @@ def seconds_to_item(taker, giver, number, asked):
 def a_wait_ends(program):
     """A request that waits alone is told so behind as many pauses as there may be, each of them as short as it is to be: in one
     try at least it takes not much longer than as many pauses of this test's own, which are made meanwhile."""
-    with Server(program, workers=1, connections=1) as server:
+    with serving(program, workers=1, connections=1) as server:
         asked = {}
         with server.greeted(1) as peer:
             def is_soon(number):
@@ -74,7 +74,7 @@ def moments_beside_a_clock(program):
     """The account's moments are milliseconds: between two requests as many as this clock counts, from the first's answer to the
     second's sending at least, and from the first's sending to the second's answer at most."""
     began = time.monotonic()
-    with Server(program, workers=1, connections=1) as server:
+    with serving(program, workers=1, connections=1) as server:
         spans, asked = [], {}
         with server.greeted(1) as peer:
             for number in range(1, 1 + PUTS):
@@ -98,7 +98,7 @@ def moments_beside_a_clock(program):
 def a_peer_that_goes(program):
     """Requests that wait come in one piece, and their client closes: its worker is free long before all of them were waited
     for."""
-    with Server(program, workers=1, connections=2) as server:
+    with serving(program, workers=1, connections=2) as server:
         key, asked = Key(1, 1, 1, 2), {}
         with server.greeted(1) as peer:
             alone = told_that_it_waits(peer, Key(1, 1, 1, 1), asked)
@@ -118,7 +118,7 @@ def connections_in_hand(program):
     be accepted. Each is served in its turn."""
     for workers in (1, 3):
         in_hand = 2 * workers + 1
-        with Server(program, workers, connections=in_hand + OFFERED) as server:
+        with serving(program, workers, connections=in_hand + OFFERED) as server:
             first = server.greeted(1)
             peers = [first, *(server.connect() for _ in range(in_hand + OFFERED - 1))]
             until("the server rests", server.rests)

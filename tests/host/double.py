@@ -1,0 +1,326 @@
+#!/usr/bin/env python3
+"""A test double of `rv host`, over the model's hub: for the tests of tests/host themselves. All other commands are those of the
+double of tests/sockets, but for `verify` of an account alone.
+
+RV_WRONG in the environment names what it does wrong; tests/host/run.py --selftest sees that a case fails for each of these.
+
+usage: tests/host/double.py host --listen ADDR [--epoch E] [--epoch-above N] [--account FILE] [--connections N] [--memory MIB]
+       [--idle SECONDS] [--stall SECONDS] [--quiet]
+"""
+from __future__ import annotations
+
+import argparse
+import contextlib
+import errno
+import os
+import pathlib
+import selectors
+import socket
+import sys
+import time
+from dataclasses import dataclass, field
+
+ROOT = pathlib.Path(__file__).resolve().parents[2]
+sys.dont_write_bytecode, sys.path[0] = True, str(ROOT)
+from tests.model import hub as model  # noqa: E402
+from tests.model.hub_events import Came, Ended, Event, Gone, Opened, Passed, Terms, Took, Written  # noqa: E402
+from tests.model.limits import Limits  # noqa: E402
+from tests.model.lines import entry_line  # noqa: E402
+from tests.model.state import State  # noqa: E402
+from tests.model.tables import table_audit  # noqa: E402
+from tests.sockets.accounts import read_account  # noqa: E402
+
+WRONG = os.environ.get("RV_WRONG", "")
+PATIENCE = {"tells early that it waits": 5_000, "never tells that it waits": 10**9}.get(WRONG, 10_000)
+# The bytes of a read, and the seconds between two looks at all connections, and between two accepts without a descriptor.
+READ, LOOK, AGAIN = 65_536, 0.5, 0.1
+
+
+class HostEnds(Exception):
+    """The line by which a host ends, of status 1."""
+
+
+@dataclass
+class Link:
+    """A connection's socket, what of its input isn't taken, and when it last heard and wrote."""
+
+    socket: socket.socket
+    heard: float
+    moved: float
+    pending: bytes = field(default=b"")
+
+
+class DoubleHost:
+    """A host: one thread, one poll."""
+
+    def __init__(self, options: argparse.Namespace):
+        self.options, self.links, self.again, self.looked = options, {}, 0.0, 0.0
+        self.began = self.clock()
+        self.epoch = self.chosen_epoch()
+        self.listener = self.listening()
+        self.account = self.made(options.account) if options.account else None
+        self.unwritten: list[bytes] = []
+        self.hub = model.Hub(Terms(Limits(2**53 - 1, 65_536, 100_000), PATIENCE, self.account is not None))
+        self.hub.state = State(self.epoch, 0)
+        self.poll = selectors.DefaultSelector()
+        self.poll.register(self.listener, selectors.EVENT_READ)
+        self.listens = True
+        self.write_account([b"epoch %d opened 0\n" % self.epoch])
+        self.say(f"listens on {options.listen}, epoch {self.epoch}: {options.connections} connections")
+
+    def clock(self) -> float:
+        """The seconds by which moments are told."""
+        return time.time() if WRONG == "has moments by the wall clock" else time.monotonic()
+
+    def chosen_epoch(self) -> int:
+        """The epoch by the options and the wall clock."""
+        if self.options.epoch or WRONG == "takes any epoch":
+            return self.options.epoch or 1
+        return max(int(time.time() * 1000), (self.options.epoch_above or 0) + 1)
+
+    def listening(self) -> socket.socket:
+        """The listener."""
+        host, _, port = self.options.listen.rpartition(":")
+        try:
+            listener = socket.create_server((host, int(port)), backlog=4_096)
+        except OSError as fault:
+            raise HostEnds(f"{self.options.listen}: {'address in use' if fault.errno == errno.EADDRINUSE else fault}") from None
+        listener.setblocking(False)
+        return listener
+
+    @staticmethod
+    def made(path: str) -> int:
+        """The account's file, which may not be there."""
+        try:
+            return os.open(path, os.O_WRONLY | os.O_CREAT | (0 if WRONG == "takes up a file that is there" else os.O_EXCL), 0o600)
+        except OSError as fault:
+            raise HostEnds(f"{path}: {fault.strerror}") from None
+
+    def say(self, line: str) -> None:
+        """Says a line, and waits for nobody who is to read it."""
+        if self.options.quiet and WRONG != "is never quiet":
+            return
+        os.set_blocking(2, WRONG == "waits for who reads what it says")
+        with contextlib.suppress(BlockingIOError):
+            os.write(2, line.encode() + b"\n")
+
+    # ---- one turn
+
+    def run(self) -> None:
+        """Turns for ever."""
+        while True:
+            events = self.poll.select(self.wait())
+            self.tell(Passed())
+            for key, mask in events:
+                if key.fileobj is self.listener:
+                    self.accept()
+                elif mask & selectors.EVENT_READ:
+                    self.read(key.data)
+            if not self.listens and time.monotonic() >= self.again and self.has_room():
+                self.listens = True
+                self.poll.register(self.listener, selectors.EVENT_READ)
+            self.flush()
+            for number in list(self.links):
+                self.write(number)
+            self.look_over()
+
+    def wait(self) -> float:
+        """For how long nothing is to be done."""
+        moment = self.hub.next_moment
+        ends = LOOK if moment is None else min(LOOK, max(0.0, moment / 1000 - (self.clock() - self.began)))
+        return ends if self.listens or WRONG == "spins without descriptors" else min(ends, AGAIN)
+
+    def tell(self, event: Event) -> int:
+        """Hands an event on to the hub."""
+        came = self.hub.handle(int((self.clock() - self.began) * 1000), event)
+        if not isinstance(came, model.Outcome):
+            return 0
+        self.unwritten += [entry_line(entry) + b"\n" for entry in came.entries]
+        return came.result
+
+    def flush(self) -> None:
+        """Writes the entries of a turn, and tells the hub."""
+        if self.account is None:
+            self.unwritten.clear()
+            return
+        if WRONG == "writes its account late" and len(self.unwritten) < 50:
+            self.tell(Written(self.hub.state.length))
+            return
+        lines, self.unwritten = self.unwritten, []
+        if WRONG == "answers before it writes":
+            self.tell(Written(self.hub.state.length))
+            for number in list(self.links):
+                self.write(number)
+        self.write_account(lines)
+        self.tell(Written(self.hub.state.length))
+
+    def write_account(self, lines: list[bytes]) -> None:
+        """Writes lines of the account, or ends."""
+        data = b"".join(lines)
+        while data and self.account is not None:
+            try:
+                data = data[os.write(self.account, data):]
+            except OSError as fault:
+                if WRONG == "goes on when the disk is full":
+                    return
+                raise HostEnds("it ends" if WRONG == "does not say which file is full"
+                               else f"{self.options.account}: {fault.strerror}") from None
+
+    # ---- connections
+
+    def has_room(self) -> bool:
+        """Whether one more connection may be there."""
+        return len(self.links) < self.options.connections or WRONG == "takes more than its connections"
+
+    def accept(self) -> None:
+        """Accepts one that waits."""
+        if not self.has_room():
+            return self.pause()
+        try:
+            link, _ = self.listener.accept()
+        except BlockingIOError:
+            return None
+        except OSError as fault:
+            if fault.errno in (errno.EMFILE, errno.ENFILE) and WRONG != "spins without descriptors":
+                self.pause()
+            return None
+        link.setblocking(False)
+        number = self.tell(Opened())
+        now = time.monotonic()
+        self.links[number] = Link(link, now, now)
+        self.poll.register(link, selectors.EVENT_READ, number)
+        return None
+
+    def pause(self) -> None:
+        """Accepts nobody for a while."""
+        self.poll.unregister(self.listener)
+        self.listens, self.again = False, time.monotonic() + (10**9 if WRONG == "never accepts again" else AGAIN)
+
+    def read(self, number: int) -> None:
+        """Reads once, and offers what came."""
+        link, view = self.links.get(number), self.hub.view(number)
+        if link is None or view is None or not view.may_offer or link.pending:
+            return
+        try:
+            piece = link.socket.recv(READ)
+        except BlockingIOError:
+            return
+        except OSError:
+            if WRONG == "ends at a reset":
+                raise HostEnds("a link broke") from None
+            return self.drop(number)
+        if piece:
+            link.heard, link.pending = time.monotonic(), piece
+            self.offer(number)
+        elif WRONG == "ends a connection with its input":
+            self.drop(number)
+        else:
+            self.poll.unregister(link.socket)
+            self.tell(Ended(number))
+
+    def offer(self, number: int) -> None:
+        """Offers what came and isn't taken yet."""
+        link, view = self.links[number], self.hub.view(number)
+        if view is not None and view.may_offer and link.pending:
+            taken = self.tell(Came(number, link.pending))
+            link.pending = b"" if WRONG == "loses what stands behind a wait" else link.pending[taken:]
+
+    def write(self, number: int) -> None:
+        """Writes once what may leave; a connection that the hub closed is let go."""
+        link, view = self.links[number], self.hub.view(number)
+        if view is None:
+            return self.let_go(number)
+        if not view.ready:
+            link.moved = time.monotonic()
+            return self.offer(number)
+        try:
+            count = link.socket.send(view.ready[:READ])
+        except BlockingIOError:
+            return
+        except OSError:
+            return self.drop(number)
+        link.moved = time.monotonic()
+        self.tell(Took(number, count))
+        self.offer(number)
+
+    def drop(self, number: int) -> None:
+        """A connection whose peer is gone."""
+        if WRONG == "forgets who is gone":
+            self.poll.unregister(self.links[number].socket)
+            return
+        self.tell(Gone(number))
+        self.let_go(number)
+
+    def let_go(self, number: int) -> None:
+        link = self.links.pop(number)
+        with contextlib.suppress(KeyError, ValueError):
+            self.poll.unregister(link.socket)
+        link.socket.close()
+
+    # ---- what ends by time, or holds too much
+
+    def look_over(self) -> None:
+        """Now and then ends those that stall or are idle, and those that hold most."""
+        now = time.monotonic()
+        if now < self.looked + LOOK:
+            return
+        self.looked = now
+        for number in [number for number in self.links if self.is_over(number, now)]:
+            self.drop(number)
+        held = {number: len(link.pending) + view.unread + view.held for number, link in self.links.items()
+                if (view := self.hub.view(number)) is not None}
+        while sum(held.values()) > self.options.memory << 20 and WRONG != "closes nobody who holds much":
+            number = max(held, key=lambda number: held[number])
+            del held[number]
+            self.drop(number)
+            if WRONG == "closes all that hold anything":
+                held = {number: size for number, size in held.items() if size and not self.drop(number)}
+
+    def is_over(self, number: int, now: float) -> bool:
+        """Whether a connection's time is over."""
+        link, view = self.links[number], self.hub.view(number)
+        if view is None:
+            return False
+        if view.ready:
+            return now - link.moved >= self.options.stall and WRONG != "keeps who takes no answer"
+        if view.waits and WRONG != "ends who waits":
+            return False
+        if view.unread or link.pending:
+            return now - link.heard >= self.options.stall and WRONG != "keeps half a frame"
+        return now - link.heard >= self.options.idle and WRONG != "keeps who is idle"
+
+
+def verify(path: str) -> int:
+    """What an account alone is: legal or not, and torn or not; the status."""
+    text = pathlib.Path(path).read_bytes()
+    whole = text[: text.rfind(b"\n") + 1]
+    legal = table_audit(read_account(whole)) is None
+    print("legal" if legal else "fault", *(["torn end"] if whole != text else []), sep="\n")
+    return 3 if whole != text else int(not legal)
+
+
+def options_of(words: list[str]) -> argparse.Namespace:
+    """The options of a host."""
+    parser = argparse.ArgumentParser()
+    for name, most in [("listen", None), ("account", None), ("epoch", 0), ("epoch-above", 0), ("connections", 10_000),
+                       ("memory", 256), ("idle", 3_600), ("stall", 30)]:
+        parser.add_argument(f"--{name}", type=str if most is None else int, default=most)
+    parser.add_argument("--quiet", action="store_true")
+    return parser.parse_args(words)
+
+
+def main() -> None:
+    words = sys.argv[1:]
+    if words[:1] == ["verify"] and len(words) == 2:
+        sys.exit(verify(words[1]))
+    if words[:1] != ["host"]:
+        other = str(ROOT / "tests/sockets/double.py")
+        os.execv(sys.executable, [sys.executable, other, *words])
+    try:
+        DoubleHost(options_of(words[1:])).run()
+    except HostEnds as end:
+        print(end, file=sys.stderr)
+        sys.exit(1)
+
+
+main()

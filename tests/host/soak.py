@@ -1,0 +1,200 @@
+#!/usr/bin/env python3
+"""A soak of `rv host`: crowds on bad links, whose clients are killed, for so many seconds; and then so many entries.
+
+Memory must be flat behind the first tenth, a hand-over as prompt as at the start, the account legal, each record kept. All of
+it stays on this machine's loopback, and stops by itself. The last line counts the parts.
+
+usage: tests/host/soak.py PROGRAM [--seconds 600] [--entries 20000000]
+"""
+from __future__ import annotations
+
+import argparse
+import os
+import pathlib
+import random
+import statistics
+import subprocess
+import sys
+import tempfile
+import time
+
+ROOT = pathlib.Path(__file__).resolve().parents[2]
+sys.dont_write_bytecode, sys.path[0] = True, str(ROOT)
+from tests.clients.proxy import Proxy  # noqa: E402
+from tests.host import many  # noqa: E402
+from tests.host.watch import memory, processor  # noqa: E402
+from tests.model.account import Key  # noqa: E402
+from tests.sockets.cases import Count  # noqa: E402
+from tests.sockets.hosts import Host, HostProgram  # noqa: E402
+from tests.sockets.wire import demand, frame, give, replied, request, take  # noqa: E402
+from tools.bench import driver  # noqa: E402
+
+# Clients of a crowd, and the seconds between two of them that are killed; a killed one begins in a greater incarnation.
+CLIENTS, KILLED_EACH = 8, 1.5
+# Connections through the link that loses, cuts and delays; the clients that see how prompt a hand-over is.
+LINKS, TAKER, GIVER = 10**9, 60_001, 60_002
+# Behind the first tenth memory may grow by so many parts, and by so many bytes; a hand-over may take so many times as long at
+# the median as in the first tenth, and so many seconds more.
+MORE, MORE_BYTES, SLOWER, SLOWER_SECONDS = 1.10, 4 << 20, 2.0, 0.002
+# Connections of the long load, requests in one piece, hand-overs that are measured in each tenth, and the clients of these.
+CONNECTIONS, PIECE, ROUNDS, FIRST, FIRST_OF_HANDS = 16, 16, 200, 1, 10_000
+# The seconds that `rv verify` may take.
+VERIFYING = 3_600
+
+
+class Measured:
+    """Memory and promptness in each tenth."""
+
+    def __init__(self) -> None:
+        self.memory: list[list[int]] = [[] for _ in range(10)]
+        self.seconds: list[list[float]] = [[] for _ in range(10)]
+
+    def judge(self) -> str:
+        """Memory is flat behind the first tenth, and the last hand-overs are as prompt as the first."""
+        demand(all(self.memory) and all(self.seconds), "a tenth was too short to measure")
+        least, most = max(self.memory[0]), max(map(max, self.memory[1:]))
+        demand(most <= MORE * least + MORE_BYTES, f"memory grew from {least} to {most} bytes")
+        first, last = (statistics.median(self.seconds[tenth]) for tenth in (0, 9))
+        demand(last <= SLOWER * first + SLOWER_SECONDS, f"a hand-over took {first:.6f} seconds, and takes {last:.6f}")
+        return (f"memory {least >> 10} KiB in the first tenth, {most >> 10} at most behind it; hand-overs "
+                f"{first * 1e6:.0f} µs in the first tenth, {last * 1e6:.0f} in the last")
+
+
+class Probe:
+    """A taker and a giver on links of their own, that are good."""
+
+    def __init__(self, host: Host):
+        self.taker, self.giver, self.number, self.epoch = host.greeted(TAKER), host.greeted(GIVER), 0, host.epoch
+
+    def seconds(self) -> float:
+        """From the put to the item in the hands of the taker, which waits."""
+        self.number += 1
+        wish, gift = (Key(self.epoch, client, 1, self.number) for client in (TAKER, GIVER))
+        self.taker.send(frame(request(wish, take("forever", queue=63))))
+        time.sleep(0.01)
+        began = time.monotonic()
+        self.giver.send(frame(request(gift, give("put", "probe", queue=63))))
+        got = self.taker.hear()
+        took = time.monotonic() - began
+        demand(got == replied(wish, reply="item", item="probe"), f"the probe was answered {got!r}")
+        demand(self.giver.hear() == replied(gift, reply="done"), "the probe's put is not done")
+        return took
+
+
+class Crowd:
+    """Processes of clients over a bad link, some of which are killed."""
+
+    def __init__(self, port: int, folder: pathlib.Path, chance: random.Random):
+        self.port, self.folder, self.chance, self.kills = port, folder, chance, 0
+        self.incarnations = dict.fromkeys(range(1, 1 + CLIENTS), 0)
+        self.running = {client: self.started(client) for client in self.incarnations}
+
+    def started(self, client: int) -> subprocess.Popen[bytes]:
+        """A client in its next incarnation, with a record of its own."""
+        self.incarnations[client] += 1
+        record = self.folder / f"{client}-{self.incarnations[client]}"
+        words = [sys.executable, str(ROOT / "tests/host/soak_client.py"), str(self.port), str(client),
+                 str(self.incarnations[client]), str(record), str(self.chance.random())]
+        return subprocess.Popen(words, stdin=subprocess.PIPE)
+
+    def kill_one(self) -> None:
+        """Kills any of them, and starts it anew. None of them may have ended by itself."""
+        ended = {client: one.poll() for client, one in self.running.items() if one.poll() is not None}
+        demand(not ended, f"clients ended by themselves: {ended}")
+        client = self.chance.choice(list(self.running))
+        self.running[client].kill()
+        self.running[client].communicate()
+        self.running[client], self.kills = self.started(client), self.kills + 1
+
+    def end(self) -> None:
+        """Lets all of them end: none may have found a fault."""
+        for one in self.running.values():
+            if one.stdin:
+                one.stdin.close()
+        statuses = [one.wait(120) for one in self.running.values()]
+        demand(not any(statuses), f"clients ended with {statuses}")
+
+    def records(self) -> bytes:
+        """What all of them were told; of a line that one was killed in nothing."""
+        return b"".join(text[: text.rfind(b"\n") + 1] for text in (path.read_bytes() for path in sorted(self.folder.iterdir())))
+
+
+def bad_links(program: HostProgram, seconds: float, seed: int) -> str:
+    """Crowds on bad links, whose clients are killed."""
+    chance, measured = random.Random(seed), Measured()
+    with tempfile.TemporaryDirectory(prefix="rv-soak-") as name, Host(program) as host, Proxy(host, seed, LINKS) as proxy:
+        crowd, probe = Crowd(proxy.port, pathlib.Path(name), chance), Probe(host)
+        try:
+            began = time.monotonic()
+            killing = began + KILLED_EACH
+            while (past := time.monotonic() - began) < seconds:
+                tenth = int(10 * past / seconds)
+                measured.memory[tenth].append(memory(host.process.pid))
+                measured.seconds[tenth].append(probe.seconds())
+                if time.monotonic() >= killing:
+                    crowd.kill_one()
+                    killing += KILLED_EACH
+                time.sleep(0.1)
+            proxy.calm = True
+            crowd.end()
+        finally:
+            for one in crowd.running.values():
+                one.kill()
+        host.halt()
+        record = crowd.records()
+        entries, replies = verified(host, record), record.count(b"\n")
+    return f"{entries} entries, {replies} replies kept, {crowd.kills} clients killed; {measured.judge()}"
+
+
+def verified(host: Host, record: bytes) -> int:
+    """How many entries its account has, which must be legal and keep each line of the record."""
+    with tempfile.NamedTemporaryFile(prefix="rv-record-") as file:
+        file.write(record)
+        file.flush()
+        words = [host.program, "verify", str(host.account), *(["--replies", file.name] if record else [])]
+        ran = subprocess.run(words, capture_output=True, text=True, timeout=VERIFYING)
+    demand(ran.returncode == 0 and ran.stdout.startswith("legal\n"), f"rv verify says {ran.stdout[-1_000:]} {ran.stderr[-1_000:]}")
+    with open(host.account, "rb") as account:
+        return sum(piece.count(b"\n") for piece in iter(lambda: account.read(1 << 20), b"")) - 1
+
+
+def many_entries(program: HostProgram, entries: int) -> str:
+    """So many puts and takes by the compiled driver, which compares each answer; hand-overs between."""
+    driver.built()
+    measured, each, rates = Measured(), entries // 10, []
+    with Host(program) as host:
+        host.connect().close()
+        for tenth in range(10):
+            hands = driver.hand("rv", host.port, FIRST_OF_HANDS + 2 * tenth, 0, ROUNDS)
+            measured.seconds[tenth].append(hands.median)
+            took = processor(host.process.pid)
+            driver.load("rv", host.port, FIRST + CONNECTIONS * tenth, CONNECTIONS, PIECE, each)
+            rates.append((processor(host.process.pid) - took) / each)
+            measured.memory[tenth].append(memory(host.process.pid))
+        host.halt()
+        made = verified(host, b"")
+    demand(made >= entries, f"the account has {made} entries, not {entries}")
+    return (f"{made} entries, {rates[0] * 1e6:.2f} µs of the processor each in the first tenth, {rates[-1] * 1e6:.2f} in the last; "
+            f"{measured.judge()}")
+
+
+def main() -> None:
+    parser = argparse.ArgumentParser(description=__doc__, formatter_class=argparse.RawDescriptionHelpFormatter)
+    parser.add_argument("program", nargs="?", default="crates/rv_app/out/rv_app")
+    parser.add_argument("--seconds", type=float, default=600, help="how long the crowds ask; 0: not at all")
+    parser.add_argument("--entries", type=int, default=20_000_000, help="how many entries the second part makes; 0: none")
+    parser.add_argument("--seed", type=int, default=random.randrange(10**6), help="default: any")
+    asked = parser.parse_args()
+    many.room()
+    program, count = HostProgram(os.path.abspath(asked.program)), Count("", True)
+    print(f"seed {asked.seed}", flush=True)
+    if asked.seconds:
+        count.run("crowds on bad links", bad_links, program, asked.seconds, asked.seed)
+    if asked.entries and driver.missing():
+        print(f"the long load was left out: {driver.missing()}", flush=True)
+    elif asked.entries:
+        count.run("many entries", many_entries, program, asked.entries)
+    count.end()
+
+
+main()

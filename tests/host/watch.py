@@ -1,0 +1,20 @@
+"""What a host's process takes: memory, and time of the processor."""
+from __future__ import annotations
+
+import os
+import pathlib
+import re
+
+TICKS = os.sysconf("SC_CLK_TCK")
+
+
+def memory(pid: int) -> int:
+    """The bytes of memory that a process has now."""
+    found = re.search(r"^VmRSS:\s+(\d+) kB$", pathlib.Path(f"/proc/{pid}/status").read_text(), re.MULTILINE)
+    return 1_024 * int(found[1]) if found else 0
+
+
+def processor(pid: int) -> float:
+    """The processor seconds that a process took so far."""
+    took = pathlib.Path(f"/proc/{pid}/stat").read_text().rpartition(")")[2].split()[11:13]
+    return sum(map(int, took)) / TICKS
