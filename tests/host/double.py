@@ -199,6 +199,8 @@ class DoubleHost:
     def read(self, number: int) -> None:
         """Reads once, and offers what came."""
         link, view = self.links.get(number), self.hub.view(number)
+        if WRONG == "ends a connection with its input" and link is not None and self.has_ended(link):
+            return self.drop(number)
         if link is None or view is None or not view.may_offer or link.pending:
             return
         try:
@@ -212,11 +214,16 @@ class DoubleHost:
         if piece:
             link.heard, link.pending = time.monotonic(), piece
             self.offer(number)
-        elif WRONG == "ends a connection with its input":
-            self.drop(number)
         else:
             self.poll.unregister(link.socket)
             self.tell(Ended(number))
+
+    @staticmethod
+    def has_ended(link: Link) -> bool:
+        """Whether nothing more comes on a link."""
+        with contextlib.suppress(OSError):
+            return not link.socket.recv(1, socket.MSG_PEEK)
+        return False
 
     def offer(self, number: int) -> None:
         """Offers what came and isn't taken yet."""
