@@ -85,7 +85,7 @@ def words():
                  "book --epoch 1 --epoch 1", "book --epoch 1 --epoch 2", "book --epoch 1 --workers 1", "--epoch 1",
                  "--epoch 1 book", "Book --epoch 1", "rv book --epoch 1", "play --epoch 1", "play 1", "play play",
                  "Play", "plays", "play --help", "play -h", "book --epoch 1 play", "play book --epoch 1", "--help", "-h",
-                 "--version", "-V", "help", "help book", "book --help", "book -h", "book --epoch 1 --help",
+                 "--version", "-V", "book --help", "book -h", "book --epoch 1 --help",
                  "book --epoch --help"]:
         no_command(text.split(" ") if text else [])
     for epoch in ["", "0", "0000000000000000000", "9007199254740992", "9999999999999999999", "00000000000000000001",

@@ -26,6 +26,7 @@ from tests.model import hub as model  # noqa: E402
 from tests.model.hub_events import Came, Ended, Event, Gone, Opened, Passed, Terms, Took, Written  # noqa: E402
 from tests.model.limits import Limits  # noqa: E402
 from tests.model.lines import entry_line  # noqa: E402
+from tests.model.records import parted  # noqa: E402
 from tests.model.state import State  # noqa: E402
 from tests.model.tables import table_audit  # noqa: E402
 from tests.sockets.accounts import read_account  # noqa: E402
@@ -299,11 +300,10 @@ class DoubleHost:
 
 def verify(path: str) -> int:
     """What an account alone is: legal or not, and torn or not; the status."""
-    text = pathlib.Path(path).read_bytes()
-    whole = text[: text.rfind(b"\n") + 1]
+    whole, torn = parted(pathlib.Path(path).read_bytes())
     legal = table_audit(read_account(whole)) is None
-    print("legal" if legal else "fault", *(["torn end"] if whole != text else []), sep="\n")
-    return 3 if whole != text else int(not legal)
+    print("legal" if legal else "fault", *["torn end"] * torn, sep="\n")
+    return 3 if torn else int(not legal)
 
 
 def options_of(words: list[str]) -> argparse.Namespace:

@@ -17,6 +17,7 @@ from tests.faults.limits import a_talk, front_agrees
 from tests.faults.system import HostileHost, System
 from tests.host.many import closing, connected
 from tests.model.account import Key
+from tests.model.records import parted
 from tests.sockets.hosts import Host
 from tests.sockets.plain import Looker, in_its_own_frame
 from tests.sockets.wire import (
@@ -155,7 +156,7 @@ def filled(program: str, room: int) -> bool:
         demand(stands == told, f"with room for {room} bytes {len(told)} replies were told, and {len(stands)} stand")
         front_agrees(whole, asked, told)
         ran = subprocess.run([program, "verify", str(host.account)], capture_output=True, timeout=PATIENCE)
-        torn = whole != text
+        torn = parted(text)[1]
         wanted = (b"legal\n" + b"torn end\n" * torn, TORN * torn)
         demand((ran.stdout, ran.returncode) == wanted, f"rv verify says {ran.stdout!r} with {ran.returncode} of {text[-200:]!r}")
         return torn

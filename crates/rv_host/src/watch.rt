@@ -78,7 +78,16 @@ impl Shell {
         }
         if let Some(number) = largest {
             self.report.note(FaultKind::MostHeld);
+            self.unread = self.unread.saturating_sub(self.unread_of(number));
             self.traffic.give_up(now, number);
+        }
+    }
+
+    // How many bytes of a connection stand in front of a whole frame.
+    fn unread_of(&self, number: ConnectionNumber) -> usize {
+        match self.traffic.engine().hub().wire(number) {
+            Some(wire) => wire.unread_count(),
+            None => 0,
         }
     }
 
