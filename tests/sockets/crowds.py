@@ -224,7 +224,8 @@ def one_crowd(program, size, chance):
     """A crowd, and what must hold behind it."""
     epoch = chance.choice([1, 2, 2**53 - 1])
     ledger = Ledger()
-    with serving(program, workers=size, connections=CONNECTIONS * size, epoch=epoch) as server:
+    # each client may hold one connection on which nothing comes while it waits on another: so one worker more is never without work
+    with serving(program, workers=size + 1, connections=CONNECTIONS * size, epoch=epoch) as server:
         clients = [Client(server, ledger, number, random.Random(chance.random())) for number in range(1, size + 1)]
         drive(server, ledger, [client.run for client in clients], rest=lambda: take_the_rest(server, ledger, size + 1),
               end=server.use_up)
