@@ -2,7 +2,7 @@
 PREFIX ?= /usr/local
 PROGRAM = crates/rv_app/out/rv_app
 
-.PHONY: run demo test check edits torture install bench build
+.PHONY: run demo test check edits torture install deb bench build
 
 # the four answers of the first example, and a hand-over between two programs, by the proved program
 run: build
@@ -42,6 +42,11 @@ install: build
 	@mkdir -p "$(PREFIX)/bin"
 	@cp $(PROGRAM) "$(PREFIX)/bin/rv"
 	@chmod 755 "$(PREFIX)/bin/rv"
+
+# the proved program as a Debian package, and as a tar of the same files, in out/
+deb: build
+	@command -v python3 > /dev/null || { echo "python3 is missing: tools/deb.py is written in it" >&2; exit 1; }
+	@tools/deb.py $(PROGRAM)
 
 # what a machine and rv verify take as entries grow, and what a machine holds; what a hub's connection holds and its events cost; the
 # instructions of a line, if valgrind is there;
