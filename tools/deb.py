@@ -31,7 +31,7 @@ def packed(program: pathlib.Path, room: pathlib.Path) -> pathlib.Path:
     source = room / "source"
     shutil.copytree(ROOT / "debian", source / "debian")
     shutil.copy(program, source / "rv")
-    (source / "rv.1").write_bytes(run([str(ROOT / "tools/manual.py"), str(program)]))
+    (source / "rv.1").write_bytes(run([str(ROOT / "tools/manual.py"), str(source / "rv")]))
     run(["dpkg-buildpackage", "--build=binary", "--no-sign"], cwd=source)
     package, = room.glob("rv_*.deb")
     return package

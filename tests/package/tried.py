@@ -36,6 +36,8 @@ thread.join()
 print(took[0], receipt.by.client)
 """
 PATIENCE = 30
+# Pythons that may have setuptools and wheel.
+PYTHONS = ["/usr/bin/python3", sys.executable]
 
 
 def demand(holds: bool, what: str) -> None:
@@ -55,8 +57,9 @@ def wheel(room: pathlib.Path) -> pathlib.Path:
     """The Python client's wheel, built from its sources."""
     sources = room / "client"
     shutil.copytree(ROOT / "clients/python", sources)
-    ask = "import sys\nfrom setuptools import build_meta\nprint(build_meta.build_wheel(sys.argv[1]))\n"
-    subprocess.run([sys.executable, "-c", ask, str(room)], cwd=sources, check=True, capture_output=True)
+    ask = "import sys, wheel\nfrom setuptools import build_meta\nprint(build_meta.build_wheel(sys.argv[1]))\n"
+    tried = [subprocess.run([python, "-c", ask, str(room)], cwd=sources, capture_output=True) for python in PYTHONS]
+    demand(any(ran.returncode == 0 for ran in tried), "no Python here has setuptools and wheel")
     found, = room.glob("*.whl")
     return found
 
