@@ -1,0 +1,10 @@
+-- What stood before, and the texts of those that the loop passed.
+use Rattle.std.proofs.Common.{◌≡◌, ◌++◌, take}
+use Rattle.std.specs.Prelude.{flat_map}
+use Rattle.rv_status.specs.Rows.{reading_row}
+use Rattle.rv_status.specs.Texts.{row_text}
+use Rattle.rv_status.proofs.metrics.put_readings.Given as goal
+
+abbrev pub invariant-loop-reading : goal.invariant-loop-reading
+invariant-loop-reading l = l.text.items ≡ l.initial.text.items ++ flat_map (λ r. row_text (reading_row r))
+    (take l.reading-index l.readings)
