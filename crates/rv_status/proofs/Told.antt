@@ -15,6 +15,10 @@ use Rattle.rv_status.specs.Texts.{row_text}
 use Rattle.rv_status.specs.Values.{list_tokens, listed, number_members, number_tokens, numbers_value}
 use Rattle.rv_status.specs.Values.{tokens_of}
 
+-- lists whose first and whose others are the same
+pub cons_same : {A : Type 0} {a b : A} {xs ys : List A} → a ≡ b → xs ≡ ys → a ∷ xs ≡ b ∷ ys
+cons_same first others = cc
+
 -- one list behind another is read as one
 pub mapped : {A B C : Type 0} (f : B → List C) (g : A → B) (xs : List A)
     → flat_map (λ x. f (g x)) xs ≡ flat_map f (map g xs)
