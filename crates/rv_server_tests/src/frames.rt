@@ -4,7 +4,6 @@ use rv_frame::testing::TestReader;
 use rv_server::{Item, WorkFault};
 use std::alloc::{AllocError, Global};
 use std::io::ErrorKind;
-use std::test::Fail;
 
 const HELLO: &[u8] = b"{\"client\":1,\"incarnation\":1,\"kind\":\"hello\"}";
 
@@ -39,11 +38,10 @@ const NO_JSON: Row<'static> = Row {
 };
 
 #[test]
-fn other_frames_are_answered_at_once(rt: HostRuntime) -> Result<(), Fail> {
+fn other_frames_are_answered_at_once(rt: HostRuntime) {
     for row in [IS_CUT, NO_MESSAGE, NO_JSON] {
-        one_worker(&rt, &Still(7), &row, 0, [7].as_slice())?;
+        one_worker(&rt, &Still(7), &row, 0, [7].as_slice());
     }
-    Ok(())
 }
 
 /// Client 1 puts "a", and takes it again.
@@ -66,14 +64,14 @@ pub(crate) const THREE: Row<'static> = Row {
 // Their 252 bytes come at once, 7 a read or one a read, and then the end. No read is made behind it: one that
 // would fail there changes nothing.
 #[test]
-fn pieces_of_any_length_are_answered_alike(rt: HostRuntime) -> Result<(), Fail> {
+fn pieces_of_any_length_are_answered_alike(rt: HostRuntime) {
     let moments = [0, 0, 0];
     let moments = moments.as_slice();
-    one_reader(&rt, &THREE, TestReader::new(THREE.sent, 4_096), 2, moments)?;
-    one_reader(&rt, &THREE, TestReader::new(THREE.sent, 7), 37, moments)?;
-    one_reader(&rt, &THREE, TestReader::new(THREE.sent, 1), 253, moments)?;
+    one_reader(&rt, &THREE, TestReader::new(THREE.sent, 4_096), 2, moments);
+    one_reader(&rt, &THREE, TestReader::new(THREE.sent, 7), 37, moments);
+    one_reader(&rt, &THREE, TestReader::new(THREE.sent, 1), 253, moments);
     let failing = TestReader::new(THREE.sent, 4_096).failing_at(3, ErrorKind::ConnectionReset);
-    one_reader(&rt, &THREE, failing, 2, moments)
+    one_reader(&rt, &THREE, failing, 2, moments);
 }
 
 // A body of the longest length: these bytes, and spaces behind them.
@@ -89,9 +87,9 @@ fn long_frame(alloc: Global, body: &[u8]) -> Result<Vec<u8>, AllocError> {
 
 // The last of the three lacks one byte: it takes 65,537 reads, with that of the end.
 #[test]
-fn the_longest_frames_are_read_to_their_ends(rt: HostRuntime) -> Result<(), Fail> {
+fn the_longest_frames_are_read_to_their_ends(rt: HostRuntime) {
     let alloc = rt.alloc();
-    let hello = long_frame(alloc, HELLO)?;
+    let hello = long_frame(alloc, HELLO).expect(&rt, "no memory");
     let welcomed = Row {
         sent: hello.as_slice(),
         answers: WELCOME,
@@ -99,8 +97,8 @@ fn the_longest_frames_are_read_to_their_ends(rt: HostRuntime) -> Result<(), Fail
         stamps: 1,
         fault: None,
     };
-    one_worker(&rt, &Still(7), &welcomed, 0, [7].as_slice())?;
-    let letter = long_frame(alloc, b"x")?;
+    one_worker(&rt, &Still(7), &welcomed, 0, [7].as_slice());
+    let letter = long_frame(alloc, b"x").expect(&rt, "no memory");
     let refused = Row {
         sent: letter.as_slice(),
         answers: BAD_TEXT,
@@ -108,7 +106,7 @@ fn the_longest_frames_are_read_to_their_ends(rt: HostRuntime) -> Result<(), Fail
         stamps: 0,
         fault: None,
     };
-    one_worker(&rt, &Still(7), &refused, 0, [].as_slice())?;
+    one_worker(&rt, &Still(7), &refused, 0, [].as_slice());
     let cut = Row {
         sent: hello.get(..65_536).unwrap_or(b""),
         answers: b"",
@@ -116,7 +114,7 @@ fn the_longest_frames_are_read_to_their_ends(rt: HostRuntime) -> Result<(), Fail
         stamps: 0,
         fault: Some(WorkFault::CutFrame),
     };
-    one_worker(&rt, &Still(7), &cut, 0, [].as_slice())
+    one_worker(&rt, &Still(7), &cut, 0, [].as_slice());
 }
 
 // 512 letters between these bytes.
@@ -128,7 +126,7 @@ fn with_letters(alloc: Global, before: &[u8], after: &[u8]) -> Result<Vec<u8>, A
 }
 
 #[test]
-fn the_longest_item_is_given_whole(rt: HostRuntime) -> Result<(), Fail> {
+fn the_longest_item_is_given_whole(rt: HostRuntime) {
     let alloc = rt.alloc();
     let sent = with_letters(
         alloc,
@@ -137,7 +135,8 @@ fn the_longest_item_is_given_whole(rt: HostRuntime) -> Result<(), Fail> {
         b"\",\"kind\":\"request\",\"number\":1,\"queue\":3}\
             \x00\x67{\"call\":\"take\",\"client\":1,\"epoch\":1,\"incarnation\":1,\
             \"kind\":\"request\",\"number\":2,\"queue\":3,\"wait\":\"now\"}",
-    )?;
+    )
+    .expect(&rt, "no memory");
     let answers = with_letters(
         alloc,
         b"\x00\x37{\"client\":1,\"epoch\":1,\"incarnation\":1,\"kind\":\"welcome\"}\
@@ -145,7 +144,8 @@ fn the_longest_item_is_given_whole(rt: HostRuntime) -> Result<(), Fail> {
             \"reply\":\"done\"}\
             \x02\x59{\"client\":1,\"epoch\":1,\"incarnation\":1,\"item\":\"",
         b"\",\"kind\":\"reply\",\"number\":2,\"reply\":\"item\"}",
-    )?;
+    )
+    .expect(&rt, "no memory");
     let row = Row {
         sent: sent.as_slice(),
         answers: answers.as_slice(),
@@ -153,7 +153,7 @@ fn the_longest_item_is_given_whole(rt: HostRuntime) -> Result<(), Fail> {
         stamps: 3,
         fault: None,
     };
-    one_worker(&rt, &Still(0), &row, 0, [0, 0, 0].as_slice())
+    one_worker(&rt, &Still(0), &row, 0, [0, 0, 0].as_slice());
 }
 
 // These bytes, so many times.
@@ -167,15 +167,15 @@ fn repeated(alloc: Global, bytes: &[u8], times: u32) -> Result<Vec<u8>, AllocErr
 
 // 65,536 frames are answered, one by one; one more isn't.
 #[test]
-fn a_connection_has_65536_frames_at_most(rt: HostRuntime) -> Result<(), Fail> {
+fn a_connection_has_65536_frames_at_most(rt: HostRuntime) {
     let alloc = rt.alloc();
-    let answers = repeated(alloc, BAD_TEXT, 65_536)?;
+    let answers = repeated(alloc, BAD_TEXT, 65_536).expect(&rt, "no memory");
     let mut items = Vec::new(alloc);
     for _ in 0..65_536 {
-        items.push(Item::BadText)?;
+        items.push(Item::BadText).expect(&rt, "no memory");
     }
     for (times, fault) in [(65_536, None), (65_537, Some(WorkFault::TooLong))] {
-        let sent = repeated(alloc, b"\x00\x01{", times)?;
+        let sent = repeated(alloc, b"\x00\x01{", times).expect(&rt, "no memory");
         let row = Row {
             sent: sent.as_slice(),
             answers: answers.as_slice(),
@@ -183,7 +183,6 @@ fn a_connection_has_65536_frames_at_most(rt: HostRuntime) -> Result<(), Fail> {
             stamps: 0,
             fault,
         };
-        one_worker(&rt, &Still(0), &row, 0, [].as_slice())?;
+        one_worker(&rt, &Still(0), &row, 0, [].as_slice());
     }
-    Ok(())
 }

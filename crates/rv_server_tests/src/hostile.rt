@@ -15,7 +15,6 @@ use std::marker::Brand;
 use std::process::Abort;
 use std::sync::Wait;
 use std::sync::ledger::{Blank, Ledger};
-use std::test::Fail;
 
 // How many bytes the first frames of the three have, from none of them to all.
 const ASKED: [usize; 4] = [0, 45, 147, 252];
@@ -65,11 +64,7 @@ fn stopped(asked: usize, answered: usize, bytes: usize, fault: WorkFault) -> Row
 }
 
 // Of so many reads of so many bytes each one fails. The frames that were read whole before it are answered.
-fn each_read_fails<R: Wait + Abort + AllocGlobal>(
-    rt: &R,
-    most: usize,
-    reads: u64,
-) -> Result<(), Fail>
+fn each_read_fails<R: Wait + Abort + AllocGlobal>(rt: &R, most: usize, reads: u64)
     requires { 0 < most }
 {
     let mut given = 0usize;
@@ -78,18 +73,17 @@ fn each_read_fails<R: Wait + Abort + AllocGlobal>(
         let row = stopped(whole, whole, length_of(whole), WorkFault::ReadFault);
         let reader = TestReader::new(THREE.sent, most);
         let reader = reader.failing_at(read, ErrorKind::ConnectionReset);
-        one_reader(rt, &row, reader, read, MOMENTS.get(..whole).unwrap_or(&[]))?;
+        one_reader(rt, &row, reader, read, MOMENTS.get(..whole).unwrap_or(&[]));
         given = given.saturating_add(most);
     }
-    Ok(())
 }
 
 // The last read of each is that of the end.
 #[test]
-fn a_failed_read_leaves_whole_answers(rt: HostRuntime) -> Result<(), Fail> {
-    each_read_fails(&rt, 1, 253)?;
-    each_read_fails(&rt, 7, 37)?;
-    each_read_fails(&rt, 4_096, 2)
+fn a_failed_read_leaves_whole_answers(rt: HostRuntime) {
+    each_read_fails(&rt, 1, 253);
+    each_read_fails(&rt, 7, 37);
+    each_read_fails(&rt, 4_096, 2);
 }
 
 // The connection takes so many bytes. Behind them the client comes again and says all three, or its take
@@ -99,14 +93,15 @@ fn comes_again<L: Ledger, R: Wait + Abort + AllocGlobal>(
     blank: Blank,
     room: usize,
     stop: Stop,
-) -> Result<(), Fail>
+)
     requires name { blank.name ≡ L.name }
     requires parts { blank.parts ≡ L.parts }
     requires made { blank.parts ≡ 1 }
 {
     let alloc = rt.alloc();
-    let desk = Book::open(alloc, 1, 0)?;
-    let (shared, mut seats) = Shared::<Book, L>::open(alloc, blank, desk, 1)?;
+    let desk = Book::open(alloc, 1, 0).expect(rt, "no memory");
+    let opened = Shared::<Book, L>::open(alloc, blank, desk, 1);
+    let (shared, mut seats) = opened.expect(rt, "no memory");
     let seat = &mut seats[0];
     let whole = whole_in(&ANSWERED, room);
     let fault = WorkFault::WriteFault(room.saturating_sub(length_of(whole)));
@@ -119,17 +114,15 @@ fn comes_again<L: Ledger, R: Wait + Abort + AllocGlobal>(
     let mut reader = TestReader::new(row.sent, 4_096);
     connects(rt, &shared, seat, &Still(0), &row, &mut reader, writer, 0);
     closes(rt, shared, seats, MOMENTS.as_slice());
-    Ok(())
 }
 
 #[test]
-fn a_failed_write_loses_no_reply(rt: HostRuntime) -> Result<(), Fail> {
+fn a_failed_write_loses_no_reply(rt: HostRuntime) {
     for room in 0..THREE.answers.len() {
         for stop in [Stop::Error(ErrorKind::ConnectionReset), Stop::TakesNothing] {
-            comes_again::<Brand, HostRuntime>(&rt, Blank::new(1), room, stop)?;
+            comes_again::<Brand, HostRuntime>(&rt, Blank::new(1), room, stop);
         }
     }
-    Ok(())
 }
 
 // The frame that says that memory was refused.

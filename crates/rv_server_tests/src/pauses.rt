@@ -1,7 +1,6 @@
 //! How often a worker asks for a request that waits, at which moments, and how often it pauses.
 use crate::run::{Rising, Row, Still, one_worker};
 use rv_server::Item;
-use std::test::Fail;
 
 const WAITS: Row<'static> = Row {
     sent: b"\x00\x2b{\"client\":1,\"incarnation\":1,\"kind\":\"hello\"}\
@@ -45,17 +44,17 @@ const TIMES_OUT: Row<'static> = Row {
 
 // 200 pauses for each request that waits, and each time it is asked once more.
 #[test]
-fn a_request_that_waits_is_asked_again(rt: HostRuntime) -> Result<(), Fail> {
-    one_worker(&rt, &Still(0), &WAITS, 200, [0, 0].as_slice())
+fn a_request_that_waits_is_asked_again(rt: HostRuntime) {
+    one_worker(&rt, &Still(0), &WAITS, 200, [0, 0].as_slice());
 }
 
 #[test]
-fn each_request_has_its_own_pauses(rt: HostRuntime) -> Result<(), Fail> {
-    one_worker(&rt, &Still(0), &WAITS_TWICE, 400, [0, 0, 0, 0].as_slice())
+fn each_request_has_its_own_pauses(rt: HostRuntime) {
+    one_worker(&rt, &Still(0), &WAITS_TWICE, 400, [0, 0, 0, 0].as_slice());
 }
 
 // Each asking has a moment of its own: the take came at 2, and is told at 7 that its 5 milliseconds are over.
 #[test]
-fn a_wait_ends_at_its_limit(rt: HostRuntime) -> Result<(), Fail> {
-    one_worker(&rt, &Rising::new(), &TIMES_OUT, 5, [1, 2, 7].as_slice())
+fn a_wait_ends_at_its_limit(rt: HostRuntime) {
+    one_worker(&rt, &Rising::new(), &TIMES_OUT, 5, [1, 2, 7].as_slice());
 }

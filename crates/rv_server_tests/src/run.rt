@@ -14,7 +14,6 @@ use std::process::Abort;
 use std::sync::Wait;
 use std::sync::atomic::{AtomicU64, Ordering};
 use std::sync::ledger::{Blank, Ledger};
-use std::test::Fail;
 
 /// A clock that stands at a moment.
 #[derive(Clone, Copy)]
@@ -151,17 +150,14 @@ pub(crate) fn all_are_asked_for<L: Ledger, R: Abort + AllocGlobal>(
     shared: Shared<Book, L>,
     seats: Vec<Seat<L>>,
     moments: &[u64],
-) -> Result<(), Fail> {
+) {
     let mut seats = seats;
-    let Some(left_out) = seats.pop() else {
-        return Err(Fail::new("there is no seat"));
-    };
+    let left_out = seats.pop().expect(rt, "there is no seat");
     match finish(shared, seats) {
-        Ok(_) => Err(Fail::new("a seat was left out")),
+        Ok(_) => holds(rt, false, "a seat was left out"),
         Err((shared, mut seats, ForeignSeat)) => {
-            seats.push(left_out)?;
+            seats.push(left_out).expect(rt, "no memory");
             closes(rt, shared, seats, moments);
-            Ok(())
         }
     }
 }
@@ -192,14 +188,15 @@ fn one<L: Ledger, R: Wait + Abort + AllocGlobal, C: Clock>(
     reader: &mut TestReader<'_>,
     pauses: u64,
     moments: &[u64],
-) -> Result<(), Fail>
+)
     requires name { blank.name ≡ L.name }
     requires parts { blank.parts ≡ L.parts }
     requires made { blank.parts ≡ 1 }
 {
     let alloc = rt.alloc();
-    let desk = Book::open(alloc, 1, 0)?;
-    let (shared, mut seats) = Shared::<Book, L>::open(alloc, blank, desk, 1)?;
+    let desk = Book::open(alloc, 1, 0).expect(rt, "no memory");
+    let opened = Shared::<Book, L>::open(alloc, blank, desk, 1);
+    let (shared, mut seats) = opened.expect(rt, "no memory");
     let writer = TestWriter::new(alloc, 50);
     connects(
         rt,
@@ -212,7 +209,6 @@ fn one<L: Ledger, R: Wait + Abort + AllocGlobal, C: Clock>(
         pauses,
     );
     closes(rt, shared, seats, moments);
-    Ok(())
 }
 
 /// A server of one worker answers as the row says, with so many pauses, and ends with entries of these
@@ -223,12 +219,11 @@ pub(crate) fn one_worker<R: Wait + Abort + AllocGlobal, C: Clock>(
     row: &Row<'_>,
     pauses: u64,
     moments: &[u64],
-) -> Result<(), Fail> {
+) {
     let mut reader = TestReader::new(row.sent, 1);
-    one::<Brand, R, C>(rt, Blank::new(1), clock, row, &mut reader, pauses, moments)?;
+    one::<Brand, R, C>(rt, Blank::new(1), clock, row, &mut reader, pauses, moments);
     let most = (row.sent.len() as u64).saturating_add(1);
     holds(rt, reader.reads() <= most, reader.reads());
-    Ok(())
 }
 
 /// A server of one worker answers what this reader gives as the row says, with no pause and after so many
@@ -239,9 +234,8 @@ pub(crate) fn one_reader<R: Wait + Abort + AllocGlobal>(
     reader: TestReader<'_>,
     reads: u64,
     moments: &[u64],
-) -> Result<(), Fail> {
+) {
     let mut reader = reader;
-    one::<Brand, R, Still>(rt, Blank::new(1), &Still(0), row, &mut reader, 0, moments)?;
+    one::<Brand, R, Still>(rt, Blank::new(1), &Still(0), row, &mut reader, 0, moments);
     same(rt, reader.reads(), reads);
-    Ok(())
 }

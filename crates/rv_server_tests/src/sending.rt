@@ -12,7 +12,6 @@ use std::marker::Brand;
 use std::process::Abort;
 use std::sync::Wait;
 use std::sync::ledger::{Blank, Ledger};
-use std::test::Fail;
 
 // A hello, a take that waits and a further frame, in one piece.
 const WAITS: Row<'static> = Row {
@@ -35,22 +34,20 @@ const READS: Row<'static> = Row {
 };
 
 // A connection that takes nothing: its worker answers as the row says, with no pause, after one read.
-fn takes_nothing<L: Ledger, R: Wait + Abort + AllocGlobal>(
-    rt: &R,
-    blank: Blank,
-    row: &Row<'_>,
-) -> Result<(), Fail>
+fn takes_nothing<L: Ledger, R: Wait + Abort + AllocGlobal>(rt: &R, blank: Blank, row: &Row<'_>)
     requires name { blank.name ≡ L.name }
     requires parts { blank.parts ≡ L.parts }
     requires made { blank.parts ≡ 1 }
 {
     let alloc = rt.alloc();
-    let desk = Book::open(alloc, 1, 0)?;
-    let (shared, mut seats) = Shared::<Book, L>::open(alloc, blank, desk, 1)?;
+    let desk = Book::open(alloc, 1, 0).expect(rt, "no memory");
+    let opened = Shared::<Book, L>::open(alloc, blank, desk, 1);
+    let (shared, mut seats) = opened.expect(rt, "no memory");
     let seat = &mut seats[0];
     let stop = Stop::Error(ErrorKind::BrokenPipe);
     let device = TestWriter::new(alloc, 50).stopping_after(0, stop);
-    let mut held = BufWriter::with_capacity(alloc, 16_384, device)?;
+    let held = BufWriter::with_capacity(alloc, 16_384, device);
+    let mut held = held.expect(rt, "no memory");
     let mut reader = TestReader::new(row.sent, 4_096);
     let gate = Counting::new();
     let ended = answer(rt, &shared, seat, &Still(0), &gate, &mut reader, &mut held);
@@ -58,15 +55,14 @@ fn takes_nothing<L: Ledger, R: Wait + Abort + AllocGlobal>(
     row.came(rt, &ended, device.taken());
     same(rt, gate.count(), 0);
     same(rt, reader.reads(), 1);
-    Ok(())
 }
 
 #[test]
-fn a_broken_connection_ends_before_a_pause(rt: HostRuntime) -> Result<(), Fail> {
-    takes_nothing::<Brand, HostRuntime>(&rt, Blank::new(1), &WAITS)
+fn a_broken_connection_ends_before_a_pause(rt: HostRuntime) {
+    takes_nothing::<Brand, HostRuntime>(&rt, Blank::new(1), &WAITS);
 }
 
 #[test]
-fn a_broken_connection_is_read_no_more(rt: HostRuntime) -> Result<(), Fail> {
-    takes_nothing::<Brand, HostRuntime>(&rt, Blank::new(1), &READS)
+fn a_broken_connection_is_read_no_more(rt: HostRuntime) {
+    takes_nothing::<Brand, HostRuntime>(&rt, Blank::new(1), &READS);
 }

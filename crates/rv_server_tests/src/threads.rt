@@ -16,7 +16,6 @@ use std::marker::Brand;
 use std::process::Abort;
 use std::sync::Wait;
 use std::sync::ledger::{Blank, Ledger};
-use std::test::Fail;
 use std::thread::Threads;
 use std::{io, thread, time};
 
@@ -74,7 +73,7 @@ fn hand_over<L: Ledger + Send + Sync, R: Wait + Threads + Abort + AllocGlobal + 
     shared: Shared<Book, L>,
     mut first: Seat<L>,
     mut second: Seat<L>,
-) -> Result<(), Fail> {
+) {
     let alloc = rt.alloc();
     let meeting = Meeting::new(rt);
     let mut writer = TestWriter::new(alloc, 50);
@@ -119,60 +118,54 @@ fn hand_over<L: Ledger + Send + Sync, R: Wait + Threads + Abort + AllocGlobal + 
     );
     answered(rt, GIVES, 3, &gave, writer.taken());
     answered(rt, TAKES, 2, &took, telling.writer.taken());
-    closes(
-        rt,
-        shared,
-        vec![in alloc; first, second]?,
-        [0, 0, 0, 0].as_slice(),
-    );
-    Ok(())
+    let seats = vec![in alloc; first, second].expect(rt, "no memory");
+    closes(rt, shared, seats, [0, 0, 0, 0].as_slice());
 }
 
 // A server of two workers ends with the entries of both.
 fn two<L: Ledger + Send + Sync, R: Wait + Threads + Abort + AllocGlobal + time::Clock + Sync>(
     rt: &R,
     blank: Blank,
-) -> Result<(), Fail>
+)
     requires name { blank.name ≡ L.name }
     requires parts { blank.parts ≡ L.parts }
     requires made { blank.parts ≡ 2 }
 {
     let alloc = rt.alloc();
-    let desk = Book::open(alloc, 1, 0)?;
-    let (shared, mut seats) = Shared::<Book, L>::open(alloc, blank, desk, 2)?;
+    let desk = Book::open(alloc, 1, 0).expect(rt, "no memory");
+    let opened = Shared::<Book, L>::open(alloc, blank, desk, 2);
+    let (shared, mut seats) = opened.expect(rt, "no memory");
     match (seats.pop(), seats.pop()) {
         (Some(first), Some(second)) => hand_over(rt, shared, first, second),
-        _ => Err(Fail::new("a seat is missing")),
+        _ => holds(rt, false, "both seats are there"),
     }
 }
 
 #[test]
-fn the_lock_is_free_in_a_pause(rt: HostRuntime) -> Result<(), Fail> {
-    two::<Brand, HostRuntime>(&rt, Blank::new(2))
+fn the_lock_is_free_in_a_pause(rt: HostRuntime) {
+    two::<Brand, HostRuntime>(&rt, Blank::new(2));
 }
 
 // A message is handed over through the lock, and counts to its seat. All seats are asked for at the end.
-fn asks_for_all_seats<L: Ledger, R: Wait + Abort + AllocGlobal>(
-    rt: &R,
-    blank: Blank,
-) -> Result<(), Fail>
+fn asks_for_all_seats<L: Ledger, R: Wait + Abort + AllocGlobal>(rt: &R, blank: Blank)
     requires name { blank.name ≡ L.name }
     requires parts { blank.parts ≡ L.parts }
     requires made { blank.parts ≡ 2 }
 {
     let alloc = rt.alloc();
-    let desk = Book::open(alloc, 1, 0)?;
-    let (shared, mut seats) = Shared::<Book, L>::open(alloc, blank, desk, 2)?;
+    let desk = Book::open(alloc, 1, 0).expect(rt, "no memory");
+    let opened = Shared::<Book, L>::open(alloc, blank, desk, 2);
+    let (shared, mut seats) = opened.expect(rt, "no memory");
     let hello = Message::Hello {
         client: 1,
         incarnation: 1,
         version: Version::One,
     };
     let _stamp = serve_message(&mut *shared.lock(rt), &mut seats[0], 7, hello);
-    all_are_asked_for(rt, shared, seats, [7].as_slice())
+    all_are_asked_for(rt, shared, seats, [7].as_slice());
 }
 
 #[test]
-fn all_seats_are_asked_for(rt: HostRuntime) -> Result<(), Fail> {
-    asks_for_all_seats::<Brand, HostRuntime>(&rt, Blank::new(2))
+fn all_seats_are_asked_for(rt: HostRuntime) {
+    asks_for_all_seats::<Brand, HostRuntime>(&rt, Blank::new(2));
 }

@@ -3,7 +3,6 @@ use crate::expect::{holds, same};
 use rv_session::{Clients, Greeting, KeyStanding};
 use rv_text::{Call, Key, Reply, Version, Wait};
 use std::process::Abort;
-use std::test::Fail;
 
 const KEY: Key = Key {
     epoch: 1,
@@ -48,17 +47,17 @@ fn settle(clients: &mut Clients) -> bool {
 }
 
 #[test]
-fn clients_are_copied_and_made_anew(rt: HostRuntime) -> Result<(), Fail> {
+fn clients_are_copied_and_made_anew(rt: HostRuntime) {
     let mut clients = Clients::open(rt.alloc(), 1, 2);
     holds(&rt, admit(&mut clients, 9), "nobody is known");
     holds(&rt, admit(&mut clients, 7), "one is known");
     holds(&rt, ask(&mut clients), "the first is the next");
-    let states = clients.states(rt.alloc())?;
+    let states = clients.states(rt.alloc()).expect(&rt, "no memory");
     let most = states.len();
-    let mut again = Clients::from_states(rt.alloc(), 1, most, states)?;
+    let again = Clients::from_states(rt.alloc(), 1, most, states);
+    let mut again = again.expect(&rt, "no memory");
     holds(&rt, settle(&mut again), "it waits");
     same(&rt, again.next(None).map(|(client, _)| client), Some(7));
     same(&rt, again.next(Some(7)).map(|(client, _)| client), Some(9));
     same(&rt, again.next(Some(9)).map(|(client, _)| client), None);
-    Ok(())
 }

@@ -6,18 +6,16 @@ use rv_book::{Act, Entry, Partners};
 use rv_text::{Call, NoMemory};
 use std::alloc::{AllocGlobal, Global};
 use std::process::Abort;
-use std::test::Fail;
 
 // A copy of an account has its epoch, its opening moment and its entries.
-fn copies<R: Abort>(rt: &R, account: &Account) -> Result<(), NoMemory> {
-    let copy = account.clone_out()?;
+fn copies<R: Abort>(rt: &R, account: &Account) {
+    let copy = account.clone_out().expect(rt, "no memory");
     same(rt, copy.epoch(), account.epoch());
     same(rt, copy.opened(), account.opened());
     same(rt, copy.len(), account.len());
     for place in 0..account.len() {
         holds(rt, copy.entry(place) == account.entry(place), place);
     }
-    Ok(())
 }
 
 // An entry of a call, which met these.
@@ -60,17 +58,15 @@ fn ticks(alloc: Global, many: u64) -> Result<Account, NoMemory> {
 }
 
 #[test]
-fn a_drain_of_sixteen_is_copied(rt: HostRuntime) -> Result<(), Fail> {
-    let account = drained(rt.alloc())?;
+fn a_drain_of_sixteen_is_copied(rt: HostRuntime) {
+    let account = drained(rt.alloc()).expect(&rt, "no memory");
     same(&rt, account.len(), 17);
-    copies(&rt, &account)?;
-    Ok(())
+    copies(&rt, &account);
 }
 
 #[test]
-fn more_entries_than_two_bytes_count_are_copied(rt: HostRuntime) -> Result<(), Fail> {
-    let account = ticks(rt.alloc(), 65_537)?;
+fn more_entries_than_two_bytes_count_are_copied(rt: HostRuntime) {
+    let account = ticks(rt.alloc(), 65_537).expect(&rt, "no memory");
     same(&rt, account.len(), 65_537);
-    copies(&rt, &account)?;
-    Ok(())
+    copies(&rt, &account);
 }

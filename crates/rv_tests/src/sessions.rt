@@ -3,7 +3,6 @@ use crate::expect::{holds, same};
 use rv_session::{Greeting, Kept, Sessions, Standing};
 use rv_text::{Key, Version};
 use std::process::Abort;
-use std::test::Fail;
 
 const KEY: Key = Key {
     epoch: 1,
@@ -36,10 +35,10 @@ fn bury(sessions: &mut Sessions, key: &Key) -> bool {
 }
 
 #[test]
-fn one_session_is_entered_asked_and_cancelled(rt: HostRuntime) -> Result<(), Fail> {
+fn one_session_is_entered_asked_and_cancelled(rt: HostRuntime) {
     let mut sessions = Sessions::open(rt.alloc(), 1);
     match sessions.greet(7, 1, Version::One) {
-        Greeting::Unknown => sessions.enter(7, 1, Version::One)?,
+        Greeting::Unknown => sessions.enter(7, 1, Version::One).expect(&rt, "no memory"),
         _ => holds(&rt, false, "nobody is known"),
     }
     holds(&rt, ask(&mut sessions), "the first is the next");
@@ -54,5 +53,4 @@ fn one_session_is_entered_asked_and_cancelled(rt: HostRuntime) -> Result<(), Fai
         sessions.look(&second),
         Standing::Settled { place, kept },
     );
-    Ok(())
 }

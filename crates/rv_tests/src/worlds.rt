@@ -6,7 +6,6 @@ use rv_text::{Answer, Call, NoMemory, Refusal, Reply, Version, Wait};
 use rv_world::{Audit, Event, World, WorldRefusal, audit, run};
 use std::alloc::Global;
 use std::process::Abort;
-use std::test::Fail;
 
 // Behind a hello and a put of client 1 there is one reply, and two entries.
 fn holds_a_put(rt: &impl Abort, world: &World) {
@@ -23,9 +22,9 @@ fn holds_a_put(rt: &impl Abort, world: &World) {
 
 // A hello and a put, each of which gets to the server and back.
 #[test]
-fn a_list_of_events(rt: HostRuntime) -> Result<(), Fail> {
+fn a_list_of_events(rt: HostRuntime) {
     let alloc = rt.alloc();
-    let item = item(alloc, "a")?;
+    let item = item(alloc, "a").expect(&rt, "no memory");
     let put = Call::Put { queue: 3, item };
     let events = [
         Event::Start(1, 1, Version::One),
@@ -38,9 +37,8 @@ fn a_list_of_events(rt: HostRuntime) -> Result<(), Fail> {
     assert!(rt; events.iter().all(Event::fits));
     match run(alloc, &events) {
         Ok(world) => holds_a_put(&rt, &world),
-        Err(_) => return Err(Fail::new("an event was refused")),
+        Err((at, _)) => holds(&rt, false, at),
     }
-    Ok(())
 }
 
 #[test]
@@ -97,10 +95,10 @@ fn worked_play(alloc: Global) -> Result<[Event; 23], NoMemory> {
 }
 
 // The same, built again where a growth was refused.
-fn played(alloc: Global) -> Result<[Event; 23], NoMemory> {
+fn played(rt: &impl Abort, alloc: Global) -> [Event; 23] {
     match worked_play(alloc) {
-        Ok(events) => Ok(events),
-        Err(_) => worked_play(alloc),
+        Ok(events) => events,
+        Err(_) => worked_play(alloc).expect(rt, "no memory"),
     }
 }
 
@@ -136,25 +134,22 @@ fn is_met_once(account: &Account) -> bool {
 }
 
 // The world's clients hold the replies of the play, and its account has the entries and is legal.
-fn is_played(rt: &impl Abort, alloc: Global, world: &World) -> Result<(), Fail> {
+fn is_played(rt: &impl Abort, alloc: Global, world: &World) {
     same(rt, world.asked().len(), 3);
     holds(rt, holds_its_replies(world), "the replies");
-    let Some(account) = world.account(1) else {
-        return Err(Fail::new("there is no account"));
-    };
+    let account = world.account(1).expect(rt, "there is no account");
     holds(rt, is_met_once(account), "the entries");
-    same(rt, audit(alloc, account)?, Audit::Legal);
-    Ok(())
+    same(rt, audit(alloc, account).ok(), Some(Audit::Legal));
 }
 
 // With ample memory the whole play is run as one list.
 #[test]
-fn a_worked_play_is_run(rt: HostRuntime) -> Result<(), Fail> {
-    let events = worked_play(rt.alloc())?;
+fn a_worked_play_is_run(rt: HostRuntime) {
+    let events = worked_play(rt.alloc()).expect(&rt, "no memory");
     assert!(rt; events.iter().all(Event::fits));
     match run(rt.alloc(), &events) {
         Ok(world) => is_played(&rt, rt.alloc(), &world),
-        Err(_) => Err(Fail::new("an event was refused")),
+        Err((at, _)) => holds(&rt, false, at),
     }
 }
 
@@ -178,9 +173,9 @@ fn is_whole(world: &World) -> bool {
 // answer says that the server found none, and then a request that was to follow on it may not be begun, or
 // not be settled.
 #[test]
-fn a_worked_play(rt: HostRuntime) -> Result<(), Fail> {
+fn a_worked_play(rt: HostRuntime) {
     let alloc = rt.alloc();
-    let events = played(alloc)?;
+    let events = played(&rt, alloc);
     assert!(rt; events.iter().all(Event::fits));
     match run(alloc, &events) {
         Ok(world) => holds(&rt, is_whole(&world) || lacks(&world), "the end"),
@@ -190,7 +185,6 @@ fn a_worked_play(rt: HostRuntime) -> Result<(), Fail> {
             holds(&rt, matches!(events.get(at), Some(Event::Begin(_, _))), at);
         }
     }
-    Ok(())
 }
 
 // Makes the step of an event, and once more where it finds no memory, which changes nothing. Tells whether it
@@ -218,13 +212,10 @@ fn takes_all(rt: &impl Abort, world: &mut World, events: &[Event]) {
 
 // The same play event by event.
 #[test]
-fn a_worked_play_by_steps(rt: HostRuntime) -> Result<(), Fail> {
+fn a_worked_play_by_steps(rt: HostRuntime) {
     let alloc = rt.alloc();
-    let events = played(alloc)?;
-    let mut world = match World::open(alloc, 1) {
-        Ok(world) => world,
-        Err(_) => World::open(alloc, 1)?,
-    };
+    let events = played(&rt, alloc);
+    let opened = World::open(alloc, 1).or_else(|_| World::open(alloc, 1));
+    let mut world = opened.expect(&rt, "no memory");
     takes_all(&rt, &mut world, &events);
-    Ok(())
 }

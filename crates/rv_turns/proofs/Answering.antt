@@ -1,11 +1,16 @@
 -- A run that read all of its input and answered its lines, from the book that it opened.
-use Rattle.std.proofs.Common.{◌≡◌, ◌^◌, ℕ, List, [], Option, Some, None, IfSome, min, sym, subst, true}
+use Rattle.std.proofs.Common.{◌≡◌, ◌^◌, ℕ, List, [], Option, Some, None, IfSome, min, subst, true}
+use Rattle.std.proofs.Common.{Result, Ok, Err, IfErr, OnOk}
 use Rattle.rv_frame.specs.declared.sink.Sink.{Sink}
 use Rattle.rv_frame.specs.declared.source.Source.{Source}
 use Rattle.rv_frame.specs.Sink.{sink_failed}
 use Rattle.rv_frame.specs.Source.{source_remaining}
+use Rattle.rv_frame.specs.Sink.{FailsWithSink}
 use Rattle.rv_account.specs.Account.{Account}
 use Rattle.rv_run.specs.Input.{ReadsAll}
+use Rattle.rv_run.specs.declared.fault.RunFault.{RunFault}
+use Rattle.rv_run.specs.declared.fault.RunFault.TheVariants.{NoMemory, ReadFault, TooLong, WriteFault}
+use Rattle.rv_run.specs.declared.output.OutputFault.{OutputFault}
 use Rattle.rv_turns.specs.Outcomes.{Ran, SendsAll, SendsFront, StoppedWriting}
 use Rattle.rv_turns.specs.Run.{opened_account}
 
@@ -48,3 +53,30 @@ module _ {R W : Type 0} (remaining : R → Option (List ℕ)) (contents : W → 
         (subst (λ (l : List ℕ). SendsFront contents b l sink sink' sent) same sends));
     sink_fails = fails;
   }
+
+  pub ran_on_ok : {T : Type 0} (r : Result T RunFault) → OnOk r (SendsAll contents b input sink sink')
+      → FailsWithSink r sink sink' → OnOk r (Ran remaining contents epoch source source' sink sink')
+  ran_on_ok (Ok x) sends told = all_sent sends told
+  ran_on_ok (Err fault) sends told = tt
+
+  pub stopped : {T : Type 0} (r : Result T RunFault) (fault : OutputFault) → r ≡ Err (WriteFault fault)
+      → SendsFront contents b input sink sink' fault.sent → FailsWithSink r sink sink'
+      → StoppedWriting remaining contents epoch source source' sink sink' fault.sent
+  stopped (Ok x) fault is sends told = absurd (cc)
+  stopped (Err other) fault is sends told = front_sent fault.sent sends told
+
+-- lines are answered, and no other fault than of writing comes
+abbrev OnlyWriting : {T : Type 0} → Result T RunFault → Type 0
+OnlyWriting r = IfErr r (λ fault. (wrote : OutputFault) × (fault ≡ WriteFault wrote))
+
+pub no_read : {T : Type 0} (r : Result T RunFault) → OnlyWriting r → r ≡ Err ReadFault → ⊥
+no_read (Ok x) only is = (cc)
+no_read (Err fault) only is = let wrote = only.1 in (cc)
+
+pub no_length : {T : Type 0} (r : Result T RunFault) → OnlyWriting r → r ≡ Err TooLong → ⊥
+no_length (Ok x) only is = (cc)
+no_length (Err fault) only is = let wrote = only.1 in (cc)
+
+pub no_want : {T : Type 0} (r : Result T RunFault) → OnlyWriting r → r ≡ Err NoMemory → ⊥
+no_want (Ok x) only is = (cc)
+no_want (Err fault) only is = let wrote = only.1 in (cc)

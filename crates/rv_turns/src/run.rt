@@ -49,9 +49,32 @@ pub fn book_run<R: Read, W: Write>(
         LackedMemory source.new sink.old sink.new }
 {
     let input = read_input(alloc, source)?;
-    let mut book = Book::open(alloc, epoch, 0)?;
     let mut output = Output::new(alloc)?;
-    Ok(answer_lines(alloc, &mut book, &input, &mut output, sink)?)
+    let mut book = Book::open(alloc, epoch, 0)?;
+    answer_all(alloc, &mut book, &input, &mut output, sink)
+}
+
+// Answers each line of the input, and tells a fault as the run's.
+fn answer_all<W: Write>(
+    alloc: Global,
+    book: &mut Book,
+    input: &[u8],
+    output: &mut Output,
+    sink: &mut Sink<W>,
+) -> Result<(), RunFault>
+    requires within { length input.now ≤ max_input }
+    requires nothing_gathered { gathered_bytes output.old ≡ [] }
+    requires nothing_sent { taken_in output.old ≡ 0 }
+    ensures all { OnOk result (SendsAll W.contents book.old input.now sink.old sink.new) }
+    ensures part { (fault : _) → result ≡ Err (RunFault.WriteFault fault)
+        → SendsFront W.contents book.old input.now sink.old sink.new fault.sent }
+    ensures told { FailsWithSink result sink.old sink.new }
+    ensures writing { IfErr result (λ fault. (wrote : _) × (fault ≡ RunFault.WriteFault wrote)) }
+{
+    match answer_lines(alloc, book, input, output, sink) {
+        Ok(()) => Ok(()),
+        Err(fault) => Err(RunFault::WriteFault(fault)),
+    }
 }
 
 // Answers each line of the input, and sends all that was gathered.

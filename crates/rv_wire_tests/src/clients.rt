@@ -1,5 +1,5 @@
 //! Requests over devices in memory: the bytes that go out and those that are read.
-ghost use Rattle.std.specs.Prelude.{◌≡◌, IfOk, Some};
+ghost use Rattle.std.specs.Prelude.{◌≡◌, Some};
 ghost use Rattle.rv_text.specs.Limits.{FitsCall, FitsMessage};
 
 use crate::expect::{holds, same};
@@ -10,7 +10,6 @@ use rv_text::{Answer, Call, Item, Key, Message, Refusal, Reply, Version, Wait};
 use std::alloc::{AllocError, Global};
 use std::io::{ErrorKind, Read, Write};
 use std::process::Abort;
-use std::test::Fail;
 
 // The first request of client 2.
 const REQUEST: &[u8] = b"{\"call\":\"take\",\"client\":2,\"epoch\":1,\"incarnation\":1,\
@@ -57,9 +56,8 @@ fn key(client: u64, incarnation: u64, number: u64) -> Key {
 }
 
 // Client 2, which was welcomed in epoch 1.
-fn idle() -> Result<Idle, Fail>
-    ensures { IfOk result (λ idle.
-        idle ≡ Some (record { epoch = 1; client = 2; incarnation = 1; number = 1 })) }
+fn idle(rt: &impl Abort) -> Idle
+    ensures { result ≡ Some (record { epoch = 1; client = 2; incarnation = 1; number = 1 }) }
 {
     let welcome = Answer::Welcome {
         epoch: 1,
@@ -68,8 +66,8 @@ fn idle() -> Result<Idle, Fail>
         version: Version::One,
     };
     match New::start(2, 1, Version::One).welcome(&welcome) {
-        WelcomeOutcome::Idle(idle) => Ok(idle),
-        _ => Err(Fail::new("it isn't welcome")),
+        WelcomeOutcome::Idle(idle) => idle,
+        _ => panic!(rt; "it isn't welcome"),
     }
 }
 
@@ -83,24 +81,24 @@ fn take() -> Call
 }
 
 // What an answer is to client 2's first request.
-fn hears(answer: Answer) -> Result<Came, Fail> {
-    Ok(match idle()?.begin(take()).hear(answer) {
+fn hears(rt: &impl Abort, answer: Answer) -> Came {
+    match idle(rt).begin(take()).hear(answer) {
         HearOutcome::Settled(idle, reply) => Came::Settled(idle.next_key(), reply),
         HearOutcome::Still(outstanding) => Came::Unsettled(outstanding.abandon(), None),
         HearOutcome::EpochEnded(key, current) => Came::EpochEnded(key, current),
         HearOutcome::Replaced(key, current) => Came::Replaced(key, current),
-    })
+    }
 }
 
 // The frames of these bodies in a row.
-fn frames(alloc: Global, bodies: &[&[u8]]) -> Result<Vec<u8>, Fail> {
+fn frames(rt: &impl Abort, alloc: Global, bodies: &[&[u8]]) -> Vec<u8> {
     let mut all = Vec::new(alloc);
     for body in bodies {
-        all.push((body.len() / 256 % 256) as u8)?;
-        all.push((body.len() % 256) as u8)?;
-        all.extend_from_slice(body)?;
+        let length = [(body.len() / 256 % 256) as u8, (body.len() % 256) as u8];
+        all.extend_from_slice(&length).expect(rt, "no memory");
+        all.extend_from_slice(body).expect(rt, "no memory");
     }
-    Ok(all)
+    all
 }
 
 // How many bytes the source has left.
@@ -123,40 +121,40 @@ fn calls(
     want: Came,
     times: usize,
     left: usize,
-) -> Result<(), Fail> {
+) {
     for most in [1, 3, 10_000] {
         let mut source = Source::new(TestReader::new(bytes, most));
         let mut device = TestWriter::new(alloc, 50);
         let mut sink = Sink::new(&mut device);
-        let called = plain(call(alloc, idle()?, &mut source, &mut sink, take(), tries));
+        let called = plain(call(alloc, idle(rt), &mut source, &mut sink, take(), tries));
         holds(rt, called == want, most);
         same(rt, unread(&mut source), left);
+        let request = frames(rt, alloc, [REQUEST].as_slice());
         let mut sent = Vec::new(alloc);
         for _ in 0..times {
-            sent.extend_from_slice(&frames(alloc, [REQUEST].as_slice())?)?;
+            sent.extend_from_slice(&request).expect(rt, "no memory");
         }
         same(rt, device.taken(), sent.as_slice());
     }
-    Ok(())
 }
 
 #[test]
-fn a_call_is_asked_until_it_settles(rt: HostRuntime) -> Result<(), Fail> {
+fn a_call_is_asked_until_it_settles(rt: HostRuntime) {
     let alloc = rt.alloc();
-    let bytes = frames(alloc, [WAITING, REPLY].as_slice())?;
-    let item = Item::from_text(String::from_str(alloc, "a")?);
-    let settled = Came::Settled(Some(key(2, 1, 2)), Reply::Item(item));
-    calls(&rt, alloc, &bytes, 3, settled, 2, 0)?;
+    let bytes = frames(&rt, alloc, [WAITING, REPLY].as_slice());
+    let text = String::from_str(alloc, "a").expect(&rt, "no memory");
+    let settled = Came::Settled(Some(key(2, 1, 2)), Reply::Item(Item::from_text(text)));
+    calls(&rt, alloc, &bytes, 3, settled, 2, 0);
     let unsettled = Came::Unsettled(key(2, 1, 1), None);
-    calls(&rt, alloc, &bytes, 1, unsettled, 1, 92)?;
+    calls(&rt, alloc, &bytes, 1, unsettled, 1, 92);
     let untried = Came::Unsettled(key(2, 1, 1), None);
-    calls(&rt, alloc, &bytes, 0, untried, 0, bytes.len())
+    calls(&rt, alloc, &bytes, 0, untried, 0, bytes.len());
 }
 
 #[test]
-fn a_call_tells_what_was_wrong_with_its_answer(rt: HostRuntime) -> Result<(), Fail> {
+fn a_call_tells_what_was_wrong_with_its_answer(rt: HostRuntime) {
     let alloc = rt.alloc();
-    let hello = frames(alloc, [HELLO].as_slice())?;
+    let hello = frames(&rt, alloc, [HELLO].as_slice());
     let rows = [
         (b"".as_slice(), LinkFault::Closed, 0),
         (b"\x00", LinkFault::Closed, 0),
@@ -172,12 +170,12 @@ fn a_call_tells_what_was_wrong_with_its_answer(rt: HostRuntime) -> Result<(), Fa
     ];
     for (bytes, fault, left) in rows {
         let want = Came::Unsettled(key(2, 1, 1), Some(fault));
-        calls(&rt, alloc, bytes, 3, want, 1, left)?;
+        calls(&rt, alloc, bytes, 3, want, 1, left);
     }
-    let mut bytes = frames(alloc, [WAITING].as_slice())?;
-    bytes.extend_from_slice(b"\x00")?;
+    let mut bytes = frames(&rt, alloc, [WAITING].as_slice());
+    bytes.extend_from_slice(b"\x00").expect(&rt, "no memory");
     let want = Came::Unsettled(key(2, 1, 1), Some(LinkFault::Closed));
-    calls(&rt, alloc, &bytes, 3, want, 2, 0)
+    calls(&rt, alloc, &bytes, 3, want, 2, 0);
 }
 
 // Asks over these bytes, of which a read gives one: what is answered, how many reads it took, and what went
@@ -203,16 +201,16 @@ fn asks(
 // The longest body, and one byte behind its frame: a frame takes 65,537 reads where each gives one byte, and
 // so does one without its last byte, with the read of the end.
 #[test]
-fn an_answer_is_read_to_its_last_byte_and_no_further(rt: HostRuntime) -> Result<(), Fail> {
+fn an_answer_is_read_to_its_last_byte_and_no_further(rt: HostRuntime) {
     let alloc = rt.alloc();
-    let mut body = WAITING.to_vec(alloc)?;
+    let mut body = WAITING.to_vec(alloc).expect(&rt, "no memory");
     for _ in 0..65_535 - WAITING.len() {
-        body.push(b' ')?;
+        body.push(b' ').expect(&rt, "no memory");
     }
-    let mut bytes = frames(alloc, [body.as_slice()].as_slice())?;
-    bytes.push(0)?;
+    let mut bytes = frames(&rt, alloc, [body.as_slice()].as_slice());
+    bytes.push(0).expect(&rt, "no memory");
     let hello = New::start(1, 1, Version::One).message();
-    let request = frames(alloc, [HELLO].as_slice())?;
+    let request = frames(&rt, alloc, [HELLO].as_slice());
     let waiting = Ok(Answer::Waiting { key: key(2, 1, 1) });
     for (count, want) in [(65_538, waiting), (65_536, Err(LinkFault::Closed))] {
         let given = bytes.get(..count).unwrap_or(b"");
@@ -222,60 +220,56 @@ fn an_answer_is_read_to_its_last_byte_and_no_further(rt: HostRuntime) -> Result<
         same(&rt, device.taken(), request.as_slice());
         same(&rt, device.writes(), 1);
     }
-    Ok(())
 }
 
 // An item of 512 letters.
-fn letters(alloc: Global) -> Result<Item, Fail> {
-    let mut text = String::new(alloc);
-    for _ in 0..512 {
-        text.push('x')?;
-    }
-    Ok(Item::from_text(text))
+fn letters(rt: &impl Abort, alloc: Global) -> Item {
+    Item::from_text("x".repeat(alloc, 512).expect(rt, "no memory"))
 }
 
 // 512 letters between these bytes.
-fn with_letters(alloc: Global, before: &[u8], after: &[u8]) -> Result<Vec<u8>, Fail> {
-    let item = letters(alloc)?;
+fn with_letters(rt: &impl Abort, alloc: Global, before: &[u8], after: &[u8]) -> Vec<u8> {
+    let item = letters(rt, alloc);
     let mut bytes = Vec::new(alloc);
     for part in [before, item.as_str().as_bytes(), after] {
-        bytes.extend_from_slice(part)?;
+        bytes.extend_from_slice(part).expect(rt, "no memory");
     }
-    Ok(bytes)
+    bytes
 }
 
 #[test]
-fn the_longest_items_are_sent_and_heard(rt: HostRuntime) -> Result<(), Fail> {
+fn the_longest_items_are_sent_and_heard(rt: HostRuntime) {
     let alloc = rt.alloc();
     let call = Call::Put {
         queue: 3,
-        item: letters(alloc)?,
+        item: letters(&rt, alloc),
     };
     let message = Message::Request {
         key: key(2, 1, 1),
         call,
     };
     if !message.fits() {
-        return Err(Fail::new("the item is too long"));
+        panic!(rt; "the item is too long");
     }
     let answer = with_letters(
+        &rt,
         alloc,
         b"\x02\x59{\"client\":2,\"epoch\":1,\"incarnation\":1,\"item\":\"",
         b"\",\"kind\":\"reply\",\"number\":1,\"reply\":\"item\"}",
-    )?;
+    );
     let request = with_letters(
+        &rt,
         alloc,
         b"\x02\x63{\"call\":\"put\",\"client\":2,\"epoch\":1,\"incarnation\":1,\"item\":\"",
         b"\",\"kind\":\"request\",\"number\":1,\"queue\":3}",
-    )?;
+    );
     let (heard, _, device) = asks(alloc, &answer, &message);
     let want = Answer::Replied {
         key: key(2, 1, 1),
-        reply: Reply::Item(letters(alloc)?),
+        reply: Reply::Item(letters(&rt, alloc)),
     };
     holds(&rt, heard == Ok(want), "what was heard");
     same(&rt, device.taken(), request.as_slice());
-    Ok(())
 }
 
 // A read of the reply fails: no further one is made.
@@ -329,50 +323,48 @@ fn a_write_that_fails(rt: HostRuntime) {
 }
 
 // An answer to client 2's first request comes to this.
-fn comes_to(rt: &impl Abort, answer: Answer, want: Came, case: &str) -> Result<(), Fail> {
-    let came = hears(answer)?;
-    holds(rt, came == want, case);
-    Ok(())
+fn comes_to(rt: &impl Abort, answer: Answer, want: Came, case: &str) {
+    holds(rt, hears(rt, answer) == want, case);
 }
 
 // The worked answers to a request: what ends it, and what it goes on after.
 #[test]
-fn what_answers_are_to_a_request(rt: HostRuntime) -> Result<(), Fail> {
+fn what_answers_are_to_a_request(rt: HostRuntime) {
     let first = key(2, 1, 1);
     let refused = Answer::Refused(Refusal::OtherEpoch(2));
-    comes_to(&rt, refused, Came::EpochEnded(first, 2), "other epoch")?;
+    comes_to(&rt, refused, Came::EpochEnded(first, 2), "other epoch");
     let refused = Answer::Refused(Refusal::OldIncarnation(3));
-    comes_to(&rt, refused, Came::Replaced(first, 3), "old incarnation")?;
+    comes_to(&rt, refused, Came::Replaced(first, 3), "old incarnation");
     let refused = Answer::Refused(Refusal::OtherEpoch(1));
-    comes_to(&rt, refused, Came::Unsettled(first, None), "its own epoch")?;
+    comes_to(&rt, refused, Came::Unsettled(first, None), "its own epoch");
     let late = Answer::Replied {
         key: key(2, 1, 2),
         reply: Reply::Empty,
     };
-    comes_to(&rt, late, Came::Unsettled(first, None), "another number")
+    comes_to(&rt, late, Came::Unsettled(first, None), "another number");
 }
 
 // The client and the reply of a call that settled.
-fn settled(called: CallOutcome) -> Result<(Idle, Reply), Fail>
-    ensures { IfOk result (λ told. called ≡ CallOutcome.Settled told.0 told.1) }
+fn settled(rt: &impl Abort, called: CallOutcome) -> (Idle, Reply)
+    ensures { called ≡ CallOutcome.Settled result.0 result.1 }
 {
     match called {
-        CallOutcome::Settled(idle, reply) => Ok((idle, reply)),
+        CallOutcome::Settled(idle, reply) => (idle, reply),
         other => {
             let _ = plain(other);
-            Err(Fail::new("it isn't settled"))
+            panic!(rt; "it isn't settled")
         }
     }
 }
 
 // A call over devices of its own, where a growth may be refused: whether it settled. Else nothing
 // happened, or the request went out and the whole reply was read; or the device itself found no memory.
-fn settles(rt: &impl Abort, alloc: Global) -> Result<bool, Fail> {
+fn settles(rt: &impl Abort, alloc: Global) -> bool {
     let mut reader = TestReader::new(REPLY_FRAME, 7);
     let mut device = TestWriter::new(alloc, 10_000);
     let called = plain(call(
         alloc,
-        idle()?,
+        idle(rt),
         &mut Source::new(&mut reader),
         &mut Sink::new(&mut device),
         take(),
@@ -380,7 +372,7 @@ fn settles(rt: &impl Abort, alloc: Global) -> Result<bool, Fail> {
     ));
     let happened = (device.taken().len(), reader.reads());
     match called {
-        Came::Settled(_, _) => return Ok(true),
+        Came::Settled(_, _) => return true,
         Came::Unsettled(_, Some(LinkFault::NoMemory)) => {
             holds(rt, happened == (0, 0) || happened == (109, 14), happened);
         }
@@ -389,36 +381,37 @@ fn settles(rt: &impl Abort, alloc: Global) -> Result<bool, Fail> {
         }
         _ => holds(rt, false, happened),
     }
-    Ok(false)
+    false
 }
 
 // Says hello, puts "a" and takes it: what each of these asks for follows from the contracts of those
 // before it.
 fn converse<R: Read, W: Write>(
+    rt: &impl Abort,
     alloc: Global,
     source: &mut Source<R>,
     sink: &mut Sink<W>,
-) -> Result<(Reply, Reply), Fail> {
+) -> (Reply, Reply) {
     laws::keys_fit();
     let new = New::start(2, 1, Version::One);
-    let answer = ask(alloc, source, sink, &new.message())?;
+    let answer = ask(alloc, source, sink, &new.message()).expect(rt, "no answer");
     let WelcomeOutcome::Idle(idle) = new.welcome(&answer) else {
-        return Err(Fail::new("it isn't welcome"));
+        panic!(rt; "it isn't welcome")
     };
-    let put = put(alloc)?;
+    let put = put(alloc).expect(rt, "no memory");
     if !put.fits() {
-        return Err(Fail::new("the item is too long"));
+        panic!(rt; "the item is too long");
     }
-    let (idle, first) = settled(call(alloc, idle, source, sink, put, 3))?;
+    let (idle, first) = settled(rt, call(alloc, idle, source, sink, put, 3));
     if idle.next_key().is_none() {
-        return Err(Fail::new("the greatest number was used up"));
+        panic!(rt; "the greatest number was used up");
     }
-    let (_, second) = settled(call(alloc, idle, source, sink, take(), 3))?;
-    Ok((first, second))
+    let (_, second) = settled(rt, call(alloc, idle, source, sink, take(), 3));
+    (first, second)
 }
 
 #[test]
-fn a_conversation(rt: HostRuntime) -> Result<(), Fail> {
+fn a_conversation(rt: HostRuntime) {
     let alloc = rt.alloc();
     let welcome = b"{\"client\":2,\"epoch\":1,\"incarnation\":1,\"kind\":\"welcome\"}";
     let done = b"{\"client\":2,\"epoch\":1,\"incarnation\":1,\"kind\":\"reply\",\
@@ -432,21 +425,19 @@ fn a_conversation(rt: HostRuntime) -> Result<(), Fail> {
         done.as_slice(),
         empty.as_slice(),
     ];
-    let bytes = frames(alloc, bodies.as_slice())?;
+    let bytes = frames(&rt, alloc, bodies.as_slice());
     let mut source = Source::new(TestReader::new(&bytes, 5));
     let mut device = TestWriter::new(alloc, 50);
-    let replies = converse(alloc, &mut source, &mut Sink::new(&mut device))?;
+    let replies = converse(&rt, alloc, &mut source, &mut Sink::new(&mut device));
     holds(&rt, replies == (Reply::Done, Reply::Empty), "the replies");
     same(&rt, unread(&mut source), 0);
-    Ok(())
 }
 
 // Passes too if any one growth is refused.
 #[test]
-fn a_refused_growth_leaves_what_it_says(rt: HostRuntime) -> Result<(), Fail> {
-    let settled = settles(&rt, rt.alloc())? || settles(&rt, rt.alloc())?;
+fn a_refused_growth_leaves_what_it_says(rt: HostRuntime) {
+    let settled = settles(&rt, rt.alloc()) || settles(&rt, rt.alloc());
     same(&rt, settled, true);
-    Ok(())
 }
 
 // The put of "a" into queue 3.
@@ -465,14 +456,14 @@ fn put(alloc: Global) -> Result<Call, AllocError> {
 
 // Passes too if any one growth is refused.
 #[test]
-fn a_request_is_the_same_each_time(rt: HostRuntime) -> Result<(), Fail> {
+fn a_request_is_the_same_each_time(rt: HostRuntime) {
     let alloc = rt.alloc();
     let want = Message::Request {
         key: key(2, 1, 1),
-        call: put(alloc)?,
+        call: put(alloc).expect(&rt, "no memory"),
     };
-    let call = put(alloc)?;
-    let mut outstanding = idle()?.begin(call);
+    let call = put(alloc).expect(&rt, "no memory");
+    let mut outstanding = idle(&rt).begin(call);
     same(&rt, outstanding.key(), key(2, 1, 1));
     let cancel = Message::Cancel { key: key(2, 1, 1) };
     holds(&rt, outstanding.cancel_message() == cancel, "the cancel");
@@ -488,5 +479,4 @@ fn a_request_is_the_same_each_time(rt: HostRuntime) -> Result<(), Fail> {
         }
     }
     same(&rt, outstanding.abandon(), key(2, 1, 1));
-    Ok(())
 }

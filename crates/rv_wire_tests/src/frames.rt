@@ -8,7 +8,6 @@ use rv_frame::{FrameFault, Frames, NoMemory, Sink, WriteFault, write_frame};
 use std::alloc::Global;
 use std::io::ErrorKind;
 use std::process::Abort;
-use std::test::Fail;
 
 // The frames of `A` and `BC`.
 const TWO_FRAMES: &[u8] = b"\x00\x01A\x00\x02BC";
@@ -58,15 +57,15 @@ fn frames_in_all_cuts(rt: HostRuntime) {
 }
 
 #[test]
-fn frames_in_pieces_of_a_size(rt: HostRuntime) -> Result<(), Fail> {
+fn frames_in_pieces_of_a_size(rt: HostRuntime) {
     for size in 1..TWO_FRAMES.len() + 1 {
-        let mut frames = frames_of_pieces(rt.alloc(), TWO_FRAMES, size)?;
+        let fed = frames_of_pieces(rt.alloc(), TWO_FRAMES, size);
+        let mut frames = fed.expect(&rt, "a fault of frames");
         gives(&rt, &mut frames, b"A");
         gives(&rt, &mut frames, b"BC");
         gives_none(&rt, &mut frames);
         same(&rt, frames.rest(), 0);
     }
-    Ok(())
 }
 
 #[test]
@@ -94,11 +93,11 @@ fn a_length_of_4097_is_good(rt: HostRuntime) {
 
 // The length bytes of the longest frame, and then in one piece its body, two frames, and a byte.
 #[test]
-fn a_piece_is_longer_than_a_frame(rt: HostRuntime) -> Result<(), Fail> {
+fn a_piece_is_longer_than_a_frame(rt: HostRuntime) {
     let body = [b'x'; 65_535];
-    let mut piece = body.to_vec(rt.alloc())?;
-    piece.extend_from_slice(TWO_FRAMES)?;
-    piece.push(0)?;
+    let mut piece = body.to_vec(rt.alloc()).expect(&rt, "no memory");
+    piece.extend_from_slice(TWO_FRAMES).expect(&rt, "no memory");
+    piece.push(0).expect(&rt, "no memory");
     let mut frames = Frames::new(rt.alloc());
     same(&rt, frames.feed(b"\xff\xff"), Ok(()));
     same(&rt, frames.rest(), 2);
@@ -108,7 +107,6 @@ fn a_piece_is_longer_than_a_frame(rt: HostRuntime) -> Result<(), Fail> {
         gives(&rt, &mut frames, body);
     }
     gives_none(&rt, &mut frames);
-    Ok(())
 }
 
 // Where memory is refused, the same call once more.

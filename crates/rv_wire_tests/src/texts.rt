@@ -5,7 +5,6 @@ use rv_text::{
     decode_message, encode_answer, encode_message,
 };
 use std::alloc::Global;
-use std::test::Fail;
 
 // The bodies of messages, and behind each the end of what it is when printed.
 const MESSAGES: &[&str] = &[
@@ -41,19 +40,19 @@ const MESSAGES: &[&str] = &[
 ];
 
 #[test]
-fn messages_are_read_and_written(rt: HostRuntime) -> Result<(), Fail> {
+fn messages_are_read_and_written(rt: HostRuntime) {
     let alloc = rt.alloc();
     for row in MESSAGES.chunks_exact(2) {
         let [text, want] = row else {
-            return Err(Fail::new("a row of other than two"));
+            panic!(rt; "a row of other than two")
         };
-        let message = decode_message(alloc, text.as_bytes())?;
+        let message = decode_message(alloc, text.as_bytes()).expect(&rt, *text);
         holds(&rt, message.fits(), *text);
-        same(&rt, encode_message(alloc, &message)?.as_str(), *text);
-        let found = format!(in alloc; "{message:?}")?;
+        let written = encode_message(alloc, &message).expect(&rt, *text);
+        same(&rt, written.as_str(), *text);
+        let found = format!(in alloc; "{message:?}").expect(&rt, *text);
         holds(&rt, found.ends_with(want), found);
     }
-    Ok(())
 }
 
 // Texts of calls, and behind each what it is.
@@ -77,16 +76,16 @@ const CALLS: &[&str] = &[
 ];
 
 #[test]
-fn calls_are_read(rt: HostRuntime) -> Result<(), Fail> {
+fn calls_are_read(rt: HostRuntime) {
     let alloc = rt.alloc();
     for row in CALLS.chunks_exact(2) {
         let [text, want] = row else {
-            return Err(Fail::new("a row of other than two"));
+            panic!(rt; "a row of other than two")
         };
-        let call = decode_call(alloc, text.as_bytes())?;
-        same(&rt, format!(in alloc; "{call:?}")?.as_str(), *want);
+        let call = decode_call(alloc, text.as_bytes()).expect(&rt, *text);
+        let found = format!(in alloc; "{call:?}").expect(&rt, *text);
+        same(&rt, found.as_str(), *want);
     }
-    Ok(())
 }
 
 // The bodies of answers, and behind each the end of what it is when printed.
@@ -157,19 +156,19 @@ const ANSWERS: &[&str] = &[
 ];
 
 #[test]
-fn answers_are_read_and_written(rt: HostRuntime) -> Result<(), Fail> {
+fn answers_are_read_and_written(rt: HostRuntime) {
     let alloc = rt.alloc();
     for row in ANSWERS.chunks_exact(2) {
         let [text, want] = row else {
-            return Err(Fail::new("a row of other than two"));
+            panic!(rt; "a row of other than two")
         };
-        let answer = decode_answer(alloc, text.as_bytes())?;
+        let answer = decode_answer(alloc, text.as_bytes()).expect(&rt, *text);
         holds(&rt, answer.fits(), *text);
-        same(&rt, encode_answer(alloc, &answer)?.as_str(), *text);
-        let found = format!(in alloc; "{answer:?}")?;
+        let written = encode_answer(alloc, &answer).expect(&rt, *text);
+        same(&rt, written.as_str(), *text);
+        let found = format!(in alloc; "{answer:?}").expect(&rt, *text);
         holds(&rt, found.ends_with(want), found);
     }
-    Ok(())
 }
 
 // Bytes that are no body of an answer, and why.
@@ -200,30 +199,30 @@ const NO_ANSWERS: &[(&[u8], TextFault)] = &[
 ];
 
 #[test]
-fn what_is_no_answer_is_told(rt: HostRuntime) -> Result<(), Fail> {
+fn what_is_no_answer_is_told(rt: HostRuntime) {
     for (bytes, want) in NO_ANSWERS {
         same(&rt, decode_answer(rt.alloc(), bytes).err(), Some(*want));
     }
     for (depth, want) in [(127, TextFault::NotMessage), (128, TextFault::NotJson)] {
-        let mut body = "[".repeat(rt.alloc(), depth)?;
-        body.push_str("]".repeat(rt.alloc(), depth)?.as_str())?;
+        let mut body = "[".repeat(rt.alloc(), depth).expect(&rt, "no memory");
+        let closed = "]".repeat(rt.alloc(), depth).expect(&rt, "no memory");
+        body.push_str(closed.as_str()).expect(&rt, "no memory");
         let found = decode_answer(rt.alloc(), body.as_bytes()).err();
         same(&rt, found, Some(want));
     }
-    Ok(())
 }
 
 #[test]
-fn items_are_given_back(rt: HostRuntime) -> Result<(), Fail> {
+fn items_are_given_back(rt: HostRuntime) {
     let alloc = rt.alloc();
     let mut items = Items::new(alloc);
-    items.push(Item::from_text(String::from_str(alloc, "a")?))?;
+    let text = String::from_str(alloc, "a").expect(&rt, "no memory");
+    items.push(Item::from_text(text)).expect(&rt, "no memory");
     let items = items.into_vec();
     same(&rt, items.len(), 1);
     for item in items {
         same(&rt, item.into_text().as_str(), "a");
     }
-    Ok(())
 }
 
 // With ample memory these calls succeed, as the tests above show. Under `rt try --test --fail-alloc N`

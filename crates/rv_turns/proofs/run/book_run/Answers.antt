@@ -1,30 +1,28 @@
 -- A run that read its input and answered each line, or a write that failed.
-use Rattle.std.proofs.Common.{◌≡◌, ◌∙◌, Err, ap, subst, sym, ℕ}
-use Rattle.std.proofs.lemmas.Result.{err_from_is_err_and}
-use Rattle.rv_run.specs.declared.fault.RunFault.{RunFault}
-use Rattle.rv_run.specs.declared.output.OutputFault.{OutputFault}
-use Rattle.rv_turns.specs.Outcomes.{StoppedWriting}
-use Rattle.rv_turns.proofs.Answering.{all_sent, front_sent}
+use Rattle.rv_turns.proofs.Answering.{no_length, no_read, no_want, ran_on_ok, stopped}
 use Rattle.rv_turns.proofs.run.book_run.Goals as goal
-
-pub returns-in_err-answer_lines-clause-stopped_writing :
-    goal.returns-in_err-answer_lines-clause-stopped_writing
-returns-in_err-answer_lines-clause-stopped_writing g c fault is =
-    let gave = err_from_is_err_and c.from_residual-in_err-answer_lines.result
-    c.from_residual-in_err-answer_lines.ensures.1 in
-    let same : c.in_err-answer_lines.field-0.0 ≡ fault = cc in
-    subst (λ (f : OutputFault). StoppedWriting g.R.Read.remaining g.W.Write.contents c.args.epoch
-    c.args.source.now c.read_input.new.source c.args.sink.now c.answer_lines.new.sink f.sent) same
-    (front_sent g.R.Read.remaining g.W.Write.contents c.args.epoch c.args.source.now c.read_input.new.source
-    c.args.sink.now c.answer_lines.new.sink c.in_ok-book.book c.in_ok-input.input.items c.deref.result.now
-    c.in_ok-input.ensures.all c.in_ok-input.ensures.bytes c.deref.ensures.value c.in_ok-book.ensures.epoch
-    c.in_ok-book.ensures.opened c.in_ok-book.ensures.empty c.in_err-answer_lines.field-0.0.sent
-    c.in_err-answer_lines.ensures.part c.in_err-answer_lines.ensures.told)
 
 pub returns-clause-ran : goal.returns-clause-ran
 returns-clause-ran g c =
-    all_sent g.R.Read.remaining g.W.Write.contents c.args.epoch c.args.source.now c.read_input.new.source
-    c.args.sink.now c.answer_lines.new.sink c.in_ok-book.book c.in_ok-input.input.items c.deref.result.now
+    ran_on_ok g.R.Read.remaining g.W.Write.contents c.args.epoch c.args.source.now c.read_input.new.source
+    c.args.sink.now c.answer_all.new.sink c.in_ok-book.book c.in_ok-input.input.items c.deref.result.now
     c.in_ok-input.ensures.all c.in_ok-input.ensures.bytes c.deref.ensures.value c.in_ok-book.ensures.epoch
-    c.in_ok-book.ensures.opened c.in_ok-book.ensures.empty c.in_ok-answer_lines.ensures.all
-    c.in_ok-answer_lines.ensures.told
+    c.in_ok-book.ensures.opened c.in_ok-book.ensures.empty c.answer_all.result c.answer_all.ensures.all
+    c.answer_all.ensures.told
+
+pub returns-clause-stopped_writing : goal.returns-clause-stopped_writing
+returns-clause-stopped_writing g c fault is =
+    stopped g.R.Read.remaining g.W.Write.contents c.args.epoch c.args.source.now c.read_input.new.source
+    c.args.sink.now c.answer_all.new.sink c.in_ok-book.book c.in_ok-input.input.items c.deref.result.now
+    c.in_ok-input.ensures.all c.in_ok-input.ensures.bytes c.deref.ensures.value c.in_ok-book.ensures.epoch
+    c.in_ok-book.ensures.opened c.in_ok-book.ensures.empty c.answer_all.result fault is
+    (c.answer_all.ensures.part fault is) c.answer_all.ensures.told
+
+pub returns-clause-failed_reading : goal.returns-clause-failed_reading
+returns-clause-failed_reading g c is = absurd (no_read c.answer_all.result c.answer_all.ensures.writing is)
+
+pub returns-clause-found_too_long : goal.returns-clause-found_too_long
+returns-clause-found_too_long g c is = absurd (no_length c.answer_all.result c.answer_all.ensures.writing is)
+
+pub returns-clause-lacked_memory : goal.returns-clause-lacked_memory
+returns-clause-lacked_memory g c is = absurd (no_want c.answer_all.result c.answer_all.ensures.writing is)
