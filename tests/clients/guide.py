@@ -238,16 +238,16 @@ def crates_of(program):
 
 def the_progress_of_an_installation(_):
     """While crates are proved, each that ends is told, with how many there are; what went wrong is told behind them."""
-    count = len(crates_of("rv_app"))
+    count, names = len(crates_of("rv_app")), ["rv_item", "rv_text", "rv_machine", "rv_desk", "rv_world"]
     said = ("case $1 in version) echo stand-in;; run) echo it broke; exit 1;;\n"
-            "all) for crate in rv_item rv_text rv_machine rv_tests; do echo == $crate; done;; esac\n")
+            f"all) for crate in {' '.join(names)} rv_tests; do echo == $crate; done;; esac\n")
     with tempfile.TemporaryDirectory(prefix="rv-build-") as name:
         ran = subprocess.run([ROOT / "tools/build.py", "rv_app"], env=stand_in(name, said), capture_output=True, text=True, timeout=300)
     first, *ended, last = ran.stderr.splitlines()
     demand(first.startswith(f"proving {count} crates, ") and last == "it broke" and ran.returncode == 1, ran.stderr)
-    for number, crate in enumerate(["rv_item", "rv_text", "rv_machine"], 1):
+    for number, crate in enumerate(names, 1):
         demand(any(line.startswith(f"{crate} ended; {number} of {count} crates proved in ") for line in ended), ran.stderr)
-    demand("min still" in ended[2] and "rv_tests ended" not in ran.stderr and "building rv_app" in ended, ran.stderr)
+    demand("min still" in ended[len(names) - 1] and "rv_tests ended" not in ran.stderr and "building rv_app" in ended, ran.stderr)
 
 
 def the_hand_over(program):
