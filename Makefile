@@ -2,7 +2,7 @@
 PREFIX ?= /usr/local
 PROGRAM = crates/rv_app/out/rv_app
 
-.PHONY: run demo test check edits torture soak install bench build
+.PHONY: run demo test check edits torture soak install deb package-test bench build
 
 # the four answers of the first example, and a hand-over between two programs, by the proved program
 run: build
@@ -47,6 +47,15 @@ install: build
 	@mkdir -p "$(PREFIX)/bin"
 	@cp $(PROGRAM) "$(PREFIX)/bin/rv"
 	@chmod 755 "$(PREFIX)/bin/rv"
+
+# the proved program as a Debian package, and as a tar of the same files, in out/
+deb: build
+	@command -v python3 > /dev/null || { echo "python3 is missing: tools/deb.py is written in it" >&2; exit 1; }
+	@tools/deb.py $(PROGRAM)
+
+# that package, installed, used and removed in a bare Debian: it needs root, and debootstrap with a network, or a Debian in the folder BARE
+package-test: deb
+	@tests/package/tried.py out/rv_*_amd64.deb $(BARE)
 
 # what a machine and rv verify take as entries grow, and what a machine holds; what a hub's connection holds and its events cost; the
 # instructions of a line, if valgrind is there;

@@ -334,13 +334,13 @@ def limits():
 
 def standing():
     """No page says what is to come, and each command that a page names is there."""
-    targets = set(re.findall(r"^(\w+):", (ROOT / "Makefile").read_text(), re.M))
+    targets = set(re.findall(r"^([\w-]+):", (ROOT / "Makefile").read_text(), re.M))
     sources = [path.read_text() for path in ROOT.glob("crates/*/src/*.rt")]
     runs = {word for source in sources for word in re.findall(r"^ */// `rv (\w+)", source, re.M)}
     for path in documents():
         text = path.read_text()
         check("to come" not in text.lower(), f"{path.name} says what is to come")
-        for word in re.findall(r"(?:`|^ {4})make (\w+)", text, re.M):
+        for word in re.findall(r"(?:`|^ {4})make ([\w-]+)", text, re.M):
             check(word in targets, f"{path.name}: there is no make {word}")
         for word in re.findall(r"(?:`|^ {4,})rv (\w+)", text, re.M):
             check(word in runs, f"{path.name}: there is no rv {word}")

@@ -1,0 +1,1 @@
+"""The Debian package, tried where nothing else of rv is."""

@@ -1,0 +1,158 @@
+#!/usr/bin/env python3
+"""Tries the Debian package in a bare Debian, in a folder of its own, where nothing of the kit is: it is installed, its service's
+program starts as the service starts it, a hand-over goes over it by the Python client's wheel, it starts again beside the account of
+the last time, and it is removed, with nothing left behind. It needs root, for chroot, and listens on loopback alone.
+
+A bare Debian is a folder that debootstrap makes, from the network, with Python and no more. One that is given is copied, not changed;
+FOLDER that isn't there is made, and kept.
+
+usage: tests/package/tried.py PACKAGE [FOLDER]
+"""
+from __future__ import annotations
+
+import contextlib
+import os
+import pathlib
+import re
+import shlex
+import shutil
+import signal
+import socket
+import subprocess
+import sys
+import tempfile
+import time
+from typing import Iterator
+
+ROOT = pathlib.Path(__file__).resolve().parents[2]
+# What the package owns in the system.
+OWNED = ("usr/bin/rv", "usr/share/man/man1/rv.1.gz", "lib/systemd/system/rv.service", "etc/default/rv")
+UNIT, OPTIONS, STATE = "lib/systemd/system/rv.service", "etc/default/rv", "/var/lib/rv"
+# A consumer that waits, and a producer that comes later: both are told of the other. It is told the address.
+HAND_OVER = """
+import sys, threading, time
+from rendezvous import Session
+took = []
+def consume():
+    with Session(sys.argv[1], client=2, incarnation=1) as consumer:
+        took.append(consumer.take(3))
+thread = threading.Thread(target=consume)
+thread.start()
+with Session(sys.argv[1], client=1, incarnation=1) as producer:
+    receipt = producer.transfer(3, "a")
+thread.join()
+print(took[0], receipt.by.client)
+"""
+PATIENCE = 120
+BARE = ("debootstrap", "--variant=minbase", "--include=python3", "bookworm")
+# Pythons that may have setuptools and wheel.
+PYTHONS = ("/usr/bin/python3", sys.executable)
+
+
+def demand(holds: bool, what: str) -> None:
+    """Ends the trial by what is wrong, if it is."""
+    if not holds:
+        sys.exit(f"FAILED: {what}")
+
+
+def within(base: pathlib.Path, *words: str) -> str:
+    """What a command in the bare system prints; it has to end well."""
+    ran = subprocess.run(["chroot", str(base), *words], capture_output=True, text=True, timeout=PATIENCE)
+    demand(ran.returncode == 0, f"{shlex.join(words)} ended by {ran.returncode}: {ran.stdout}{ran.stderr}")
+    return ran.stdout
+
+
+def wheel(room: pathlib.Path) -> pathlib.Path:
+    """The Python client's wheel, built from its sources."""
+    sources = room / "client"
+    shutil.copytree(ROOT / "clients/python", sources)
+    ask = "import sys, wheel\nfrom setuptools import build_meta\nprint(build_meta.build_wheel(sys.argv[1]))\n"
+    tried = [subprocess.run([python, "-c", ask, str(room)], cwd=sources, capture_output=True) for python in PYTHONS]
+    demand(any(ran.returncode == 0 for ran in tried), "no Python here has setuptools and wheel")
+    found, = room.glob("*.whl")
+    return found
+
+
+def free_address() -> str:
+    """An address of loopback that nobody listens at."""
+    with socket.socket() as probe:
+        probe.bind(("127.0.0.1", 0))
+        return f"127.0.0.1:{probe.getsockname()[1]}"
+
+
+def start_of(base: pathlib.Path) -> list[str]:
+    """The commands of the unit's start, in the folder and with the options that it has there."""
+    unit = (base / UNIT).read_text()
+    before, = re.findall(r"^ExecStartPre=(.*)$", unit, re.M)
+    serves, = re.findall(r"^ExecStart=(.*)$", unit, re.M)
+    before = before.replace("$$", "$").replace("%%", "%")
+    return ["chroot", str(base), "/bin/sh", "-c", f". /{OPTIONS} && cd {STATE} && {before} && exec {serves}"]
+
+
+@contextlib.contextmanager
+def started(base: pathlib.Path, address: str) -> Iterator[None]:
+    """Runs the server as its unit does until the block ends, which begins once it listens."""
+    host, _, port = address.rpartition(":")
+    with subprocess.Popen(start_of(base), stdin=subprocess.DEVNULL, stderr=subprocess.PIPE, text=True) as server:
+        try:
+            for _ in range(PATIENCE * 10):
+                demand(server.poll() is None, f"the server ended by {server.returncode}")
+                with contextlib.suppress(OSError), socket.create_connection((host, int(port)), timeout=1):
+                    break
+                time.sleep(0.1)
+            yield
+            demand(server.poll() is None, f"the server ended by {server.returncode}")
+        finally:
+            server.send_signal(signal.SIGTERM)
+            print(server.communicate()[1], end="", file=sys.stderr)
+
+
+def served(base: pathlib.Path, client: pathlib.Path) -> None:
+    """Two starts of the service, a hand-over at each; the second one lays the account of the first one aside."""
+    address = free_address()
+    options = base / OPTIONS
+    told = options.read_text().replace("127.0.0.1:7411", address).replace("RV_OPTIONS=", f'RV_OPTIONS="--account {STATE}/account"')
+    options.write_text(told)
+    (base / STATE[1:]).mkdir(mode=0o750)
+    for accounts in (1, 2):
+        with started(base, address):
+            told = within(base, "env", f"PYTHONPATH=/{client.name}", "python3", "-c", HAND_OVER, address)
+        demand(told == "a 2\n", f"the hand-over told {told!r}")
+        kept = sorted(os.listdir(base / STATE[1:]))
+        demand(len(kept) == accounts and kept[0] == "account", f"the accounts are {kept}")
+        for name in kept:
+            judged = within(base, "rv", "verify", f"{STATE}/{name}")
+            demand(judged.split()[-1] in ("legal", "torn"), f"the account {name} is {judged}")
+
+
+def tried(package: pathlib.Path, base: pathlib.Path, room: pathlib.Path) -> None:
+    """The whole trial in a bare system that is thrown away afterwards."""
+    shutil.copy(package, base / "rv.deb")
+    client = pathlib.Path(shutil.copy(wheel(room), base))
+    demand(not any((base / name).exists() for name in OWNED), "the system had rv before")
+    within(base, "dpkg", "--install", "/rv.deb")
+    demand(all((base / name).is_file() for name in OWNED), "a file of the package isn't there")
+    within(base, "rv", "help")
+    served(base, client)
+    within(base, "dpkg", "--purge", "rv")
+    demand(not any((base / name).exists() for name in OWNED), "a file of the package is left behind")
+    demand((base / STATE[1:]).exists(), "the accounts went with the package")
+
+
+def main() -> None:
+    if len(sys.argv) not in (2, 3):
+        sys.exit(__doc__.strip().split("\n")[-1])
+    package = pathlib.Path(sys.argv[1])
+    demand(os.geteuid() == 0, "it needs root, for chroot")
+    with tempfile.TemporaryDirectory(prefix="rv-package-") as folder:
+        room = pathlib.Path(folder)
+        bare = pathlib.Path(sys.argv[2]) if len(sys.argv) == 3 else room / "bare"
+        if not bare.exists():
+            demand(shutil.which(BARE[0]) is not None, f"{BARE[0]} is missing: it is in Debian's package {BARE[0]}")
+            subprocess.run([*BARE, str(bare)], check=True, stdout=subprocess.DEVNULL)
+        subprocess.run(["cp", "--archive", str(bare), str(room / "base")], check=True)
+        tried(package, room / "base", room)
+    print("the package was installed, served two hand-overs, and left nothing but its accounts behind")
+
+
+main()
