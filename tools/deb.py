@@ -51,6 +51,8 @@ def prepared(program: pathlib.Path, source: pathlib.Path, name: str, moment: int
     (source / "debian/changelog").write_text(CHANGELOG.format(**told))
     shutil.copy(program, source / "rv")
     (source / "rv.1").write_bytes(run([str(ROOT / "tools/manual.py"), str(source / "rv")], ROOT))
+    for path in source.rglob("*"):
+        os.utime(path, (moment, moment))
 
 
 def packed(program: pathlib.Path, room: pathlib.Path) -> pathlib.Path:

@@ -93,12 +93,16 @@ def its_unit(built: Built) -> None:
 
 
 def the_same_bytes(built: Built) -> None:
-    """Another build, under another umask, gives the same bytes."""
+    """Another build, under another umask and of an older program, gives the same bytes, whose times are all one."""
     folder = built.folder / "again"
     folder.mkdir()
-    again = Built(built.program, folder, umask=0o077)
+    older = shutil.copy(built.program, folder / "rv")
+    os.utime(older, (1, 1))
+    again = Built(older, folder, umask=0o077)
     demand(again.package.read_bytes() == built.package.read_bytes(), "another build has other bytes")
     demand(again.plain.read_bytes() == built.plain.read_bytes(), "another build's tar has other bytes")
+    with tarfile.open(built.plain) as archive:
+        demand(len({member.mtime for member in archive.getmembers()}) == 1, "its files are of several times")
 
 
 # Each case beside the tool that it needs.
