@@ -37,7 +37,9 @@ def run(words: List[str], folder: pathlib.Path, **environment: str) -> bytes:
 
 
 def commit() -> Tuple[str, int]:
-    """The commit, with a word where files differ from it, and its time."""
+    """The commit, with a word where files differ from it, and its time; in a tree that is no clone, none, a second behind the clock's beginning."""
+    if not (ROOT / ".git").exists():
+        return "none", 1
     name, moment = run(["git", "log", "-1", "--format=%h %ct"], ROOT).decode().split()
     differs = run(["git", "status", "--porcelain", "--untracked-files=no"], ROOT)
     return name + (".changed" if differs else ""), int(moment)
