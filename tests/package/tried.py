@@ -108,21 +108,23 @@ def started(base: pathlib.Path, address: str) -> Iterator[None]:
 
 
 def served(base: pathlib.Path, client: pathlib.Path) -> None:
-    """Two starts of the service, a hand-over at each; the second one lays the account of the first one aside."""
+    """Three starts of the service, a hand-over at each. The second one lays the account of the first one aside; the third one finds an
+    empty one, as a full disk leaves it, which isn't kept."""
     address = free_address()
     options = base / OPTIONS
     told = options.read_text().replace("127.0.0.1:7411", address).replace("RV_OPTIONS=", f'RV_OPTIONS="--account {STATE}/account"')
     options.write_text(told)
     (base / STATE[1:]).mkdir(mode=0o750)
-    for accounts in (1, 2):
+    for accounts, is_emptied in ((1, False), (2, False), (2, True)):
+        if is_emptied:
+            (base / STATE[1:] / "account").write_text("")
         with started(base, address):
             told = within(base, "env", f"PYTHONPATH=/{client.name}", "python3", "-c", HAND_OVER, address)
         demand(told == "a 2\n", f"the hand-over told {told!r}")
         kept = sorted(os.listdir(base / STATE[1:]))
         demand(len(kept) == accounts and kept[0] == "account", f"the accounts are {kept}")
         for name in kept:
-            judged = within(base, "rv", "verify", f"{STATE}/{name}")
-            demand(judged.split()[-1] in ("legal", "torn"), f"the account {name} is {judged}")
+            demand(within(base, "rv", "verify", f"{STATE}/{name}") == "legal\n", f"the account {name} isn't legal")
 
 
 def tried(package: pathlib.Path, base: pathlib.Path, room: pathlib.Path) -> None:
@@ -149,10 +151,11 @@ def main() -> None:
         bare = pathlib.Path(sys.argv[2]) if len(sys.argv) == 3 else room / "bare"
         if not bare.exists():
             demand(shutil.which(BARE[0]) is not None, f"{BARE[0]} is missing: it is in Debian's package {BARE[0]}")
-            subprocess.run([*BARE, str(bare)], check=True, stdout=subprocess.DEVNULL)
+            made = subprocess.run([*BARE, str(bare)], capture_output=True, text=True)
+            demand(made.returncode == 0, f"{BARE[0]} ended by {made.returncode}: {made.stdout[-1000:]}")
         subprocess.run(["cp", "--archive", str(bare), str(room / "base")], check=True)
         tried(package, room / "base", room)
-    print("the package was installed, served two hand-overs, and left nothing but its accounts behind")
+    print("the package was installed, served three hand-overs, and left nothing but its accounts behind")
 
 
 main()
