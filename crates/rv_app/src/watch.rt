@@ -1,18 +1,13 @@
 //! Tells on a terminal how far a reading is.
 ghost use Rattle.std.specs.Prelude.{◌≡◌};
-ghost use Rattle.rv_app.specs.Progress.{seconds_left};
 
-use rv_text::NoMemory;
-use std::alloc::Global;
+use rv_inspect::progress_text;
 use std::io;
 use std::io::{IsTerminal, Read};
 use std::time::Instant;
 
 // How many seconds pass at least between two lines.
 const PAUSE_SECONDS: u64 = 2;
-
-// How many bytes a megabyte has.
-const MEGABYTE: u64 = 1_000_000;
 
 // Takes a line of a terminal away.
 const ERASED: &str = "\r\x1b[K";
@@ -108,32 +103,4 @@ impl<'w, 'a, R: Read> Read for Watched<'w, 'a, R> {
         self.watch.note(&buffer[..count]);
         Ok(count)
     }
-}
-
-// How many lines were read, of how many bytes, and about how many seconds the rest takes, if it takes as
-// long for each byte.
-fn progress_text(
-    alloc: Global,
-    lines: u64,
-    bytes: u64,
-    size: u64,
-    seconds: u64,
-) -> Result<String, NoMemory> {
-    let read = bytes / MEGABYTE;
-    if size == 0 {
-        return format!(in alloc; "{lines} lines, {read} MB");
-    }
-    let (all, left) = (size / MEGABYTE, seconds_left(bytes, size, seconds));
-    format!(in alloc; "{lines} lines, {read} of {all} MB, about {left} s still")
-}
-
-// About how many seconds the rest of so many bytes takes, if the first took so many.
-fn seconds_left(bytes: u64, size: u64, seconds: u64) -> u128
-    ensures { result ≡ seconds_left bytes size seconds }
-{
-    if bytes == 0 {
-        return 0;
-    }
-    let rest = size.saturating_sub(bytes) as u128;
-    rest * seconds as u128 / bytes as u128
 }

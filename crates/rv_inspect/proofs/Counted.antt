@@ -1,8 +1,8 @@
 -- How many lines differ from the first one of their key, line by line.
-use Rattle.std.proofs.Common.{◌<◌, ◌≡◌, ◌≤◌, ◌+◌, ◌∙◌, ℕ, List, [], Option, None, Some, ap, arith, inl, inr}
+use Rattle.std.proofs.Common.{◌<◌, ◌≡◌, ◌+◌, ◌∙◌, ℕ, List, [], Option, None, Some, ap, arith, inl, inr}
 use Rattle.std.proofs.Common.{length, refl, slice_get, subst, sym}
 use Rattle.std.proofs.lemmas.Bool.{cases_lt}
-use Rattle.std.proofs.lemmas.Option.{none-some, same_Some, slice_get_cases}
+use Rattle.std.proofs.lemmas.Option.{none-some, slice_get_cases}
 use Rattle.rv_findings.specs.declared.findings.Told.{Told}
 use Rattle.rv_replies.specs.Firsts.{DiffersFrom, IsNamedIfOther}
 use Rattle.rv_replies.specs.declared.reading.Flaw.{Flaw}
@@ -11,7 +11,7 @@ use Rattle.rv_replies.specs.declared.records.Line.TheVariants as line
 use Rattle.rv_replies.specs.declared.records.Records.{Records}
 use Rattle.rv_rules.specs.Counting.{NumberOf}
 use Rattle.rv_rules.proofs.Counting.{number_push, same_number}
-use Rattle.rv_inspect.specs.Lines.{CountsDiffering, Differs}
+use Rattle.rv_inspect.specs.Report.{CountsDiffering, Differs}
 use Rattle.rv_inspect.proofs.SameLine.{same_told}
 
 pub none_counted : (r : Records) → CountsDiffering r 0 0

@@ -15,7 +15,7 @@ use Rattle.rv_findings.specs.declared.findings.Finding.TheVariants.{OtherReply, 
 use Rattle.rv_replies.specs.declared.records.Line.{Line}
 use Rattle.rv_replies.specs.declared.records.Line.TheVariants as line
 use Rattle.rv_replies.specs.declared.records.Records.{Records}
-use Rattle.rv_inspect.specs.Lines.{FindsFirst}
+use Rattle.rv_inspect.specs.Report.{FindsFirst}
 use Rattle.rv_inspect.specs.Statuses.{TellsKept}
 
 -- the finding on a line that is kept is that

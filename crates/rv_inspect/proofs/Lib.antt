@@ -2,3 +2,6 @@
 pub mod Finding
 pub mod SameLine
 pub mod Counted
+pub mod Printed
+pub mod Reported
+pub mod Sending

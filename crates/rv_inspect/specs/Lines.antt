@@ -1,11 +1,10 @@
--- The lines that are printed, and what is found of all lines of a record.
-use Rattle.std.specs.Prelude.{◌≡◌, ◌<◌, ◌∷◌, ◌++◌, ℕ, List, None, Option, Some, codes, filter, length}
-use Rattle.std.specs.Prelude.{slice_get}
+-- The lines that are printed.
+use Rattle.std.specs.Prelude.{◌≡◌, ◌∷◌, ◌++◌, ◌+◌, [], true, false, Bool, ℕ, List, None, Option, Some, codes}
+use Rattle.std.specs.Prelude.{filter, length}
 use Rattle.std.specs.Fmt.{decimal}
 use Rattle.rv_account.specs.Account.{Account}
 use Rattle.rv_audit.specs.Breaking.{name_of}
 use Rattle.rv_audit.specs.declared.rule.Rule.{Rule}
-use Rattle.rv_replies.specs.Standing.{HasNoted, IsLineFinding}
 use Rattle.rv_findings.specs.Fates.{IsFateOf}
 use Rattle.rv_findings.specs.Tallies.{is_finding, words_of}
 use Rattle.rv_findings.specs.declared.fate.Fate.{Fate}
@@ -15,17 +14,11 @@ use Rattle.rv_findings.specs.declared.findings.Finding.TheVariants.{Impossible, 
 use Rattle.rv_findings.specs.declared.findings.Finding.TheVariants.{NoRequest, OtherCall, OtherEpoch}
 use Rattle.rv_findings.specs.declared.findings.Finding.TheVariants.{OtherReply, Waiting}
 use Rattle.rv_findings.specs.declared.findings.Told.{Told}
-use Rattle.rv_replies.specs.Firsts.{DiffersFrom}
-use Rattle.rv_replies.specs.declared.records.Line.TheVariants as line
 use Rattle.rv_text.specs.Bodies.{answer_text, message_text}
 use Rattle.rv_text.specs.declared.answer.Answer.TheVariants.{Replied}
 use Rattle.rv_text.specs.declared.answer.Reply.TheVariants.{Cancelled}
 use Rattle.rv_text.specs.declared.message.Key.{Key}
 use Rattle.rv_text.specs.declared.message.Message.TheVariants.{Request}
-use Rattle.rv_replies.specs.declared.records.Line.{Line}
-use Rattle.rv_replies.specs.declared.records.Records.{Records}
-use Rattle.rv_rules.specs.Counting.{NumberOf}
-use Rattle.rv_rules.specs.Legal.{Legal}
 use Rattle.rv_findings.specs.declared.verdict.AccountVerdict.{AccountVerdict}
 use Rattle.rv_findings.specs.declared.verdict.AccountVerdict.TheVariants.{BadLine, BeyondLimits, Fault}
 use Rattle.rv_findings.specs.declared.verdict.AccountVerdict.TheVariants.{Legal as LegalSoFar, NotOpen}
@@ -44,12 +37,10 @@ verdict_text (NotOpen place entry) None =
 verdict_text (BadLine number) rule = codes "bad line " ++ decimal number
 verdict_text (BeyondLimits place) rule = codes "beyond limits " ++ decimal place
 
--- these are the findings on the first lines of a record, of the account of this epoch that it has noted
-pub record FindsFirst (r : Records) (epoch : ℕ) (count : ℕ) (findings : List Finding) : Type 0 where
-  pub each : length findings ≡ count
-  pub are : (a : Account) → Legal a → a.epoch ≡ epoch → HasNoted r a → (index : ℕ) (line : Line)
-      (finding : Finding) → slice_get r.lines.items index ≡ Some line
-      → slice_get findings index ≡ Some finding → IsLineFinding a line finding
+-- the lines of a verdict, of which the last one tells that the end is torn, if it is
+abbrev pub verdict_lines : AccountVerdict → Option Rule → Bool → List (List ℕ)
+verdict_lines verdict rule true = verdict_text verdict rule ∷ codes "torn end" ∷ []
+verdict_lines verdict rule false = verdict_text verdict rule ∷ []
 
 -- ---- what an account says in place of a reply
 
@@ -94,40 +85,31 @@ SaysFate a told number finding text = (fate : Fate) × IsFateOf a.entries told.k
 abbrev pub differs_text : ℕ → ℕ → List ℕ
 differs_text number first = decimal number ++ (codes " differs from line " ++ decimal first)
 
+-- that line, if there is such a first one
+abbrev pub differs_lines : ℕ → Option ℕ → List (List ℕ)
+differs_lines index None = []
+differs_lines index (Some first) = differs_text (index + 1) (first + 1) ∷ []
+
 -- ---- the counts
 
 -- how many lines have the finding
 abbrev pub count : List Finding → Finding → List ℕ
 count findings finding = decimal (length (filter (is_finding finding) findings))
 
--- the words of the first four findings in their order, and how many lines have each
-abbrev pub first_counts : List Finding → List ℕ
-first_counts findings =
-    codes "kept " ++ (count findings Kept
-    ++ (codes "\nanother reply " ++ (count findings OtherReply
-    ++ (codes "\nanother call " ++ (count findings OtherCall
-    ++ (codes "\nno such request " ++ count findings NoRequest))))))
+-- the words of the finding, and how many lines have it
+abbrev pub count_text : List Finding → Finding → List ℕ
+count_text findings finding = words_of finding ++ 32 ∷ count findings finding
 
--- those of the next three
-abbrev pub next_counts : List Finding → List ℕ
-next_counts findings =
-    codes "still waiting " ++ (count findings Waiting
-    ++ (codes "\nanother epoch " ++ (count findings OtherEpoch
-    ++ (10 ∷ words_of Impossible ++ 32 ∷ count findings Impossible))))
-
--- that of the last, and how many lines differ from the first one of their key
-abbrev pub last_counts : List Finding → ℕ → List ℕ
-last_counts findings differing =
-    codes "no record " ++ (count findings NoRecord ++ (codes "\ndiffering " ++ decimal differing))
-
--- the line of this index, one of so many first ones, tells another reply than the first one of its key
-pub record Differs (lines : List Line) (n index : ℕ) : Type 0 where
-  pub inside : index < n
-  pub told : Told
-  pub first : ℕ
-  pub there : slice_get lines index ≡ Some (line.Told told)
-  pub differs : DiffersFrom lines told (Some first)
-
--- so many of the first lines of a record do, where it has noted some account
-pub record CountsDiffering (r : Records) (n count : ℕ) : Type 0 where
-  pub are : (a : Account) → HasNoted r a → NumberOf (Differs r.lines.items n) count
+-- that of each finding, and how many lines differ from the first one of their key
+abbrev pub count_lines : List Finding → ℕ → List (List ℕ)
+count_lines findings differing =
+    count_text findings Kept
+    ∷ count_text findings OtherReply
+    ∷ count_text findings OtherCall
+    ∷ count_text findings NoRequest
+    ∷ count_text findings Waiting
+    ∷ count_text findings OtherEpoch
+    ∷ count_text findings Impossible
+    ∷ count_text findings NoRecord
+    ∷ (codes "differing " ++ decimal differing)
+    ∷ []

@@ -2,7 +2,8 @@
 #![tactic(auto)]
 
 mod lines;
-mod pieces;
+mod progress;
 mod telling;
 
+pub use progress::progress_text;
 pub use telling::tell_found;

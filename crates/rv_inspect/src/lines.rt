@@ -1,22 +1,39 @@
 //! The lines that are printed.
-ghost use Rattle.std.specs.Prelude.{◌≡◌, ◌<◌, ◌+◌, IfOk, None, Some, length, option_map, slice_get};
-ghost use Rattle.std.specs.Prelude.{string_bytes};
+ghost use Rattle.std.specs.Prelude.{◌≡◌, ◌<◌, ◌+◌, ◌∷◌, ◌++◌, IfOk, None, Some, length, option_map};
+ghost use Rattle.std.specs.Prelude.{slice_get, string_bytes};
 ghost use Rattle.rv_account.specs.Account.{Account};
 ghost use Rattle.rv_findings.specs.declared.findings.Told as replies;
 ghost use Rattle.rv_replies.specs.Standing.{HasNoted};
 ghost use Rattle.rv_replies.specs.declared.records.Line.TheVariants as kinds;
-ghost use Rattle.rv_inspect.specs.Lines.{SaysFate, call_said, differs_text, fault_text, finding_text};
-ghost use Rattle.rv_inspect.specs.Lines.{first_counts, instead_said, last_counts, next_counts, reply_said};
-ghost use Rattle.rv_inspect.specs.Lines.{verdict_text};
+ghost use Rattle.rv_inspect.specs.Lines.{SaysFate, call_said, count_lines, differs_text, fault_text};
+ghost use Rattle.rv_inspect.specs.Lines.{finding_text, instead_said, reply_said, verdict_lines, verdict_text};
+ghost use Rattle.rv_inspect.specs.Texts.{IsLineText, IsOneText, first_counts, last_counts, next_counts};
 
 use rv_audit::Rule;
-use rv_findings::{AccountVerdict, Fate, Finding, count_of};
+use rv_findings::{AccountFinding, AccountVerdict, Fate, Finding, count_of};
 use rv_replies::{Flaw, Line, Records};
 use rv_text::{Answer, Key, Message, NoMemory, Reply, encode_answer, encode_message};
 use std::alloc::Global;
 
-/// The line of a verdict. Which rule is broken at a closed place a second reading tells, if there was one.
-pub(crate) fn verdict_line(
+/// The lines of a verdict, with LF between them: the verdict, and whether the end is torn.
+pub(crate) fn verdict_lines(
+    alloc: Global,
+    found: &AccountFinding,
+    rule: Option<Rule>,
+) -> Result<String, NoMemory>
+    ensures { IfOk result (λ s.
+        IsOneText (verdict_lines found.now.verdict rule found.now.torn) (string_bytes s)) }
+{
+    let verdict = verdict_line(alloc, &found.verdict, rule)?;
+    if found.torn {
+        format!(in alloc; "{verdict}\ntorn end")
+    } else {
+        Ok(verdict)
+    }
+}
+
+// The line of a verdict. Which rule is broken at a closed place a second reading tells, if there was one.
+fn verdict_line(
     alloc: Global,
     verdict: &AccountVerdict,
     rule: Option<Rule>,
@@ -46,9 +63,23 @@ fn fault_line(alloc: Global, place: usize, rule: &str) -> Result<String, NoMemor
     format!(in alloc; "fault {place} {rule}")
 }
 
-/// How many lines are kept, tell another reply or another call, or of no such request: a line each, with LF
-/// between each two.
-pub(crate) fn first_counts(alloc: Global, findings: &[Finding]) -> Result<String, NoMemory>
+/// How many lines have each finding, and how many differ from the first one of their key: a line each, with
+/// LF between each two.
+pub(crate) fn count_lines(
+    alloc: Global,
+    findings: &[Finding],
+    differing: usize,
+) -> Result<String, NoMemory>
+    ensures { IfOk result (λ s. IsOneText (count_lines findings.now differing) (string_bytes s)) }
+{
+    let first = first_counts(alloc, findings)?;
+    let next = next_counts(alloc, findings)?;
+    let last = last_counts(alloc, findings, differing)?;
+    format!(in alloc; "{first}\n{next}\n{last}")
+}
+
+// How many lines are kept, tell another reply or another call, or of no such request.
+fn first_counts(alloc: Global, findings: &[Finding]) -> Result<String, NoMemory>
     ensures { IfOk result (λ s. string_bytes s ≡ first_counts findings.now) }
 {
     let kept = count_of(findings, Finding::Kept);
@@ -60,8 +91,8 @@ pub(crate) fn first_counts(alloc: Global, findings: &[Finding]) -> Result<String
     )
 }
 
-/// The same of those of which the request waits, or which are of another epoch or tell what can't be.
-pub(crate) fn next_counts(alloc: Global, findings: &[Finding]) -> Result<String, NoMemory>
+// The same of those of which the request waits, or which are of another epoch or tell what can't be.
+fn next_counts(alloc: Global, findings: &[Finding]) -> Result<String, NoMemory>
     ensures { IfOk result (λ s. string_bytes s ≡ next_counts findings.now) }
 {
     let waiting = count_of(findings, Finding::Waiting);
@@ -73,28 +104,51 @@ pub(crate) fn next_counts(alloc: Global, findings: &[Finding]) -> Result<String,
     format!(in alloc; "still waiting {waiting}\nanother epoch {epoch}\n{words} {never}")
 }
 
-/// The same of those that are no record, and of those that differ from the first one of their key.
-pub(crate) fn last_counts(
-    alloc: Global,
-    findings: &[Finding],
-    differing: usize,
-) -> Result<String, NoMemory>
+// The same of those that are no record, and of those that differ from the first one of their key.
+fn last_counts(alloc: Global, findings: &[Finding], differing: usize) -> Result<String, NoMemory>
     ensures { IfOk result (λ s. string_bytes s ≡ last_counts findings.now differing) }
 {
     let flawed = count_of(findings, Finding::NoRecord);
     format!(in alloc; "no record {flawed}\ndiffering {differing}")
 }
 
-/// The line which tells that a line of a record tells another reply than the first one of its key.
-pub(crate) fn differs_line(alloc: Global, index: usize, first: usize) -> Result<String, NoMemory>
+/// The lines on a line of a record, with LF between them: the finding, and whether it differs from the first
+/// one of its key.
+pub(crate) fn record_lines(
+    alloc: Global,
+    records: &Records,
+    index: usize,
+    finding: Finding,
+) -> Result<String, NoMemory>
+    requires { index < length records.now.lines.items }
+    ensures { IfOk result (λ s. IsLineText records.now index finding (string_bytes s)) }
+{
+    let line = finding_line(alloc, records, index, finding)?;
+    match records.differs_from(index) {
+        Some(first) => with_other(alloc, line.as_str(), index, first),
+        None => Ok(line),
+    }
+}
+
+// A line, and behind it that the line of a record with an index differs from that one.
+fn with_other(alloc: Global, line: &str, index: usize, first: usize) -> Result<String, NoMemory>
+    ensures { IfOk result (λ s.
+        string_bytes s ≡ line.now ++ 10 ∷ differs_text (index + 1) (first + 1)) }
+{
+    let other = differs_line(alloc, index, first)?;
+    format!(in alloc; "{line}\n{other}")
+}
+
+// The line which tells that a line of a record tells another reply than the first one of its key.
+fn differs_line(alloc: Global, index: usize, first: usize) -> Result<String, NoMemory>
     ensures { IfOk result (λ s. string_bytes s ≡ differs_text (index + 1) (first + 1)) }
 {
     let (number, other) = (index as u128 + 1, first as u128 + 1);
     format!(in alloc; "{number} differs from line {other}")
 }
 
-/// The line of the finding on a line of a record, with what the account says in its place.
-pub(crate) fn finding_line(
+// The line of the finding on a line of a record, with what the account says in its place.
+fn finding_line(
     alloc: Global,
     records: &Records,
     index: usize,

@@ -1,17 +1,18 @@
 //! Prints what was found of an account and of a record, and gives the status that tells it.
-ghost use Rattle.std.specs.Prelude.{◌≡◌, ◌<◌, ◌≤◌, ◌+◌, ◌∷◌, ◌++◌, [], IfOk, OnOk, length, option_map};
-ghost use Rattle.rv_inspect.specs.Lines.{CountsDiffering, FindsFirst};
+ghost use Rattle.std.specs.Prelude.{◌≡◌, ◌<◌, ◌≤◌, ◌+◌, ◌∷◌, ◌++◌, [], true, IfErr, IfOk, List, OnOk};
+ghost use Rattle.std.specs.Prelude.{length, option_map, ℕ};
+ghost use Rattle.rv_inspect.specs.Report.{BeginsBehind, BeginsReport, CountsDiffering, FindsFirst, IsReport};
+ghost use Rattle.rv_inspect.specs.Report.{ReportsAll, ReportsBehind, ReportsSome, SaysAll, SaysSome};
+ghost use Rattle.rv_inspect.specs.Report.{StopsTaking, TookLines};
 ghost use Rattle.rv_inspect.specs.Statuses.{IsKeptBeside, TellsFound, TellsKept};
+ghost use Rattle.rv_inspect.specs.Texts.{IsOneText};
 
-use crate::lines::{
-    differs_line, finding_line, first_counts, last_counts, next_counts, verdict_line,
-};
-use crate::pieces::Pieces;
+use crate::lines::{count_lines, record_lines, verdict_lines};
 use rv_audit::Rule;
 use rv_findings::{AccountFinding, Finding, are_kept, status_of};
 use rv_frame::Sink;
 use rv_replies::Records;
-use rv_run::RunFault;
+use rv_run::{Output, RunFault};
 use rv_text::NoMemory;
 use std::alloc::{AllocError, Global};
 use std::io::Write;
@@ -19,6 +20,9 @@ use std::io::Write;
 /// Prints the verdict on an account, with the rule at a closed place if it is known, and whether its end is
 /// torn. Where a record stood beside it, and its first line says an epoch, it then prints what the account
 /// says of each line, and how many lines have which finding. Gives the status that tells it.
+///
+/// Its only faults are `WriteFault`, after the bytes that the fault counts, and `NoMemory`, after some whole
+/// lines or none.
 pub fn tell_found<W: Write>(
     alloc: Global,
     found: &AccountFinding,
@@ -26,63 +30,111 @@ pub fn tell_found<W: Write>(
     records: Option<&Records>,
     sink: &mut Sink<W>,
 ) -> Result<u8, RunFault>
-    ensures { IfOk result (TellsFound found.now rule (option_map (λ r. r.now) records.entry)) }
+    ensures status { IfOk result (TellsFound found.now rule (option_map (λ r. r.now) records.entry)) }
+
+    // The sink took exactly the lines of the report.
+    ensures all { OnOk result (TookLines W.contents
+        (IsReport found.now rule (option_map (λ r. r.now) records.entry)) sink.old sink.new) }
+
+    // It took exactly a front of them: of so many bytes, or some whole lines.
+    ensures part { IfErr result (StopsTaking W.contents
+        (IsReport found.now rule (option_map (λ r. r.now) records.entry))
+        (BeginsReport found.now rule (option_map (λ r. r.now) records.entry)) sink.old sink.new) }
 {
-    let mut pieces = Pieces::new(alloc, sink);
-    tell_verdict(alloc, found, rule, &mut pieces)?;
-    let kept = kept_beside(alloc, records, found.epoch, &mut pieces)?;
-    pieces.flush()?;
+    let first = verdict_lines(alloc, found, rule)?;
+    let kept = tell_beside(alloc, first.as_str(), records, found.epoch, sink)?;
     Ok(status_of(found, rule, kept))
 }
 
-// Prints the verdict, and whether the end is torn.
-fn tell_verdict<W: Write>(
+// Prints the first lines, and what is found of a record, if one stood beside an account that says an epoch.
+// Tells whether all of it is kept.
+fn tell_beside<W: Write>(
     alloc: Global,
-    found: &AccountFinding,
-    rule: Option<Rule>,
-    pieces: &mut Pieces<'_, W>,
-) -> Result<(), RunFault> {
-    let line = verdict_line(alloc, &found.verdict, rule)?;
-    pieces.line(line.as_str())?;
-    if found.torn {
-        return pieces.line("torn end");
-    }
-    Ok(())
-}
-
-// Prints what is found of a record, if one stood beside an account that says an epoch, and tells whether all
-// of it is kept.
-fn kept_beside<W: Write>(
-    alloc: Global,
+    first: &str,
     records: Option<&Records>,
     epoch: Option<u64>,
-    pieces: &mut Pieces<'_, W>,
+    sink: &mut Sink<W>,
 ) -> Result<bool, RunFault>
-    ensures { IfOk result (IsKeptBeside (option_map (λ r. r.now) records.entry) epoch) }
+    ensures kept { IfOk result (IsKeptBeside (option_map (λ r. r.now) records.entry) epoch) }
+    ensures all { (lines : List (List ℕ)) → IsOneText lines first.now → OnOk result (TookLines W.contents
+        (ReportsBehind lines (option_map (λ r. r.now) records.entry) epoch) sink.old sink.new) }
+    ensures part { (lines : List (List ℕ)) → IsOneText lines first.now → IfErr result
+        (StopsTaking W.contents (ReportsBehind lines (option_map (λ r. r.now) records.entry) epoch)
+        (BeginsBehind lines (option_map (λ r. r.now) records.entry) epoch) sink.old sink.new) }
 {
-    let Some(records) = records else {
-        return Ok(true);
-    };
-    match epoch {
-        Some(epoch) => tell_records(alloc, records, epoch, pieces),
-        None => Ok(true),
+    match records {
+        Some(records) => match epoch {
+            Some(epoch) => tell_records(alloc, first, records, epoch, sink),
+            None => tell_alone(alloc, first, sink),
+        },
+        None => tell_alone(alloc, first, sink),
     }
 }
 
-// Prints what the account of this epoch says of each line of a record, and tells whether all are kept. Where
-// two lines of one key differ, one isn't.
+// Prints the first lines alone: of no record anything isn't kept.
+fn tell_alone<W: Write>(alloc: Global, first: &str, sink: &mut Sink<W>) -> Result<bool, RunFault>
+    ensures kept { IfOk result (λ kept. kept ≡ true) }
+    ensures all { (lines : List (List ℕ)) → IsOneText lines first.now → OnOk result
+        (TookLines W.contents (λ texts. texts ≡ lines) sink.old sink.new) }
+    ensures part { (lines : List (List ℕ)) → IsOneText lines first.now → IfErr result
+        (StopsTaking W.contents (λ texts. texts ≡ lines) (λ texts. texts ≡ lines) sink.old sink.new) }
+{
+    let mut output = Output::new(alloc)?;
+    output.line(sink, first.as_bytes())?;
+    output.flush(sink)?;
+    Ok(true)
+}
+
+// Prints the first lines, what the account of this epoch says of each line of a record, and the counts. Tells
+// whether all lines are kept. Where two lines of one key differ, one isn't.
 fn tell_records<W: Write>(
     alloc: Global,
+    first: &str,
     records: &Records,
     epoch: u64,
-    pieces: &mut Pieces<'_, W>,
+    sink: &mut Sink<W>,
 ) -> Result<bool, RunFault>
-    ensures { IfOk result (TellsKept records.now epoch) }
+    ensures kept { IfOk result (TellsKept records.now epoch) }
+    ensures all { (lines : List (List ℕ)) → IsOneText lines first.now → OnOk result
+        (TookLines W.contents (ReportsAll lines records.now epoch) sink.old sink.new) }
+    ensures part { (lines : List (List ℕ)) → IsOneText lines first.now → IfErr result
+        (StopsTaking W.contents (ReportsAll lines records.now epoch) (ReportsSome lines records.now epoch)
+        sink.old sink.new) }
 {
     let findings = findings_on(alloc, records, epoch)?;
-    tell_lines(alloc, records, &findings, pieces)?;
-    tell_counts(alloc, records, &findings, pieces)?;
+    let counts = count_lines(alloc, &findings, differing(records))?;
+    tell_lines(alloc, first, records, &findings, counts.as_str(), sink)?;
     Ok(are_kept(&findings))
+}
+
+// Prints the first lines, those on each line of a record by the findings, and the last ones.
+fn tell_lines<W: Write>(
+    alloc: Global,
+    first: &str,
+    records: &Records,
+    findings: &[Finding],
+    last: &str,
+    sink: &mut Sink<W>,
+) -> Result<(), RunFault>
+    requires { length findings.now ≡ length records.now.lines.items }
+    ensures all { (lines counts : List (List ℕ)) → IsOneText lines first.now → IsOneText counts last.now
+        → OnOk result (TookLines W.contents (SaysAll lines records.now findings.now counts)
+        sink.old sink.new) }
+    ensures part { (lines counts : List (List ℕ)) → IsOneText lines first.now → IsOneText counts last.now
+        → IfErr result (StopsTaking W.contents (SaysAll lines records.now findings.now counts)
+        (SaysSome lines records.now findings.now) sink.old sink.new) }
+{
+    let mut output = Output::new(alloc)?;
+    output.line(sink, first.as_bytes())?;
+    for index in 0..findings.len() {
+        let Ok(text) = record_lines(alloc, records, index, findings[index]) else {
+            output.flush(sink)?;
+            return Err(RunFault::NoMemory);
+        };
+        output.line(sink, text.as_bytes())?;
+    }
+    output.line(sink, last.as_bytes())?;
+    Ok(output.flush(sink)?)
 }
 
 // The finding on each line.
@@ -105,41 +157,6 @@ fn add(findings: &mut Vec<Finding>, finding: Finding) -> Result<(), NoMemory>
         Ok(()) => Ok(()),
         Err(refused) => Err(AllocError::from(refused)),
     }
-}
-
-// Prints the finding on each line, and behind it that the line differs from the first one of its key.
-fn tell_lines<W: Write>(
-    alloc: Global,
-    records: &Records,
-    findings: &[Finding],
-    pieces: &mut Pieces<'_, W>,
-) -> Result<(), RunFault>
-    requires { length findings.now ≡ length records.now.lines.items }
-{
-    for index in 0..findings.len() {
-        let line = finding_line(alloc, records, index, findings[index])?;
-        pieces.line(line.as_str())?;
-        if let Some(first) = records.differs_from(index) {
-            let line = differs_line(alloc, index, first)?;
-            pieces.line(line.as_str())?;
-        }
-    }
-    Ok(())
-}
-
-// Prints how many lines have each finding, and how many differ from the first one of their key.
-fn tell_counts<W: Write>(
-    alloc: Global,
-    records: &Records,
-    findings: &[Finding],
-    pieces: &mut Pieces<'_, W>,
-) -> Result<(), RunFault> {
-    let first = first_counts(alloc, findings)?;
-    pieces.line(first.as_str())?;
-    let next = next_counts(alloc, findings)?;
-    pieces.line(next.as_str())?;
-    let last = last_counts(alloc, findings, differing(records))?;
-    pieces.line(last.as_str())
 }
 
 // How many lines tell another reply than the first one of their key.

@@ -1,5 +1,5 @@
 -- So far the findings on the first lines are there.
-use Rattle.rv_inspect.specs.Lines.{FindsFirst}
+use Rattle.rv_inspect.specs.Report.{FindsFirst}
 use Rattle.rv_inspect.proofs.telling.findings_on.Given as goal
 
 abbrev pub invariant-loop-index : goal.invariant-loop-index
