@@ -1,0 +1,9 @@
+-- The new one stands behind the first 31.
+use Rattle.rv_visitors.proofs.visitors.Visitors.admit.Goals as goal
+
+pub returns : goal.returns
+returns g c = record {
+  visitor = c.new-visitor.result;
+  fresh = c.new-visitor.ensures;
+  last = c.push_back_reserved.ensures.items;
+}
