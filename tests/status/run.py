@@ -67,6 +67,9 @@ def the_page_is_written() -> None:
     read = set(re.findall(r"\bn\.(rv_\w+)", standin.PAGE.read_text()))
     check(len(names) >= 20 and names == sorted(names), f"the numbers are not in the order of their names: {names}")
     check(bool(read) and read <= set(names), f"the page reads {read - set(names)}")
+    kinds = re.search(r"const FAULTS = \{(.*?)\};", standin.PAGE.read_text(), re.S)
+    told = re.findall(r"(\w+): \"", kinds[1]) if kinds else []
+    check(sorted(told) == re.findall(r"rv_fault_(\w+)_total", " ".join(names)), f"the page has words for the faults {told}")
 
 
 def a_busy_server_is_shown() -> None:
@@ -81,9 +84,10 @@ def a_busy_server_is_shown() -> None:
     client, incarnation = status["unheard"][0][3:5]
     words = f"rv call --connect ADDR --client {client} --incarnation {incarnation + 1}"
     check(words in table(page, "unheard"), f"no {words!r}")
-    check("descriptor" in table(page, "faults") and "17" in table(page, "faults"), "the fault isn't told")
+    check("<td>17</td>" in table(page, "faults") and "no descriptor was left" in table(page, "faults"), "the fault isn't told")
     check("idle" not in table(page, "faults"), "a fault that never came is told")
-    check(table(page, "queues").count("<tr") == 4, "not the three queues that are used")
+    items = f"<td>{status['queues'][3][1]:,}</td>"
+    check(table(page, "queues").count("<tr") == 4 and items in table(page, "queues"), "not the three queues that are used")
     check(page.count("<polyline") == 2 and "entries a second" in page, "no picture")
 
 
@@ -105,6 +109,8 @@ def an_empty_server_is_shown() -> None:
 def metrics_follow_the_conventions() -> None:
     """promtool finds nothing to say of the names, kinds and meanings."""
     text = "".join(f"# HELP {name} {meaning}\n# TYPE {name} {kind}\n{name} 1\n" for kind, name, meaning in rows())
+    for name in ("rv_queue_items", "rv_queue_consumers"):
+        text += f'# HELP {name} What waits.\n# TYPE {name} gauge\n{name}{{queue="0"}} 3\n{name}{{queue="63"}} 0\n'
     ran = subprocess.run(["promtool", "check", "metrics"], input=text, capture_output=True, text=True, timeout=60)
     check(ran.returncode == 0 and not ran.stdout + ran.stderr, f"promtool: {ran.stdout}{ran.stderr}")
 
