@@ -50,6 +50,7 @@ OUTSIDE = [
     ["tests/faults/torture.py", "--selftest"],
     ["tests/clients/run.py", "--seed", SEED, PROGRAM],
     ["tests/clients/run.py", "--selftest"],
+    ["tests/status/run.py"],
 ]
 # The same of the tests in Rattle, as rt ci has built them.
 OF_TESTS = [
