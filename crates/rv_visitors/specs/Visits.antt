@@ -1,6 +1,6 @@
 -- What a visit of a connection does.
-use Rattle.std.specs.Prelude.{ℕ, ◌≡◌, ◌+◌, ◌<◌, ◌≤◌, ◌++◌, ◌∷◌, ◌⊎◌, ◌↔◌, [], Bool, false, IsTrue, length, List, Option}
-use Rattle.std.specs.Prelude.{take}
+use Rattle.std.specs.Prelude.{ℕ, ◌≡◌, ◌+◌, ◌<◌, ◌≤◌, ◌++◌, ◌∷◌, ◌⊎◌, ◌↔◌, [], Bool, false, IsTrue, length}
+use Rattle.std.specs.Prelude.{List, Option, take}
 use Rattle.std.specs.Io.KnownBytes.{Appends, Consumes}
 use Rattle.http.specs.declared.request.Request.{Request}
 use Rattle.http_server.specs.declared.response.Response.{Response}
@@ -28,12 +28,12 @@ pub record IsFresh {S : Type 0} (stream : S) (now : ℕ) (visitor : Visitor S) :
   pub whole : visitor.is_broken ≡ false
 
 -- its socket failed, all is said, or it came ten seconds ago
-abbrev pub IsOver : {S : Type 0} → ℕ → Visitor S → Type 0
-IsOver now visitor =
+abbrev pub IsLeaving : {S : Type 0} → ℕ → Visitor S → Type 0
+IsLeaving now visitor =
     IsTrue visitor.is_broken ⊎ (IsDone (history visitor.connection) ⊎ (visitor.came + 10000 ≤ now))
 
 -- the socket gave these bytes, which the connection received, and no more
-pub record ReadsOnce {S : Type 0} (remaining : S → Option (List ℕ)) (old new : Visitor S) : Type 0 where
+pub record ReceivesOnce {S : Type 0} (remaining : S → Option (List ℕ)) (old new : Visitor S) : Type 0 where
   pub more : List ℕ
   pub gives : Consumes (remaining old.stream) (remaining new.stream) more
   pub received : (history new.connection).received ≡ (history old.connection).received ++ more
@@ -42,16 +42,17 @@ pub record ReadsOnce {S : Type 0} (remaining : S → Option (List ℕ)) (old new
   pub came : new.came ≡ old.came
 
 -- the socket took so many of the bytes that waited to be sent, and no others
-pub record WritesOnce {S : Type 0} (contents : S → Option (List ℕ)) (old new : Visitor S) : Type 0 where
+pub record SendsOnce {S : Type 0} (contents : S → Option (List ℕ)) (old new : Visitor S) : Type 0 where
   pub count : ℕ
-  pub takes : Appends (contents old.stream) (contents new.stream) (take count (history old.connection).pending)
+  pub takes : Appends (contents old.stream) (contents new.stream)
+      (take count (history old.connection).pending)
   pub sent : history new.connection ≡ after_sent (history old.connection) count
   pub config : config_of new.connection ≡ config_of old.connection
   pub came : new.came ≡ old.came
 
 -- What the socket gave was received, the service made all calls that could be made of it, and the socket took
 -- the first so many of the bytes that then waited, if some did.
-pub record TakesTurn {S P : Type 0} (remaining contents : S → Option (List ℕ))
+pub record IsVisit {S P : Type 0} (remaining contents : S → Option (List ℕ))
     (answers : P → Request (List ℕ) → Response → P → Type 0) (old new : Visitor S) (before after : P)
     (some : Bool) : Type 0
   where
@@ -70,10 +71,11 @@ pub record TakesTurn {S P : Type 0} (remaining contents : S → Option (List ℕ
     pub came : new.came ≡ old.came
 
 -- a connection that is over is gone, another stands behind the rest
-pub record StaysUnlessOver {S : Type 0} (now : ℕ) (visitor : Visitor S) (rest new : List (Visitor S)) : Type 0
+pub record StaysUnlessLeaving {S : Type 0} (now : ℕ) (visitor : Visitor S) (rest new : List (Visitor S)) :
+    Type 0
   where
-    pub goes : IsOver now visitor → new ≡ rest
-    pub stays : ¬ (IsOver now visitor) → new ≡ rest ++ visitor ∷ []
+    pub goes : IsLeaving now visitor → new ≡ rest
+    pub stays : ¬ (IsLeaving now visitor) → new ≡ rest ++ visitor ∷ []
 
 -- the first has its turn, and the others none
 abbrev pub Visits : {S P : Type 0} → (S → Option (List ℕ)) → (S → Option (List ℕ))
@@ -82,8 +84,8 @@ abbrev pub Visits : {S P : Type 0} → (S → Option (List ℕ)) → (S → Opti
 Visits remaining contents answers now [] new before after some =
     (new ≡ []) × (after ≡ before) × (some ≡ false)
 Visits {S} remaining contents answers now (first ∷ rest) new before after some =
-    (left : Visitor S) × TakesTurn remaining contents answers first left before after some
-    × StaysUnlessOver now left rest new
+    (left : Visitor S) × IsVisit remaining contents answers first left before after some
+    × StaysUnlessLeaving now left rest new
 
 -- a fresh connection stands behind the first 31
 pub record Admits {S : Type 0} (now : ℕ) (stream : S) (old new : List (Visitor S)) : Type 0 where

@@ -1,6 +1,6 @@
 //! One connection to an HTTP address.
 ghost use Rattle.std.specs.Prelude.{◌↔◌, IsTrue};
-ghost use Rattle.rv_visitors.specs.Visits.{IsFresh, IsOver, ReadsOnce, TakesTurn, WritesOnce};
+ghost use Rattle.rv_visitors.specs.Visits.{IsFresh, IsLeaving, ReceivesOnce, IsVisit, SendsOnce};
 
 use http_server::{Config, Connection, Service};
 use http1::Limits;
@@ -50,7 +50,7 @@ impl<S> Visitor<S> {
 
     // Whether it is to be let go at a moment.
     pub(crate) fn is_over(&self, now: u64) -> bool
-        ensures { IsTrue result ↔ IsOver now self.now }
+        ensures { IsTrue result ↔ IsLeaving now self.now }
     {
         self.is_broken || self.connection.is_done() || now.saturating_sub(self.came) >= LONGEST
     }
@@ -64,7 +64,7 @@ fn breaks(error: &Error) -> bool {
 impl<S: Read + Write> Visitor<S> {
     // Reads once, answers, and writes once, if there is something to be sent, and gives whether there was.
     pub(crate) fn turn<P: Service>(&mut self, pages: &mut P) -> bool
-        ensures { TakesTurn S.remaining S.contents P.answers self.old self.new pages.old pages.new result }
+        ensures { IsVisit S.remaining S.contents P.answers self.old self.new pages.old pages.new result }
     {
         self.read();
         self.connection.advance(pages);
@@ -75,7 +75,7 @@ impl<S: Read + Write> Visitor<S> {
 
     // Reads once, if its connection wants that.
     fn read(&mut self)
-        ensures { ReadsOnce S.remaining self.old self.new }
+        ensures { ReceivesOnce S.remaining self.old self.new }
     {
         if !self.connection.wants_read() {
             return;
@@ -87,7 +87,7 @@ impl<S: Read + Write> Visitor<S> {
 
     // Writes once, if its connection wants that.
     fn write(&mut self)
-        ensures { WritesOnce S.contents self.old self.new }
+        ensures { SendsOnce S.contents self.old self.new }
     {
         if !self.connection.wants_write() {
             return;

@@ -1,7 +1,7 @@
 //! All connections to an HTTP address, in a line.
 ghost use Rattle.std.specs.Prelude.{◌≡◌, ◌<◌, ◌≤◌, ◌↔◌, [], IfOk, IsTrue, length};
 ghost use Rattle.std.specs.VecDeque.{deque_capacity, deque_len};
-ghost use Rattle.rv_visitors.specs.Visits.{Admits, StaysUnlessOver, Visits};
+ghost use Rattle.rv_visitors.specs.Visits.{Admits, StaysUnlessLeaving, Visits};
 
 use crate::visitor::Visitor;
 use http_server::Service;
@@ -49,8 +49,8 @@ impl<S: Drop> Visitors<S> {
         self.line.is_empty()
     }
 
-    /// Takes a connection in behind all others, at a moment in milliseconds. Where 32 are there the last makes
-    /// way, which was visited last.
+    /// Takes a connection in behind all others, at a moment in milliseconds. Where 32 are there the last
+    /// makes way, which was visited last.
     pub fn admit(&mut self, now: u64, stream: S)
         ensures { Admits now stream self.old.line.items self.new.line.items }
     {
@@ -62,7 +62,7 @@ impl<S: Drop> Visitors<S> {
     // Takes one who was visited in again, behind all others, or lets go who is over.
     fn take_back(&mut self, now: u64, visitor: Visitor<S>)
         requires { deque_len self.old.line < 32 }
-        ensures { StaysUnlessOver now visitor self.old.line.items self.new.line.items }
+        ensures { StaysUnlessLeaving now visitor self.old.line.items self.new.line.items }
     {
         if !visitor.is_over(now) {
             self.line.push_back_reserved(visitor);
@@ -71,9 +71,9 @@ impl<S: Drop> Visitors<S> {
 }
 
 impl<S: Read + Write + Drop> Visitors<S> {
-    /// Reads the first once, answers it by the pages, and writes once to it. It then stands behind all others,
-    /// or is let go: if its socket failed, if all is said, or ten seconds after it came. It gives whether there
-    /// was something to be sent, so whether an answer was made, or an earlier one isn't gone yet.
+    /// Reads the first once, answers it by the pages, and writes once to it. It then stands behind all
+    /// others, or is let go: if its socket failed, if all is said, or ten seconds after it came. True where
+    /// there was something to be sent: an answer was made, or an earlier one isn't gone yet.
     pub fn visit<P: Service>(&mut self, now: u64, pages: &mut P) -> bool
         ensures { Visits S.remaining S.contents P.answers now self.old.line.items self.new.line.items
             pages.old pages.new result }

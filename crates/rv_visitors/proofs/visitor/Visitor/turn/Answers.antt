@@ -17,7 +17,8 @@ returns g c =
       gives = read.gives;
       rested = history c.advance.new.self;
       received = made.quiet.0 ∙ read.received;
-      calls = subst (λ (calls : List Call). Calls g.P.Service.answers c.args.pages.now c.advance.new.service calls
+      calls = subst (λ (calls : List Call). Calls g.P.Service.answers c.args.pages.now c.advance.new.service
+          calls
           (history c.advance.new.self).calls) read.calls made.calls;
       rests = subst (λ (config : Config). Rests config (history c.advance.new.self))
           (made.config ∙ read.config) made.rests;
