@@ -16,7 +16,7 @@ use std::hash::RandomState;
 // them in one turn.
 const SECOND: u64 = 1_000;
 
-const CLIENTS_A_SECOND: usize = 4_096;
+const CLIENTS_A_SECOND: usize = 2_560;
 
 const CLIENTS_A_TURN: usize = 256;
 
