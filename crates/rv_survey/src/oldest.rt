@@ -1,5 +1,5 @@
 //! The oldest requests of all, client by client.
-ghost use Rattle.std.specs.Prelude.{◌≡◌, ◌≤◌, OnErr, OnOk, length, position, unwrap_or};
+ghost use Rattle.std.specs.Prelude.{◌≡◌, ◌<◌, ◌≤◌, IfSome, OnErr, OnOk, length, position, unwrap_or};
 ghost use Rattle.rv_survey.specs.Oldest.{is_later, renewed, with_row, without_client};
 
 use rv_status::WaitingRow;
@@ -48,7 +48,16 @@ fn place_for(rows: &[WaitingRow], since: u64) -> usize
     ensures place { result ≡ unwrap_or (position (is_later since) rows.now) (length rows.now) }
     ensures within { result ≤ length rows.now }
 {
-    rows.iter()
-        .position(|other| since < other.since)
-        .unwrap_or(rows.len())
+    match first_later(rows, since) {
+        Some(place) => place,
+        None => rows.len(),
+    }
+}
+
+// The first that is later.
+fn first_later(rows: &[WaitingRow], since: u64) -> Option<usize>
+    ensures first { result ≡ position (is_later since) rows.now }
+    ensures within { IfSome result (λ place. place < length rows.now) }
+{
+    rows.iter().position(|other| since < other.since)
 }
