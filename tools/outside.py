@@ -51,6 +51,7 @@ OUTSIDE = [
     ["tests/clients/run.py", "--seed", SEED, PROGRAM],
     ["tests/clients/run.py", "--selftest"],
     ["tests/package/run.py", PROGRAM],
+    ["tests/status/run.py"],
 ]
 # The same of the tests in Rattle, as rt ci has built them.
 OF_TESTS = [

@@ -1,5 +1,6 @@
 //! The listener, and when it may be asked.
 use mio::net::{TcpListener, TcpStream};
+use mio::{Interest, Poll, Token};
 use std::io;
 use std::io::ErrorKind;
 
@@ -56,6 +57,12 @@ impl Door {
             listener,
             state: DoorState::Now,
         }
+    }
+
+    /// A poll tells of it from now on, by this token.
+    pub(crate) fn register(&mut self, poll: &Poll, token: Token) -> io::Result<()> {
+        poll.registry()
+            .register(&mut self.listener, token, Interest::READABLE)
     }
 
     /// The poll told that someone waits.

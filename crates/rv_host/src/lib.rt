@@ -8,6 +8,7 @@ mod journal;
 mod report;
 mod shell;
 mod start;
+mod status;
 mod watch;
 
 pub use host::run_host;

@@ -18,6 +18,8 @@ const GONE: i16 = POLLERR | POLLHUP | POLLNVAL;
 #[derive(Drop)]
 pub(crate) struct HostReport {
     tallies: [FaultTally; 9],
+    // How often each kind came since the start.
+    counts: [u64; 9],
     is_quiet: bool,
     has_times: bool,
     // Whether standard error was open at the start.
@@ -67,6 +69,7 @@ impl HostReport {
         let is_journal = is_set(rt, "JOURNAL_STREAM") || is_set(rt, "INVOCATION_ID");
         HostReport {
             tallies: [FaultTally::new(); 9],
+            counts: [0; 9],
             is_quiet,
             has_times: !is_journal,
             is_there: !is_closed(),
@@ -82,6 +85,17 @@ impl HostReport {
     pub(crate) fn note(&mut self, kind: FaultKind) {
         if let Some(tally) = self.tallies.get_mut(kind as usize) {
             tally.note();
+        }
+        if let Some(count) = self.counts.get_mut(kind as usize) {
+            *count = count.saturating_add(1);
+        }
+    }
+
+    /// How often a kind came since the start.
+    pub(crate) fn count(&self, kind: FaultKind) -> u64 {
+        match self.counts.get(kind as usize) {
+            Some(count) => *count,
+            None => 0,
         }
     }
 

@@ -1,21 +1,24 @@
 //! The shell of a server: what the poll tells is handed to the traffic of its sockets, turn by turn.
 use crate::door::{Accepted, Door};
 use crate::fault::HostEnd;
+use crate::journal::Journal;
 use crate::report::{FaultKind, HostReport};
+use crate::status::StatusDesk;
 use libc::net::{IPPROTO_TCP, SO_KEEPALIVE, SOL_SOCKET, TCP_USER_TIMEOUT, setsockopt};
-use mio::net::{TcpListener, TcpStream};
+use mio::net::TcpStream;
 use mio::{Events, Interest, Poll, Token};
 use rv_engine::{Engine, EngineFault};
-use rv_frame::Sink;
 use rv_hearers::ConnectionNumber;
 use rv_links::Links;
 use rv_options::HostOptions;
 use rv_traffic::{Reading, Switchboard, Writing};
-use std::fs::File;
+use std::io;
 use std::os::fd::AsRawFd;
 use std::time::{Clock, Duration};
 
 const LISTENER: Token = Token(usize::MAX);
+
+const STATUS_LISTENER: Token = Token(usize::MAX - 1);
 
 // The most events of one poll, and the most accepts of one turn.
 const EVENTS: usize = 1_024;
@@ -41,7 +44,14 @@ fn keep_alive(stream: &TcpStream) {
     let _ = unsafe { setsockopt(number, IPPROTO_TCP, TCP_USER_TIMEOUT, &value, 4) };
 }
 
-/// A server's poll, listener and account, over the traffic of its sockets.
+// The poll told that someone waits at the status address.
+fn knock(status: &mut Option<StatusDesk>) {
+    if let Some(desk) = status {
+        desk.door.knock();
+    }
+}
+
+/// A server's poll, listeners and account, over the traffic of its sockets.
 #[derive(Drop)]
 pub(crate) struct Shell {
     start: Duration,
@@ -49,13 +59,17 @@ pub(crate) struct Shell {
     events: Events,
     door: Door,
     pub(crate) traffic: Switchboard<TcpStream>,
-    account: Option<Sink<File>>,
+    pub(crate) account: Option<Journal>,
+    pub(crate) status: Option<StatusDesk>,
     pub(crate) report: HostReport,
     // At most so many connections are open.
     pub(crate) connections: usize,
     pub(crate) memory: u128,
     pub(crate) idle: u64,
     pub(crate) stall: u64,
+    // How many connections were accepted, and in how many turns the clock failed.
+    pub(crate) opened: u64,
+    pub(crate) clock_faults: u64,
     // When all were looked over.
     pub(crate) looked_over: u64,
     // The unread bytes of the hub, as they were when all were looked over.
@@ -71,10 +85,28 @@ struct ShellParts {
     links: Links<TcpStream>,
 }
 
-// A poll that tells of a listener, and room for so many sockets.
+/// Where a server is asked: for connections, and how it is.
+#[derive(Drop)]
+pub(crate) struct ShellDoors {
+    pub(crate) door: Door,
+    pub(crate) status: Option<StatusDesk>,
+}
+
+impl ShellDoors {
+    // A poll tells of both from now on.
+    fn register(&mut self, poll: &Poll) -> io::Result<()> {
+        self.door.register(poll, LISTENER)?;
+        match &mut self.status {
+            Some(desk) => desk.door.register(poll, STATUS_LISTENER),
+            None => Ok(()),
+        }
+    }
+}
+
+// A poll that tells of listeners, and room for so many sockets.
 fn make_parts(
     rt: &HostRuntime,
-    listener: &mut TcpListener,
+    doors: &mut ShellDoors,
     connections: usize,
 ) -> Result<ShellParts, HostEnd> {
     let alloc = rt.alloc();
@@ -82,8 +114,7 @@ fn make_parts(
     let events = Events::with_capacity(alloc, EVENTS)?;
     let start = rt.monotonic()?;
     let poll = Poll::new(rt)?;
-    poll.registry()
-        .register(listener, LISTENER, Interest::READABLE)?;
+    doors.register(&poll)?;
     Ok(ShellParts {
         start,
         poll,
@@ -96,13 +127,13 @@ impl Shell {
     pub(crate) fn new(
         rt: &HostRuntime,
         engine: Engine,
-        account: Option<Sink<File>>,
-        mut listener: TcpListener,
+        account: Option<Journal>,
+        mut doors: ShellDoors,
         report: HostReport,
         options: &HostOptions<'_>,
         connections: usize,
     ) -> Result<Shell, HostEnd> {
-        match make_parts(rt, &mut listener, connections) {
+        match make_parts(rt, &mut doors, connections) {
             Ok(
                 ShellParts {
                     start,
@@ -110,21 +141,27 @@ impl Shell {
                     events,
                     links,
                 },
-            ) => Ok(Shell {
-                start,
-                poll,
-                events,
-                door: Door::new(listener),
-                traffic: Switchboard::new(engine, links),
-                account,
-                report,
-                connections,
-                memory: options.memory as u128 * 1_048_576,
-                idle: options.idle.saturating_mul(1_000),
-                stall: options.stall.saturating_mul(1_000),
-                looked_over: 0,
-                unread: 0,
-            }),
+            ) => {
+                let ShellDoors { door, status } = doors;
+                Ok(Shell {
+                    start,
+                    poll,
+                    events,
+                    door,
+                    traffic: Switchboard::new(engine, links),
+                    account,
+                    status,
+                    report,
+                    connections,
+                    memory: options.memory as u128 * 1_048_576,
+                    idle: options.idle.saturating_mul(1_000),
+                    stall: options.stall.saturating_mul(1_000),
+                    opened: 0,
+                    clock_faults: 0,
+                    looked_over: 0,
+                    unread: 0,
+                })
+            }
             Err(end) => Err(end),
         }
     }
@@ -138,19 +175,23 @@ impl Shell {
     }
 
     // The milliseconds since the start. A clock that fails stands still.
-    fn now(&self, rt: &HostRuntime) -> u64 {
+    fn now(&mut self, rt: &HostRuntime) -> u64 {
         match rt.monotonic() {
             Ok(since) => {
                 let passed = since.saturating_sub(self.start).as_millis();
                 u64::try_from(passed).unwrap_or(u64::MAX)
             }
-            Err(_) => self.traffic.engine().hub().now(),
+            Err(_) => {
+                self.clock_faults = self.clock_faults.saturating_add(1);
+                self.traffic.engine().hub().now()
+            }
         }
     }
 
     // One turn: all that came is taken, and then the answers go out.
     fn turn(&mut self, rt: &HostRuntime) -> Result<(), HostEnd> {
-        let wait = self.wait(self.now(rt));
+        let before = self.now(rt);
+        let wait = self.wait(before);
         self.poll
             .poll(&mut self.events, Some(Duration::from_millis(wait)))?;
         let now = self.now(rt);
@@ -163,6 +204,7 @@ impl Shell {
         self.write_account(now)?;
         self.write_all(now);
         self.look_over(rt, now);
+        self.show_status(now);
         Ok(())
     }
 
@@ -188,6 +230,9 @@ impl Shell {
         if may_accept {
             until = until.min(self.door.again().unwrap_or(u64::MAX));
         }
+        if let Some(desk) = &self.status {
+            until = until.min(desk.next_moment(now));
+        }
         until.saturating_sub(now).min(LONGEST_WAIT)
     }
 
@@ -202,6 +247,8 @@ impl Shell {
         for event in self.events.iter() {
             if event.token() == LISTENER {
                 self.door.knock();
+            } else if event.token() == STATUS_LISTENER {
+                knock(&mut self.status);
             } else {
                 let is_over = event.is_error();
                 let is_readable = event.is_readable() || event.is_read_closed() || is_over;
@@ -213,12 +260,16 @@ impl Shell {
 
     // Writes what was gathered of the account, and tells the hub.
     fn write_account(&mut self, now: u64) -> Result<(), HostEnd> {
-        let Some(file) = &mut self.account else {
+        let count = self.traffic.engine().lines().len() as u64;
+        let Some(journal) = &mut self.account else {
             return Ok(());
         };
-        match self.traffic.write_lines(now, file) {
+        match self.traffic.write_lines(now, &mut journal.file) {
             Err(EngineFault::NotWritten(fault)) => Err(HostEnd::Account(fault)),
-            _ => Ok(()),
+            _ => {
+                journal.bytes = journal.bytes.saturating_add(count);
+                Ok(())
+            }
         }
     }
 
@@ -230,7 +281,10 @@ impl Shell {
                 break;
             }
             match self.door.accept(now) {
-                Accepted::Stream(stream) => self.open(now, stream),
+                Accepted::Stream(stream) => {
+                    self.opened = self.opened.saturating_add(1);
+                    self.open(now, stream);
+                }
                 Accepted::Nobody => {}
                 Accepted::NoDescriptor => self.report.note(FaultKind::NoDescriptor),
                 Accepted::Failed => self.report.note(FaultKind::NotAccepted),

@@ -3,16 +3,17 @@ ghost use Rattle.rv_options.specs.Numbers.{Fits};
 ghost use Rattle.rv_options.specs.Options.{FitOptions};
 ghost use Rattle.rv_options.specs.declared.number.HostNumber.TheVariants as number;
 
+use crate::door::Door;
 use crate::fault::HostEnd;
-use crate::journal::begin_account;
+use crate::journal::{Journal, begin_account};
 use crate::report::HostReport;
-use crate::shell::Shell;
+use crate::shell::{Shell, ShellDoors};
+use crate::status::StatusDesk;
 use libc::types::rlimit;
 use libc::{RLIMIT_NOFILE, getrlimit};
 use mio::net::TcpListener;
 use os::errno;
 use rv_engine::Engine;
-use rv_frame::Sink;
 use rv_log::{StartSaid, call_text, start_text};
 use rv_machine::Machine;
 use rv_options::HostOptions;
@@ -26,8 +27,10 @@ use std::time::Clock;
 // A request that waits is told so every 10 seconds.
 const PATIENCE: u32 = 10_000;
 
-// The descriptors that a server needs beside its connections.
+// The descriptors that a server needs beside its connections, and those of its status address.
 const SPARE: u64 = 16;
+
+const STATUS_SPARE: u64 = 33;
 
 const MOST_ENTRIES: usize = 9_007_199_254_740_991;
 
@@ -41,10 +44,11 @@ pub(crate) fn begin(
 {
     let epoch = options.epoch.epoch(wall_clock(rt));
     let listener = listening(rt, options.listen)?;
+    let status = status_of(rt, options)?;
     let account = account_of(rt, options, epoch)?;
     let open_files = open_files();
     let connections = open_files
-        .saturating_sub(SPARE)
+        .saturating_sub(spare(options))
         .max(1)
         .min(options.connections);
     let engine = engine_of(rt, options, epoch, connections as usize)?;
@@ -57,11 +61,16 @@ pub(crate) fn begin(
         open_files,
         connections,
     )?;
+    let status = status_desk(rt, options, &mut report, status)?;
+    let doors = ShellDoors {
+        door: Door::new(listener),
+        status,
+    };
     Shell::new(
         rt,
         engine,
         account,
-        listener,
+        doors,
         report,
         options,
         connections as usize,
@@ -92,12 +101,46 @@ fn listening(rt: &HostRuntime, name: &str) -> Result<TcpListener, HostEnd> {
     Err(named(rt, name, last))
 }
 
+// A listener at the status address, if one is named.
+fn status_of(rt: &HostRuntime, options: &HostOptions<'_>) -> Result<Option<TcpListener>, HostEnd> {
+    match options.status {
+        Some(name) => Ok(Some(listening(rt, name)?)),
+        None => Ok(None),
+    }
+}
+
+// How many descriptors aren't for connections.
+fn spare(options: &HostOptions<'_>) -> u64 {
+    match options.status {
+        Some(_) => SPARE + STATUS_SPARE,
+        None => SPARE,
+    }
+}
+
+// What is told at a status address, of which is said where it is.
+fn status_desk(
+    rt: &HostRuntime,
+    options: &HostOptions<'_>,
+    report: &mut HostReport,
+    listener: Option<TcpListener>,
+) -> Result<Option<StatusDesk>, HostEnd> {
+    let Some(listener) = listener else {
+        return Ok(None);
+    };
+    let address = listener.local_addr()?;
+    report.say(rt, &format!(in rt.alloc(); "status: http://{address}/")?);
+    if !address.ip().is_loopback() {
+        report.say(rt, "other machines may ask at the status address who waits");
+    }
+    Ok(Some(StatusDesk::new(rt, listener, options, report)?))
+}
+
 // The account of an epoch, begun in a new file, if one is named.
 fn account_of(
     rt: &HostRuntime,
     options: &HostOptions<'_>,
     epoch: u64,
-) -> Result<Option<Sink<File>>, HostEnd> {
+) -> Result<Option<Journal>, HostEnd> {
     let Some(path) = options.account else {
         return Ok(None);
     };
@@ -112,14 +155,9 @@ fn account_of(
 }
 
 // The account of an epoch, begun in an open file. What the system had against a write it still tells.
-fn begun(
-    rt: &HostRuntime,
-    path: &str,
-    file: File,
-    epoch: u64,
-) -> Result<Option<Sink<File>>, HostEnd> {
+fn begun(rt: &HostRuntime, path: &str, file: File, epoch: u64) -> Result<Option<Journal>, HostEnd> {
     match begin_account(rt.alloc(), file, epoch) {
-        Ok(sink) => Ok(Some(sink)),
+        Ok(journal) => Ok(Some(journal)),
         Err(HostEnd::Account(_)) => Err(named(rt, path, io::Error::from_raw_os_error(errno()))),
         Err(end) => Err(end),
     }

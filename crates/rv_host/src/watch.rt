@@ -58,7 +58,7 @@ impl Shell {
     }
 
     // How many bytes are held of all connections.
-    fn total(&self) -> u128 {
+    pub(crate) fn total(&self) -> u128 {
         let pending = self.traffic.links().pending_count();
         let held = self.traffic.engine().hub().held();
         held.saturating_add(pending)

@@ -33,6 +33,10 @@ account_row : first_of (codes "account") rows ≡ None
 unfolding clap_on_literals
 account_row = refl
 
+status_row : first_of (codes "status") rows ≡ None
+unfolding clap_on_literals
+status_row = refl
+
 epoch_row : given_for number.Epoch rows ≡ None
 unfolding clap_on_literals
 epoch_row = refl
@@ -145,9 +149,9 @@ true_flag false never = refl
 false_flag : (flag : Bool) → flag ≡ false → flag ≡ true → ⊥
 false_flag flag is not_false = absurd (cc)
 
-no_file : (file : Option (Bor Text)) → None ≡ option_map (λ f. f.now) file → file ≡ None
-no_file None is = refl
-no_file (Some f) is = absurd (cc)
+no_text : (text : Option (Bor Text)) → None ≡ option_map (λ t. t.now) text → text ≡ None
+no_text None is = refl
+no_text (Some t) is = absurd (cc)
 
 by_clock : (rule : EpochRule) → SaysRule rows rule → rule ≡ Clock
 by_clock Clock says = refl
@@ -160,6 +164,7 @@ bare_named options bare = record {
   said = record {
     listens = listen_row ∙ ap Some (sym bare.listens);
     keeps = account_row ∙ ap (option_map (λ (f : Bor Text). f.now)) (sym bare.keeps_none);
+    tells = status_row ∙ ap (option_map (λ (t : Bor Text). t.now)) (sym bare.tells_none);
     in_epoch = subst (λ (rule : EpochRule). SaysRule rows rule) (sym bare.by_clock) (epoch_row, above_row);
     clients = given number.Clients rows (codes "65536") 65536 options.clients clients_row clients_written
         bare.clients;
@@ -181,7 +186,8 @@ pub bare_alone : BareAlone
 bare_alone options named = record {
   listens = same_Some _ _ (sym named.said.listens ∙ listen_row);
   by_clock = by_clock options.epoch named.said.in_epoch;
-  keeps_none = no_file options.account (sym account_row ∙ named.said.keeps);
+  keeps_none = no_text options.account (sym account_row ∙ named.said.keeps);
+  tells_none = no_text options.status (sym status_row ∙ named.said.tells);
   clients = given_alone number.Clients rows (codes "65536") options.clients clients_row named.said.clients;
   opens = given_alone number.Open rows (codes "100000") options.open_places open_row named.said.opens;
   connects = given_alone number.Connections rows (codes "10000") options.connections connections_row

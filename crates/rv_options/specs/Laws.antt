@@ -14,6 +14,7 @@ pub record AreBare (options : HostOptions) : Type 0 where
   pub listens : options.listen.now ≡ codes "127.0.0.1:7411"
   pub by_clock : options.epoch ≡ Clock
   pub keeps_none : options.account ≡ None
+  pub tells_none : options.status ≡ None
   pub clients : options.clients ≡ 65536
   pub opens : options.open_places ≡ 100000
   pub connects : options.connections ≡ 10000

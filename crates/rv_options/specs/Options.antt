@@ -11,6 +11,7 @@ use Rattle.rv_options.specs.declared.options.HostOptions.{HostOptions}
 pub record SaysOptions (rows : List Row) (options : HostOptions) : Type 0 where
   pub listens : first_of (codes "listen") rows ≡ Some options.listen.now
   pub keeps : first_of (codes "account") rows ≡ option_map (λ file. file.now) options.account
+  pub tells : first_of (codes "status") rows ≡ option_map (λ address. address.now) options.status
   pub in_epoch : SaysRule rows options.epoch
   pub clients : GivesNumber number.Clients rows options.clients
   pub opens : GivesNumber number.Open rows options.open_places

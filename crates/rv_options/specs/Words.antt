@@ -19,11 +19,12 @@ number_rule number usual = record (text_rule (option_word number) false) { defau
 abbrev pub flag_rule : Rule
 flag_rule = record (new_rule (codes "quiet")) { long = Some (codes "quiet"); action = Some SetTrue }
 
--- `host --listen ADDR --account FILE`
+-- `host --listen ADDR --account FILE --status ADDR`
 abbrev pub place_app : App
 place_app =
     let listens = with_rule (new_app (codes "host")) (text_rule (codes "listen") true) in
-    with_rule listens (text_rule (codes "account") false)
+    let keeps = with_rule listens (text_rule (codes "account") false) in
+    with_rule keeps (text_rule (codes "status") false)
 
 -- and `--epoch N --epoch-above N`
 abbrev pub epoch_app : App

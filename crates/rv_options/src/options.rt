@@ -24,6 +24,8 @@ pub struct HostOptions<'a> {
     pub epoch: EpochRule,
     /// The file to which its account is written, if there is one.
     pub account: Option<&'a str>,
+    /// The HTTP address at which it tells how it is, as it was written, if there is one.
+    pub status: Option<&'a str>,
     /// How many clients its book takes.
     pub clients: u64,
     /// How many items and requests are open in it at most.
@@ -72,6 +74,7 @@ fn options_of<'a>(given: &ArgMatches<'a>) -> Result<HostOptions<'a>, HostFault<'
         listen,
         epoch: epoch_of(given)?,
         account: text_of(given, "account"),
+        status: text_of(given, "status"),
         clients: number_of(given, HostNumber::Clients)?,
         open_places: number_of(given, HostNumber::Open)?,
         connections: number_of(given, HostNumber::Connections)?,

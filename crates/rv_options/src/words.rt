@@ -40,7 +40,7 @@ fn named<'a>(alloc: Global) -> Result<Command<'a>, AllocError>
         .bin_name("rv host")
 }
 
-// Those of its options that say where it listens, and what it keeps.
+// Those of its options that say where it listens, what it keeps, and where it tells how it is.
 fn place_words<'a>(alloc: Global) -> Result<Command<'a>, AllocError>
     ensures app { IfOk result (λ c. app_of c ≡ place_app) }
     ensures local { IfOk result (λ c. (out-Command c).has_globals ≡ false) }
@@ -53,6 +53,13 @@ fn place_words<'a>(alloc: Global) -> Result<Command<'a>, AllocError>
             "FILE",
             false,
             "A new file, to which each entry is written before it is answered",
+        ))?
+        .arg(text_option(
+            alloc,
+            "status",
+            "ADDR",
+            false,
+            "Where it tells over HTTP how it is",
         ))
 }
 

@@ -1,0 +1,264 @@
+//! The status address: its listener, who asks there, and what they are told.
+use crate::door::{Accepted, Door};
+use crate::fault::HostEnd;
+use crate::report::{FaultKind, HostReport};
+use crate::shell::Shell;
+use mio::net::{TcpListener, TcpStream};
+use rv_hub::Hub;
+use rv_options::HostOptions;
+use rv_status::{FaultCounts, HostStatus, StatusNumbers, StatusPages, StatusSample, take_sample};
+use rv_survey::{list_queues, renew, unheard_row, waiting_row};
+use rv_visitors::Visitors;
+use std::alloc::{AllocError, Global};
+use std::hash::RandomState;
+
+// Numbers are read off once in so many milliseconds, and so many clients are looked at meanwhile, so many of
+// them in one turn.
+const SECOND: u64 = 1_000;
+
+const CLIENTS_A_SECOND: usize = 2_560;
+
+const CLIENTS_A_TURN: usize = 256;
+
+// Once in so many milliseconds so many of those who ask are visited at most, until one is answered.
+const PAUSE: u64 = 20;
+
+const VISITS: usize = 8;
+
+// A list has room for so many rows, one of which is taken out again; there are so many queues and samples.
+const ROWS: usize = 101;
+
+const QUEUES: usize = 64;
+
+const SAMPLES: usize = 62;
+
+/// What is told at the status address, and to whom.
+#[derive(Drop)]
+pub(crate) struct StatusDesk {
+    alloc: Global,
+    pub(crate) door: Door,
+    visitors: Visitors<TcpStream>,
+    status: HostStatus,
+    // How far the clients are looked at, and how many more are to be.
+    after: Option<u64>,
+    left: usize,
+    // When numbers are to be read off next, and when somebody is to be visited.
+    next_second: u64,
+    next_visit: u64,
+}
+
+// What is known of a server that begins.
+fn first_numbers(options: &HostOptions<'_>, faults: FaultCounts) -> StatusNumbers {
+    StatusNumbers {
+        account_bytes: 0,
+        buffer_bytes: 0,
+        buffer_limit: 0,
+        clients: 0,
+        clients_limit: options.clients,
+        connections: 0,
+        connections_limit: 0,
+        connections_opened: 0,
+        entries: 0,
+        epoch: 0,
+        faults,
+        open_places: 0,
+        open_places_limit: options.open_places,
+        requests_unheard: 0,
+        requests_waiting: 0,
+        status_connections: 0,
+        uptime: 0,
+    }
+}
+
+// A status with these numbers, and room for its lists.
+fn with_room(alloc: Global, numbers: StatusNumbers) -> Result<HostStatus, AllocError> {
+    Ok(HostStatus {
+        numbers,
+        history: Vec::with_capacity(alloc, SAMPLES)?,
+        queues: Vec::with_capacity(alloc, QUEUES)?,
+        unheard: Vec::with_capacity(alloc, ROWS)?,
+        waiting: Vec::with_capacity(alloc, ROWS)?,
+    })
+}
+
+impl StatusDesk {
+    pub(crate) fn new(
+        rt: &HostRuntime,
+        listener: TcpListener,
+        options: &HostOptions<'_>,
+        report: &HostReport,
+    ) -> Result<StatusDesk, HostEnd> {
+        let alloc = rt.alloc();
+        let keys = RandomState::new(rt)?;
+        let visitors = Visitors::new(alloc, keys)?;
+        let status = with_room(alloc, first_numbers(options, fault_counts(report, 0)))?;
+        Ok(StatusDesk {
+            alloc,
+            door: Door::new(listener),
+            visitors,
+            status,
+            after: None,
+            left: 0,
+            next_second: 0,
+            next_visit: 0,
+        })
+    }
+
+    /// The moment at which there is something to be done again.
+    pub(crate) fn next_moment(&self, now: u64) -> u64 {
+        if self.left > 0 {
+            return now;
+        }
+        if !self.visitors.is_empty() || self.door.is_asked(now) {
+            return self.next_visit.min(self.next_second);
+        }
+        self.next_second.min(self.door.again().unwrap_or(u64::MAX))
+    }
+
+    // Takes in what is known at a moment.
+    fn learn(&mut self, now: u64, numbers: StatusNumbers, hub: &Hub) -> Result<(), AllocError> {
+        self.next_second = now.saturating_add(SECOND);
+        self.left = CLIENTS_A_SECOND;
+        self.status.numbers = StatusNumbers {
+            clients_limit: self.status.numbers.clients_limit,
+            open_places_limit: self.status.numbers.open_places_limit,
+            status_connections: self.visitors.len() as u64,
+            ..numbers
+        };
+        let sample = StatusSample {
+            second: numbers.uptime,
+            entries: numbers.entries,
+            places: numbers.open_places,
+            account: numbers.account_bytes,
+        };
+        take_sample(&mut self.status.history, sample)?;
+        list_queues(hub.machine(), &mut self.status.queues)
+    }
+
+    // Looks at the next clients, from the first on again behind the last.
+    fn look_at_clients(&mut self, hub: &Hub) -> Result<(), AllocError> {
+        for _ in 0..CLIENTS_A_TURN.min(self.left) {
+            self.left = self.left.saturating_sub(1);
+            let Some((client, _)) = hub.machine().next_client(self.after) else {
+                self.after = None;
+                self.left = 0;
+                break;
+            };
+            self.after = Some(client);
+            let waiting = waiting_row(hub.machine(), client);
+            renew(&mut self.status.waiting, client, waiting)?;
+            renew(&mut self.status.unheard, client, unheard_row(hub, client))?;
+        }
+        Ok(())
+    }
+
+    // Visits those who ask, if it is time to, until one is answered. Behind each visit one more is accepted.
+    fn serve(&mut self, now: u64) {
+        if now < self.next_visit {
+            return;
+        }
+        for _ in 0..VISITS {
+            if self.visitors.is_empty() && !self.door.is_asked(now) {
+                break;
+            }
+            self.next_visit = now.saturating_add(PAUSE);
+            let is_answered = self.visit(now);
+            self.accept(now);
+            if is_answered {
+                break;
+            }
+        }
+    }
+
+    // Visits one who asks, and gives whether an answer was to be sent.
+    fn visit(&mut self, now: u64) -> bool {
+        let mut pages = StatusPages {
+            alloc: self.alloc,
+            status: &self.status,
+        };
+        self.visitors.visit(now, &mut pages)
+    }
+
+    // Accepts one more.
+    fn accept(&mut self, now: u64) {
+        if !self.door.is_asked(now) {
+            return;
+        }
+        if let Accepted::Stream(stream) = self.door.accept(now) {
+            self.visitors.admit(now, stream);
+        }
+    }
+}
+
+impl Shell {
+    /// The turn of the status address, behind all others. Its lists have room, so that no memory is refused
+    /// to them.
+    pub(crate) fn show_status(&mut self, now: u64) {
+        self.learn(now);
+        let Some(desk) = &mut self.status else {
+            return;
+        };
+        let _ = desk.look_at_clients(self.traffic.engine().hub());
+        desk.serve(now);
+    }
+
+    // Once a second takes in what is known.
+    fn learn(&mut self, now: u64) {
+        let numbers = match &self.status {
+            Some(desk) if desk.next_second <= now => self.numbers(now),
+            _ => return,
+        };
+        if let Some(desk) = &mut self.status {
+            let _ = desk.learn(now, numbers, self.traffic.engine().hub());
+        }
+    }
+
+    // How many bytes were written of the account.
+    fn account_bytes(&self) -> u64 {
+        match &self.account {
+            Some(journal) => journal.bytes,
+            None => 0,
+        }
+    }
+
+    // What is known of the server at a moment, each in constant time.
+    fn numbers(&self, now: u64) -> StatusNumbers {
+        let hub = self.traffic.engine().hub();
+        let machine = hub.machine();
+        StatusNumbers {
+            account_bytes: self.account_bytes(),
+            buffer_bytes: u64::try_from(self.total()).unwrap_or(u64::MAX),
+            buffer_limit: u64::try_from(self.memory).unwrap_or(u64::MAX),
+            clients: machine.clients() as u64,
+            clients_limit: 0,
+            connections: self.traffic.links().len() as u64,
+            connections_limit: self.connections as u64,
+            connections_opened: self.opened,
+            entries: machine.length() as u64,
+            epoch: machine.epoch(),
+            faults: fault_counts(&self.report, self.clock_faults),
+            open_places: machine.open_places() as u64,
+            open_places_limit: 0,
+            requests_unheard: hub.unheard() as u64,
+            requests_waiting: machine.waiting() as u64,
+            status_connections: 0,
+            uptime: now / SECOND,
+        }
+    }
+}
+
+// How often each kind of fault came.
+fn fault_counts(report: &HostReport, clock: u64) -> FaultCounts {
+    FaultCounts {
+        accept: report.count(FaultKind::NotAccepted),
+        clock,
+        descriptor: report.count(FaultKind::NoDescriptor),
+        idle: report.count(FaultKind::Idle),
+        line: report.count(FaultKind::Dropped),
+        link: report.count(FaultKind::Link),
+        memory: report.count(FaultKind::NotOpened),
+        most_held: report.count(FaultKind::MostHeld),
+        stall: report.count(FaultKind::Stall),
+        unwritten: report.count(FaultKind::Behind),
+    }
+}

@@ -1,0 +1,2 @@
+-- Lemmas on tokens and texts.
+pub mod Told

@@ -1,0 +1,176 @@
+//! The answers over HTTP: which page a request is for, and what it is told.
+ghost use Rattle.std.specs.Prelude.{◌≡◌, IfOk, OnOk};
+ghost use Rattle.http_server.specs.Response.{IsBlank, IsResponse};
+ghost use Rattle.rv_status.specs.Pages.{
+  IsShown,
+  fields_for,
+  page_asked,
+  page_body,
+  page_code,
+  page_for,
+  page_named,
+  page_type,
+};
+
+use crate::members::status_json;
+use crate::metrics::metrics_of;
+use crate::page::PAGE;
+use crate::status::HostStatus;
+use bytes::Bytes;
+use http::{HeaderName, HeaderValue, Request, StatusCode};
+use http_server::{Response, Service};
+use std::alloc::{AllocError, Global};
+
+/// What a request is for.
+#[derive(Clone, Copy)]
+pub enum StatusPage {
+    /// The page for people.
+    Front,
+    /// The status as JSON.
+    Status,
+    /// The metrics.
+    Metrics,
+    /// Whether the server turns.
+    Health,
+    /// There is no such page.
+    Unknown,
+    /// Its method neither gets a page nor asks for its head.
+    NotAllowed,
+}
+
+/// What a server tells over HTTP at one moment.
+#[derive(Clone, Copy)]
+pub struct StatusPages<'a> {
+    /// Its memory.
+    pub alloc: Global,
+    /// What is told.
+    pub status: &'a HostStatus,
+}
+
+impl Service for StatusPages<'_> {
+    ghost answers = { λ old request response new.
+        (new ≡ old) × IsShown old.status.now (page_asked request) response };
+
+    fn call(
+        &mut self,
+        request: &Request<Bytes>,
+        response: &mut Response,
+    ) -> Result<(), AllocError> {
+        show(self.alloc, self.status, asked(request), response)
+    }
+}
+
+// The page that a request is for.
+fn asked(request: &Request<Bytes>) -> StatusPage
+    ensures { result ≡ page_asked request.now }
+{
+    page_of(request.method().as_str(), request.uri().path())
+}
+
+// That of a method and a path.
+fn page_of(method: &str, path: &str) -> StatusPage
+    ensures { result ≡ page_for method.now path.now }
+{
+    if method == "GET" || method == "HEAD" {
+        page_at(path)
+    } else {
+        StatusPage::NotAllowed
+    }
+}
+
+// The page of a path.
+fn page_at(path: &str) -> StatusPage
+    ensures { result ≡ page_named path.now }
+{
+    if path == "/" {
+        StatusPage::Front
+    } else if path == "/status.json" {
+        StatusPage::Status
+    } else if path == "/metrics" {
+        StatusPage::Metrics
+    } else if path == "/healthz" {
+        StatusPage::Health
+    } else {
+        StatusPage::Unknown
+    }
+}
+
+// Answers by a page. Fails only if memory was refused.
+fn show(
+    alloc: Global,
+    status: &HostStatus,
+    page: StatusPage,
+    response: &mut Response,
+) -> Result<(), AllocError>
+    requires { IsBlank response.old }
+    ensures { OnOk result (IsShown status.now page response.new) }
+{
+    let body = page.body(alloc, status)?;
+    fill(response, page, body)
+}
+
+// Fills a response with a page's status, its fields, and this body.
+fn fill(response: &mut Response, page: StatusPage, body: Bytes) -> Result<(), AllocError>
+    requires { IsBlank response.old }
+    ensures { OnOk result (IsResponse (page_code page) (fields_for page) body response.new) }
+{
+    response.status = page.code();
+    response.add_header(HeaderName::from_static("content-type"), page.content_type())?;
+    response.add_header(
+        HeaderName::from_static("cache-control"),
+        HeaderValue::from_static("no-store"),
+    )?;
+    response.add_header(
+        HeaderName::from_static("allow"),
+        HeaderValue::from_static("GET, HEAD"),
+    )?;
+    response.add_header(
+        HeaderName::from_static("connection"),
+        HeaderValue::from_static("close"),
+    )?;
+    response.body.push(body)
+}
+
+impl StatusPage {
+    // Its status.
+    fn code(self) -> StatusCode
+        ensures { result ≡ page_code self }
+    {
+        match self {
+            StatusPage::Front => StatusCode::OK,
+            StatusPage::Status => StatusCode::OK,
+            StatusPage::Metrics => StatusCode::OK,
+            StatusPage::Health => StatusCode::OK,
+            StatusPage::Unknown => StatusCode::NOT_FOUND,
+            StatusPage::NotAllowed => StatusCode::METHOD_NOT_ALLOWED,
+        }
+    }
+
+    // What kind of text its body is.
+    fn content_type(self) -> HeaderValue
+        ensures { result.bytes ≡ page_type self }
+    {
+        match self {
+            StatusPage::Front => HeaderValue::from_static("text/html; charset=utf-8"),
+            StatusPage::Status => HeaderValue::from_static("application/json"),
+            StatusPage::Metrics => HeaderValue::from_static("text/plain; version=0.0.4"),
+            StatusPage::Health => HeaderValue::from_static("text/plain"),
+            StatusPage::Unknown => HeaderValue::from_static("text/plain"),
+            StatusPage::NotAllowed => HeaderValue::from_static("text/plain"),
+        }
+    }
+
+    // Its body. Fails only if memory was refused.
+    fn body(self, alloc: Global, status: &HostStatus) -> Result<Bytes, AllocError>
+        ensures { IfOk result (λ body. body ≡ page_body status.now self) }
+    {
+        match self {
+            StatusPage::Front => Ok(Bytes::from_static(PAGE)),
+            StatusPage::Status => Ok(Bytes::from_vec(status_json(alloc, status)?)?),
+            StatusPage::Metrics => Ok(Bytes::from_vec(metrics_of(alloc, status)?)?),
+            StatusPage::Health => Ok(Bytes::from_static(b"turning\n")),
+            StatusPage::Unknown => Ok(Bytes::from_static(b"no such page\n")),
+            StatusPage::NotAllowed => Ok(Bytes::from_static(b"GET or HEAD\n")),
+        }
+    }
+}

@@ -1,0 +1,4 @@
+-- The definitions that the contracts cite.
+pub mod Oldest
+pub mod Queues
+pub mod Rows

@@ -1,0 +1,10 @@
+//! What of a hub is told to whoever looks at a server: what waits in its queues, and its oldest requests.
+#![tactic(auto)]
+
+mod oldest;
+mod queues;
+mod rows;
+
+pub use oldest::renew;
+pub use queues::list_queues;
+pub use rows::{unheard_row, waiting_row};

@@ -1,0 +1,153 @@
+"""The status address of `rv host`: its pages, its numbers beside what was done, and those who ask there and mean no good."""
+from __future__ import annotations
+
+import contextlib
+import http.client
+import json
+import time
+
+from tests.host.hostile import beside_a_good_client, one_that_waits, still_waits
+from tests.host.many import closing, connected
+from tests.host.options import LISTEN, listening, only, refused
+from tests.model.account import Key
+from tests.sockets.hosts import Host
+from tests.sockets.programs import free_port
+from tests.sockets.wire import Peer, demand, frame, give, replied, request, take, until
+
+# A head has fewer bytes, and a connection lasts so many seconds at most; so many come in a flood.
+HEAD, LONGEST, FLOOD = 4_096, 10, 1_000
+# The seconds that a test gives a number which is read off once a second, and a connection that is to end.
+SOON = 30
+HTML, JSON, METRICS, PLAIN = "text/html", "application/json", "text/plain; version=0.0.4", "text/plain"
+
+
+def asked(port: int, path: str, method: str = "GET") -> tuple[int, str, str]:
+    """The status, the type and the body that are told for a path."""
+    link = http.client.HTTPConnection("127.0.0.1", port, timeout=SOON)
+    with contextlib.closing(link):
+        link.request(method, path)
+        answer = link.getresponse()
+        demand(answer.getheader("connection") == "close", f"{method} {path}: the connection is to stay")
+        return answer.status, answer.getheader("content-type", ""), answer.read().decode()
+
+
+def page(port: int, path: str, kind: str, method: str = "GET", status: int = 200) -> str:
+    """The body of a page, whose status and type must be these."""
+    got, told, body = asked(port, path, method)
+    demand((got, told.startswith(kind)) == (status, True), f"{method} {path}: {got} {told}, not {status} {kind}")
+    return body
+
+
+def numbers(port: int) -> dict[str, int]:
+    """The metrics that are told, by name and labels."""
+    lines = page(port, "/metrics", METRICS).splitlines()
+    return {name: int(value) for name, _, value in (line.rpartition(" ") for line in lines if not line.startswith("#"))}
+
+
+def shows(port: int, wanted: dict[str, int]) -> None:
+    """The metrics come to be these."""
+    until(f"the metrics are {wanted}", lambda: wanted.items() <= numbers(port).items(), SOON)
+
+
+def addresses(program: str) -> None:
+    """An address for the status that is none, or can't be had, is told by its name, and no account is begun."""
+    for text in ["127.0.0.1", ":", "127.0.0.1:65536", "[::1"]:
+        refused(program, ["host", *LISTEN, "--status", text], 1, text)
+    with listening() as port:
+        only(program, ["host", *LISTEN, "--status", f"127.0.0.1:{port}"], 1, f"127.0.0.1:{port}: address in use")
+    refused(program, ["host", *LISTEN, "--status"], 2, "--status")
+
+
+def pages_by_path(program: str) -> None:
+    """Four pages, a head of each alone, and refusals of all else; standard error tells the address."""
+    port = free_port()
+    with Host(program, options=("--status", f"127.0.0.1:{port}")) as host:
+        until("it tells its status address", lambda: f"http://127.0.0.1:{port}/".encode() in host.said)
+        demand("<html" in page(port, "/", HTML), "the page is no HTML")
+        status = json.loads(page(port, "/status.json", JSON))
+        demand(sorted(status) == ["history", "numbers", "queues", "unheard", "waiting"], f"the status has {sorted(status)}")
+        demand("rv_uptime_seconds" in numbers(port), "no uptime is told")
+        demand(page(port, "/healthz", PLAIN) == "turning\n", "it doesn't tell that it turns")
+        for path, kind in [("/", HTML), ("/status.json", JSON), ("/metrics", METRICS), ("/healthz", PLAIN)]:
+            demand(page(port, path, kind, "HEAD") == "", f"a head of {path} has a body")
+        page(port, "/status.json?a=b", JSON)
+        for path in ["/status", "/metrics/", "/index.html", "/%2e%2e"]:
+            page(port, path, PLAIN, status=404)
+        for method in ["POST", "PUT", "DELETE", "OPTIONS"]:
+            page(port, "/", PLAIN, method, 405)
+        host.ended()
+
+
+def nothing_listens(program: str) -> None:
+    """Without the option nothing listens but the server."""
+    with Host(program) as host:
+        host.greeted(1).close()
+        demand(b"status" not in host.said, f"without a status address it says {host.said!r}")
+        host.ended()
+
+
+def a_worked_scene(program: str) -> None:
+    """Three items in one queue, and a take in another whose worker was killed: it shows as without a connection."""
+    port = free_port()
+    with Host(program, options=("--status", f"127.0.0.1:{port}")) as host:
+        wish = Key(1, 2, 7, 1)
+        with host.greeted(1) as giver, host.greeted(2, 7) as worker:
+            for number in range(1, 4):
+                key = Key(1, 1, 1, number)
+                giver.expect(request(key, give("put", "<b>", queue=5)), replied(key, reply="done"))
+            worker.send(frame(request(wish, take("forever", queue=6))))
+            shows(port, {"rv_connections": 2, "rv_requests_waiting": 1, "rv_requests_unheard": 0,
+                         'rv_queue_items{queue="5"}': 3, 'rv_queue_consumers{queue="6"}': 1})
+            worker.reset()
+            shows(port, {"rv_connections": 1, "rv_requests_unheard": 1})
+        shows(port, {"rv_connections": 0, "rv_connections_opened_total": host.made, "rv_clients": 2, "rv_open_places": 4,
+                     "rv_entries_total": 6, "rv_epoch": host.epoch, "rv_clients_limit": 65_536,
+                     "rv_connections_limit": 10_000, "rv_open_places_limit": 100_000,
+                     "rv_account_bytes_total": len(host.written())})
+        until("the request is listed", lambda: listed(port) == [["take", 6, 2, 7, 1]], SOON)
+        demand("<b>" not in page(port, "/status.json", JSON), "an item's text is told")
+        host.ended()
+
+
+def listed(port: int) -> list[list[object]]:
+    """The requests that no connection waits for, without their moments."""
+    return [row[:2] + row[3:] for row in json.loads(page(port, "/status.json", JSON))["unheard"]]
+
+
+def visitor(port: int, data: bytes) -> Peer:
+    """A connection to a status address, over which these bytes went."""
+    peer = connected(port, 1)[0]
+    peer.send(data)
+    return peer
+
+
+def ends(peer: Peer, began: float) -> bytes:
+    """What comes until the connection ends, which it must soon behind its longest life."""
+    with contextlib.suppress(ConnectionError):
+        while peer.more():
+            pass
+    took = time.monotonic() - began
+    demand(took < LONGEST + SOON, f"a connection to the status address lasted {took:.0f} seconds")
+    return peer.got
+
+
+def hostile_visitors(program: str) -> None:
+    """Silence, half requests, long heads and a flood end within their time, and touch nobody; then a page is told again."""
+    port = free_port()
+    with beside_a_good_client(program, "--status", f"127.0.0.1:{port}") as host, one_that_waits(host) as waiting:
+        until("it listens", lambda: f"127.0.0.1:{port}".encode() in host.said)
+        began = time.monotonic()
+        half = b"GET /status.json HTTP/1.1\r\nhost: a\r\n"
+        data = [b"", half, half + b"x-a: ", half + b"content-length: 5\r\n\r\n1", b"\0" * 9, (half + b"x: ").ljust(HEAD, b"a")]
+        with closing([visitor(port, part) for part in data]) as peers:
+            answers = [ends(peer, began) for peer in peers]
+        demand(answers[0] == answers[1] == answers[2] == b"", f"half a request was answered: {answers[:3]}")
+        wanted = [b"HTTP/1.1 413", b"HTTP/1.1 400", b"HTTP/1.1 431"]
+        demand([answer[:12] for answer in answers[3:]] == wanted, f"refused by {[answer[:12] for answer in answers[3:]]}")
+        with closing(connected(port, FLOOD)):
+            still_waits(host, waiting)
+            page(port, "/healthz", PLAIN)
+        page(port, "/", HTML)
+
+
+CASES = [addresses, pages_by_path, nothing_listens, a_worked_scene, hostile_visitors]

@@ -1,0 +1,1 @@
+"""What a server tells of itself over HTTP: its page in a browser, and its metrics."""

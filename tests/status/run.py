@@ -1,0 +1,147 @@
+#!/usr/bin/env python3
+"""The page of a server's status in a browser, over a made-up status of its form, and the names of its numbers.
+
+It says if Debian's chromium, or promtool of Debian's prometheus, is missing and left out. --picture FILE keeps a screenshot.
+
+usage: tests/status/run.py [--picture FILE]
+"""
+from __future__ import annotations
+
+import argparse
+import pathlib
+import re
+import shutil
+import subprocess
+import sys
+import tempfile
+from typing import Callable, Dict, List
+
+sys.dont_write_bytecode, sys.path[0] = True, str(pathlib.Path(__file__).resolve().parents[2])
+from tests import ROOT  # noqa: E402
+from tests.clients import browser  # noqa: E402
+from tests.status import busy, standin  # noqa: E402
+
+ROWS, RULES = ROOT / "crates/rv_status/specs/Rows.antt", ROOT / "packaging/rv.rules.yml"
+# What a text that a peer chose might try, were it markup.
+MARKUP = "<img src=x onerror=document.title='bad'>"
+counts = {True: 0, False: 0}
+
+
+def check(holds: bool, what: str) -> None:
+    """Counts a check, and tells one that fails."""
+    counts[bool(holds)] += 1
+    if not holds:
+        print(f"FAILED: {what}")
+
+
+def rows() -> List[List[str]]:
+    """Each number's kind, name and meaning, as the definitions have them."""
+    form = r'(counter|gauge)_row \(codes "(\w+)"\)\s+\(codes "([^"]+)"\)'
+    return [list(found) for found in re.findall(form, ROWS.read_text())]
+
+
+def shown(status: busy.Status, *more: str) -> str:
+    """The page as the browser holds it some seconds later; further words of the browser's may keep a picture."""
+    with standin.serving(busy.text(status)) as (host, port), tempfile.TemporaryDirectory(prefix="rv-status-") as profile:
+        words = [browser.found(), "--headless", "--no-sandbox", "--disable-gpu", "--hide-scrollbars", f"--user-data-dir={profile}",
+                 "--window-size=1200,1500", "--virtual-time-budget=5000", *more, f"http://{host}:{port}/"]
+        return subprocess.run(words, capture_output=True, text=True, timeout=120, check=True).stdout
+
+
+def table(page: str, name: str) -> str:
+    """One table of a page, with its rows."""
+    found = re.search(rf'<table id="{name}">(.*?)</table>', page, re.S)
+    return found[1] if found else ""
+
+
+def numbers() -> Dict[str, int]:
+    """Each number's name, and a value."""
+    return {name: 0 for _, name, _ in rows()}
+
+
+def the_page_is_written() -> None:
+    """The page that the crate has is the one of page/status.html, and it reads no number that isn't there."""
+    ran = subprocess.run([ROOT / "tools/page.py", "--check"], capture_output=True, text=True)
+    check(ran.returncode == 0, ran.stderr.strip())
+    names = [name for _, name, _ in rows()]
+    read = set(re.findall(r"\bn\.(rv_\w+)", standin.PAGE.read_text()))
+    check(len(names) >= 20 and names == sorted(names), f"the numbers are not in the order of their names: {names}")
+    check(bool(read) and read <= set(names), f"the page reads {read - set(names)}")
+    kinds = re.search(r"const FAULTS = \{(.*?)\};", standin.PAGE.read_text(), re.S)
+    told = re.findall(r"(\w+): \"", kinds[1]) if kinds else []
+    check(sorted(told) == re.findall(r"rv_fault_(\w+)_total", " ".join(names)), f"the page has words for the faults {told}")
+
+
+def a_busy_server_is_shown() -> None:
+    """Numbers, limits, at most 100 rows and how many more, and the words that end a request."""
+    status = busy.busy({**numbers(), "rv_fault_descriptor_total": 17})
+    page = shown(status, "--dump-dom")
+    check("turning" in page and "epoch 1785000000000" in page, "the page doesn't tell that the server turns")
+    check("<b" in page and "8,421" in page and "of 10,000" in page, "connections are not beside their limit")
+    waiting = table(page, "waiting")
+    check("<td>130 s" not in waiting and "<td>2 min" in waiting and "<td>31 s" in waiting, "not how long each waits")
+    check(waiting.count("<tr") == 101 and "and 1,140 more" in waiting, "not 100 rows, and how many more")
+    client, incarnation = status["unheard"][0][3:5]
+    words = f"rv call --connect ADDR --client {client} --incarnation {incarnation + 1}"
+    check(words in table(page, "unheard"), f"no {words!r}")
+    check("<td>17</td>" in table(page, "faults") and "no descriptor was left" in table(page, "faults"), "the fault isn't told")
+    check("idle" not in table(page, "faults"), "a fault that never came is told")
+    items = f"<td>{status['queues'][3][1]:,}</td>"
+    check(table(page, "queues").count("<tr") == 4 and items in table(page, "queues"), "not the three queues that are used")
+    check(page.count("<polyline") == 2 and "entries a second" in page, "no picture")
+
+
+def texts_stay_texts() -> None:
+    """Markup in a text is shown as it is."""
+    status = busy.busy(numbers())
+    status["waiting"][0][0] = MARKUP
+    page = shown(status, "--dump-dom")
+    check("<img" not in page and "&lt;img src=x" in page and "<title>rv</title>" in page, "a text became markup")
+
+
+def an_empty_server_is_shown() -> None:
+    """A server that has just started has no row, no sample and no fault."""
+    status = {"history": [], "numbers": numbers(), "queues": [[queue, 0, 0] for queue in range(64)], "unheard": [], "waiting": []}
+    page = shown(status, "--dump-dom")
+    check("turning" in page and "all are empty" in page and table(page, "waiting").count("none") == 1, "an empty server isn't shown")
+
+
+def metrics_follow_the_conventions() -> None:
+    """promtool finds nothing to say of the names, kinds and meanings."""
+    text = "".join(f"# HELP {name} {meaning}\n# TYPE {name} {kind}\n{name} 1\n" for kind, name, meaning in rows())
+    for name in ("rv_queue_items", "rv_queue_consumers"):
+        text += f'# HELP {name} What waits.\n# TYPE {name} gauge\n{name}{{queue="0"}} 3\n{name}{{queue="63"}} 0\n'
+    ran = subprocess.run(["promtool", "check", "metrics"], input=text, capture_output=True, text=True, timeout=60)
+    check(ran.returncode == 0 and not ran.stdout + ran.stderr, f"promtool: {ran.stdout}{ran.stderr}")
+
+
+def alerts_are_raised() -> None:
+    """Each staged fault raises its alert, and no rule reads a number that isn't there."""
+    read = set(re.findall(r"\brv_\w+", RULES.read_text())) - {"rv_queue_items"}
+    check(bool(read) and read <= set(numbers()), f"an alert reads {read - set(numbers())}")
+    ran = subprocess.run(["promtool", "test", "rules", ROOT / "tests/status/alerts.yml"], capture_output=True, text=True, timeout=60)
+    check(ran.returncode == 0, f"promtool: {ran.stdout}{ran.stderr}")
+
+
+def main() -> None:
+    parser = argparse.ArgumentParser()
+    parser.add_argument("--picture", type=pathlib.Path)
+    picture = parser.parse_args().picture
+    cases: List[Callable[[], None]] = [the_page_is_written]
+    if browser.missing():
+        print(f"left out: the page in a browser: {browser.missing()}")
+    else:
+        cases += [a_busy_server_is_shown, texts_stay_texts, an_empty_server_is_shown]
+        if picture:
+            shown(busy.busy({**numbers(), "rv_fault_descriptor_total": 17}), f"--screenshot={picture}")
+    if shutil.which("promtool"):
+        cases += [metrics_follow_the_conventions, alerts_are_raised]
+    else:
+        print("left out: metrics and alerts by promtool, which is missing (Debian's prometheus)")
+    for case in cases:
+        case()
+    print(f"{counts[True]} passed, {counts[False]} failed")
+    sys.exit(1 if counts[False] else 0)
+
+
+main()
