@@ -14,12 +14,12 @@ use Rattle.rv_traffic.specs.declared.outcomes.Reading.TheVariants as reading
 use Rattle.rv_traffic.specs.declared.outcomes.Writing.{Writing}
 use Rattle.rv_traffic.specs.declared.outcomes.Writing.TheVariants as writing
 use Rattle.rv_traffic.specs.Calls.{Hands, ReadsOne, TellsGone, WritesOne}
-use Rattle.rv_traffic.specs.CallRuns.{AttachingsAreRuns, EventsAreRuns, GatheringsAreRuns, GivingsUpAreRuns}
+use Rattle.rv_traffic.specs.CallRuns.{EndsAreRuns, EventsAreRuns, GatheringsAreRuns}
 use Rattle.rv_traffic.specs.CallRuns.{LooksAreRuns, ReadRoundsAreRuns, RefusalsAreRuns, RunsAreJoined}
 use Rattle.rv_traffic.specs.CallRuns.{RunsBehind, UnwrittenLinesAreRuns, WriteRoundsAreRuns}
 use Rattle.rv_traffic.specs.CallRuns.{WrittenLinesAreRuns}
 use Rattle.rv_traffic.specs.Rounds.{DoesIfReady, DoesWhere, LooksAgain, LooksForMore, ReadsTurn, TakesTurns}
-use Rattle.rv_traffic.specs.Rounds.{Turn, WritesTurn}
+use Rattle.rv_traffic.specs.Rounds.{Turn, WritesTurn, round_begun}
 use Rattle.rv_traffic.specs.Views.{TrafficState}
 
 -- ---- one call
@@ -52,6 +52,12 @@ gatherings_run journal terms s t is = record {
   runs = (t, record { gathers = is.gathers; hub = is.hub; looks = is.looks }, refl);
 }
 
+same_but_looks : (journal : Bool) (terms : DeskTerms) (s : EngineState) (looks round : List ℕ)
+    → RunsBehind journal terms s (record s { looks = looks; round = round })
+same_but_looks journal terms s looks round =
+    looks_run journal terms s (record s { looks = looks; round = round })
+    (record { hub = refl; lines = refl; left = refl })
+
 none_run : (journal : Bool) (terms : DeskTerms) (s t : EngineState) → t ≡ s → RunsBehind journal terms s t
 none_run journal terms s t same = record { deeds = []; runs = same }
 
@@ -71,10 +77,9 @@ runs_join journal terms s t u first second = record {
   runs = runs_then journal terms first.deeds second.deeds s t u first.runs second.runs;
 }
 
-gone_run : (journal : Bool) (terms : DeskTerms) (s : EngineState) (now n : ℕ) (t : EngineState)
-    → TellsGone journal terms s now n t → RunsBehind journal terms s t
-gone_run journal terms s now n t (inl told) = hands_run journal terms s now _ told.0 t told.1
-gone_run journal terms s now n t (inr later) =
+pub gone_run : EndsAreRuns
+gone_run journal terms s t now n (inl told) = hands_run journal terms s now _ told.0 t told.1
+gone_run journal terms s t now n (inr later) =
     runs_join journal terms s later.mid t (gatherings_run journal terms s later.mid later.gathers)
     (looks_run journal terms later.mid t (record { hub = later.hub; lines = later.lines; left = later.left }))
 
@@ -127,11 +132,11 @@ module _ {S : Type 0} (journal : Bool) (terms : DeskTerms) where
   reads_run remaining now n old reading.Ended new is =
       hands_run journal terms old.engine now _ is.given new.engine is.hands
   reads_run remaining now n old reading.Broken new is =
-      gone_run journal terms old.engine now n new.engine is.told
+      gone_run journal terms old.engine new.engine now n is.told
   reads_run remaining now n old reading.NoMemory new (bytes, is) =
       runs_join journal terms old.engine is.between.engine new.engine
       (hands_run journal terms old.engine now is.what is.given is.between.engine is.hands)
-      (gone_run journal terms is.between.engine now n new.engine is.gives_up.told)
+      (gone_run journal terms is.between.engine new.engine now n is.gives_up.told)
 
   writes_run : (contents : S → Option (List ℕ)) (now n : ℕ) (old : TrafficState S) (what : Writing)
       (new : TrafficState S) → WritesOne contents journal terms now n old what new
@@ -144,7 +149,7 @@ module _ {S : Type 0} (journal : Bool) (terms : DeskTerms) where
   writes_run contents now n old writing.Gone new (none, same, given, hands) =
       hands_run journal terms old.engine now _ given new.engine hands
   writes_run contents now n old writing.Broken new is =
-      gone_run journal terms old.engine now n new.engine is.told
+      gone_run journal terms old.engine new.engine now n is.told
 
   where_run : {A : Type 0} (does : TrafficState S → A → TrafficState S → Type 0)
       → ((s : TrafficState S) (a : A) (t : TrafficState S) → does s a t
@@ -163,7 +168,7 @@ module _ {S : Type 0} (journal : Bool) (terms : DeskTerms) where
   ready_run does run old came new is =
       runs_join journal terms old.engine is.ready new.engine
       (gatherings_run journal terms old.engine is.ready is.gathers)
-      (where_run does run (record { engine = is.ready; table = old.table }) came new is.does)
+      (where_run does run (record { engine = is.ready; table = old.table }) came new is.made)
 
   again_run : (old : TrafficState S) (n : ℕ) (new : TrafficState S) → LooksAgain old n new
       → RunsBehind journal terms old.engine new.engine
@@ -194,12 +199,6 @@ module _ {S : Type 0} (journal : Bool) (terms : DeskTerms) where
 
   -- ---- a round
 
-  same_but_looks : (s : EngineState) (looks round : List ℕ)
-      → RunsBehind journal terms s (record s { looks = looks; round = round })
-  same_but_looks s looks round =
-      looks_run journal terms s (record s { looks = looks; round = round })
-      (record { hub = refl; lines = refl; left = refl })
-
   turns_run : {A : Type 0} (takes : TrafficState S → Turn A → TrafficState S → Type 0)
       → ((s : TrafficState S) (turn : Turn A) (t : TrafficState S) → takes s turn t
       → RunsBehind journal terms s.engine t.engine)
@@ -211,41 +210,27 @@ module _ {S : Type 0} (journal : Bool) (terms : DeskTerms) where
       runs_join journal terms old.engine between.engine new.engine
       (turns_run takes run turns old between earlier)
       (runs_join journal terms between.engine (record between.engine { round = next.round }) new.engine
-      (same_but_looks between.engine between.engine.looks next.round) (run _ turn new next.takes))
+      (same_but_looks journal terms between.engine between.engine.looks next.round)
+      (run _ turn new next.taken))
 
   round_runs : {A : Type 0} (takes : TrafficState S → Turn A → TrafficState S → Type 0)
       → ((s : TrafficState S) (turn : Turn A) (t : TrafficState S) → takes s turn t
       → RunsBehind journal terms s.engine t.engine)
       → (turns : List (Turn A)) (old new : TrafficState S)
-      → TakesTurns takes (record old {
-        engine = record old.engine {
-          looks = old.engine.round;
-          round =
-              old.engine.looks;
-        };
-      }) turns new
+      → TakesTurns takes (round_begun old) turns new
       → RunsBehind journal terms old.engine new.engine
   round_runs takes run turns old new taken =
       runs_join journal terms old.engine
       (record old.engine { looks = old.engine.round; round = old.engine.looks }) new.engine
-      (same_but_looks old.engine old.engine.round old.engine.looks)
+      (same_but_looks journal terms old.engine old.engine.round old.engine.looks)
       (turns_run takes run turns _ new taken)
 
 -- ---- the laws
 
-pub attachings_run : (S : Type 0) → AttachingsAreRuns S
-attachings_run S journal terms now n stream old new true is =
-    none_run journal terms old.engine new.engine is.engine
-attachings_run S journal terms now n stream old new false is =
-    gone_run journal terms old.engine now n new.engine is.gives_up.told
-
-pub givings_up_run : (S : Type 0) → GivingsUpAreRuns S
-givings_up_run S journal terms now n old new is = gone_run journal terms old.engine now n new.engine is.told
-
 pub read_rounds_run : {S : Type 0} (remaining : S → Option (List ℕ)) → ReadRoundsAreRuns remaining
 read_rounds_run remaining journal terms now old new faults is =
-    round_runs journal terms _ (read_turn_runs journal terms remaining now) is.turns old new is.round.takes
+    round_runs journal terms _ (read_turn_runs journal terms remaining now) is.turns old new is.round.taken
 
 pub write_rounds_run : {S : Type 0} (contents : S → Option (List ℕ)) → WriteRoundsAreRuns contents
 write_rounds_run contents journal terms now old new broken is =
-    round_runs journal terms _ (write_turn_runs journal terms contents now) is.turns old new is.round.takes
+    round_runs journal terms _ (write_turn_runs journal terms contents now) is.turns old new is.round.taken

@@ -129,7 +129,7 @@ module _ {S : Type 0} where
       → (old : TrafficState S) (came : Option A) (new : TrafficState S) → DoesIfReady does old came new
       → StaysBut old n new
   ready_keeps does n keeps old came new is =
-      let stays = where_keeps does n keeps (record { engine = is.ready; table = old.table }) came new is.does
+      let stays = where_keeps does n keeps (record { engine = is.ready; table = old.table }) came new is.made
       in
       record { round = stays.round ∙ is.gathers.looks.round; others = stays.others }
 

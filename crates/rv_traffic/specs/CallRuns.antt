@@ -10,7 +10,7 @@ use Rattle.rv_engine.specs.Engines.{EngineState}
 use Rattle.rv_engine.specs.EngineRuns.{ChangesLooks, EngineDeed, RunsEngine}
 use Rattle.rv_engine.specs.Handing.{Gathers, HandsOn, IsNotTold, IsRefused, TellsWritten, all_gone}
 use Rattle.rv_traffic.specs.declared.outcomes.ReadFaults.{ReadFaults}
-use Rattle.rv_traffic.specs.Calls.{Attaches, GivesUp}
+use Rattle.rv_traffic.specs.Calls.{TellsGone}
 use Rattle.rv_traffic.specs.Rounds.{ReadsRound, WritesRound}
 use Rattle.rv_traffic.specs.Views.{TrafficState}
 
@@ -41,14 +41,10 @@ abbrev pub GatheringsAreRuns : Type 0
 GatheringsAreRuns = (journal : Bool) (terms : DeskTerms) (s t : EngineState) → Gathers s t
     → RunsBehind journal terms s t
 
-abbrev pub AttachingsAreRuns : Type 0 → Type 0
-AttachingsAreRuns S = (journal : Bool) (terms : DeskTerms) (now number : ℕ) (stream : S)
-    (old new : TrafficState S) (is_put : Bool) → Attaches journal terms now number stream old is_put new
-    → RunsBehind journal terms old.engine new.engine
-
-abbrev pub GivingsUpAreRuns : Type 0 → Type 0
-GivingsUpAreRuns S = (journal : Bool) (terms : DeskTerms) (now number : ℕ) (old new : TrafficState S)
-    → GivesUp journal terms now number old new → RunsBehind journal terms old.engine new.engine
+-- a connection is given up
+abbrev pub EndsAreRuns : Type 0
+EndsAreRuns = (journal : Bool) (terms : DeskTerms) (s t : EngineState) (now number : ℕ)
+    → TellsGone journal terms s now number t → RunsBehind journal terms s t
 
 abbrev pub ReadRoundsAreRuns : {S : Type 0} → (S → Option (List ℕ)) → Type 0
 ReadRoundsAreRuns {S} remaining = (journal : Bool) (terms : DeskTerms) (now : ℕ) (old new : TrafficState S)

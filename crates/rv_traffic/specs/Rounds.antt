@@ -1,6 +1,6 @@
 -- A round over all that are to be looked at: one turn for each, joined state to state.
-use Rattle.std.specs.Prelude.{ℕ, ◌≡◌, ◌<◌, ◌⊎◌, Bool, Contains, List, [], ◌∷◌, ◌++◌, None, Option, Some}
-use Rattle.std.specs.Prelude.{false, length, map, true}
+use Rattle.std.specs.Prelude.{ℕ, ◌≡◌, ◌≢◌, ◌<◌, ◌⊎◌, AllPairs, Bool, Contains, List, [], ◌∷◌, ◌++◌, None}
+use Rattle.std.specs.Prelude.{Option, Some, false, length, map, true}
 use Rattle.std.specs.List.{count_by}
 use Rattle.rv_wires.specs.Connections.{HasWire}
 use Rattle.rv_desk.specs.View.{DeskTerms}
@@ -36,7 +36,7 @@ pub record DoesIfReady {S A : Type 0} (does : TrafficState S → A → TrafficSt
   where
     pub ready : EngineState
     pub gathers : Gathers old.engine ready
-    pub does : DoesWhere does (record { engine = ready; table = old.table }) came new
+    pub made : DoesWhere does (record { engine = ready; table = old.table }) came new
 
 -- a connection is to be looked at once more, and nothing else changes
 pub record LooksAgain {S : Type 0} (old : TrafficState S) (number : ℕ) (new : TrafficState S) : Type 0 where
@@ -81,7 +81,7 @@ pub record TakesNext {S A : Type 0} (takes : TrafficState S → Turn A → Traff
   where
     pub round : List ℕ
     pub last : old.engine.round ≡ round ++ turn.number ∷ []
-    pub takes : takes (record old { engine = record old.engine { round = round } }) turn new
+    pub taken : takes (record old { engine = record old.engine { round = round } }) turn new
 
 -- turns, of which the last is taken first, each where the one before it ended
 abbrev pub TakesTurns : {S A : Type 0} → (TrafficState S → Turn A → TrafficState S → Type 0)
@@ -99,7 +99,8 @@ pub record GoesRound {S A : Type 0} (takes : TrafficState S → Turn A → Traff
     (old : TrafficState S) (turns : List (Turn A)) (new : TrafficState S) : Type 0
   where
     pub numbers : map (λ turn. turn.number) turns ≡ old.engine.looks
-    pub takes : TakesTurns takes (round_begun old) turns new
+    pub once : AllPairs (λ one other. one ≢ other) old.engine.looks
+    pub taken : TakesTurns takes (round_begun old) turns new
     pub over : new.engine.round ≡ []
     pub others : (n : ℕ) → ¬ Contains old.engine.looks n → link_at new.table n ≡ link_at old.table n
 
@@ -145,7 +146,7 @@ pub record ReadsRound {S : Type 0} (remaining : S → Option (List ℕ)) (journa
   where
     pub turns : List (Turn Reading)
     pub round : GoesRound (ReadsTurn remaining journal terms now) old turns new
-    pub faults : faults ≡ read_faults turns
+    pub told : faults ≡ read_faults turns
 
 -- each that was to be looked at is written to once
 pub record WritesRound {S : Type 0} (contents : S → Option (List ℕ)) (journal : Bool) (terms : DeskTerms)
@@ -153,4 +154,4 @@ pub record WritesRound {S : Type 0} (contents : S → Option (List ℕ)) (journa
   where
     pub turns : List (Turn Writing)
     pub round : GoesRound (WritesTurn contents journal terms now) old turns new
-    pub faults : broken ≡ write_faults turns
+    pub told : broken ≡ write_faults turns

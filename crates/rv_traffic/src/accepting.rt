@@ -10,7 +10,7 @@ use rv_hearers::ConnectionNumber;
 
 /// A connection that was opened, and has no socket yet. Only `Switchboard::open` makes one, of the number
 /// that the hub gave.
-#[derive(Debug, Drop)]
+#[derive(Drop)]
 pub struct Opened {
     pub(crate) number: ConnectionNumber,
 }

@@ -1,7 +1,7 @@
 //! Laws of calls: each contract is one, and no body does anything.
-ghost use Rattle.rv_traffic.specs.CallRuns.{AttachingsAreRuns, EventsAreRuns, GatheringsAreRuns};
-ghost use Rattle.rv_traffic.specs.CallRuns.{GivingsUpAreRuns, LooksAreRuns, ReadRoundsAreRuns};
-ghost use Rattle.rv_traffic.specs.CallRuns.{RefusalsAreRuns, RunsAreJoined, UnwrittenLinesAreRuns};
+ghost use Rattle.rv_traffic.specs.CallRuns.{EndsAreRuns, EventsAreRuns, GatheringsAreRuns, LooksAreRuns};
+ghost use Rattle.rv_traffic.specs.CallRuns.{ReadRoundsAreRuns, RefusalsAreRuns, RunsAreJoined};
+ghost use Rattle.rv_traffic.specs.CallRuns.{UnwrittenLinesAreRuns};
 ghost use Rattle.rv_traffic.specs.CallRuns.{WriteRoundsAreRuns, WrittenLinesAreRuns};
 
 use std::io::{Read, Write};
@@ -14,8 +14,7 @@ pub fn calls_are_runs<S: Read + Write>()
     ensures refusals { RefusalsAreRuns }
     ensures looks { LooksAreRuns }
     ensures gatherings { GatheringsAreRuns }
-    ensures attachings { AttachingsAreRuns S }
-    ensures givings_up { GivingsUpAreRuns S }
+    ensures ends { EndsAreRuns }
     ensures read_rounds { ReadRoundsAreRuns S.remaining }
     ensures write_rounds { WriteRoundsAreRuns S.contents }
     ensures written_lines { WrittenLinesAreRuns }

@@ -1,5 +1,5 @@
 -- By what came of each.
-use Rattle.rv_traffic.proofs.CallsRun.{attachings_run, events_run, gatherings_run, givings_up_run, looks_run}
+use Rattle.rv_traffic.proofs.CallsRun.{events_run, gatherings_run, gone_run, looks_run}
 use Rattle.rv_traffic.proofs.CallsRun.{read_rounds_run, refusals_run, runs_join, unwritten_lines_run}
 use Rattle.rv_traffic.proofs.CallsRun.{write_rounds_run, written_lines_run}
 use Rattle.rv_traffic.proofs.laws.calls_are_runs.Goals as goal
@@ -19,11 +19,8 @@ returns-clause-looks g c = looks_run
 pub returns-clause-gatherings : goal.returns-clause-gatherings
 returns-clause-gatherings g c = gatherings_run
 
-pub returns-clause-attachings : goal.returns-clause-attachings
-returns-clause-attachings g c = attachings_run g.row.S
-
-pub returns-clause-givings_up : goal.returns-clause-givings_up
-returns-clause-givings_up g c = givings_up_run g.row.S
+pub returns-clause-ends : goal.returns-clause-ends
+returns-clause-ends g c = gone_run
 
 pub returns-clause-read_rounds : goal.returns-clause-read_rounds
 returns-clause-read_rounds g c = read_rounds_run g.S.Read.remaining

@@ -11,14 +11,14 @@ pub returns-then-not-catch_up-clause-reads : goal.returns-then-not-catch_up-clau
 returns-then-not-catch_up-clause-reads g c = record {
   ready = engine_state c.catch_up.new.self;
   gathers = c.catch_up.ensures.gathers;
-  does = (c.if-not-catch_up.ensures.no, refl);
+  made = (c.if-not-catch_up.ensures.no, refl);
 }
 
 pub returns-clause-reads : goal.returns-clause-reads
 returns-clause-reads g c = record {
   ready = engine_state c.catch_up.new.self;
   gathers = c.catch_up.ensures.gathers;
-  does = (
+  made = (
     c.if-not-catch_up.ensures.yes,
     subst (λ (h : HubParts). ReadsOne g.S.Read.remaining h.has_journal (hub_terms h) c.args.now c.args.number
         (record {

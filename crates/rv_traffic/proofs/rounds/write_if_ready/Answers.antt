@@ -11,14 +11,14 @@ pub returns-then-not-catch_up-clause-writes : goal.returns-then-not-catch_up-cla
 returns-then-not-catch_up-clause-writes g c = record {
   ready = engine_state c.catch_up.new.self;
   gathers = c.catch_up.ensures.gathers;
-  does = (c.if-not-catch_up.ensures.no, refl);
+  made = (c.if-not-catch_up.ensures.no, refl);
 }
 
 pub returns-clause-writes : goal.returns-clause-writes
 returns-clause-writes g c = record {
   ready = engine_state c.catch_up.new.self;
   gathers = c.catch_up.ensures.gathers;
-  does = (
+  made = (
     c.if-not-catch_up.ensures.yes,
     subst (λ (h : HubParts). WritesOne g.S.Write.contents h.has_journal (hub_terms h) c.args.now c.args.number
         (record {
