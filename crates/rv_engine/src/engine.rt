@@ -39,7 +39,7 @@ impl Model for Engine {
 
 impl Engine {
     ghost use Rattle.std.specs.Prelude.{◌↔◌, ◌<◌, ◌∷◌, ◌++◌, [], IfErr, IfNone, IfOk, IfSome, IsTrue, OnOk};
-    ghost use Rattle.std.specs.Prelude.{length, max};
+    ghost use Rattle.std.specs.Prelude.{AllPairs, ◌≢◌, length, max};
     ghost use Rattle.std.specs.Bool.{OnFalse, OnTrue};
     ghost use Rattle.rv_frame.specs.Sink.{SinkTakes};
     ghost use Rattle.rv_machine.specs.Machines.{IsWhole, state_in};
@@ -182,9 +182,10 @@ impl Engine {
         handing::look_at(&mut self.parts, number);
     }
 
-    /// Those that are to be looked at become the round. Those of the last round that are left are to be
-    /// looked at in the next one.
+    /// Those that are to be looked at become the round, each once. Those of the last round that are left are
+    /// to be looked at in the next one.
     pub fn begin_round(&mut self)
+        ensures once { AllPairs (λ one other. one ≢ other) (engine_state self.old).looks }
         ensures round { engine_state self.new ≡ record (engine_state self.old) {
           looks = (engine_state self.old).round;
           round = (engine_state self.old).looks;
@@ -199,6 +200,7 @@ impl Engine {
         ensures some { IfSome result (λ number. (engine_state self.old).round
             ≡ (engine_state self.new).round ++ number ∷ []) }
         ensures none { IfNone result ((engine_state self.old).round ≡ []) }
+        ensures over { IfNone result ((engine_state self.new).round ≡ []) }
         ensures rest { engine_state self.new
             ≡ record (engine_state self.old) { round = (engine_state self.new).round } }
         ensures hub { self.new.hub ≡ self.old.hub }

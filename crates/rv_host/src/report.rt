@@ -99,6 +99,13 @@ impl HostReport {
         }
     }
 
+    /// So many faults of this kind came.
+    pub(crate) fn note_all(&mut self, kind: FaultKind, count: usize) {
+        for _ in 0..count {
+            self.note(kind);
+        }
+    }
+
     /// Whether a fault came that wasn't told.
     pub(crate) fn has_untold(&self) -> bool {
         !self.is_quiet && self.tallies.iter().any(|tally| !tally.is_told())

@@ -11,7 +11,7 @@ use rv_engine::{Engine, EngineFault};
 use rv_hearers::ConnectionNumber;
 use rv_links::Links;
 use rv_options::HostOptions;
-use rv_traffic::{Reading, Switchboard, Writing};
+use rv_traffic::Switchboard;
 use std::io;
 use std::os::fd::AsRawFd;
 use std::time::{Clock, Duration};
@@ -296,16 +296,18 @@ impl Shell {
     fn open(&mut self, now: u64, mut stream: TcpStream) {
         let _ = stream.set_nodelay(true);
         keep_alive(&stream);
-        let Ok(number) = self.traffic.open(now) else {
+        let Ok(opened) = self.traffic.open(now) else {
             self.report.note(FaultKind::NotOpened);
             return;
         };
-        if number >= self.traffic.links().room() || !self.register(number, &mut stream) {
+        if !self.register(opened.number(), &mut stream) {
             self.report.note(FaultKind::NotOpened);
-            self.traffic.give_up(now, number);
+            self.traffic.turn_away(now, opened);
             return;
         }
-        self.traffic.attach(now, number, stream);
+        if !self.traffic.attach(now, opened, stream) {
+            self.report.note(FaultKind::NotOpened);
+        }
     }
 
     // The poll tells of a socket from now on, by the number of its connection.
@@ -317,64 +319,16 @@ impl Shell {
             .is_ok()
     }
 
-    // Reads once from each that is looked at, all of which are to be written to.
+    // Reads once from each that is looked at.
     fn read_all(&mut self, now: u64) {
-        self.traffic.begin_round();
-        for _ in 0..self.traffic.links().room() {
-            let Some(number) = self.traffic.next_look() else {
-                break;
-            };
-            self.read_one(now, number);
-            self.traffic.look_at(number);
-        }
+        let faults = self.traffic.read_round(now);
+        self.report.note_all(FaultKind::Link, faults.broken);
+        self.report.note_all(FaultKind::NotOpened, faults.no_memory);
     }
 
-    // Reads once from a connection. Nothing is read while lines of the account find no memory, since no event
-    // would be taken.
-    fn read_one(&mut self, now: u64, number: ConnectionNumber) {
-        if !self.traffic.catch_up() {
-            return;
-        }
-        match self.traffic.read_one(now, number) {
-            Reading::Broken => self.report.note(FaultKind::Link),
-            Reading::NoMemory => self.report.note(FaultKind::NotOpened),
-            Reading::Nothing | Reading::Offered | Reading::Ended => {}
-        }
-    }
-
-    // Writes once to each that is looked at. Those of which something more can be done at once are looked
-    // at in the next turn.
+    // Writes once to each that is looked at.
     fn write_all(&mut self, now: u64) {
-        self.traffic.begin_round();
-        for _ in 0..self.traffic.links().room() {
-            let Some(number) = self.traffic.next_look() else {
-                break;
-            };
-            if !self.write_one(now, number) || self.is_busy(number) {
-                self.traffic.look_at(number);
-            }
-        }
-    }
-
-    // Writes once to a connection, and gives whether that could be told: nothing is written while lines of
-    // the account find no memory.
-    fn write_one(&mut self, now: u64, number: ConnectionNumber) -> bool {
-        if !self.traffic.catch_up() {
-            return false;
-        }
-        if self.traffic.write_one(now, number) == Writing::Broken {
-            self.report.note(FaultKind::Link);
-        }
-        true
-    }
-
-    // Whether something can be read from a connection or written to it at once.
-    fn is_busy(&self, number: ConnectionNumber) -> bool {
-        let Some(wire) = self.traffic.engine().hub().wire(number) else {
-            return false;
-        };
-        let links = self.traffic.links();
-        (links.has_input(number) && wire.may_offer())
-            || (links.is_writable(number) && !wire.ready().is_empty())
+        let broken = self.traffic.write_round(now);
+        self.report.note_all(FaultKind::Link, broken);
     }
 }

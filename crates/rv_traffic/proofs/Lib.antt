@@ -2,4 +2,7 @@
 pub mod Tables
 pub mod WhatCame
 pub mod WhatLeft
+pub mod Staying
+pub mod InRound
+pub mod Counted
 pub mod CallsRun

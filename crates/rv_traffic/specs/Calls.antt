@@ -1,6 +1,6 @@
 -- What is read, written and told of one connection, and of all.
 use Rattle.std.specs.Prelude.{ℕ, ◌≡◌, ◌<◌, ◌≤◌, ◌⊎◌, Bool, List, [], ◌∷◌, ◌++◌, None, Option, Some}
-use Rattle.std.specs.Prelude.{drop, length, take}
+use Rattle.std.specs.Prelude.{drop, false, length, take, true}
 use Rattle.std.specs.Io.KnownBytes.{Appends, Consumes, IsAtEnd, Keeps}
 use Rattle.rv_account.specs.declared.entry.Entry.{Entry}
 use Rattle.rv_connection.specs.Traffic.{MayOffer, Traffic}
@@ -11,7 +11,7 @@ use Rattle.rv_hub.specs.declared.events.HubEvent.TheVariants as event
 use Rattle.rv_engine.specs.Engines.{EngineState}
 use Rattle.rv_engine.specs.Handing.{Gathers, HandsOn, LooksAt}
 use Rattle.rv_links.specs.declared.link.Socket.{Socket}
-use Rattle.rv_links.specs.Table.{ChangesOne, link_at, pending_of}
+use Rattle.rv_links.specs.Table.{ChangesOne, IsFreshSlot, link_at, pending_of}
 use Rattle.rv_traffic.specs.declared.outcomes.Reading.{Reading}
 use Rattle.rv_traffic.specs.declared.outcomes.Reading.TheVariants as reading
 use Rattle.rv_traffic.specs.declared.outcomes.Writing.{Writing}
@@ -85,6 +85,27 @@ pub record GivesUp {S : Type 0} (journal : Bool) (terms : DeskTerms) (now number
   where
     pub link : LetsGo old.table number new.table
     pub told : TellsGone journal terms old.engine now number new.engine
+
+-- ---- accepting
+
+-- a socket that was accepted stands under a number that has room, in place of one that was there
+pub record PutsUnder {S : Type 0} (number : ℕ) (stream : S) (old new : TrafficState S) : Type 0 where
+  pub room : number < length old.table
+  pub fresh : IsFreshSlot stream (link_at new.table number)
+  pub others : ChangesOne old.table number new.table
+  pub engine : new.engine ≡ old.engine
+
+-- or the number has no room: then the connection is given up
+pub record HasNoRoom {S : Type 0} (journal : Bool) (terms : DeskTerms) (now number : ℕ)
+    (old new : TrafficState S) : Type 0
+  where
+    pub room : length old.table ≤ number
+    pub gives_up : GivesUp journal terms now number old new
+
+abbrev pub Attaches : {S : Type 0} → Bool → DeskTerms → ℕ → ℕ → S → TrafficState S → Bool → TrafficState S
+    → Type 0
+Attaches journal terms now number stream old true new = PutsUnder number stream old new
+Attaches journal terms now number stream old false new = HasNoRoom journal terms now number old new
 
 -- ---- reading
 

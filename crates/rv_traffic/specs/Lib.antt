@@ -1,4 +1,5 @@
 -- What a reader must agree with: all that the public contracts cite.
 pub mod Views
 pub mod Calls
+pub mod Rounds
 pub mod CallRuns

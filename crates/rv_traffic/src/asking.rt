@@ -1,9 +1,9 @@
 //! What is asked of a connection before its turn.
-ghost use Rattle.std.specs.Prelude.{◌≡◌, [], None, Some};
+ghost use Rattle.std.specs.Prelude.{◌≡◌, ◌<◌, [], length, None, Some};
 ghost use Rattle.std.specs.Bool.{OnFalse, OnTrue};
 ghost use Rattle.rv_connection.specs.Traffic.{Traffic};
 ghost use Rattle.rv_wires.specs.Connections.{HasWire};
-ghost use Rattle.rv_links.specs.Table.{link_at, pending_of};
+ghost use Rattle.rv_links.specs.Table.{HasInput, IsWritable, link_at, pending_of};
 ghost use Rattle.rv_engine.specs.Engines.{engine_state};
 ghost use Rattle.rv_traffic.specs.Calls.{MayBeOffered};
 
@@ -49,4 +49,41 @@ pub(crate) fn ready_of(engine: &Engine, number: ConnectionNumber) -> &[u8]
         Some(wire) => wire.ready(),
         None => &[],
     }
+}
+
+// Whether bytes of a connection may leave.
+fn has_ready(engine: &Engine, number: ConnectionNumber) -> bool
+    ensures yes { OnTrue result (HasWire (engine_state engine.now).hub.open_wires number
+        (λ wire. 0 < length wire.ready)) }
+    ensures no { OnFalse result (¬ HasWire (engine_state engine.now).hub.open_wires number
+        (λ wire. 0 < length wire.ready)) }
+{
+    match engine.hub().wire(number) {
+        Some(wire) => !wire.ready().is_empty(),
+        None => false,
+    }
+}
+
+// Whether more of a connection's input may be offered, and there is some, or may be.
+pub(crate) fn can_read<S: Drop>(engine: &Engine, links: &Links<S>, number: ConnectionNumber) -> bool
+    ensures yes { OnTrue result (MayBeOffered (engine_state engine.now).hub number
+        × HasInput (link_at links.now.table.items number)) }
+    ensures no { OnFalse result (¬ (MayBeOffered (engine_state engine.now).hub number
+        × HasInput (link_at links.now.table.items number))) }
+{
+    may_offer(engine, number) && links.has_input(number)
+}
+
+// Whether bytes of a connection may leave, and its socket may take some.
+pub(crate) fn can_write<S: Drop>(
+    engine: &Engine,
+    links: &Links<S>,
+    number: ConnectionNumber,
+) -> bool
+    ensures yes { OnTrue result (HasWire (engine_state engine.now).hub.open_wires number
+        (λ wire. 0 < length wire.ready) × IsWritable (link_at links.now.table.items number)) }
+    ensures no { OnFalse result (¬ (HasWire (engine_state engine.now).hub.open_wires number
+        (λ wire. 0 < length wire.ready) × IsWritable (link_at links.now.table.items number))) }
+{
+    has_ready(engine, number) && links.is_writable(number)
 }

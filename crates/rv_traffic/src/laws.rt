@@ -1,10 +1,22 @@
-//! A law of calls: its contract is one, and its body does nothing.
-ghost use Rattle.rv_traffic.specs.CallRuns.{ReadsAreRuns, WritesAreRuns};
+//! Laws of calls: each contract is one, and no body does anything.
+ghost use Rattle.rv_traffic.specs.CallRuns.{EndsAreRuns, EventsAreRuns, GatheringsAreRuns, LooksAreRuns};
+ghost use Rattle.rv_traffic.specs.CallRuns.{ReadRoundsAreRuns, RefusalsAreRuns, RunsAreJoined};
+ghost use Rattle.rv_traffic.specs.CallRuns.{UnwrittenLinesAreRuns};
+ghost use Rattle.rv_traffic.specs.CallRuns.{WriteRoundsAreRuns, WrittenLinesAreRuns};
 
 use std::io::{Read, Write};
 
-/// What a connection's turn to be read, or to be written to, does to the engine is a run of it.
+/// What each call does to the engine is a run of it, and calls one behind another are one run: so a server's
+/// whole turn is one.
 pub fn calls_are_runs<S: Read + Write>()
-    ensures reads { ReadsAreRuns S.remaining }
-    ensures writes { WritesAreRuns S.contents }
+    ensures joined { RunsAreJoined }
+    ensures events { EventsAreRuns }
+    ensures refusals { RefusalsAreRuns }
+    ensures looks { LooksAreRuns }
+    ensures gatherings { GatheringsAreRuns }
+    ensures ends { EndsAreRuns }
+    ensures read_rounds { ReadRoundsAreRuns S.remaining }
+    ensures write_rounds { WriteRoundsAreRuns S.contents }
+    ensures written_lines { WrittenLinesAreRuns }
+    ensures unwritten_lines { UnwrittenLinesAreRuns S.contents }
 {}

@@ -1,13 +1,16 @@
 //! An engine over the sockets of its connections: what is read of each is handed on, and what leaves is told.
 #![tactic(auto)]
 
+mod accepting;
 mod asking;
 mod giving_up;
 pub mod laws;
 mod outcomes;
 mod reading;
+mod rounds;
 mod traffic;
 mod writing;
 
-pub use outcomes::{Reading, Writing};
+pub use accepting::Opened;
+pub use outcomes::{ReadFaults, Reading, Writing};
 pub use traffic::Switchboard;

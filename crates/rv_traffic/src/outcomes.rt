@@ -29,3 +29,12 @@ pub enum Writing {
     /// Its socket failed: it is given up.
     Broken,
 }
+
+/// How many connections were given up in a round in which each was read.
+#[derive(Clone, Copy, Debug, PartialEq, Eq)]
+pub struct ReadFaults {
+    /// The sockets of so many failed.
+    pub broken: usize,
+    /// To what the hub didn't take of so many memory was refused.
+    pub no_memory: usize,
+}

@@ -1,13 +1,14 @@
 //! An engine with the sockets of its connections.
-ghost use Rattle.std.specs.Prelude.{◌≡◌, ◌++◌, [], length, IfErr, IfOk, OnOk};
+ghost use Rattle.std.specs.Prelude.{◌≡◌, [], length, IfErr, IfOk, OnOk};
 ghost use Rattle.rv_frame.specs.Sink.{SinkTakes};
 ghost use Rattle.rv_hub.specs.Hubs.{hub_terms};
 ghost use Rattle.rv_hub.specs.declared.events.HubEvent.TheVariants as event;
 ghost use Rattle.rv_engine.specs.Engines.{engine_state};
 ghost use Rattle.rv_engine.specs.Handing.{HandsOn, IsNotTold, IsRefused, TellsWritten, all_gone, unwritten};
 
-use crate::outcomes::{Reading, Writing};
-use crate::{giving_up, reading, writing};
+use crate::accepting::Opened;
+use crate::outcomes::ReadFaults;
+use crate::{accepting, giving_up, rounds};
 use rv_engine::{Engine, EngineFault, LinkEvent};
 use rv_frame::Sink;
 use rv_hearers::ConnectionNumber;
@@ -59,35 +60,49 @@ impl<S: Drop> Switchboard<S> {
 }
 
 impl<S: Drop> Switchboard<S> {
-    ghost use Rattle.std.specs.Prelude.{◌<◌, ◌∷◌, ℕ, IfNone, IfSome};
+    ghost use Rattle.std.specs.Prelude.{◌<◌, ◌∷◌, ℕ};
     ghost use Rattle.std.specs.Bool.{OnFalse, OnTrue};
     ghost use Rattle.rv_engine.specs.Handing.{Gathers, LooksAt};
-    ghost use Rattle.rv_traffic.specs.Calls.{Hands};
-    ghost use Rattle.rv_links.specs.Table.{ChangesOne, IsFreshSlot, SameSlot, link_at};
+    ghost use Rattle.rv_traffic.specs.Calls.{Attaches, GivesUp, Hands};
+    ghost use Rattle.rv_links.specs.Table.{ChangesOne, SameSlot, link_at};
     ghost use Rattle.rv_traffic.specs.Views.{SameTerms, traffic_state};
 
     /// A connection is opened at a moment: it gives its number, under which a socket is to be put, or why
     /// there is none.
-    pub fn open(&mut self, now: u64) -> Result<ConnectionNumber, EngineFault>
-        ensures opens { IfOk result (λ number. HandsOn self.old.engine.hub.has_journal
+    pub fn open(&mut self, now: u64) -> Result<Opened, EngineFault>
+        ensures opens { IfOk result (λ opened. HandsOn self.old.engine.hub.has_journal
             (hub_terms self.old.engine.hub) (engine_state self.old.engine) now event.Opened
-            self.new.engine.hub.desk.entries.items number (engine_state self.new.engine)) }
+            self.new.engine.hub.desk.entries.items opened.number (engine_state self.new.engine)) }
         ensures refused { IfErr result (λ why. IsRefused (engine_state self.old.engine) event.Opened why
             (engine_state self.new.engine)) }
         ensures links { self.new.links ≡ self.old.links }
         ensures terms { SameTerms self.old self.new }
     {
-        self.engine.tell(now, LinkEvent::Opened)
+        match self.engine.tell(now, LinkEvent::Opened) {
+            Ok(number) => Ok(Opened { number }),
+            Err(why) => Err(why),
+        }
     }
 
-    /// Puts a socket that was accepted under the number of its connection, in place of one that is there.
-    pub fn attach(&mut self, now: u64, number: ConnectionNumber, stream: S)
-        requires { number < length self.old.links.table.items }
-        ensures fresh { IsFreshSlot stream (link_at self.new.links.table.items number) }
-        ensures others { ChangesOne self.old.links.table.items number self.new.links.table.items }
-        ensures engine { self.new.engine ≡ self.old.engine }
+    /// Puts a socket that was accepted under the number that the hub gave its connection, and gives whether
+    /// that has room; else the connection is given up.
+    pub fn attach(&mut self, now: u64, opened: Opened, stream: S) -> bool
+        ensures attaches { Attaches self.old.engine.hub.has_journal (hub_terms self.old.engine.hub) now
+            opened.number stream (traffic_state self.old) result (traffic_state self.new) }
+        ensures terms { SameTerms self.old self.new }
     {
-        self.links.insert(number, stream, now);
+        let Opened { number } = opened;
+        accepting::attach(self, now, number, stream)
+    }
+
+    /// Gives up a connection that was opened and gets no socket.
+    pub fn turn_away(&mut self, now: u64, opened: Opened)
+        ensures gives_up { GivesUp self.old.engine.hub.has_journal (hub_terms self.old.engine.hub) now
+            opened.number (traffic_state self.old) (traffic_state self.new) }
+        ensures terms { SameTerms self.old self.new }
+    {
+        let Opened { number } = opened;
+        self.give_up(now, number);
     }
 
     /// A poll told that a connection's socket may be read, or written, once more: it is to be looked at.
@@ -101,7 +116,7 @@ impl<S: Drop> Switchboard<S> {
         ensures left { (engine_state self.new.engine).left ≡ (engine_state self.old.engine).left }
     {
         self.links.heed(number, is_readable, is_writable);
-        self.look_at(number);
+        self.engine.look_at(number);
     }
 
     /// Time goes on to a moment, where no entry is left: whoever has waited as long as it may is told.
@@ -126,43 +141,6 @@ impl<S: Drop> Switchboard<S> {
         self.engine.catch_up()
     }
 
-    /// Those that are to be looked at become the round.
-    pub fn begin_round(&mut self)
-        ensures round { engine_state self.new.engine ≡ record (engine_state self.old.engine) {
-          looks = (engine_state self.old.engine).round;
-          round = (engine_state self.old.engine).looks;
-        } }
-        ensures hub { self.new.engine.hub ≡ self.old.engine.hub }
-        ensures links { self.new.links ≡ self.old.links }
-    {
-        self.engine.begin_round();
-    }
-
-    /// The next connection of the round, if one is left.
-    pub fn next_look(&mut self) -> Option<ConnectionNumber>
-        ensures some { IfSome result (λ number. (engine_state self.old.engine).round
-            ≡ (engine_state self.new.engine).round ++ number ∷ []) }
-        ensures none { IfNone result ((engine_state self.old.engine).round ≡ []) }
-        ensures rest { engine_state self.new.engine ≡ record (engine_state self.old.engine) {
-          round = (engine_state self.new.engine).round;
-        } }
-        ensures hub { self.new.engine.hub ≡ self.old.engine.hub }
-        ensures links { self.new.links ≡ self.old.links }
-    {
-        self.engine.next_look()
-    }
-
-    /// A connection is to be looked at in the next round.
-    pub fn look_at(&mut self, number: ConnectionNumber)
-        ensures looks { LooksAt (engine_state self.old.engine) (number ∷ []) (engine_state self.new.engine) }
-        ensures hub { self.new.engine.hub ≡ self.old.engine.hub }
-        ensures lines { (engine_state self.new.engine).lines ≡ (engine_state self.old.engine).lines }
-        ensures left { (engine_state self.new.engine).left ≡ (engine_state self.old.engine).left }
-        ensures links { self.new.links ≡ self.old.links }
-    {
-        self.engine.look_at(number);
-    }
-
     /// Writes all lines of the account that aren't written, as the engine does.
     pub fn write_lines<W: Write>(
         &mut self,
@@ -184,33 +162,32 @@ impl<S: Drop> Switchboard<S> {
 }
 
 impl<S: Read + Drop> Switchboard<S> {
-    ghost use Rattle.rv_traffic.specs.Calls.{ReadsOne};
+    ghost use Rattle.rv_traffic.specs.Rounds.{ReadsRound};
     ghost use Rattle.rv_traffic.specs.Views.{SameTerms, traffic_state};
 
-    /// A connection's turn to be read, where no entry is left. What is pending of one that may be offered
-    /// more goes first; else a piece is read.
-    pub fn read_one(&mut self, now: u64, number: ConnectionNumber) -> Reading
-        requires { (engine_state self.old.engine).left ≡ [] }
-        ensures reads { ReadsOne S.remaining self.old.engine.hub.has_journal (hub_terms self.old.engine.hub)
-            now number (traffic_state self.old) result (traffic_state self.new) }
+    /// Reads once from each that is to be looked at, at a moment: all of them are to be written to. What is
+    /// pending of one that may be offered more goes first; else a piece is read. It gives how many failed.
+    pub fn read_round(&mut self, now: u64) -> ReadFaults
+        ensures reads { ReadsRound S.remaining self.old.engine.hub.has_journal
+            (hub_terms self.old.engine.hub) now (traffic_state self.old) result (traffic_state self.new) }
         ensures terms { SameTerms self.old self.new }
     {
-        reading::read_one(self, now, number)
+        rounds::read_round(self, now)
     }
 }
 
 impl<S: Write + Drop> Switchboard<S> {
-    ghost use Rattle.rv_traffic.specs.Calls.{WritesOne};
+    ghost use Rattle.rv_traffic.specs.Rounds.{WritesRound};
     ghost use Rattle.rv_traffic.specs.Views.{SameTerms, traffic_state};
 
-    /// A connection's turn to be written to, where no entry is left. One that the hub closed loses its
-    /// socket, and the hub is told of one that has none.
-    pub fn write_one(&mut self, now: u64, number: ConnectionNumber) -> Writing
-        requires { (engine_state self.old.engine).left ≡ [] }
-        ensures writes { WritesOne S.contents self.old.engine.hub.has_journal (hub_terms self.old.engine.hub)
-            now number (traffic_state self.old) result (traffic_state self.new) }
+    /// Writes once to each that is to be looked at, at a moment, which then is only if it can be read or
+    /// written again at once. One that the hub closed loses its socket, and the hub is told of one that has
+    /// none. It gives how many failed.
+    pub fn write_round(&mut self, now: u64) -> usize
+        ensures writes { WritesRound S.contents self.old.engine.hub.has_journal
+            (hub_terms self.old.engine.hub) now (traffic_state self.old) result (traffic_state self.new) }
         ensures terms { SameTerms self.old self.new }
     {
-        writing::write_one(self, now, number)
+        rounds::write_round(self, now)
     }
 }

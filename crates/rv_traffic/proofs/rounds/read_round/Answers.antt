@@ -1,0 +1,111 @@
+-- One turn after another, until none is left of the round.
+use Rattle.std.proofs.Common.{◌∙◌, [], ap, arith, length, refl, subst, sym}
+use Rattle.rv_hub.specs.declared.parts.HubParts.{HubParts}
+use Rattle.rv_hub.specs.Hubs.{hub_terms}
+use Rattle.rv_engine.specs.Engines.{EngineState, engine_state}
+use Rattle.rv_traffic.specs.declared.outcomes.Reading.{Reading}
+use Rattle.rv_traffic.specs.Rounds.{ReadsTurn, Turn, read_faults}
+use Rattle.rv_traffic.specs.Views.{traffic_state}
+use Rattle.rv_traffic.proofs.Counted.{few_broken, few_refused, read_counted, read_turn_at}
+use Rattle.rv_traffic.proofs.InRound.{SoFar, all_taken, few_taken, none_taken, one_taken, over_same}
+use Rattle.rv_traffic.proofs.InRound.{shorter}
+use Rattle.rv_traffic.proofs.Staying.{read_turn_keeps}
+use Rattle.rv_traffic.proofs.rounds.read_round.Goals as goal
+
+pub loop-number-init : goal.loop-number-init
+loop-number-init g c = (
+  none_taken (ReadsTurn g.S.Read.remaining c.args.traffic.now.engine.hub.has_journal
+      (hub_terms c.args.traffic.now.engine.hub) c.args.now) read_faults (traffic_state c.args.traffic.now)
+      (record {
+        engine = engine_state c.begin_round.new.self;
+        table = c.args.traffic.now.links.table.items;
+      }) (record { broken = 0; no_memory = 0 })
+      (ap (λ (e : EngineState). record { engine = e; table = c.args.traffic.now.links.table.items })
+      c.begin_round.ensures.round) refl,
+  record {
+    terms = ap hub_terms c.begin_round.ensures.hub;
+    journal = ap (λ (h : HubParts). h.has_journal) c.begin_round.ensures.hub;
+  },
+)
+
+pub count_read-faults-requires-clause-broken : goal.count_read-faults-requires-clause-broken
+count_read-faults-requires-clause-broken g c =
+    let so_far = c.loop-number.invariant.0 in
+    let few = few_taken _ read_faults (traffic_state c.args.traffic.now) (traffic_state c.loop-number.traffic)
+    c.loop-number.faults (engine_state c.next_look.new.self).round c.in-Some.number c.in-Some.ensures.some
+    so_far in
+    let less = few_broken so_far.turns c.loop-number.faults _ so_far.told few in
+    omega (arith, less, c.args.traffic.now.engine.looks.numbers.ok)
+
+pub count_read-faults-requires-clause-no_memory : goal.count_read-faults-requires-clause-no_memory
+count_read-faults-requires-clause-no_memory g c =
+    let so_far = c.loop-number.invariant.0 in
+    let few = few_taken _ read_faults (traffic_state c.args.traffic.now) (traffic_state c.loop-number.traffic)
+    c.loop-number.faults (engine_state c.next_look.new.self).round c.in-Some.number c.in-Some.ensures.some
+    so_far in
+    let less = few_refused so_far.turns c.loop-number.faults _ so_far.told few in
+    omega (arith, less, c.args.traffic.now.engine.looks.numbers.ok)
+
+pub loop-number-smaller : goal.loop-number-smaller
+loop-number-smaller g c =
+    shorter (engine_state c.loop-number.traffic.engine).round (engine_state c.next_look.new.self).round
+    (engine_state c.read_turn-came.new.traffic.engine).round c.in-Some.number c.in-Some.ensures.some
+    (read_turn_keeps g.S.Read.remaining _ _ _ _ _ _ c.read_turn-came.ensures.reads).round
+
+pub loop-number-preserved : goal.loop-number-preserved
+loop-number-preserved g c =
+    let first = c.args.traffic.now in
+    let before = c.loop-number.traffic in
+    let after = c.read_turn-came.new.traffic in
+    let same = c.loop-number.invariant.1 in
+    let terms = ap hub_terms c.next_look.ensures.hub ∙ same.terms in
+    let journal = ap (λ (h : HubParts). h.has_journal) c.next_look.ensures.hub ∙ same.journal in
+    let takes = ReadsTurn g.S.Read.remaining first.engine.hub.has_journal (hub_terms first.engine.hub)
+    c.args.now in
+    let turn : Turn Reading = record { number = c.in-Some.number; came = c.read_turn-came.result } in (
+      one_taken takes read_faults
+          (read_turn_keeps g.S.Read.remaining first.engine.hub.has_journal (hub_terms first.engine.hub)
+          c.args.now)
+          (traffic_state first) (traffic_state before) (traffic_state after) c.loop-number.faults
+          c.count_read-faults.result (engine_state c.next_look.new.self) turn c.in-Some.ensures.some
+          c.next_look.ensures.rest
+          (read_turn_at g.S.Read.remaining first.engine.hub.has_journal c.next_look.new.self.hub.has_journal
+          (hub_terms first.engine.hub) (hub_terms c.next_look.new.self.hub) c.args.now _ turn
+          (traffic_state after) journal terms c.read_turn-came.ensures.reads)
+          (read_counted turn c.loop-number.faults c.count_read-faults.result
+          c.count_read-faults.ensures.broken c.count_read-faults.ensures.no_memory)
+          c.loop-number.invariant.0,
+      record {
+        terms = c.read_turn-came.ensures.terms.terms ∙ terms;
+        journal = c.read_turn-came.ensures.terms.journal ∙ journal;
+      },
+    )
+
+pub returns-clause-reads : goal.returns-clause-reads
+returns-clause-reads g c =
+    let first = c.args.traffic.now in
+    let so_far = c.loop-number.invariant.0 in
+    let table = c.loop-number.traffic.links.table.items in
+    let last : SoFar (ReadsTurn g.S.Read.remaining first.engine.hub.has_journal
+    (hub_terms first.engine.hub) c.args.now) read_faults (traffic_state first)
+    (record { engine = engine_state c.next_look.new.self; table = table }) c.loop-number.faults =
+    subst (λ (e : EngineState). SoFar (ReadsTurn g.S.Read.remaining first.engine.hub.has_journal
+    (hub_terms first.engine.hub) c.args.now) read_faults (traffic_state first)
+    (record { engine = e; table = table }) c.loop-number.faults)
+    (over_same (engine_state c.loop-number.traffic.engine) (engine_state c.next_look.new.self)
+    c.in_default.ensures.none c.in_default.ensures.over c.next_look.ensures.rest) so_far in
+    record {
+      turns = last.turns;
+      round = all_taken _ read_faults
+          (read_turn_keeps g.S.Read.remaining first.engine.hub.has_journal (hub_terms first.engine.hub)
+          c.args.now)
+          (traffic_state first) (record { engine = engine_state c.next_look.new.self; table = table })
+          c.loop-number.faults c.begin_round.ensures.once c.in_default.ensures.over last;
+      told = last.told;
+    }
+
+pub returns-clause-terms : goal.returns-clause-terms
+returns-clause-terms g c = record {
+  terms = ap hub_terms c.next_look.ensures.hub ∙ c.loop-number.invariant.1.terms;
+  journal = ap (λ (h : HubParts). h.has_journal) c.next_look.ensures.hub ∙ c.loop-number.invariant.1.journal;
+}

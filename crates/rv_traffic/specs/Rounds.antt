@@ -1,0 +1,157 @@
+-- A round over all that are to be looked at: one turn for each, joined state to state.
+use Rattle.std.specs.Prelude.{ℕ, ◌≡◌, ◌≢◌, ◌<◌, ◌⊎◌, AllPairs, Bool, Contains, List, [], ◌∷◌, ◌++◌, None}
+use Rattle.std.specs.Prelude.{Option, Some, false, length, map, true}
+use Rattle.std.specs.List.{count_by}
+use Rattle.rv_wires.specs.Connections.{HasWire}
+use Rattle.rv_desk.specs.View.{DeskTerms}
+use Rattle.rv_engine.specs.Engines.{EngineState}
+use Rattle.rv_engine.specs.EngineRuns.{ChangesLooks}
+use Rattle.rv_engine.specs.Handing.{Gathers, LooksAt}
+use Rattle.rv_links.specs.Table.{HasInput, IsWritable, link_at}
+use Rattle.rv_traffic.specs.declared.outcomes.ReadFaults.{ReadFaults}
+use Rattle.rv_traffic.specs.declared.outcomes.Reading.{Reading}
+use Rattle.rv_traffic.specs.declared.outcomes.Reading.TheVariants as reading
+use Rattle.rv_traffic.specs.declared.outcomes.Writing.{Writing}
+use Rattle.rv_traffic.specs.declared.outcomes.Writing.TheVariants as writing
+use Rattle.rv_traffic.specs.Calls.{MayBeOffered, ReadsOne, WritesOne}
+use Rattle.rv_traffic.specs.Views.{TrafficState}
+
+-- ---- a turn
+
+-- whose turn it was, and what came of it: nothing is read or written while lines of the account find no
+-- memory
+pub record Turn (A : Type 0) : Type 0 where
+  pub number : ℕ
+  pub came : Option A
+
+-- where no entry is left a read or a write is made, else none
+abbrev pub DoesWhere : {S A : Type 0} → (TrafficState S → A → TrafficState S → Type 0) → TrafficState S
+    → Option A → TrafficState S → Type 0
+DoesWhere does old None new = (0 < length old.engine.left) × (new ≡ old)
+DoesWhere does old (Some came) new = (old.engine.left ≡ []) × does old came new
+
+-- lines of entries that are left are gathered before, as far as memory allows
+pub record DoesIfReady {S A : Type 0} (does : TrafficState S → A → TrafficState S → Type 0)
+    (old : TrafficState S) (came : Option A) (new : TrafficState S) : Type 0
+  where
+    pub ready : EngineState
+    pub gathers : Gathers old.engine ready
+    pub made : DoesWhere does (record { engine = ready; table = old.table }) came new
+
+-- a connection is to be looked at once more, and nothing else changes
+pub record LooksAgain {S : Type 0} (old : TrafficState S) (number : ℕ) (new : TrafficState S) : Type 0 where
+  pub looks : LooksAt old.engine (number ∷ []) new.engine
+  pub same : ChangesLooks old.engine new.engine
+  pub table : new.table ≡ old.table
+
+-- more can be read of a connection's socket, or written to it, at once
+abbrev pub CanDoMore : {S : Type 0} → TrafficState S → ℕ → Type 0
+CanDoMore s number =
+    (MayBeOffered s.engine.hub number × HasInput (link_at s.table number))
+    ⊎ (HasWire s.engine.hub.open_wires number (λ wire. 0 < length wire.ready)
+    × IsWritable (link_at s.table number))
+
+-- after a turn a connection is to be looked at again, unless it was written to and no more can be done
+abbrev pub LooksForMore : {S : Type 0} → Option Writing → TrafficState S → ℕ → TrafficState S → Type 0
+LooksForMore None old number new = LooksAgain old number new
+LooksForMore (Some what) old number new =
+    (CanDoMore old number × LooksAgain old number new) ⊎ ((¬ CanDoMore old number) × (new ≡ old))
+
+-- it is read once, and is to be written to
+pub record ReadsTurn {S : Type 0} (remaining : S → Option (List ℕ)) (journal : Bool) (terms : DeskTerms)
+    (now : ℕ) (old : TrafficState S) (turn : Turn Reading) (new : TrafficState S) : Type 0
+  where
+    pub after : TrafficState S
+    pub reads : DoesIfReady (ReadsOne remaining journal terms now turn.number) old turn.came after
+    pub again : LooksAgain after turn.number new
+
+-- it is written to once
+pub record WritesTurn {S : Type 0} (contents : S → Option (List ℕ)) (journal : Bool) (terms : DeskTerms)
+    (now : ℕ) (old : TrafficState S) (turn : Turn Writing) (new : TrafficState S) : Type 0
+  where
+    pub after : TrafficState S
+    pub writes : DoesIfReady (WritesOne contents journal terms now turn.number) old turn.came after
+    pub again : LooksForMore turn.came after turn.number new
+
+-- ---- all turns
+
+-- the last of the round is looked at no longer, and has its turn
+pub record TakesNext {S A : Type 0} (takes : TrafficState S → Turn A → TrafficState S → Type 0)
+    (old : TrafficState S) (turn : Turn A) (new : TrafficState S) : Type 0
+  where
+    pub round : List ℕ
+    pub last : old.engine.round ≡ round ++ turn.number ∷ []
+    pub taken : takes (record old { engine = record old.engine { round = round } }) turn new
+
+-- turns, of which the last is taken first, each where the one before it ended
+abbrev pub TakesTurns : {S A : Type 0} → (TrafficState S → Turn A → TrafficState S → Type 0)
+    → TrafficState S → List (Turn A) → TrafficState S → Type 0
+TakesTurns takes old [] new = new ≡ old
+TakesTurns {S} takes old (turn ∷ turns) new =
+    (between : TrafficState S) × TakesTurns takes old turns between × TakesNext takes between turn new
+
+-- those that are to be looked at are the round, and those of an earlier one are to be looked at in the next
+abbrev pub round_begun : {S : Type 0} → TrafficState S → TrafficState S
+round_begun s = record s { engine = record s.engine { looks = s.engine.round; round = s.engine.looks } }
+
+-- each that was to be looked at had one turn, and nothing else happened: no other socket changed
+pub record GoesRound {S A : Type 0} (takes : TrafficState S → Turn A → TrafficState S → Type 0)
+    (old : TrafficState S) (turns : List (Turn A)) (new : TrafficState S) : Type 0
+  where
+    pub numbers : map (λ turn. turn.number) turns ≡ old.engine.looks
+    pub once : AllPairs (λ one other. one ≢ other) old.engine.looks
+    pub taken : TakesTurns takes (round_begun old) turns new
+    pub over : new.engine.round ≡ []
+    pub others : (n : ℕ) → ¬ Contains old.engine.looks n → link_at new.table n ≡ link_at old.table n
+
+-- ---- what is told of them
+
+abbrev pub is_read_broken : Option Reading → Bool
+is_read_broken None = false
+is_read_broken (Some reading.Nothing) = false
+is_read_broken (Some reading.Offered) = false
+is_read_broken (Some reading.Ended) = false
+is_read_broken (Some reading.Broken) = true
+is_read_broken (Some reading.NoMemory) = false
+
+abbrev pub is_read_refused : Option Reading → Bool
+is_read_refused None = false
+is_read_refused (Some reading.Nothing) = false
+is_read_refused (Some reading.Offered) = false
+is_read_refused (Some reading.Ended) = false
+is_read_refused (Some reading.Broken) = false
+is_read_refused (Some reading.NoMemory) = true
+
+abbrev pub is_write_broken : Option Writing → Bool
+is_write_broken None = false
+is_write_broken (Some writing.Nothing) = false
+is_write_broken (Some writing.Sent) = false
+is_write_broken (Some writing.Closed) = false
+is_write_broken (Some writing.Gone) = false
+is_write_broken (Some writing.Broken) = true
+
+-- how many sockets failed, and to how many memory was refused
+abbrev pub read_faults : List (Turn Reading) → ReadFaults
+read_faults turns = record {
+  broken = count_by (λ turn. is_read_broken turn.came) turns;
+  no_memory = count_by (λ turn. is_read_refused turn.came) turns;
+}
+
+abbrev pub write_faults : List (Turn Writing) → ℕ
+write_faults turns = count_by (λ turn. is_write_broken turn.came) turns
+
+-- each that was to be looked at is read once
+pub record ReadsRound {S : Type 0} (remaining : S → Option (List ℕ)) (journal : Bool) (terms : DeskTerms)
+    (now : ℕ) (old : TrafficState S) (faults : ReadFaults) (new : TrafficState S) : Type 0
+  where
+    pub turns : List (Turn Reading)
+    pub round : GoesRound (ReadsTurn remaining journal terms now) old turns new
+    pub told : faults ≡ read_faults turns
+
+-- each that was to be looked at is written to once
+pub record WritesRound {S : Type 0} (contents : S → Option (List ℕ)) (journal : Bool) (terms : DeskTerms)
+    (now : ℕ) (old : TrafficState S) (broken : ℕ) (new : TrafficState S) : Type 0
+  where
+    pub turns : List (Turn Writing)
+    pub round : GoesRound (WritesTurn contents journal terms now) old turns new
+    pub told : broken ≡ write_faults turns

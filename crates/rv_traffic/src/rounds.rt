@@ -1,0 +1,187 @@
+//! Goes over all that are to be looked at.
+ghost use Rattle.std.specs.Prelude.{◌≡◌, ◌<◌, ◌+◌, cond};
+ghost use Rattle.std.specs.Bool.{OnFalse, OnTrue};
+ghost use Rattle.rv_hub.specs.Hubs.{hub_terms};
+ghost use Rattle.rv_traffic.specs.Calls.{ReadsOne, WritesOne};
+ghost use Rattle.rv_traffic.specs.Rounds.{DoesIfReady, CanDoMore, LooksForMore, ReadsRound, ReadsTurn};
+ghost use Rattle.rv_traffic.specs.Rounds.{WritesRound, WritesTurn, is_read_broken, is_read_refused};
+ghost use Rattle.rv_traffic.specs.Rounds.{is_write_broken};
+ghost use Rattle.rv_traffic.specs.Views.{SameTerms, traffic_state};
+
+use crate::asking::{can_read, can_write};
+use crate::outcomes::{ReadFaults, Reading, Writing};
+use crate::reading::read_one;
+use crate::traffic::Switchboard;
+use crate::writing::write_one;
+use rv_hearers::ConnectionNumber;
+use std::io::{Read, Write};
+
+// With what came of one turn more.
+fn count_read(faults: ReadFaults, came: Option<Reading>) -> ReadFaults
+    requires broken { faults.broken < usize.MAX }
+    requires no_memory { faults.no_memory < usize.MAX }
+    ensures broken { result.broken ≡ cond (is_read_broken came) 1 0 + faults.broken }
+    ensures no_memory { result.no_memory ≡ cond (is_read_refused came) 1 0 + faults.no_memory }
+{
+    let ReadFaults { broken, no_memory } = faults;
+    match came {
+        Some(Reading::Broken) => ReadFaults {
+            broken: broken + 1,
+            no_memory,
+        },
+        Some(Reading::NoMemory) => ReadFaults {
+            broken,
+            no_memory: no_memory + 1,
+        },
+        Some(Reading::Nothing) => faults,
+        Some(Reading::Offered) => faults,
+        Some(Reading::Ended) => faults,
+        None => faults,
+    }
+}
+
+// The same of writes.
+fn count_write(broken: usize, what: Option<Writing>) -> usize
+    requires { broken < usize.MAX }
+    ensures { result ≡ cond (is_write_broken what) 1 0 + broken }
+{
+    match what {
+        Some(Writing::Broken) => broken + 1,
+        Some(Writing::Nothing) => broken,
+        Some(Writing::Sent) => broken,
+        Some(Writing::Closed) => broken,
+        Some(Writing::Gone) => broken,
+        None => broken,
+    }
+}
+
+// Reads once from a connection, unless lines of the account find no memory, since no event would be taken.
+fn read_if_ready<S: Read + Drop>(
+    traffic: &mut Switchboard<S>,
+    now: u64,
+    number: ConnectionNumber,
+) -> Option<Reading>
+    ensures reads { DoesIfReady (ReadsOne S.remaining traffic.old.engine.hub.has_journal
+        (hub_terms traffic.old.engine.hub) now number) (traffic_state traffic.old) result
+        (traffic_state traffic.new) }
+    ensures terms { SameTerms traffic.old traffic.new }
+{
+    if !traffic.engine.catch_up() {
+        return None;
+    }
+    Some(read_one(traffic, now, number))
+}
+
+// The same, and then it is to be written to.
+fn read_turn<S: Read + Drop>(
+    traffic: &mut Switchboard<S>,
+    now: u64,
+    number: ConnectionNumber,
+) -> Option<Reading>
+    ensures reads { ReadsTurn S.remaining traffic.old.engine.hub.has_journal
+        (hub_terms traffic.old.engine.hub) now (traffic_state traffic.old)
+        (record { number = number; came = result }) (traffic_state traffic.new) }
+    ensures terms { SameTerms traffic.old traffic.new }
+{
+    let came = read_if_ready(traffic, now, number);
+    traffic.engine.look_at(number);
+    came
+}
+
+// Reads once from each that is to be looked at, all of which are then to be written to.
+pub(crate) fn read_round<S: Read + Drop>(traffic: &mut Switchboard<S>, now: u64) -> ReadFaults
+    ensures reads { ReadsRound S.remaining traffic.old.engine.hub.has_journal
+        (hub_terms traffic.old.engine.hub) now (traffic_state traffic.old) result
+        (traffic_state traffic.new) }
+    ensures terms { SameTerms traffic.old traffic.new }
+{
+    traffic.engine.begin_round();
+    let mut faults = ReadFaults {
+        broken: 0,
+        no_memory: 0,
+    };
+    while let Some(number) = traffic.engine.next_look() {
+        let came = read_turn(traffic, now, number);
+        faults = count_read(faults, came);
+    }
+    faults
+}
+
+// Whether something can be read from a connection or written to it at once.
+fn can_do_more<S: Drop>(traffic: &Switchboard<S>, number: ConnectionNumber) -> bool
+    ensures yes { OnTrue result (CanDoMore (traffic_state traffic.now) number) }
+    ensures no { OnFalse result (¬ CanDoMore (traffic_state traffic.now) number) }
+{
+    if can_read(&traffic.engine, &traffic.links, number) {
+        return true;
+    }
+    can_write(&traffic.engine, &traffic.links, number)
+}
+
+// Writes once to a connection, unless lines of the account find no memory.
+fn write_if_ready<S: Write + Drop>(
+    traffic: &mut Switchboard<S>,
+    now: u64,
+    number: ConnectionNumber,
+) -> Option<Writing>
+    ensures writes { DoesIfReady (WritesOne S.contents traffic.old.engine.hub.has_journal
+        (hub_terms traffic.old.engine.hub) now number) (traffic_state traffic.old) result
+        (traffic_state traffic.new) }
+    ensures terms { SameTerms traffic.old traffic.new }
+{
+    if !traffic.engine.catch_up() {
+        return None;
+    }
+    Some(write_one(traffic, now, number))
+}
+
+// A connection of which more can be done at once, or nothing was written, is to be looked at again.
+fn look_for_more<S: Drop>(
+    traffic: &mut Switchboard<S>,
+    number: ConnectionNumber,
+    what: Option<Writing>,
+)
+    ensures again { LooksForMore what (traffic_state traffic.old) number (traffic_state traffic.new) }
+    ensures terms { SameTerms traffic.old traffic.new }
+{
+    match what {
+        None => traffic.engine.look_at(number),
+        Some(_) => {
+            if can_do_more(traffic, number) {
+                traffic.engine.look_at(number);
+            }
+        }
+    }
+}
+
+// Writes once to a connection, which is to be looked at again if more can be done.
+fn write_turn<S: Write + Drop>(
+    traffic: &mut Switchboard<S>,
+    now: u64,
+    number: ConnectionNumber,
+) -> Option<Writing>
+    ensures writes { WritesTurn S.contents traffic.old.engine.hub.has_journal
+        (hub_terms traffic.old.engine.hub) now (traffic_state traffic.old)
+        (record { number = number; came = result }) (traffic_state traffic.new) }
+    ensures terms { SameTerms traffic.old traffic.new }
+{
+    let what = write_if_ready(traffic, now, number);
+    look_for_more(traffic, number, what);
+    what
+}
+
+// Writes once to each that is to be looked at.
+pub(crate) fn write_round<S: Write + Drop>(traffic: &mut Switchboard<S>, now: u64) -> usize
+    ensures writes { WritesRound S.contents traffic.old.engine.hub.has_journal
+        (hub_terms traffic.old.engine.hub) now (traffic_state traffic.old) result
+        (traffic_state traffic.new) }
+    ensures terms { SameTerms traffic.old traffic.new }
+{
+    traffic.engine.begin_round();
+    let mut broken = 0;
+    while let Some(number) = traffic.engine.next_look() {
+        let what = write_turn(traffic, now, number);
+        broken = count_write(broken, what);
+    }
+    broken
+}
