@@ -29,14 +29,14 @@ fn told<L: Ledger, R: Wait + Abort + AllocGlobal>(
     let desk = Book::open(alloc, 1, 0).expect(rt, "no memory");
     let opened = Shared::<Book, L>::open(alloc, blank, desk, 1);
     let (shared, mut seats) = opened.expect(rt, "no memory");
+    let mut seat = seats.pop().expect(rt, "no seat");
     let mut source = Source::new(reader);
     let mut sink = Sink::new(writer);
-    let seat = &mut seats[0];
     match work(
         rt,
         alloc,
         &shared,
-        seat,
+        &mut seat,
         &Still,
         &Closed,
         &mut source,
@@ -81,13 +81,14 @@ fn a_device_that_fails_is_told(rt: HostRuntime) {
     same(&rt, found, Some(WorkFault::WriteFault(3)));
 }
 
+// A frame whose body is no message.
+const BRACE: &[u8] = b"\x00\x01{";
+
 // 65,536 frames are answered, and one more isn't.
 #[test]
 fn a_frame_too_many_is_told(rt: HostRuntime) {
     for (frames, want) in [(65_536, None), (65_537, Some(WorkFault::TooLong))] {
-        let sent = b"\x00\x01{"
-            .repeat(rt.alloc(), frames)
-            .expect(&rt, "no memory");
+        let sent = BRACE.repeat(rt.alloc(), frames).expect(&rt, "no memory");
         same(&rt, told_of(&rt, TestReader::new(&sent, 4_096)), want);
     }
 }

@@ -8,7 +8,10 @@ use std::process::Abort;
 
 // A drain, which names the first 16 entries.
 fn drain(rt: &impl Abort, alloc: Global) -> Entry {
-    let places: Vec<usize> = (0..16usize).collect(alloc).expect(rt, "no memory");
+    let mut places = Vec::new(alloc);
+    for place in 0..16 {
+        places.push(place).expect(rt, "no memory");
+    }
     let key = Key {
         epoch: 7,
         client: 1,
