@@ -21,14 +21,11 @@ fn holds_a_put(rt: &impl Abort, world: &World) {
     same(rt, world.answer_packet(3).is_none(), true);
 }
 
-// A hello and a put, each of which gets to the server and back. The put gets there twice, and the later of
-// its replies comes first.
-#[test]
-fn a_list_of_events(rt: HostRuntime) {
-    let text = String::from_str(rt.alloc(), "a").expect(&rt, "no memory");
-    let item = Item::from_text(text);
+// A hello and a put of this item, each of which gets to the server and back. The put gets there twice, and
+// the later of its replies comes first.
+fn twice_put(item: Item) -> [Event; 8] {
     let put = Call::Put { queue: 3, item };
-    let events = [
+    [
         Event::Start(1, 1, Version::One),
         Event::ToServer(0, 0),
         Event::ToClient(0),
@@ -37,7 +34,13 @@ fn a_list_of_events(rt: HostRuntime) {
         Event::ToServer(1, 0),
         Event::ToClient(2),
         Event::ToClient(1),
-    ];
+    ]
+}
+
+#[test]
+fn a_list_of_events(rt: HostRuntime) {
+    let text = String::from_str(rt.alloc(), "a").expect(&rt, "no memory");
+    let events = twice_put(Item::from_text(text));
     assert!(rt; events.iter().all(Event::fits));
     match run(rt.alloc(), &events) {
         Ok(world) => holds_a_put(&rt, &world),
