@@ -8,20 +8,25 @@ goes to the next; what it can't tell, or takes for proved, is tried alone, and i
 proved. An edit that is refused at no goal, since a proof names what it took away, has failed. What `rt check` kept in
 out/ is copied, so that only what an edit changes is proved.
 
-An edit that a test must see is a wrong body that no contract shows. It is tried alone: the test that it names is built and
-run with nothing proved, and has to fail; as the code is, all tests of that crate have to pass.
+An edit that a test must see is a wrong body that no contract shows. It is tried alone: the test that it names, or the program
+that this runs from outside, is built with nothing proved, and the test has to fail; as the code is, it has to pass, and so
+do all tests of its crate.
 
 usage: tools/edits.py [--must-fail] [CRATE..]
   --must-fail   the edits of crates/*/must-fail in their place, which the gate tries one by one
 """
 import argparse
+import contextlib
 import os
 import pathlib
 import re
+import shlex
 import shutil
+import signal
 import subprocess
 import sys
 import tempfile
+import time
 
 ROOT = pathlib.Path(__file__).resolve().parents[1]
 sys.dont_write_bytecode, sys.path[0] = True, str(ROOT)
@@ -37,6 +42,10 @@ ANSWER = re.compile(r"(?:\./)?proofs/(\S+)/\w+\.antt:\d+:\d+: error: `([\w-]+)`"
 GOAL = re.compile(r"note: src/\S+: .*\(`([\w-]+)`\)")
 # Where a proof names what an edit took away.
 MISSING = re.compile(r"has no field|is not in scope|has no `|was not admitted")
+# The words of a program that runs until it is copied: `rt try` keeps none.
+IDLE = ["serve", "--listen", "127.0.0.1:0", "--epoch", "1", "--workers", "1", "--connections", "1"]
+# How long a test from outside waits for a program that may never answer, in seconds.
+SHORT = "30"
 
 
 def copy(to):
@@ -51,14 +60,23 @@ def copy(to):
         shutil.copytree(kept, to / kept.relative_to(ROOT), symlinks=True, dirs_exist_ok=True)
 
 
-def run_with(folder, texts, words, room):
-    """What a command prints where it runs, in a room of its own, with these texts in place of those of a crate's folder."""
+@contextlib.contextmanager
+def changed(folder, texts):
+    """A crate's folder has these texts in place of its own."""
     before = {at: (folder / at).read_text(encoding="utf-8") for at in texts}
     for at, text in texts.items():
         (folder / at).write_text(text, encoding="utf-8")
-    ran = subprocess.run(words, cwd=room, stdout=subprocess.PIPE, stderr=subprocess.STDOUT, text=True, errors="replace")
-    for at, text in before.items():
-        (folder / at).write_text(text, encoding="utf-8")
+    try:
+        yield
+    finally:
+        for at, text in before.items():
+            (folder / at).write_text(text, encoding="utf-8")
+
+
+def run_with(folder, texts, words, room):
+    """What a command prints where it runs, in a room of its own, with these texts in place of those of a crate's folder."""
+    with changed(folder, texts):
+        ran = subprocess.run(words, cwd=room, stdout=subprocess.PIPE, stderr=subprocess.STDOUT, text=True, errors="replace")
     return ran.stdout
 
 
@@ -169,10 +187,84 @@ def try_edits(root, crate, kind):
     return Trial(folder, edits).run()
 
 
+def is_below(process, top):
+    """Whether a process was started by another one, or by one below that."""
+    while process not in ("0", top):
+        process = pathlib.Path(f"/proc/{process}/stat").read_text().rpartition(")")[2].split()[1]
+    return process == top
+
+
+def idle_below(top):
+    """The process that runs a built program below another one, and the words that it runs it by, if there is one."""
+    for folder in pathlib.Path("/proc").glob("[0-9]*"):
+        try:
+            words = os.fsdecode((folder / "cmdline").read_bytes()).split("\0")[:-1]
+            front = words[:-len(IDLE)]
+            if words[len(front):] == IDLE and front and os.path.isfile(front[-1]) and is_below(folder.name, top):
+                return int(folder.name), front
+        except (OSError, IndexError):
+            # it has ended meanwhile
+            pass
+    return None
+
+
+def tried_program(root, folder):
+    """Builds the program as it is written, with nothing proved: a script in this folder that runs it, if it could be built."""
+    words = {"cwd": root / "crates/rv_app", "stdout": subprocess.DEVNULL, "stderr": subprocess.DEVNULL}
+    with subprocess.Popen(["rt", "try", "--", *IDLE], **words) as ran:
+        while ran.poll() is None:
+            found = idle_below(str(ran.pid))
+            if found:
+                process, (*front, program) = found
+                shutil.copy(program, folder / "program")
+                os.kill(process, signal.SIGTERM)
+                script = folder / "rv"
+                script.write_text(f'#!/bin/sh\nexec {shlex.join([*front, str(folder / "program")])} "$@"\n')
+                script.chmod(0o755)
+                ran.wait()
+                return script
+            time.sleep(0.2)
+    return None
+
+
+def ran_outside(root, program, path, case):
+    """How many checks of a test from outside passed and failed on a program: none where it doesn't tell."""
+    words = [root / path, program, *(["--only", case] if case else [])]
+    said = subprocess.run(words, cwd=root, capture_output=True, text=True, errors="replace",
+                          env={**os.environ, "RV_PATIENCE": SHORT}).stdout
+    told = re.search(r"(\d+) passed, (\d+) failed\n\Z", said)
+    return (int(told[1]), int(told[2])) if told else (0, 0)
+
+
+def passes_outside(root, tests):
+    """Whether tests from outside pass as the code is."""
+    with tempfile.TemporaryDirectory(prefix="tried-") as folder:
+        program = tried_program(root, pathlib.Path(folder)) if tests else None
+        for path, case in tests:
+            passed, failed = ran_outside(root, program, path, case) if program else (0, 0)
+            if failed or not passed:
+                print(f"{path} {case}: it fails as the code is")
+                return False
+    return True
+
+
+def seen_outside(root, edit):
+    """Whether a test from outside fails with an edit, and what is to be said of that."""
+    with tempfile.TemporaryDirectory(prefix="tried-") as folder:
+        with changed(edit.folder, edit.applied({})):
+            program = tried_program(root, pathlib.Path(folder))
+        passed, failed = ran_outside(root, program, *edit.outside()) if program else (0, 0)
+    if failed:
+        return True, f"seen by {edit.test}"
+    return False, f"NOT SEEN: {edit.test} passes with this edit" if passed else f"BAD EDIT: {edit.test} didn't run to its end"
+
+
 def seen(root, edit):
     """Whether the test that must see an edit fails with it, and what is to be said of that."""
     if edit.wrong or not edit.test_stands():
         return False, f"BAD EDIT: {edit.wrong or f'there is no test {edit.test}'}"
+    if edit.outside():
+        return seen_outside(root, edit)
     crate, name = edit.test.split("::", 1)
     said = run_with(edit.folder, edit.applied({}), ["rt", "try", "--test", "--", name], root / "crates" / crate)
     if f"test {name} ... FAILED" in said:
@@ -188,7 +280,9 @@ def try_by_tests(root, crates):
     paths = [path for crate in crates for path in sorted((root / "crates" / crate / "test-edits").glob("*.edit"))]
     edits = [Edit(path, path.parent.parent) for path in paths]
     print(f"== {len(edits)} edits that a test must see", flush=True)
-    for crate in sorted({edit.test.split("::")[0] for edit in edits if edit.test_stands()}):
+    if not passes_outside(root, sorted({edit.outside() for edit in edits if edit.outside() and edit.test_stands()})):
+        return 0, len(edits)
+    for crate in sorted({edit.test.split("::")[0] for edit in edits if edit.test_stands() and not edit.outside()}):
         if "; 0 failed" not in run_with(root, {}, ["rt", "try", "--test"], root / "crates" / crate):
             print(f"{crate}: a test fails as the code is")
             return 0, len(edits)

@@ -243,6 +243,11 @@ def calls():
     for name, answer in [("a bad length", b"\0\0"), ("no answer's body", frame(b"[]")),
                          ("too many texts", frame(drained([b"a"] * 17))), ("no texts", frame(drained([]).replace(b"[]", b'"a"')))]:
         case(f"a request that gets {name}", first + [answer], [TAKE_LINE], [b"unsettled 1"], [HELLO, take()])
+    longest = b"x" * 512
+    put = b'{"call":"put","client":2,"epoch":1,"incarnation":1,"item":"%s","kind":"request","number":1,"queue":3}' % longest
+    done = b'{"client":2,"epoch":1,"incarnation":1,"kind":"reply","number":1,"reply":"done"}'
+    case("the longest items", first + [frame(done), frame(item(longest, 2))], [PUT_LINE.replace(b'"a"', b'"%s"' % longest), TAKE_LINE],
+         [done, item(longest, 2)], [HELLO, put, take(2)], status=0)
     for name, code, current, word in [("epoch", 2, 9, b"epoch ended 9"), ("incarnation", 4, 5, b"replaced 5")]:
         refused = b'{"code":%d,"current":%d,"kind":"refused"}' % (code, current)
         case(f"a later {name}", first + [frame(refused)], 2 * [TAKE_LINE], [word], [HELLO, take()])

@@ -1,6 +1,7 @@
 #!/usr/bin/env python3
 """Runs the built program on the worked rows, and on the worked worlds; and on those of version 1 again, with each session
-of version 2. The lines and answers of version 1 must be as they ever were.
+of version 2. The lines and answers of version 1 must be as they ever were. An account of the entries that a row leads to
+is legal, and isn't where an entry names another partner.
 
 usage: tests/commands/rows.py PROGRAM
 """
@@ -10,7 +11,8 @@ import sys
 
 ROOT = pathlib.Path(__file__).resolve().parents[2]
 sys.dont_write_bytecode, sys.path[0] = True, str(ROOT)
-from tests.model.rows import LATER_ROWS, LONG_ROWS, ROWS, WORLDS, pairs_of  # noqa: E402
+from tests.model.row_entries import accounts, unpaired  # noqa: E402
+from tests.model.rows import LATER_ROWS, LATER_WORLDS, LONG_ROWS, ROWS, WORLDS, pairs_of  # noqa: E402
 from tests.model.version_rows import VERSION_ROWS, VERSION_WORLDS, first_faults, second, second_fault  # noqa: E402
 
 
@@ -37,14 +39,25 @@ def runs(rows, worlds):
         yield name, ["play"], pairs
 
 
+def audit_fault(text, status, told):
+    """What is wrong with what the program's audit tells of an account, if something is."""
+    ran = subprocess.run([sys.argv[1], "audit"], input=text.encode(), capture_output=True)
+    found = ran.returncode, ran.stderr, ran.stdout
+    return None if found == (status, b"", f"{told}\n".encode()) else f"got {found}"
+
+
 def faults():
     """Each row and each world by its name, with what is wrong, if something is."""
     yield from first_faults()
-    first = list(runs([*ROWS, *LATER_ROWS, *LONG_ROWS], WORLDS))
+    first = list(runs([*ROWS, *LATER_ROWS, *LONG_ROWS], [*WORLDS, *LATER_WORLDS]))
     for name, words, pairs in [*first, *runs(VERSION_ROWS, VERSION_WORLDS)]:
         yield name, fault(words, pairs)
     for name, words, pairs in first:
         yield f"{name}, in version 2", fault(words, list(second(pairs)), second_fault)
+    for name, _, text in accounts():
+        yield f"the entries of {name}", audit_fault(text, 0, "legal")
+        for other, told in unpaired(text):
+            yield f"the entries of {name}, {told}", audit_fault(other, 1, told)
 
 
 def main():

@@ -1,11 +1,14 @@
-"""How many reads and writes of its connection a worker needs, and how much it holds back."""
+"""How many reads and writes of its connection a worker needs, how much it holds back, and how often it pauses and asks."""
 from tests.faults.system import HostileServer, System
+from tests.faults.turns import see_end
 from tests.model.account import Key
-from tests.sockets.wire import demand, frame, give, hello, replied, request, welcome
+from tests.sockets.wire import cancel, demand, frame, give, hello, replied, request, take, waits, welcome
 
 REQUESTS = 16
 # Long answers that are asked for in one piece, how many of them there is room for, and how many bytes are held back at most.
 LONG, IN_HAND, HELD = 30, 5, 16_384
+# The pauses of a request that waits.
+PAUSES = 200
 # How often it is tried, where the machine cuts a piece in two.
 TRIES = 10
 
@@ -67,4 +70,56 @@ def what_is_held_back(program):
     demand(wanted in seen, f"{LONG} long answers to a piece have these reads and writes, and never {wanted}: {seen}")
 
 
-CASES = [a_read_and_a_write_a_piece, what_is_held_back]
+def pauses_of_requests_that_wait(program):
+    """A worker asks for a request that waits once more behind each of its pauses, at a moment of its own; whoever waited before in
+    that connection. No pause is slept through here, and each reading of the clock fails."""
+    system = System()
+    with HostileServer(program, system, workers=1, connections=1) as server:
+        system.be(clock=1, sleep=1)
+        asked = {Key(1, 1, 1, number): take("forever") for number in (1, 2)}
+        with server.connect() as peer:
+            peer.expect(hello(1), welcome(1))
+            for key in asked:
+                seen = []
+                while PAUSES + 1 not in seen and len(seen) < TRIES:
+                    seen.append(moments_of_a_wait(peer, system, key))
+                    demand(seen[-1] > PAUSES, f"a request that waits is asked at {seen[-1]} moments")
+                demand(PAUSES + 1 in seen, f"a request that waits is asked at these numbers of moments: {seen}")
+                peer.expect(cancel(key), replied(key, reply="cancelled"))
+        server.judged(asked, [(key, {"reply": "cancelled"}) for key in asked])
+
+
+def moments_of_a_wait(peer, system, key):
+    """How often the clock is read for a take that waits, which now and then is once more than it is asked for. A sleep that is
+    interrupted is slept again."""
+    pauses, moments = system.made("sleep"), system.made("clock")
+    peer.expect(request(key, take("forever")), waits(key))
+    demand(system.made("sleep") - pauses >= PAUSES, f"it has {system.made('sleep') - pauses} pauses")
+    return system.made("clock") - moments
+
+
+def a_connection_that_is_broken(program):
+    """Where the first answer to a piece can't be sent, its worker neither pauses nor reads on."""
+    system, wish = System(), Key(1, 1, 1, 1)
+    with HostileServer(program, system, workers=1, connections=2 * TRIES) as server:
+        for rest in (frame(request(wish, take("forever"))) + frame(b"{"), b"\0"):
+            seen = []
+            while 1 not in seen and len(seen) < TRIES:
+                seen.append(reads_of_a_broken_one(server, system, frame(hello(1)) + rest))
+            demand(1 in seen, f"a connection that is broken behind {rest[:9]!r} has these reads: {seen}")
+        server.no_more()
+        server.judged({wish: take("forever")}, [])
+
+
+def reads_of_a_broken_one(server, system, piece):
+    """How many reads there are of a connection over which a piece comes, and no byte can be sent."""
+    reads, pauses = system.asked()[0], system.made("sleep")
+    system.be(room=1, sleep=1)
+    with server.connect() as peer:
+        peer.send(piece)
+        see_end(peer)
+    demand(system.made("sleep") == pauses, "there is a pause in a connection that is broken")
+    return system.asked()[0] - reads
+
+
+CASES = [a_read_and_a_write_a_piece, what_is_held_back, pauses_of_requests_that_wait, a_connection_that_is_broken]

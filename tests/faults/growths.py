@@ -1,5 +1,5 @@
 #!/usr/bin/env python3
-"""Runs the built program on nineteen worked rows, each with the same lines again behind it, on the worked plays and on the worked
+"""Runs the built program on 27 worked rows, each with the same lines again behind it, on the worked plays and on the worked
 account, a server that nobody comes to, an account beside a record, and a client that keeps a record, with each growth of memory
 refused in turn; on rows and plays as they are, with each growth refused and all behind it; and on lines that take no memory before their answer's text, with that and
 all growths behind it refused.
@@ -28,7 +28,8 @@ sys.dont_write_bytecode, sys.path[0] = True, str(ROOT)
 from tests.commands.replies import ACCOUNT, KEPT, counted  # noqa: E402
 from tests.faults.preload import built, switches  # noqa: E402
 from tests.model.account import Account  # noqa: E402
-from tests.model.rows import ANEW, DRAINED, DRAIN_ROW, ROWS, drain_texts, pairs_of, play_pairs  # noqa: E402
+from tests.model.rows import (  # noqa: E402
+    ANEW, DRAINED, DRAIN_ROW, LATER_ROWS, RESENT, ROWS, drain_texts, pairs_of, play_pairs)
 from tests.model.steps import refused, ticked, told  # noqa: E402
 from tests.model.texts import NoReading, read_line  # noqa: E402
 from tests.model.version_rows import BOTH_ROW, FULL_ROW, NAMED_PLAY, NAMED_ROW, VERSION_ROWS  # noqa: E402
@@ -37,7 +38,8 @@ from tests.model.world import World  # noqa: E402
 PROGRAM = os.path.abspath(sys.argv[1])
 # A put and a poll; a hand-over that waits, and its repeats, and one that does not wait; a new start that ends what waits,
 # and leaves a put; waits that end by their limit, at once, and before it; counts and peeks; consumers in order; cancels,
-# also before what they cancel; a swap; refusals; drains; sessions of version 2, and who received a transfer.
+# also before what they cancel; a swap; refusals; drains; sessions of version 2, and who received a transfer; lists that
+# grow; ticks beside others and refusals; the greatest moment; an item whose text is read and written with escapes.
 REFUSED_IN = [
     "a poll gets the item",
     "a transfer waits for its consumer, and repeats get the replies again",
@@ -58,6 +60,14 @@ REFUSED_IN = [
     FULL_ROW,
     NAMED_ROW,
     BOTH_ROW,
+    "polls name the puts that they take",
+    "who waits is named by who comes",
+    "a tick ends all that is due",
+    "a tick is recorded beside a refusal",
+    "nothing is due behind the greatest moment",
+    "moments never fall",
+    "a cancel is recorded where it ends a request",
+    "an item with escapes",
 ]
 # What takes no memory before its answer's text: the lines before it, the line, and a line that is said behind it, with
 # its answer where the step was taken and where it was not.
@@ -86,6 +96,16 @@ TAKE_NO_MEMORY = [
     ("a tick beside a hello of another version", GIVES, "@10 hello 2/1 version 2 => refused 12 1", GIVEN, "waiting"),
     ("a repeat that names a consumer", MIXED + '1#1 transfer 3 "a" forever => waiting\n2#1 drain 3 2 => drained "a"',
      '1#1 transfer 3 "a" forever => received 2#1', '1#1 transfer 3 "a" forever => received 2#1', "received 2#1"),
+    ("a repeat of a transfer that waits", GIVES, '@1 1#1 transfer 3 "a" 10 => waiting', '1#1 transfer 3 "a" 10 => waiting',
+     "waiting"),
+    ("a repeat of what was cancelled", TAKES + "\ncancel 1#1 => cancelled", "@3 1#1 take 3 forever => cancelled",
+     "1#1 take 3 forever => cancelled", "cancelled"),
+    ("a tick beside a repeat of a drain", GIVES + '\n2#1 put 5 "b" => done\n2#2 drain 5 2 => drained "b"',
+     '@10 2#2 drain 5 2 => drained "b"', GIVEN, "waiting"),
+    ("a repeat of what timed out", GIVES + "\n@10 hello 2/1 => welcome", f"@11 {GIVEN}", GIVEN, "timedout"),
+    ("a cancel of what timed out", GIVES + "\n@10 hello 2/1 => welcome", "@12 cancel 1#1 => timedout", GIVEN, "timedout"),
+    ("a hello that is said again", TWO, "@1 hello 2/1 => welcome", "hello 2/1 => welcome", "welcome"),
+    ("a cancel that leaves a gap", TWO, "@13 cancel 2#9 => refused 8 0", "cancel 2#9 => refused 8 0", "refused 8 0"),
     ("a repeat of a reply", TWO + "1#1 take 3 now => empty", "@1 1#1 take 3 now => empty", "1#1 take 3 now => empty",
      "empty"),
 ]
@@ -372,9 +392,10 @@ def refuse_behind(folder, name, before, line, later, untaken):
 
 def main():
     built()
-    books = [book_row(*row) for row in [*ROWS, *VERSION_ROWS] if row[0] in REFUSED_IN]
+    books = [book_row(*row) for row in [*ROWS, *LATER_ROWS, *VERSION_ROWS] if row[0] in REFUSED_IN]
     plays = [play_row("the worked play", list(play_pairs())), play_row("a client that starts anew", list(play_pairs(ANEW))),
              play_row("a drain over a link", list(play_pairs(DRAINED))),
+             play_row("a request that is sent again, and cancelled", list(play_pairs(RESENT))),
              play_row("a receipt of version 2 over a link", list(play_pairs(NAMED_PLAY)))]
     with tempfile.TemporaryDirectory(prefix="growths-") as name:
         folder = pathlib.Path(name)

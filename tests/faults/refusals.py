@@ -1,10 +1,11 @@
 #!/usr/bin/env python3
 """Runs tests in Rattle, as they are proved and built, with each growth of memory refused in turn: the first one alone, then
-the second one, and so on, until there is none left. Each has to pass each time.
+the second one, and so on, until there is none left. Each has to pass each time. What the program does then is seen by
+`tests/faults/growths.py` and `tests/faults/torture.py`.
 
-Those are the tests in HOLD, which give again what a refused growth stopped, or say what may come of it; all others fail
-where what they are made of finds no memory. A test in HOLD that asks for no memory has failed too: it would show nothing.
-With nothing refused, the two tests of each pair in ALIKE have to ask for as many growths as each other.
+Those are the tests in HOLD, which give again what a refused growth stopped; all others fail where what they are made of
+finds no memory. A test in HOLD that asks for no memory has failed too: it would show nothing. With nothing refused, the
+two tests of each pair in ALIKE have to ask for as many growths as each other.
 
 usage: tests/faults/refusals.py [--built] [--asked]
   --built   takes the tests as they lie in out/; else `rt test` proves and builds what changed, first
@@ -26,25 +27,8 @@ from tests.faults.preload import built, switches  # noqa: E402
 
 # By crate, the tests that hold whichever growth is refused.
 HOLD = {
-    "rv_wire_tests": [
-        "clients::a_refused_growth_leaves_what_it_says",
-        "clients::a_request_is_the_same_each_time",
-        "frames::a_refused_growth_changes_nothing",
-        "texts::a_refused_growth_is_told",
-    ],
-    "rv_tests": [
-        "rows::items_are_taken_in_their_order",
-        "rows::moments_never_fall",
-        "rows::requests_that_wait_are_ended",
-        "rows::requests_that_wait_are_met",
-        "rows::ticks_cancels_and_repeats_take_no_memory",
-        "rows::what_is_settled_is_told_again",
-        "worlds::a_worked_play",
-        "worlds::a_worked_play_by_steps",
-    ],
-    "rv_server_tests": [
-        "hostile::a_refused_growth_is_told_once",
-    ],
+    "rv_wire_tests": ["frames::a_refused_growth_changes_nothing"],
+    "rv_tests": [],
 }
 # By crate, tests that ask for as many growths as each other: what the second does beside the first takes no memory.
 ALIKE = {"rv_tests": [("deadlines::forty_are_added", "deadlines::forty_are_added_twice")]}

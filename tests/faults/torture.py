@@ -40,6 +40,7 @@ WRONGS = [
     ("sends each answer alone", "a read and a write a piece"),
     ("sends each answer alone", "what is held back"),
     ("holds back all answers to a piece", "what is held back"),
+    ("goes on for a peer that went", "a connection that is broken"),
     ("waits for a silent peer", "a silent client"),
     ("ends a silent connection early", "a silent client"),
     ("waits for a deaf peer", "a deaf client"),

@@ -11,6 +11,8 @@ from tests.model.texts import written
 from tests.sockets.listening import Listening
 from tests.sockets.wire import PATIENCE, demand, frame, give, hello, replied, request, take, until, welcome
 
+# An item whose text is read and written with an escape.
+ITEM = "a\x01"
 # More turns than any talk has growths, reads or bytes.
 MOST_TURNS = 3_000
 # How many clients an epoch takes, and how many entries a client's talk makes.
@@ -18,12 +20,12 @@ CLIENTS, ENTRIES = 1_024, 3
 
 
 def talk_of(client):
-    """What a client asks in turn, with the answers: it says hello, each other one in version 2, puts "a" and takes it."""
+    """What a client asks in turn, with the answers: it says hello, each other one in version 2, puts an item and takes it."""
     put, poll = (Key(1, client, 1, number) for number in (1, 2))
     version = client % 2 + 1
     return [(hello(client, version=version), welcome(client, version=version)),
-            (request(put, give("put", "a")), replied(put, reply="done")),
-            (request(poll, take("now")), replied(poll, reply="item", item="a"))]
+            (request(put, give("put", ITEM)), replied(put, reply="done")),
+            (request(poll, take("now")), replied(poll, reply="item", item=ITEM))]
 
 
 class Told:
@@ -94,13 +96,13 @@ def turns(program, counts_down, check, **more):
 def asked_of(clients):
     """The calls of so many talks, by their keys."""
     pairs = [(Key(1, client, 1, number), call) for client in range(1, clients + 1)
-             for number, call in ((1, give("put", "a")), (2, take("now")))]
+             for number, call in ((1, give("put", ITEM)), (2, take("now")))]
     return dict(pairs)
 
 
 def told_of(clients):
     """The replies of so many talks."""
-    replies = (1, {"reply": "done"}), (2, {"reply": "item", "item": "a"})
+    replies = (1, {"reply": "done"}), (2, {"reply": "item", "item": ITEM})
     return [(Key(1, client, 1, number), reply) for client in range(1, clients + 1) for number, reply in replies]
 
 
@@ -133,9 +135,9 @@ def each_byte_of_a_server(program):
 
 # ---- a caller
 
-LINES = [give("put", "a"), take("now"), {"call": "count", "queue": 3}]
+LINES = [give("put", ITEM), take("now"), {"call": "count", "queue": 3}]
 ASKED = [hello(2, version=2), *(request(Key(1, 2, 1, number), call) for number, call in enumerate(LINES, 1))]
-REPLIES = [{"reply": "done"}, {"reply": "item", "item": "a"}, {"reply": "counted", "items": 0, "consumers": 0}]
+REPLIES = [{"reply": "done"}, {"reply": "item", "item": ITEM}, {"reply": "counted", "items": 0, "consumers": 0}]
 ANSWERS = [welcome(2, version=2), *(replied(Key(1, 2, 1, number), **reply) for number, reply in enumerate(REPLIES, 1))]
 PRINTED = [answer + b"\n" for answer in ANSWERS[1:]]
 TEXT = b"".join(written(call).encode() + b"\n" for call in LINES)

@@ -23,7 +23,8 @@ from tests.model.broken import broken_faults  # noqa: E402
 from tests.model.broken_lines import line_faults  # noqa: E402
 from tests.model.plays import make_play, play_fault  # noqa: E402
 from tests.model.records import compare_records  # noqa: E402
-from tests.model.rows import drain_faults, play_row_faults, row_faults  # noqa: E402
+from tests.model.row_entries import entry_faults  # noqa: E402
+from tests.model.rows import LATER_WORLDS, drain_faults, play_row_faults, row_faults  # noqa: E402
 from tests.model.scripts import law_fault, make_crowd, make_script  # noqa: E402
 from tests.model.spoilt import make_texts  # noqa: E402
 from tests.model.verdicts import Unsure, verdict  # noqa: E402
@@ -44,6 +45,7 @@ def selftest():
     audits = ((f"random accounts {seed}", audits_fault(random.Random(seed))) for seed in range(5))
     hands = [*row_faults(), *drain_faults(), *broken_faults(), *line_faults(), *play_row_faults()]
     hands += [*row_faults(VERSION_ROWS), *play_row_faults(VERSION_WORLDS), *second_faults()]
+    hands += [*entry_faults(), *play_row_faults(LATER_WORLDS)]
     for name, fault in [*hands, *books, *plays, *audits, *wrong_book_faults()]:
         passed, failed = passed + (not fault), failed + bool(fault)
         if fault:

@@ -418,6 +418,94 @@ LATER_ROWS = [
         @11 cancel 2#1 => cancelled
         @12 3#1 swap 5 "c" 0 => timedout
         """),
+    ("polls name the puts that they take", 1, """
+        hello 1/1 => welcome
+        hello 2/1 => welcome
+        1#1 put 3 "a" => done
+        2#1 take 3 now => item "a"
+        hello 2/2 => welcome
+        1#2 put 3 "b" => done
+        1#3 put 3 "c" => done
+        1#4 put 4 "d" => done
+        2/2#1 take 3 now => item "b"
+        2/2#2 take 3 now => item "c"
+        2/2#3 take 3 now => empty
+        1#5 put 3 "e" => done
+        """),
+    ("who waits is named by who comes", 1, THREE + """
+        1#1 take 3 forever => waiting
+        2#1 take 3 forever => waiting
+        3#1 count 3 => counted 0 2
+        3#2 peek 3 => empty
+        3#3 put 3 "x" => done
+        3#4 transfer 3 "y" now => received
+        3#5 transfer 3 "z" now => nobody
+        3#6 put 3 "u" => done
+        1#2 transfer 3 "v" forever => waiting
+        2#2 take 3 now => item "u"
+        2#3 take 3 forever => item "v"
+        2#4 take 3 forever => waiting
+        """),
+    ("a tick ends all that is due", 1, THREE + """
+        1#1 transfer 3 "a" 10 => waiting
+        2#1 take 5 4 => waiting
+        @3 9#1 put 3 "q" => refused 3
+        @10 3#1 take 3 forever => waiting
+        @10 2#2 take 3 0 => timedout
+        @12 1#1 transfer 3 "a" 10 => timedout
+        @12 2#1 take 5 4 => refused 5 2
+        """),
+    ("a tick is recorded beside a refusal", 1, """
+        hello 1/1 => welcome
+        hello 2/1 => welcome
+        @2 2#1 transfer 3 "c" 4 => waiting
+        @5 9#1 put 3 "q" => refused 3
+        @6 9#1 put 3 "q" => refused 3
+        @5 2#1 transfer 3 "c" 4 => timedout
+        @7 2#2 take 3 now => empty
+        """),
+    ("nothing is due behind the greatest moment", 1, """
+        hello 1/1 => welcome
+        hello 2/1 => welcome
+        @9999999999999999999 2#1 take 3 1 => waiting
+        @9999999999999999999 2#1 take 3 1 => waiting
+        1#1 transfer 3 "a" 10 => received
+        """),
+    ("moments never fall", 1, """
+        hello 1/1 => welcome
+        @8 hello 2/1 => welcome
+        @2 1#1 put 3 "a" => done
+        @9 2#1 take 3 now => item "a"
+        @9999999999999999999 2#2 take 3 now => empty
+        """),
+    ("a cancel is recorded where it ends a request", 1, """
+        hello 1/1 => welcome
+        hello 2/1 => welcome
+        cancel 1#1 => cancelled
+        cancel 1#1 => cancelled
+        @1 1#2 take 3 forever => waiting
+        @2 cancel 1#2 => cancelled
+        @3 cancel 1#2 => cancelled
+        @4 1#2 take 3 forever => cancelled
+        @5 2#1 put 3 "x" => done
+        @6 cancel 2#1 => done
+        @6 cancel 2#9 => refused 8 1
+        """),
+    ("what takes no memory", 1, THREE + """
+        1#1 transfer 3 "a" 10 => waiting
+        2#1 take 4 forever => waiting
+        3#1 put 5 "b" => done
+        3#2 drain 5 2 => drained "b"
+        @1 1#1 transfer 3 "a" 10 => waiting
+        @1 3#2 drain 5 2 => drained "b"
+        @1 hello 3/1 => welcome
+        @2 cancel 2#1 => cancelled
+        @3 2#1 take 4 forever => cancelled
+        @10 3#2 drain 5 2 => drained "b"
+        @11 1#1 transfer 3 "a" 10 => timedout
+        @12 cancel 1#1 => timedout
+        @13 cancel 3#9 => refused 8 2
+        """),
 ]
 
 # Rows that are too long for the model, which goes over all entries at each line.
@@ -507,6 +595,22 @@ DRAINED = """
     client 5 => settled 2#1 drained "a" "b"
     client 4 => ignored
     client 6 => settled 1#2 received
+    """
+
+# A request is sent again and cancelled, and each of its packets is answered by what stands then.
+RESENT = """
+    start 1 1 => sent 0
+    server 0 0 => answered 0 welcome 1/1
+    client 0 => welcomed
+    begin 1 {"call":"take","queue":3,"wait":"forever"} => sent 1
+    resend 1 => sent 2
+    server 2 1 => answered 1 1#1 waiting
+    client 1 => ignored
+    cancel 1 => sent 3
+    server 3 2 => answered 2 1#1 cancelled
+    server 1 3 => answered 3 1#1 cancelled
+    client 3 => settled 1#1 cancelled
+    client 2 => ignored
     """
 
 KEY = re.compile(r"(?:(\d+):)?(\d+)(?:/(\d+))?#(\d+)$")
@@ -652,6 +756,11 @@ WORLDS = [
     ("the worked world, and all its packets again behind each event", list(again_pairs()), [[(), (), (), (2,), ()]], 3),
     ("a client that starts anew, and another epoch", list(play_pairs(ANEW)), [[()] * 5, []], 1),
     ("a drain over a link", list(play_pairs(DRAINED)), [[(), (), (), (), (2, 3)]], 3),
+]
+
+# The same of those that came once there was another version, as with LATER_ROWS.
+LATER_WORLDS = [
+    ("a request that is sent again, and cancelled", list(play_pairs(RESENT)), [[(), (), ()]], 1),
 ]
 
 

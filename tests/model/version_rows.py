@@ -30,6 +30,7 @@ VERSION_ROWS = [
         line 2 {ASKED_B} => {{"client":2,"epoch":1,"incarnation":1,"kind":"waiting","number":2}}
         line 2 {{"call":"drain","client":1,"epoch":1,"incarnation":1,"kind":"request","max":16,"number":2,"queue":4}} => {{"client":1,"epoch":1,"incarnation":1,"kind":"reply","number":2,"reply":"drained","texts":["b"]}}
         line 3 {ASKED_B} => {{"client":2,"epoch":1,"incarnation":1,"kind":"reply","number":2,"reply":"received"}}
+        line 3 {{"client":2,"incarnation":1,"kind":"hello","version":2}} => {{"code":12,"current":1,"kind":"refused"}}
         line 3 {{"client":3,"incarnation":1,"kind":"hello","version":3}} => {{"code":1,"kind":"refused"}}
         line 3 {{"client":3,"incarnation":1,"kind":"hello","version":1}} => {{"code":1,"kind":"refused"}}
         line 4 {{"client":1,"incarnation":2,"kind":"hello"}} => {{"client":1,"epoch":1,"incarnation":2,"kind":"welcome"}}

@@ -378,13 +378,15 @@ def a_new_incarnation(program):
 
 
 def long_texts(program):
-    """Bodies and items of the greatest length, and one byte more."""
+    """Bodies and items of the greatest length, and one byte more; bodies about as long as a piece that is read, and of none."""
     with serving(program, workers=1, connections=1, epoch=GREATEST) as server:
         items = ["x" * 512, "\x01" * 512, "é" * 256, ""]
         asked = {}
         with server.connect() as peer:
-            peer.expect(hello(1) + b" " * (MAX_FRAME - 43), welcome(1, GREATEST))
-            peer.expect(b"x" * MAX_FRAME, BAD_TEXT)
+            for size in (4_094, 4_095, 4_096, 4_097, MAX_FRAME):
+                peer.expect(hello(1).ljust(size), welcome(1, GREATEST))
+            for body in (b"{", b"{}", b"x" * MAX_FRAME):
+                peer.expect(body, BAD_TEXT)
             for number, item in enumerate(items):
                 given, taken = Key(GREATEST, 1, 1, 2 * number + 1), Key(GREATEST, 1, 1, 2 * number + 2)
                 asked |= {given: give("put", item), taken: take("now")}

@@ -6,8 +6,3 @@ use std::process::Abort;
 pub(crate) fn same<T: PartialEq + Debug + Drop>(rt: &impl Abort, found: T, want: T) {
     assert_eq!(rt; found, want);
 }
-
-/// Stops, and shows which case it was, where it doesn't hold.
-pub(crate) fn holds<T: Debug + Drop>(rt: &impl Abort, is_so: bool, case: T) {
-    assert!(rt; is_so, "{case:?}");
-}

@@ -1,48 +1,27 @@
-//! The life of a few deadlines.
+//! That a deadline that is there is added again without memory.
 use crate::expect::same;
 use rv_due::Due;
 use std::alloc::AllocGlobal;
 use std::process::Abort;
-use std::test::Fail;
 
-#[test]
-fn deadlines_come_in_their_order(rt: HostRuntime) -> Result<(), Fail> {
-    let mut due = Due::new(rt.alloc());
-    same(&rt, due.pop_until(u64::MAX), None);
-    due.add(20, 1)?;
-    due.add(10, 7)?;
-    due.add(10, 3)?;
-    due.add(10, 3)?;
-    same(&rt, due.len(), 3);
-    same(&rt, due.pop_until(9), None);
-    same(&rt, due.pop_until(10), Some((10, 3)));
-    same(&rt, due.remove(20, 1), true);
-    same(&rt, due.remove(20, 1), false);
-    same(&rt, due.pop_until(30), Some((10, 7)));
-    same(&rt, due.len(), 0);
-    Ok(())
-}
-
-// Forty deadlines are added, each perhaps again as soon as it is there.
-fn add_forty<R: Abort + AllocGlobal>(rt: &R, again: bool) -> Result<(), Fail> {
+// Forty deadlines are added, each so many times as soon as it is there.
+fn add_forty(rt: &(impl Abort + AllocGlobal), times: u32) {
     let mut due = Due::new(rt.alloc());
     for place in 0..40 {
-        due.add(10, place)?;
-        if again {
-            due.add(10, place)?;
+        for _ in 0..times {
+            due.add(10, place).expect(rt, "no memory");
         }
     }
     same(rt, due.len(), 40);
-    Ok(())
 }
 
 // This and the next ask for as many growths (tests/faults/refusals.py): to add what is there takes no memory.
 #[test]
-fn forty_are_added(rt: HostRuntime) -> Result<(), Fail> {
-    add_forty(&rt, false)
+fn forty_are_added(rt: HostRuntime) {
+    add_forty(&rt, 1);
 }
 
 #[test]
-fn forty_are_added_twice(rt: HostRuntime) -> Result<(), Fail> {
-    add_forty(&rt, true)
+fn forty_are_added_twice(rt: HostRuntime) {
+    add_forty(&rt, 2);
 }

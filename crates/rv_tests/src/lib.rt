@@ -1,27 +1,14 @@
-//! Tests of the crates below the program, of what no clause says: the answers and the entries of a book in
-//! worked scripts, and the world after a worked play, also if growths of memory are refused. Each call that
-//! the program doesn't make is called once with ample memory.
+//! What no clause and no program says of the crates below the program: a list of events, the copy of an
+//! account, room on both sides of a queue, and that a deadline that is there takes no memory.
 #![tactic(auto)]
 
 #[cfg(test)]
-mod answers;
-#[cfg(test)]
-mod clients;
-#[cfg(test)]
-mod clones;
+mod accounts;
 #[cfg(test)]
 mod deadlines;
 #[cfg(test)]
 mod expect;
 #[cfg(test)]
-mod line;
-#[cfg(test)]
 mod queues;
-#[cfg(test)]
-mod rows;
-#[cfg(test)]
-mod scripts;
-#[cfg(test)]
-mod sessions;
 #[cfg(test)]
 mod worlds;

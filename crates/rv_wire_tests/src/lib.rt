@@ -1,19 +1,12 @@
-//! What no clause says of texts, frames, connections and clients: bodies byte for byte, frames in all cuts,
-//! devices that fail, and what is read and written for a request; and, with ample memory, each call of theirs
-//! that the program doesn't make.
+//! What no clause and no program says of texts, frames and clients: the fault that a request meets at its
+//! link, how often its devices are asked, sizes that no program has, and calls that none makes.
 #![tactic(auto)]
 
 #[cfg(test)]
-mod clients;
-#[cfg(test)]
-mod connections;
-#[cfg(test)]
-mod devices;
+mod asks;
 #[cfg(test)]
 mod expect;
 #[cfg(test)]
 mod frames;
 #[cfg(test)]
-mod pieces;
-#[cfg(test)]
-mod texts;
+mod items;

@@ -1,5 +1,0 @@
--- The ledger is the one of the blank.
-use Rattle.rv_server_tests.proofs.sockets.a_connection_that_is_cut_short_is_a_fault.Given as goal
-
-abbrev pub ghosts-on_sockets : goal.ghosts-on_sockets
-ghosts-on_sockets g a = record { name = a.blank.name; parts = a.blank.parts }

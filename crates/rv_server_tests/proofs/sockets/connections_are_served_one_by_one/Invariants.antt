@@ -1,5 +1,0 @@
--- The ledger is the one of the blank.
-use Rattle.rv_server_tests.proofs.sockets.connections_are_served_one_by_one.Given as goal
-
-abbrev pub ghosts-on_sockets : goal.ghosts-on_sockets
-ghosts-on_sockets g a = record { name = a.blank.name; parts = a.blank.parts }
