@@ -76,7 +76,7 @@ fn answer_all(rt: &HostRuntime, hub: &mut Hub, input: &[u8]) -> anyhow::Result<E
     let mut output = BufWriter::new(rt.alloc(), rt.stdout())?;
     let mut rest = input;
     while let Some((line, after)) = first_line(rest) {
-        if !answer(rt.alloc(), &mut output, hub, words_of(line))? {
+        if !print_answer(rt.alloc(), &mut output, hub, line)? {
             eprintln!(rt; "a line says nothing")?;
             return Ok(ExitCode::from(2));
         }
@@ -86,37 +86,48 @@ fn answer_all(rt: &HostRuntime, hub: &mut Hub, input: &[u8]) -> anyhow::Result<E
     Ok(ExitCode::SUCCESS)
 }
 
-// Does what a line says, and tells whether it says something.
-fn answer<W: Write>(
+// Does what a line says, prints what came of that, and tells whether it says something.
+fn print_answer<W: Write>(
     alloc: Global,
     output: &mut W,
     hub: &mut Hub,
-    words: LineWords<'_>,
+    line: &[u8],
 ) -> anyhow::Result<bool> {
+    let mut text = Vec::new(alloc);
+    let says = answer(alloc, &mut text, hub, words_of(line))?;
+    output.write_all(&text)?;
+    Ok(says)
+}
+
+// Does what a line says, and tells whether it says something.
+fn answer(
+    alloc: Global,
+    text: &mut Vec<u8>,
+    hub: &mut Hub,
+    words: LineWords<'_>,
+) -> Result<bool, NoMemory> {
     if let Some(count) = read_show(words) {
-        show(alloc, output, hub, count)?;
+        show(alloc, text, hub, count)?;
         return Ok(true);
     }
     match read_piece(alloc, words)? {
-        Some(piece) => handle(alloc, output, hub, words, &piece),
+        Some(piece) => handle(alloc, text, hub, words, &piece),
         None => Ok(false),
     }
 }
 
 // Hands the hub the event of a line, with its piece, and tells whether it says one.
-fn handle<W: Write>(
+fn handle(
     alloc: Global,
-    output: &mut W,
+    text: &mut Vec<u8>,
     hub: &mut Hub,
     words: LineWords<'_>,
     piece: &[u8],
-) -> anyhow::Result<bool> {
-    match read_event(words, piece) {
-        Some((moment, event)) => {
-            let came = hub.handle(moment, event);
-            tell(alloc, output, hub, came)?;
-            Ok(true)
-        }
-        None => Ok(false),
-    }
+) -> Result<bool, NoMemory> {
+    let Some((moment, event)) = read_event(words, piece) else {
+        return Ok(false);
+    };
+    let came = hub.handle(moment, event);
+    tell(alloc, text, hub, came)?;
+    Ok(true)
 }

@@ -1,11 +1,12 @@
-//! Prints what a hub did, and what it is.
+//! Writes what a hub did, and what it is, into a text.
 use crate::hexes::{written_hex, written_sum};
+use rv_account::Entry;
 use rv_connection::Wire;
 use rv_hearers::ConnectionNumber;
 use rv_hub::{EventRefusal, Hub};
 use rv_lines::entry_line;
+use rv_text::NoMemory;
 use std::alloc::Global;
-use std::io::Write;
 
 // More bytes to hand out are told by their sum.
 const MOST_SHOWN: usize = 2_000;
@@ -22,116 +23,172 @@ fn word_of(refusal: EventRefusal) -> &'static str {
     }
 }
 
-/// Prints what came of an event.
-pub(crate) fn tell<W: Write>(
+/// Writes what came of an event.
+pub(crate) fn tell(
     alloc: Global,
-    output: &mut W,
+    text: &mut Vec<u8>,
     hub: &Hub,
     came: Result<usize, EventRefusal>,
-) -> anyhow::Result<()> {
+) -> Result<(), NoMemory> {
     match came {
-        Ok(count) => tell_taken(alloc, output, hub, count)?,
-        Err(refusal) => {
-            let line = format!(in alloc; "refused {}\n", word_of(refusal))?;
-            output.write_all(line.as_bytes())?;
-        }
+        Ok(count) => tell_taken(alloc, text, hub, count)?,
+        Err(refusal) => tell_refused(text, word_of(refusal))?,
     }
-    tell_totals(alloc, output, hub)
+    tell_totals(alloc, text, hub)
 }
 
-// Prints what came of an event that was taken.
-fn tell_taken<W: Write>(
-    alloc: Global,
-    output: &mut W,
-    hub: &Hub,
-    count: usize,
-) -> anyhow::Result<()> {
-    let line = format!(in alloc; "ok {count}\n")?;
-    output.write_all(line.as_bytes())?;
+// Writes why an event wasn't taken.
+fn tell_refused(text: &mut Vec<u8>, word: &str) -> Result<(), NoMemory> {
+    text.extend_from_slice(b"refused ")?;
+    text.extend_from_slice(word.as_bytes())?;
+    text.extend_from_slice(b"\n")
+}
+
+// Writes what came of an event that was taken.
+fn tell_taken(alloc: Global, text: &mut Vec<u8>, hub: &Hub, count: usize) -> Result<(), NoMemory> {
+    tell_count(alloc, text, count)?;
     for entry in hub.entries() {
-        let line = entry_line(alloc, entry)?;
-        output.write_all(b"+ ")?;
-        output.write_all(line.as_bytes())?;
-        output.write_all(b"\n")?;
+        tell_entry(alloc, text, entry)?;
     }
     for connection in hub.changed() {
-        tell_connection(alloc, output, *connection, hub.wire(*connection))?;
+        tell_connection(alloc, text, *connection, hub.wire(*connection))?;
     }
     Ok(())
 }
 
-/// Prints the open connections among so many numbers, and what is asked of the whole hub.
-pub(crate) fn show<W: Write>(
-    alloc: Global,
-    output: &mut W,
-    hub: &Hub,
-    count: usize,
-) -> anyhow::Result<()> {
-    output.write_all(b"shown\n")?;
-    for connection in 0..count {
-        if let Some(wire) = hub.wire(connection) {
-            tell_connection(alloc, output, connection, Some(wire))?;
-        }
-    }
-    tell_totals(alloc, output, hub)
+// Writes what an event gives.
+fn tell_count(alloc: Global, text: &mut Vec<u8>, count: usize) -> Result<(), NoMemory> {
+    let line = format!(in alloc; "ok {count}\n")?;
+    text.extend_from_slice(line.as_bytes())
 }
 
-// Prints a connection.
-fn tell_connection<W: Write>(
+// Writes an entry.
+fn tell_entry(alloc: Global, text: &mut Vec<u8>, entry: &Entry) -> Result<(), NoMemory> {
+    let line = entry_line(alloc, entry)?;
+    add_entry(text, line.as_bytes())
+}
+
+// Adds the line of an entry.
+fn add_entry(text: &mut Vec<u8>, line: &[u8]) -> Result<(), NoMemory> {
+    text.extend_from_slice(b"+ ")?;
+    text.extend_from_slice(line)?;
+    text.extend_from_slice(b"\n")
+}
+
+/// Writes the open connections among so many numbers, and what is asked of the whole hub.
+pub(crate) fn show(
     alloc: Global,
-    output: &mut W,
+    text: &mut Vec<u8>,
+    hub: &Hub,
+    count: usize,
+) -> Result<(), NoMemory> {
+    text.extend_from_slice(b"shown\n")?;
+    for connection in 0..count {
+        if let Some(wire) = hub.wire(connection) {
+            tell_open(alloc, text, connection, wire)?;
+        }
+    }
+    tell_totals(alloc, text, hub)
+}
+
+// Writes a connection.
+fn tell_connection(
+    alloc: Global,
+    text: &mut Vec<u8>,
     connection: ConnectionNumber,
     wire: Option<&Wire>,
-) -> anyhow::Result<()> {
-    let Some(wire) = wire else {
-        let line = format!(in alloc; "{connection} closed\n")?;
-        output.write_all(line.as_bytes())?;
-        return Ok(());
-    };
+) -> Result<(), NoMemory> {
+    match wire {
+        Some(wire) => tell_open(alloc, text, connection, wire),
+        None => tell_closed(alloc, text, connection),
+    }
+}
+
+// Writes one that is closed.
+fn tell_closed(
+    alloc: Global,
+    text: &mut Vec<u8>,
+    connection: ConnectionNumber,
+) -> Result<(), NoMemory> {
+    let line = format!(in alloc; "{connection} closed\n")?;
+    text.extend_from_slice(line.as_bytes())
+}
+
+// Writes one that is open.
+fn tell_open(
+    alloc: Global,
+    text: &mut Vec<u8>,
+    connection: ConnectionNumber,
+    wire: &Wire,
+) -> Result<(), NoMemory> {
+    tell_state(alloc, text, connection, wire)?;
+    tell_bytes(alloc, text, wire.ready())?;
+    text.extend_from_slice(b"\n")
+}
+
+// Writes the state of an open connection.
+fn tell_state(
+    alloc: Global,
+    text: &mut Vec<u8>,
+    connection: ConnectionNumber,
+    wire: &Wire,
+) -> Result<(), NoMemory> {
     let (waits, offers) = (wire.owes() as u8, wire.may_offer() as u8);
     let (unread, held) = (wire.unread_count(), wire.held());
     let line = format!(in alloc; "{connection} open {waits} {unread} {held} {offers} ")?;
-    output.write_all(line.as_bytes())?;
-    tell_bytes(alloc, output, wire.ready())?;
-    output.write_all(b"\n")?;
-    Ok(())
+    text.extend_from_slice(line.as_bytes())
 }
 
-// Prints bytes to hand out; where they are many, how many and their sum.
-fn tell_bytes<W: Write>(alloc: Global, output: &mut W, bytes: &[u8]) -> anyhow::Result<()> {
+// Writes bytes to hand out; where they are many, how many and their sum.
+fn tell_bytes(alloc: Global, text: &mut Vec<u8>, bytes: &[u8]) -> Result<(), NoMemory> {
     if bytes.len() > MOST_SHOWN {
-        output.write_all(written_sum(alloc, bytes)?.as_bytes())?;
-    } else {
-        output.write_all(&written_hex(alloc, bytes)?)?;
+        let sum = written_sum(alloc, bytes)?;
+        return text.extend_from_slice(sum.as_bytes());
     }
-    Ok(())
+    let digits = written_hex(alloc, bytes)?;
+    text.extend_from_slice(&digits)
 }
 
-// Prints what is asked of the whole hub.
-fn tell_totals<W: Write>(alloc: Global, output: &mut W, hub: &Hub) -> anyhow::Result<()> {
+// Writes what is asked of the whole hub.
+fn tell_totals(alloc: Global, text: &mut Vec<u8>, hub: &Hub) -> Result<(), NoMemory> {
+    tell_counts(alloc, text, hub)?;
+    tell_unheard(alloc, text, hub)?;
+    text.extend_from_slice(b"\n")
+}
+
+// Writes the bytes that are held, the next moment and how many requests nobody waits for.
+fn tell_counts(alloc: Global, text: &mut Vec<u8>, hub: &Hub) -> Result<(), NoMemory> {
     let (held, count) = (hub.held(), hub.unheard());
     let line = match hub.next_moment() {
         Some(moment) => format!(in alloc; "= {held} {moment} {count}")?,
         None => format!(in alloc; "= {held} - {count}")?,
     };
-    output.write_all(line.as_bytes())?;
-    tell_unheard(alloc, output, hub)?;
-    output.write_all(b"\n")?;
-    Ok(())
+    text.extend_from_slice(line.as_bytes())
 }
 
-// Prints the keys of the requests that wait for which no connection does, by client.
-fn tell_unheard<W: Write>(alloc: Global, output: &mut W, hub: &Hub) -> anyhow::Result<()> {
+// Writes the keys of the requests that wait for which no connection does, by client.
+fn tell_unheard(alloc: Global, text: &mut Vec<u8>, hub: &Hub) -> Result<(), NoMemory> {
     let mut after = None;
     for _ in 0..hub.machine().clients() {
         let Some((client, session)) = hub.machine().next_client(after) else {
             return Ok(());
         };
         if hub.is_unheard(client) {
-            let line = format!(in alloc; " {client}.{}.{}", session.incarnation, session.last)?;
-            output.write_all(line.as_bytes())?;
+            tell_key(alloc, text, client, session.incarnation, session.last)?;
         }
         after = Some(client);
     }
     Ok(())
+}
+
+// Writes the numbers of a key.
+fn tell_key(
+    alloc: Global,
+    text: &mut Vec<u8>,
+    client: u64,
+    incarnation: u64,
+    number: u64,
+) -> Result<(), NoMemory> {
+    let line = format!(in alloc; " {client}.{incarnation}.{number}")?;
+    text.extend_from_slice(line.as_bytes())
 }
