@@ -1,5 +1,5 @@
 //! The fault that a worker tells where a connection ends early, over memory.
-ghost use Rattle.std.specs.Prelude.{◌≡◌};
+ghost use Rattle.std.specs.Prelude.{◌≡◌, ◌<◌};
 
 use crate::expect::same;
 use crate::still::{Closed, HELLO, Still};
@@ -47,10 +47,21 @@ fn told<L: Ledger, R: Wait + Abort + AllocGlobal>(
     }
 }
 
-// The same of a device that takes all.
-fn told_of(rt: &HostRuntime, reader: TestReader<'_>) -> Option<WorkFault> {
+// The fault of a server of one worker, whose devices fail if they are to.
+fn told_over<R: Wait + Abort + AllocGlobal>(
+    rt: &R,
+    reader: TestReader<'_>,
+    writer: TestWriter,
+) -> Option<WorkFault> {
+    told::<Brand, R>(rt, Blank::new(1), reader, writer)
+}
+
+// The same of what was sent in pieces of so many bytes, over a device that takes all.
+fn told_of<R: Wait + Abort + AllocGlobal>(rt: &R, sent: &[u8], most: usize) -> Option<WorkFault>
+    requires { 0 < most }
+{
     let writer = TestWriter::new(rt.alloc(), 4_096);
-    told::<Brand, HostRuntime>(rt, Blank::new(1), reader, writer)
+    told_over(rt, TestReader::new(sent, most), writer)
 }
 
 // What comes behind a hello, and the fault that it is.
@@ -66,18 +77,20 @@ fn an_end_is_told(rt: HostRuntime) {
     for (end, want) in ENDS {
         let mut sent = HELLO.to_vec(rt.alloc()).expect(&rt, "no memory");
         sent.extend_from_slice(end).expect(&rt, "no memory");
-        same(&rt, told_of(&rt, TestReader::new(&sent, 7)), want);
+        same(&rt, told_of(&rt, &sent, 7), want);
     }
 }
 
 #[test]
 fn a_device_that_fails_is_told(rt: HostRuntime) {
     let reader = TestReader::new(HELLO, 7).failing_at(2, ErrorKind::ConnectionReset);
-    same(&rt, told_of(&rt, reader), Some(WorkFault::ReadFault));
+    let writer = TestWriter::new(rt.alloc(), 4_096);
+    let found = told_over(&rt, reader, writer);
+    same(&rt, found, Some(WorkFault::ReadFault));
     let stop = Stop::Error(ErrorKind::ConnectionReset);
     let writer = TestWriter::new(rt.alloc(), 7).stopping_after(3, stop);
     let reader = TestReader::new(HELLO, 7);
-    let found = told::<Brand, HostRuntime>(&rt, Blank::new(1), reader, writer);
+    let found = told_over(&rt, reader, writer);
     same(&rt, found, Some(WorkFault::WriteFault(3)));
 }
 
@@ -89,6 +102,6 @@ const BRACE: &[u8] = b"\x00\x01{";
 fn a_frame_too_many_is_told(rt: HostRuntime) {
     for (frames, want) in [(65_536, None), (65_537, Some(WorkFault::TooLong))] {
         let sent = BRACE.repeat(rt.alloc(), frames).expect(&rt, "no memory");
-        same(&rt, told_of(&rt, TestReader::new(&sent, 4_096)), want);
+        same(&rt, told_of(&rt, &sent, 4_096), want);
     }
 }

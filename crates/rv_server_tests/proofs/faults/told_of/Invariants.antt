@@ -1,5 +1,0 @@
--- The ledger is the one of the blank.
-use Rattle.rv_server_tests.proofs.faults.told_of.Given as goal
-
-abbrev pub ghosts-told : goal.ghosts-told
-ghosts-told g a = record { name = a.blank.name; parts = a.blank.parts }
