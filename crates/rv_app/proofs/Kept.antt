@@ -1,17 +1,14 @@
 -- What a status of 0 tells.
-use Rattle.std.proofs.Common.{◌≡◌, ◌∷◌, ◌∙◌, [], Bool, IsTrue, List, None, Option, Some, ap, arith, false}
+use Rattle.std.proofs.Common.{◌≡◌, ◌∷◌, ◌∙◌, [], Bool, List, None, Option, Some, ap, arith, false}
 use Rattle.std.proofs.Common.{length}
-use Rattle.std.proofs.Common.{refl, slice_get, subst, suc, sym, true, zero, ℕ}
-use Rattle.std.specs.Prelude.{take}
+use Rattle.std.proofs.Common.{refl, slice_get, subst, suc, sym, true, ℕ}
 use Rattle.std.specs.List.{All, AllZip}
 use Rattle.std.proofs.lemmas.List.{take_all}
 use Rattle.std.proofs.lemmas.List.Elements.{All-cons, All-nil}
 use Rattle.rv_account.specs.Account.{Account}
 use Rattle.rv_audit.specs.declared.rule.Rule.{Rule}
 use Rattle.rv_findings.specs.Statuses.{status_by}
-use Rattle.rv_findings.specs.Findings.{IsFinding}
 use Rattle.rv_findings.specs.declared.findings.Finding.TheVariants.{Kept}
-use Rattle.rv_findings.specs.declared.verdict.AccountFinding.{AccountFinding}
 use Rattle.rv_findings.specs.declared.verdict.AccountVerdict.{AccountVerdict}
 use Rattle.rv_findings.specs.declared.verdict.AccountVerdict.TheVariants.{BadLine, BeyondLimits, Fault}
 use Rattle.rv_findings.specs.declared.verdict.AccountVerdict.TheVariants.{Legal as LegalSoFar, NotOpen}
