@@ -19,7 +19,7 @@ use Rattle.rv_status.specs.declared.status.WaitingRow.{WaitingRow}
 use Rattle.rv_status.specs.Rows.{MetricRow, number_rows}
 use Rattle.rv_status.specs.Texts.{family_text, family_head, labelled_text, metrics_text, row_text, side_help}
 use Rattle.rv_status.specs.Texts.{side_name}
-use Rattle.rv_status.specs.Values.{list_tokens, listed, number_members, number_tokens, numbers_value}
+use Rattle.rv_status.specs.Values.{list_tokens, number_members, number_tokens, numbers_value}
 use Rattle.rv_status.specs.Values.{queue_value}
 use Rattle.rv_status.specs.Values.{sample_value, status_value, tokens_of, waiting_value}
 

@@ -11,7 +11,7 @@ mod status;
 
 pub use members::status_json;
 pub use metrics::metrics_of;
-pub use numbers::{FaultCounts, MetricKind, StatusNumbers};
+pub use numbers::{FaultCounts, StatusNumbers};
 pub use pages::StatusPages;
 pub use samples::take_sample;
 pub use status::{CallKind, HostStatus, QueueRow, StatusSample, WaitingRow};

@@ -3,7 +3,7 @@ ghost use Rattle.std.specs.Prelude.{◌≡◌, map};
 ghost use Rattle.rv_status.specs.Rows.{counter_row, gauge_row, kind_word, number_rows, reading_row};
 
 /// How often each kind of fault came since the start.
-#[derive(Clone, Copy, Debug)]
+#[derive(Clone, Copy)]
 pub struct FaultCounts {
     /// Accepts that failed.
     pub accept: u64,
@@ -28,7 +28,7 @@ pub struct FaultCounts {
 }
 
 /// The numbers of a server at one moment.
-#[derive(Clone, Copy, Debug)]
+#[derive(Clone, Copy)]
 pub struct StatusNumbers {
     /// Bytes that were written to the account's file; 0 without one.
     pub account_bytes: u64,
@@ -67,8 +67,8 @@ pub struct StatusNumbers {
 }
 
 /// How a number goes on.
-#[derive(Clone, Copy, Debug)]
-pub enum MetricKind {
+#[derive(Clone, Copy)]
+pub(crate) enum MetricKind {
     /// It only grows, until the server ends.
     Counter,
     /// It rises and falls.

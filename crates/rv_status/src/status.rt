@@ -5,7 +5,7 @@ ghost use Rattle.rv_status.specs.Values.{call_word};
 use crate::numbers::StatusNumbers;
 
 /// What a server tells of itself at one moment. Who fills it keeps each list at 100 rows at most.
-#[derive(Debug, Drop)]
+#[derive(Drop)]
 pub struct HostStatus {
     /// Its numbers.
     pub numbers: StatusNumbers,
@@ -20,7 +20,7 @@ pub struct HostStatus {
 }
 
 /// How far a server was at one moment.
-#[derive(Clone, Copy, Debug)]
+#[derive(Clone, Copy)]
 pub struct StatusSample {
     /// The moment, in seconds since the start.
     pub second: u64,
@@ -33,7 +33,7 @@ pub struct StatusSample {
 }
 
 /// What waits in a queue.
-#[derive(Clone, Copy, Debug)]
+#[derive(Clone, Copy)]
 pub struct QueueRow {
     /// The queue's number.
     pub queue: u64,
@@ -44,7 +44,7 @@ pub struct QueueRow {
 }
 
 /// A call that may wait.
-#[derive(Clone, Copy, Debug)]
+#[derive(Clone, Copy)]
 pub enum CallKind {
     /// It hands an item over.
     Transfer,
@@ -55,7 +55,7 @@ pub enum CallKind {
 }
 
 /// A request that waits.
-#[derive(Clone, Copy, Debug)]
+#[derive(Clone, Copy)]
 pub struct WaitingRow {
     /// What it is.
     pub call: CallKind,

@@ -1,6 +1,6 @@
 -- What stood before, and the tokens of those that the loop passed.
 use Rattle.std.proofs.Common.{◌≡◌, ◌++◌, take}
-use Rattle.std.specs.Prelude.{flat_map, map}
+use Rattle.std.specs.Prelude.{map}
 use Rattle.rv_status.specs.Values.{cell_token}
 use Rattle.rv_status.proofs.members.put_cells.Given as goal
 

@@ -1,6 +1,6 @@
 -- What stood before, and the tokens of those that the loop passed.
 use Rattle.std.proofs.Common.{◌≡◌, ◌++◌, take}
-use Rattle.std.specs.Prelude.{flat_map, map}
+use Rattle.std.specs.Prelude.{flat_map}
 use Rattle.rv_status.specs.Values.{queue_value, tokens_of}
 use Rattle.rv_status.proofs.members.put_each_queue.Given as goal
 
