@@ -39,6 +39,14 @@ def shown(page):
     return ran.stdout, [line for line in ran.stderr.splitlines() if ":CONSOLE" in line]
 
 
+def opened(url, *more):
+    """The page at an address as the browser holds it some seconds later; further words of the browser's may keep a picture."""
+    with tempfile.TemporaryDirectory(prefix="rv-browser-") as profile:
+        words = [found(), "--headless", "--no-sandbox", "--disable-gpu", "--hide-scrollbars", f"--user-data-dir={profile}",
+                 "--window-size=1200,1500", "--virtual-time-budget=5000", *more, url]
+        return subprocess.run(words, capture_output=True, text=True, timeout=120, check=True).stdout
+
+
 def a_browser_shows_each_picture(_):
     """Each picture is shown whole, with all its words, and no error; one that is cut off is told as wrong."""
     for page in sorted(PICTURES.glob("*.svg")):

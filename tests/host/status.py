@@ -21,9 +21,9 @@ SOON = 30
 HTML, JSON, METRICS, PLAIN = "text/html", "application/json", "text/plain; version=0.0.4", "text/plain"
 
 
-def asked(port: int, path: str, method: str = "GET") -> tuple[int, str, str]:
+def asked(port: int, path: str, method: str = "GET", patience: float = SOON) -> tuple[int, str, str]:
     """The status, the type and the body that are told for a path."""
-    link = http.client.HTTPConnection("127.0.0.1", port, timeout=SOON)
+    link = http.client.HTTPConnection("127.0.0.1", port, timeout=patience)
     with contextlib.closing(link):
         link.request(method, path)
         answer = link.getresponse()
@@ -31,16 +31,16 @@ def asked(port: int, path: str, method: str = "GET") -> tuple[int, str, str]:
         return answer.status, answer.getheader("content-type", ""), answer.read().decode()
 
 
-def page(port: int, path: str, kind: str, method: str = "GET", status: int = 200) -> str:
+def page(port: int, path: str, kind: str, method: str = "GET", status: int = 200, patience: float = SOON) -> str:
     """The body of a page, whose status and type must be these."""
-    got, told, body = asked(port, path, method)
+    got, told, body = asked(port, path, method, patience)
     demand((got, told.startswith(kind)) == (status, True), f"{method} {path}: {got} {told}, not {status} {kind}")
     return body
 
 
-def numbers(port: int) -> dict[str, int]:
+def numbers(port: int, patience: float = SOON) -> dict[str, int]:
     """The metrics that are told, by name and labels."""
-    lines = page(port, "/metrics", METRICS).splitlines()
+    lines = page(port, "/metrics", METRICS, patience=patience).splitlines()
     return {name: int(value) for name, _, value in (line.rpartition(" ") for line in lines if not line.startswith("#"))}
 
 

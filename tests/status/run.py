@@ -13,7 +13,6 @@ import re
 import shutil
 import subprocess
 import sys
-import tempfile
 from typing import Callable, Dict, List
 
 sys.dont_write_bytecode, sys.path[0] = True, str(pathlib.Path(__file__).resolve().parents[2])
@@ -41,11 +40,9 @@ def rows() -> List[List[str]]:
 
 
 def shown(status: busy.Status, *more: str) -> str:
-    """The page as the browser holds it some seconds later; further words of the browser's may keep a picture."""
-    with standin.serving(busy.text(status)) as (host, port), tempfile.TemporaryDirectory(prefix="rv-status-") as profile:
-        words = [browser.found(), "--headless", "--no-sandbox", "--disable-gpu", "--hide-scrollbars", f"--user-data-dir={profile}",
-                 "--window-size=1200,1500", "--virtual-time-budget=5000", *more, f"http://{host}:{port}/"]
-        return subprocess.run(words, capture_output=True, text=True, timeout=120, check=True).stdout
+    """The page over a status as the browser holds it; further words of the browser's may keep a picture."""
+    with standin.serving(busy.text(status)) as (host, port):
+        return str(browser.opened(f"http://{host}:{port}/", *more))
 
 
 def table(page: str, name: str) -> str:
