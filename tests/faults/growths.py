@@ -233,12 +233,13 @@ def serve_row():
 
 
 def verify_row(folder):
-    """The same of an account beside a record that it keeps: nothing is printed where there is no memory."""
+    """The same of an account beside a record that it keeps: where a line finds no memory, those before it are printed."""
     record = folder / "record"
     record.write_bytes(text_of(KEPT))
     kept = [f"{number} kept" for number in range(1, len(KEPT) + 1)]
-    words = ["verify", "-", "--replies", str(record)]
-    return "an account beside a record", words, ACCOUNT, ["legal", *kept, *counted(len(KEPT))], []
+    words, lines = ["verify", "-", "--replies", str(record)], ["legal", *kept, *counted(len(KEPT))]
+    ends = [(lines[:number], RUN_FAULT) for number in range(1, len(KEPT) + 1)]
+    return "an account beside a record", words, ACCOUNT, lines, ends
 
 
 def begun(words, printed, end, ample):
