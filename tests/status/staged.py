@@ -1,6 +1,6 @@
 #!/usr/bin/env python3
 """Stages what goes wrong at a host, one after another: each must be told apart from the others by the status, by the metrics, and
-by the alerts of packaging/rv.rules.yml. By hand, since it takes some four minutes.
+by the alerts of packaging/rv.rules.yml. By hand, since it takes some five minutes.
 
 The metrics are read once a second. Over them promtool evaluates the rules, in which a second stands for each minute; it says if
 promtool is missing, and compares the numbers that the rules name alone. Of each case a line tells its numbers.
@@ -16,6 +16,7 @@ import contextlib
 import os
 import pathlib
 import resource
+import selectors
 import subprocess
 import sys
 import threading
@@ -25,23 +26,24 @@ from collections.abc import Callable, Iterator
 sys.dont_write_bytecode, sys.path[0] = True, str(pathlib.Path(__file__).resolve().parents[2])
 from tests.clients import browser  # noqa: E402
 from tests.host import many  # noqa: E402
-from tests.host.hostile import KEPT, ask_and_never_read  # noqa: E402
+from tests.host.hostile import DEAF_ITEM, KEPT, ask_and_never_read  # noqa: E402
 from tests.model.account import Key  # noqa: E402
 from tests.sockets.cases import Count  # noqa: E402
 from tests.sockets.programs import Caller  # noqa: E402
-from tests.sockets.wire import Peer, demand, frame, give, replied, request, swap, take, until  # noqa: E402
+from tests.sockets.wire import Peer, demand, frame, give, hello, replied, request, swap, take, until  # noqa: E402
 from tests.status.stages import DAY, GIGABYTE, Reading, Stage, lacking, staged  # noqa: E402
 
 # Readings behind which each alert that has to last is raised, and those of an account's growth.
 LASTS, LONG = 25, 100
-# The seconds between two items of a producer, and the bytes of a long one: some 40 KB of the account a second.
-PAUSE, LONG_ITEM = 0.1, "a" * 1_500
+# The seconds between two items of a producer.
+PAUSE = 0.1
 # Seconds behind which a host ends who takes no answer, as it is told.
 STALL = "10"
 # Few descriptors, of which a host with a status address keeps 49 for other things than connections.
 FEW, KEPT_BACK = 64, 49
-# Clients of a crowd; those that wait at a busy host, the first of them, and the seconds for which it is busy.
-CROWD, WAITING, FIRST, BUSY = 20, 2_400, 1_001, 120
+# Clients of a crowd; those that wait at a busy host, the first of them, those of them that swap, the workers that are killed there,
+# and the seconds for which it is busy.
+CROWD, WAITING, FIRST, SWAPS, KILLED, BUSY = 20, 1_500, 2_001, 40, 3, 120
 
 
 def a_worker_was_killed(program: str) -> str:
@@ -120,6 +122,18 @@ def a_peer_takes_no_answers(program: str) -> str:
         return f"{stage.rise('rv_fault_stall_total')}, meanwhile rv_buffer_bytes {held}"
 
 
+def a_peer_leaves_few_answers(program: str) -> str:
+    """A peer reads none of so few answers that the system keeps them: by the system the connection breaks a minute later. Nobody
+    else met anything, and no alert is raised."""
+    with staged(program) as stage, stage.host.connect(receive=KEPT) as peer, handing_over(stage, 4):
+        put, peek = Key(1, 1_000, 1, 1), frame(request(Key(1, 1_000, 1, 2), {"call": "peek", "queue": 7}))
+        peer.send(frame(hello(1_000)) + frame(request(put, give("put", DEAF_ITEM, queue=7))) + peek * CROWD)
+        stage.lasts("it breaks", lambda told: bool(told) and told["rv_fault_link_total"] == 1, 2)
+        demand(stage.status()["numbers"]["rv_fault_link_total"] == 1, "the page doesn't tell it")
+        stage.raises({})
+        return stage.rise("rv_fault_link_total")
+
+
 def a_low_limit() -> None:
     """Leaves a process few descriptors."""
     resource.setrlimit(resource.RLIMIT_NOFILE, (FEW, FEW))
@@ -168,10 +182,11 @@ def descriptors_run_out_for_moments(program: str) -> str:
 
 
 def descriptors_are_out(program: str) -> str:
-    """No descriptor is left, for long: the page has none either, and is silent until one is free; then it tells of them."""
+    """No descriptor is left, for long: the page has none either, and is silent until one is free; standard error tells why."""
     with staged(program) as stage:
         with no_descriptors(stage):
             stage.lasts("nothing is told", lambda told: told is None, 2)
+            until("it says why", lambda: b"accepts without a descriptor" in stage.host.said)
             stage.raises({"RvSilent": {}})
         stage.lasts("it is told", lambda told: bool(told) and told["rv_fault_descriptor_total"] > 0, 1)
         return f"silent, and then {stage.rise('rv_fault_descriptor_total')}"
@@ -179,7 +194,7 @@ def descriptors_are_out(program: str) -> str:
 
 def the_account_grows(program: str) -> str:
     """Long items make an account grow by more than a gigabyte a day; the queue stays empty."""
-    with staged(program) as stage, handing_over(stage, 4, LONG_ITEM):
+    with staged(program) as stage, handing_over(stage, 4, DEAF_ITEM):
         stage.lasts("it goes on", bool, LONG)
         history = stage.status()["history"]
         gained = (history[-1][3] - history[0][3]) * DAY / (history[-1][0] - history[0][0])
@@ -188,13 +203,34 @@ def the_account_grows(program: str) -> str:
         return f"{stage.rise('rv_account_bytes_total')}, {gained / GIGABYTE:.1f} gigabytes more a day"
 
 
-def waits(stage: Stage, peers: list[Peer]) -> None:
-    """Each of them waits: takes, transfers and a few swaps, none of which meets another."""
+@contextlib.contextmanager
+def waiting(stage: Stage, peers: list[Peer]) -> Iterator[None]:
+    """Each of them waits, until the block ends: takes, transfers and a few swaps, none of which meets another. Who is told that it
+    waits asks again."""
     many.greeted(peers, FIRST, stage.host.epoch)
+    done, told = threading.Event(), selectors.DefaultSelector()
     for client, peer in enumerate(peers, FIRST):
-        calls = [take("forever", queue=16 + client % 24), give("transfer", "a", "forever", queue=40 + client % 24)]
-        call = swap("a", "forever", exchanger=client % 64) if client < FIRST + 40 else calls[client % 2]
-        peer.send(frame(request(Key(stage.host.epoch, client, 1, 1), call)))
+        calls = [take("forever", queue=16 + client % 6), give("transfer", "a", "forever", queue=40 + client % 6)]
+        call = swap("a", "forever", exchanger=client % 64) if client < FIRST + SWAPS else calls[client % 2]
+        asked = frame(request(Key(stage.host.epoch, client, 1, 1), call))
+        peer.send(asked)
+        told.register(peer.socket, selectors.EVENT_READ, (peer, asked))
+
+    def ask_again() -> None:
+        while not done.is_set():
+            for key, _ in told.select(PAUSE):
+                peer, asked = key.data
+                with contextlib.suppress(ConnectionError):
+                    peer.hear()
+                    peer.send(asked)
+
+    thread = threading.Thread(target=ask_again, daemon=True)
+    thread.start()
+    try:
+        yield
+    finally:
+        done.set()
+        thread.join()
 
 
 def picture(program: str, path: pathlib.Path) -> None:
@@ -203,21 +239,24 @@ def picture(program: str, path: pathlib.Path) -> None:
     with contextlib.ExitStack() as stack:
         stage = stack.enter_context(staged(program, "--stall", STALL))
         peers = stack.enter_context(many.closing(many.connected(stage.host.port, WAITING)))
-        waits(stage, peers)
+        workers = stack.enter_context(many.closing(many.connected(stage.host.port, KILLED)))
+        stack.enter_context(waiting(stage, peers))
         for queue in (1, 2, 3, 4, 5, 6, 8, 9):
             stack.enter_context(handing_over(stage, queue, puts=1 + (queue == 3)))
         deaf = stack.enter_context(stage.host.connect(receive=KEPT))
         threading.Thread(target=ask_and_never_read, args=(deaf, 1_000), daemon=True).start()
         time.sleep(BUSY / 2)
-        for peer in peers[7:1_000:400]:
-            peer.reset()
+        for client, worker in enumerate(workers, FIRST - KILLED):
+            worker.send(frame(hello(client)) + frame(request(Key(1, client, 1, 1), take("forever", queue=12))))
+            worker.hear()
+            worker.reset()
         time.sleep(BUSY / 2)
         browser.opened(f"http://127.0.0.1:{stage.port}/", f"--screenshot={path.resolve()}")
 
 
 CASES: list[Callable[[str], str]] = [
-    a_worker_was_killed, a_producer_is_too_fast, a_peer_takes_no_answers, few_descriptors_at_the_start,
-    descriptors_run_out_for_moments, descriptors_are_out, the_account_grows]
+    a_worker_was_killed, a_producer_is_too_fast, a_peer_takes_no_answers, a_peer_leaves_few_answers,
+    few_descriptors_at_the_start, descriptors_run_out_for_moments, descriptors_are_out, the_account_grows]
 
 
 def main() -> None:

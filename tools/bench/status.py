@@ -22,7 +22,6 @@ ROOT = pathlib.Path(__file__).resolve().parents[2]
 sys.dont_write_bytecode, sys.path[0] = True, str(ROOT)
 from tests.host import many  # noqa: E402
 from tests.host.status import asked  # noqa: E402
-from tests.host.watch import processor  # noqa: E402
 from tests.model.account import Key  # noqa: E402
 from tests.sockets.hosts import Host  # noqa: E402
 from tests.sockets.programs import free_port  # noqa: E402
@@ -44,6 +43,11 @@ class Run(NamedTuple):
 
     rate: float
     each: float
+
+
+def processor(host: Host) -> float:
+    """The processor seconds that a host's one thread took so far, of which the system counts nanoseconds."""
+    return int(pathlib.Path(f"/proc/{host.process.pid}/schedstat").read_text().split()[0]) / 1e9
 
 
 @contextlib.contextmanager
@@ -85,10 +89,10 @@ class Bench:
 
     def run(self) -> Run:
         """One load."""
-        before = processor(self.host.process.pid)
+        before = processor(self.host)
         took = driver.load("rv", self.host.port, self.first, LINKS, 1, self.requests)
         self.first += STEP
-        spent = processor(self.host.process.pid) - before
+        spent = processor(self.host) - before
         return Run(self.requests / took.seconds, 1e6 * spent / self.requests)
 
     def round(self) -> tuple[Run, Run]:
@@ -102,9 +106,9 @@ class Bench:
 
     def alone(self) -> float:
         """The processor's seconds in a second with no client that asks anything."""
-        before, began = processor(self.host.process.pid), time.monotonic()
+        before, began = processor(self.host), time.monotonic()
         time.sleep(ALONE)
-        return (processor(self.host.process.pid) - before) / (time.monotonic() - began)
+        return (processor(self.host) - before) / (time.monotonic() - began)
 
 
 def middle(runs: list[Run]) -> Run:
