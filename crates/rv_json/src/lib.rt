@@ -1,11 +1,13 @@
-//! A body's JSON, and the members of its object, each read by its name or written in its place.
+//! A body's JSON; the members of its object, read by name or written in their place; what is alone in it.
 #![tactic(auto)]
 
+mod body;
 mod fault;
 mod members;
 mod value;
 mod writer;
 
+pub use body::{Body, decode};
 pub use fault::{NoMemory, TextFault};
 pub use members::{Members, find_whole, member, read_text, read_whole, take_item, take_texts};
 pub use value::{MAX_BODY_BYTES, read_value};

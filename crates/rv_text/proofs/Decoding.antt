@@ -4,8 +4,7 @@ use Rattle.std.proofs.Common.{refl, sym, ap, ◌∙◌, inl, inr}
 use Rattle.std.proofs.lemmas.List.{length-map}
 use Rattle.std.proofs.lemmas.Option.{same_Some}
 use Rattle.std.specs.BTreeMap.{IsOrdered}
-use Rattle.serde_json.specs.Data.{Data, null, boolean, number, string, array, object, Members}
-use Rattle.serde_json.specs.Find.{as_object}
+use Rattle.serde_json.specs.Data.{object}
 use Rattle.serde_json.specs.View.{members_view}
 use Rattle.serde_json.specs.declared.value.Value.{Value}
 use Rattle.rv_json.specs.declared.fault.TextFault.{TextFault}
@@ -13,7 +12,8 @@ use Rattle.rv_json.specs.declared.fault.TextFault.TheVariants.{NotJson, NotMessa
 use Rattle.rv_text.specs.Bodies.{HasBodyLength, IsBody, Decodes}
 use Rattle.rv_text.specs.Members.{Field, field_of, members_of, object_of}
 use Rattle.rv_text.specs.Laws.{AtMostOne}
-use Rattle.rv_text.specs.Reading.{Shape, IsAlone, IsAloneIn, HasNone, FindsIn}
+use Rattle.rv_json.specs.Alone.{IsAlone, IsAloneIn, HasNone, FindsIn}
+use Rattle.rv_text.specs.Reading.{Shape, form_of}
 use Rattle.rv_text.proofs.Steps.{IsReader}
 use Rattle.rv_text.proofs.Objects.{IsSorted-entries, with_fields-found, found-with_fields}
 use Rattle.rv_text.proofs.Objects.{members_len-with_fields}
@@ -23,7 +23,7 @@ module _ (A : Type 0) (shape : Shape A) (reader : IsReader A shape) where
   fields_of x = map field_of (shape.row x)
 
   -- in the object with its row a value within the limits is alone
-  IsAlone-members_of : (x : A) → shape.Fits x → IsAlone A shape (members_of (shape.row x)) x
+  IsAlone-members_of : (x : A) → shape.Fits x → IsAlone A (form_of shape) (members_of (shape.row x)) x
   IsAlone-members_of x fits =
       let distinct = (reader.sound x).distinct in
       record {
@@ -35,7 +35,7 @@ module _ (A : Type 0) (shape : Shape A) (reader : IsReader A shape) where
 
   -- where a value is alone, the object is that of its row
   alone_object : (m : BTreeMap (String Global) Value) (x : A) → IsOrdered string_cmp m
-      → IsAlone A shape (members_view m.entries) x
+      → IsAlone A (form_of shape) (members_view m.entries) x
       → object (members_view m.entries) ≡ object_of (shape.row x)
   alone_object m x ordered alone =
       let ms = members_view m.entries in
@@ -52,7 +52,7 @@ module _ (A : Type 0) (shape : Shape A) (reader : IsReader A shape) where
       ∙ (IsAlone-members_of y q.2).found)
 
   -- what the bytes read as is the object of the row of what is alone in it
-  body_of : (bytes : List ℕ) (x : A) → HasBodyLength bytes → IsAloneIn A shape bytes x
+  body_of : (bytes : List ℕ) (x : A) → HasBodyLength bytes → IsAloneIn A (form_of shape) bytes x
       → IsBody shape.row shape.Fits bytes x
   body_of bytes x long alone = (
     long,
@@ -61,7 +61,8 @@ module _ (A : Type 0) (shape : Shape A) (reader : IsReader A shape) where
   )
 
   -- bytes that have a body hold no object in which nothing is alone
-  has_some : (bytes : List ℕ) (x : A) → IsBody shape.row shape.Fits bytes x → HasNone A shape bytes → ⊥
+  has_some : (bytes : List ℕ) (x : A) → IsBody shape.row shape.Fits bytes x
+      → HasNone A (form_of shape) bytes → ⊥
   has_some bytes x body has =
       let same : Some has.value ≡ Some (object_of (shape.row x)) = sym has.reads.1 ∙ body.1.1 in
       has.none (members_of (shape.row x)) (same_Some _ _ same) x (IsAlone-members_of x body.2)
@@ -74,7 +75,7 @@ module _ (A : Type 0) (shape : Shape A) (reader : IsReader A shape) where
     Right answer = Decodes A (IsBody shape.row shape.Fits) bytes answer
 
     -- what is found among the members is what the bytes are the body of
-    pub decodes : (answer : Result A TextFault) → FindsIn shape bytes answer → Right answer
+    pub decodes : (answer : Result A TextFault) → FindsIn (form_of shape) bytes answer → Right answer
     decodes (Ok x) h =
         let body : Is x = body_of bytes x h.0 h.1 in
         record {

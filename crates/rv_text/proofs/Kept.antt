@@ -6,18 +6,15 @@ use Rattle.std.specs.Str.{bytes_eq}
 use Rattle.std.proofs.lemmas.Slice.Eq.{bytes_eq-Decides}
 use Rattle.std.proofs.lemmas.Bool.{cases_order, false≢true}
 use Rattle.std.proofs.lemmas.Option.{none-some, same_Some}
-use Rattle.rv_text.specs.declared.message.Key.{Key}
 use Rattle.rv_text.specs.declared.call.Wait.{Wait}
 use Rattle.rv_text.specs.declared.call.Wait.TheVariants as wait
-use Rattle.rv_text.specs.declared.call.Side.{Side}
-use Rattle.rv_text.specs.declared.call.Side.TheVariants as side
 use Rattle.rv_text.specs.declared.call.Call.{Call}
 use Rattle.rv_text.specs.declared.call.Call.TheVariants as call
 use Rattle.rv_text.specs.declared.answer.Reply.TheVariants as reply
 use Rattle.rv_text.specs.Calls.{nature_of, side_of, wait_of, drains_of, item_of, MayWait}
 use Rattle.rv_text.specs.Members.{IsWithin}
 use Rattle.rv_text.specs.Rows.{side_row, max_or_wait_row, item_row, call_row}
-use Rattle.rv_text.specs.Limits.{FitsSide, FitsMax, FitsItem, FitsItems, FitsCall, FitsKey, FitsReply}
+use Rattle.rv_text.specs.Limits.{FitsMax, FitsItem, FitsCall, FitsReply}
 use Rattle.rv_text.proofs.ByKind.{Each, Each-parts, each_within}
 
 item_alone : (gives : Option (List ℕ)) (item : List ℕ) → gives ≡ Some item → Each IsWithin (item_row gives)

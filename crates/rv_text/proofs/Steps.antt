@@ -1,5 +1,5 @@
 -- The steps of a reader: each finds just what stands in the object.
-use Rattle.std.proofs.Common.{String, Global, ◌≡◌, ℕ, suc, List, [], ◌∷◌, length, map, codes}
+use Rattle.std.proofs.Common.{◌≡◌, ℕ, suc, List, [], ◌∷◌, length, map, codes}
 use Rattle.std.proofs.Common.{Bool, true, false, cond, Option, Some, None, option_and_then, bytes_eq, nat_eq}
 use Rattle.std.proofs.Common.{refl, sym, ap, ap₂, subst, inl, inr}
 use Rattle.std.proofs.lemmas.Bool.Decides.{Decides-eqb}
@@ -9,10 +9,8 @@ use Rattle.std.proofs.lemmas.Slice.Eq.{bytes_eq-Decides}
 use Rattle.std.specs.Prelude.{◌⊎◌, ◌≤◌, nat_le}
 use Rattle.serde_json.specs.Data.{unsigned, negative, float, Data, null, boolean, number, string, array}
 use Rattle.serde_json.specs.Data.{object, Items, no_items, item, Members}
-use Rattle.serde_json.specs.View.{items_of, members_view}
-use Rattle.serde_json.specs.declared.value.Value.{Value}
-use Rattle.serde_json.proofs.Views.{members_len-members_view}
-use Rattle.serde_json.specs.Events.{items_len, members_len}
+use Rattle.serde_json.specs.View.{items_of}
+use Rattle.serde_json.specs.Events.{items_len}
 use Rattle.serde_json.specs.Find.{get_member, as_number, as_u64, as_str}
 use Rattle.rv_text.specs.Members.{Member, Field, field_of, members_of, texts_value}
 use Rattle.rv_json.specs.Finding.{◌>>=◌, whole_among, text_among, few_in, texts_of, texts_among}
@@ -187,7 +185,3 @@ pub record IsReader (A : Type 0) (shape : Shape A) : Type 0 where
   pub lacks : (x : A) → Lacks (without x) (members_of (shape.row x))
   pub finds : (ms : Members) (x : A) → shape.Fits x → HoldsFields (map field_of (shape.row x)) ms
       → Lacks (without x) ms → shape.found ms ≡ Some x
-
--- as many members as the map has entries
-pub members_counted : (es : List (String Global × Value)) → members_len (members_view es) ≡ length es
-members_counted = members_len-members_view

@@ -1,15 +1,8 @@
 -- For private clauses: what the decoder looks for among the members of an object, each by its name.
-use Rattle.std.specs.Prelude.{◌≡◌, ◌==◌, ℕ, Bool, List, [], ◌∷◌, length, codes, if◌then◌else◌}
-use Rattle.std.specs.Prelude.{Option, Some, None, nat_eq, Result, Ok, Err}
-use Rattle.std.specs.Prelude.{string_cmp}
-use Rattle.std.specs.BTreeMap.{IsOrdered}
+use Rattle.std.specs.Prelude.{◌==◌, ℕ, Bool, List, [], ◌∷◌, length, codes, if◌then◌else◌}
+use Rattle.std.specs.Prelude.{Option, Some, None, nat_eq}
 use Rattle.std.specs.Str.{bytes_eq}
-use Rattle.serde_json.specs.Data.{Data, Items, Members}
-use Rattle.serde_json.specs.Data as json
-use Rattle.serde_json.specs.Events.{members_len}
-use Rattle.serde_json.specs.View.{members_view}
-use Rattle.rv_json.specs.declared.fault.TextFault.{TextFault}
-use Rattle.rv_json.specs.declared.fault.TextFault.TheVariants as fault
+use Rattle.serde_json.specs.Data.{Members}
 use Rattle.rv_text.specs.declared.version.Version.{Version}
 use Rattle.rv_text.specs.declared.version.Version.TheVariants.{One, Two}
 use Rattle.rv_text.specs.declared.message.Key.{Key}
@@ -27,7 +20,7 @@ use Rattle.rv_text.specs.declared.answer.Answer.{Answer}
 use Rattle.rv_text.specs.declared.answer.Answer.TheVariants as answer
 use Rattle.rv_text.specs.Versions.{version_of}
 use Rattle.rv_text.specs.Members.{Member}
-use Rattle.rv_json.specs.Bodies.{HasBodyLength, Reads, IsNotJson}
+use Rattle.rv_json.specs.Alone.{Form}
 pub use Rattle.rv_json.specs.Finding.{Map, Finds, FindsAmong, ◌>>=◌}
 pub use Rattle.rv_json.specs.Finding.{whole_among, text_among, item_among, texts_among}
 use Rattle.rv_text.specs.Rows.{message_row, answer_row, call_row}
@@ -277,35 +270,6 @@ answers = record { found = answer_among; row = answer_row; Fits = FitsAnswer }
 abbrev pub calls : Shape Call
 calls = record { found = call_among; row = call_row; Fits = FitsCall }
 
--- it is found, with no other members and within the limits
-pub record IsAlone (A : Type 0) (shape : Shape A) (members : Members) (x : A) : Type 0 where
-  pub found : shape.found members ≡ Some x
-  pub whole : members_len members ≡ length (shape.row x)
-  pub fits : shape.Fits x
-
--- a reader answers that value exactly if there is one, unless memory ran out
-abbrev pub FindsAlone : {A : Type 0} → Shape A → Result A TextFault → Members → Type 0
-FindsAlone {A} shape (Ok x) object = IsAlone A shape object x
-FindsAlone shape (Err fault.NotJson) object = ⊥
-FindsAlone {A} shape (Err fault.NotMessage) object = (x : A) → ¬ IsAlone A shape object x
-FindsAlone shape (Err fault.NoMemory) object = Unit {0}
-
--- the bytes read as the object that the map is, and the value is alone in it
-pub record IsAloneIn (A : Type 0) (shape : Shape A) (bytes : List ℕ) (x : A) : Type 0 where
-  pub map : Map
-  pub ordered : IsOrdered string_cmp map
-  pub reads : Reads bytes (json.object (members_view map.entries))
-  pub alone : IsAlone A shape (members_view map.entries) x
-
--- the bytes read as a value that is no object in which one is alone
-pub record HasNone (A : Type 0) (shape : Shape A) (bytes : List ℕ) : Type 0 where
-  pub value : Data
-  pub reads : Reads bytes value
-  pub none : (members : Members) → value ≡ json.object members → (x : A) → ¬ IsAlone A shape members x
-
--- what a decoder answers for bytes
-abbrev pub FindsIn : {A : Type 0} → Shape A → List ℕ → Result A TextFault → Type 0
-FindsIn {A} shape bytes (Ok x) = HasBodyLength bytes × IsAloneIn A shape bytes x
-FindsIn shape bytes (Err fault.NotJson) = HasBodyLength bytes × IsNotJson bytes
-FindsIn {A} shape bytes (Err fault.NotMessage) = HasBodyLength bytes → HasNone A shape bytes
-FindsIn shape bytes (Err fault.NoMemory) = HasBodyLength bytes
+-- the form of a value that has such a row
+abbrev pub form_of : {A : Type 0} → Shape A → Form A
+form_of shape = record { found = shape.found; size = λ x. length (shape.row x); Fits = shape.Fits }

@@ -1,18 +1,17 @@
 //! The message, answer or call whose body given bytes are.
 ghost use Rattle.std.specs.Prelude.{◌≡◌};
 ghost use Rattle.rv_text.specs.Bodies.{IsMessageBody, IsAnswerBody, IsCallBody, Decodes};
-ghost use Rattle.rv_text.specs.Reading.{messages, answers, calls};
+ghost use Rattle.rv_text.specs.Reading.{messages, answers, calls, form_of};
 ghost use Rattle.rv_text.specs.declared.message.Message.{Message};
 ghost use Rattle.rv_text.specs.declared.answer.Answer.{Answer};
 ghost use Rattle.rv_text.specs.declared.call.Call.{Call};
 
 use crate::answer::Answer;
-use crate::body::{Body, decode};
 use crate::call::Call;
 use crate::members::{read_call, read_refusal, read_reply, read_version};
 use crate::message::Message;
 use crate::passing::read_key;
-use rv_json::{Members, TextFault, read_text, read_whole};
+use rv_json::{Body, Members, TextFault, decode, read_text, read_whole};
 use std::alloc::Global;
 
 /// The message whose body the bytes are.
@@ -43,7 +42,7 @@ pub fn decode_call(alloc: Global, bytes: &[u8]) -> Result<Call, TextFault>
 }
 
 impl Body for Message {
-    ghost shape = { messages };
+    ghost form = { form_of messages };
 
     fn read(_alloc: Global, members: &mut Members) -> Result<Message, TextFault> {
         match read_text(members, "kind")? {
@@ -77,7 +76,7 @@ impl Body for Message {
 }
 
 impl Body for Answer {
-    ghost shape = { answers };
+    ghost form = { form_of answers };
 
     fn read(alloc: Global, members: &mut Members) -> Result<Answer, TextFault> {
         match read_text(members, "kind")? {
@@ -115,7 +114,7 @@ impl Body for Answer {
 }
 
 impl Body for Call {
-    ghost shape = { calls };
+    ghost form = { form_of calls };
 
     fn read(_alloc: Global, members: &mut Members) -> Result<Call, TextFault> {
         read_call(members)

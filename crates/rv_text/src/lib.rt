@@ -2,7 +2,6 @@
 #![tactic(auto)]
 
 mod answer;
-mod body;
 mod call;
 mod decode;
 mod encode;
