@@ -2,6 +2,7 @@
 from __future__ import annotations
 
 import contextlib
+import os
 import resource
 import selectors
 import socket
@@ -55,6 +56,19 @@ def greeted(peers: list[Peer], first: int, epoch: int, incarnation: int = 1) -> 
     for client, peer in zip(clients, peers):
         got = peer.hear()
         demand(got == welcome(client, epoch, incarnation), f"the hello of {client} was answered {got!r}")
+
+
+@contextlib.contextmanager
+def no_descriptors(pid: int, port: int, count: int) -> Iterator[None]:
+    """Until the block ends a host may have two descriptors more than it has, and so many connections take them."""
+    limit = resource.prlimit(pid, resource.RLIMIT_NOFILE)
+    few = len(os.listdir(f"/proc/{pid}/fd")) + 2
+    resource.prlimit(pid, resource.RLIMIT_NOFILE, (few, limit[1]))
+    try:
+        with closing(connected(port, count)):
+            yield
+    finally:
+        resource.prlimit(pid, resource.RLIMIT_NOFILE, limit)
 
 
 @contextlib.contextmanager

@@ -7,7 +7,7 @@ import json
 import time
 
 from tests.host.hostile import beside_a_good_client, one_that_waits, still_waits
-from tests.host.many import closing, connected
+from tests.host.many import closing, connected, no_descriptors
 from tests.host.options import LISTEN, listening, only, refused
 from tests.model.account import Key
 from tests.sockets.hosts import Host
@@ -16,6 +16,8 @@ from tests.sockets.wire import Peer, demand, frame, give, replied, request, take
 
 # A head has fewer bytes, and a connection lasts so many seconds at most; so many come in a flood.
 HEAD, LONGEST, FLOOD = 4_096, 10, 1_000
+# So many connections take the last descriptors, and so often a page is asked for then.
+CROWD, OFTEN = 20, 5
 # The seconds that a test gives a number which is read off once a second, and a connection that is to end.
 SOON = 30
 HTML, JSON, METRICS, PLAIN = "text/html", "application/json", "text/plain; version=0.0.4", "text/plain"
@@ -150,4 +152,17 @@ def hostile_visitors(program: str) -> None:
         page(port, "/", HTML)
 
 
-CASES = [addresses, pages_by_path, nothing_listens, a_worked_scene, hostile_visitors]
+def told_without_descriptors(program: str) -> None:
+    """Where no descriptor is left pages are told all the same, one after another, and among them that there is none."""
+    port = free_port()
+    with Host(program, options=("--status", f"127.0.0.1:{port}")) as host:
+        shows(port, {"rv_fault_descriptor_total": 0})
+        with no_descriptors(host.process.pid, host.port, CROWD):
+            until("that is told", lambda: numbers(port)["rv_fault_descriptor_total"] > 0, SOON)
+            for _ in range(OFTEN):
+                page(port, "/healthz", PLAIN)
+        shows(port, {"rv_connections": 0})
+        host.ended()
+
+
+CASES = [addresses, pages_by_path, nothing_listens, a_worked_scene, hostile_visitors, told_without_descriptors]

@@ -150,18 +150,9 @@ def few_descriptors_at_the_start(program: str) -> str:
         return f"rv_connections {told['rv_connections']} of {told['rv_connections_limit']}, {len(peers)} came"
 
 
-@contextlib.contextmanager
-def no_descriptors(stage: Stage) -> Iterator[None]:
-    """Until the block ends the host may have two descriptors more than it has, and a crowd takes them."""
-    pid = stage.host.process.pid
-    limit = resource.prlimit(pid, resource.RLIMIT_NOFILE)
-    few = len(os.listdir(f"/proc/{pid}/fd")) + 2
-    resource.prlimit(pid, resource.RLIMIT_NOFILE, (few, limit[1]))
-    try:
-        with many.closing(many.connected(stage.host.port, CROWD)):
-            yield
-    finally:
-        resource.prlimit(pid, resource.RLIMIT_NOFILE, limit)
+def no_descriptors(stage: Stage) -> contextlib.AbstractContextManager[None]:
+    """Until the block ends no descriptor is left to the host: a crowd takes the last ones."""
+    return many.no_descriptors(stage.host.process.pid, stage.host.port, CROWD)
 
 
 def descriptors_run_out_for_moments(program: str) -> str:
@@ -182,14 +173,14 @@ def descriptors_run_out_for_moments(program: str) -> str:
 
 
 def descriptors_are_out(program: str) -> str:
-    """No descriptor is left, for long: the page has none either, and is silent until one is free; standard error tells why."""
+    """No descriptor is left, for long: the page tells it, by the one that is held back."""
     with staged(program) as stage:
         with no_descriptors(stage):
-            stage.lasts("nothing is told", lambda told: told is None, 2)
-            until("it says why", lambda: b"accepts without a descriptor" in stage.host.said)
-            stage.raises({"RvSilent": {}})
-        stage.lasts("it is told", lambda told: bool(told) and told["rv_fault_descriptor_total"] > 0, 1)
-        return f"silent, and then {stage.rise('rv_fault_descriptor_total')}"
+            stage.lasts("it is told", lambda told: bool(told) and told["rv_fault_descriptor_total"] > 0, 2)
+            demand(stage.status()["numbers"]["rv_fault_descriptor_total"] > 0, "the page doesn't tell it")
+            stage.raises({"RvNoDescriptor": {}})
+        until("standard error says why", lambda: b"accepts without a descriptor" in stage.host.said)
+        return stage.rise("rv_fault_descriptor_total")
 
 
 def the_account_grows(program: str) -> str:

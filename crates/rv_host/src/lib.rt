@@ -6,6 +6,7 @@ mod fault;
 mod host;
 mod journal;
 mod report;
+mod reserve;
 mod shell;
 mod start;
 mod status;

@@ -204,7 +204,7 @@ impl Shell {
         self.write_account(now)?;
         self.write_all(now);
         self.look_over(rt, now);
-        self.show_status(now);
+        self.show_status(rt, now);
         Ok(())
     }
 

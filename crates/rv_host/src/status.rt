@@ -2,6 +2,7 @@
 use crate::door::{Accepted, Door};
 use crate::fault::HostEnd;
 use crate::report::{FaultKind, HostReport};
+use crate::reserve::Reserve;
 use crate::shell::Shell;
 use mio::net::{TcpListener, TcpStream};
 use rv_hub::Hub;
@@ -37,6 +38,7 @@ const SAMPLES: usize = 62;
 pub(crate) struct StatusDesk {
     alloc: Global,
     pub(crate) door: Door,
+    reserve: Reserve,
     visitors: Visitors<TcpStream>,
     status: HostStatus,
     // How far the clients are looked at, and how many more are to be.
@@ -95,6 +97,7 @@ impl StatusDesk {
         Ok(StatusDesk {
             alloc,
             door: Door::new(listener),
+            reserve: Reserve::new(rt),
             visitors,
             status,
             after: None,
@@ -153,7 +156,7 @@ impl StatusDesk {
     }
 
     // Visits those who ask, if it is time to, until one is answered. Behind each visit one more is accepted.
-    fn serve(&mut self, now: u64) {
+    fn serve(&mut self, rt: &HostRuntime, now: u64) {
         if now < self.next_visit {
             return;
         }
@@ -163,7 +166,8 @@ impl StatusDesk {
             }
             self.next_visit = now.saturating_add(PAUSE);
             let is_answered = self.visit(now);
-            self.accept(now);
+            self.reserve.hold(rt);
+            self.accept(rt, now);
             if is_answered {
                 break;
             }
@@ -179,27 +183,37 @@ impl StatusDesk {
         self.visitors.visit(now, &mut pages)
     }
 
-    // Accepts one more.
-    fn accept(&mut self, now: u64) {
+    // Accepts one more. A descriptor that nobody took is held back again.
+    fn accept(&mut self, rt: &HostRuntime, now: u64) {
         if !self.door.is_asked(now) {
             return;
         }
-        if let Accepted::Stream(stream) = self.door.accept(now) {
-            self.visitors.admit(now, stream);
+        match self.ask_door(now) {
+            Accepted::Stream(stream) => self.visitors.admit(now, stream),
+            _ => self.reserve.hold(rt),
         }
+    }
+
+    // Asks for one connection, where no other descriptor is left by the one that is held back.
+    fn ask_door(&mut self, now: u64) -> Accepted {
+        let accepted = self.door.accept(now);
+        if matches!(accepted, Accepted::NoDescriptor) && self.reserve.let_go() {
+            return self.door.accept(now);
+        }
+        accepted
     }
 }
 
 impl Shell {
     /// The turn of the status address, behind all others. Its lists have room, so that no memory is refused
     /// to them.
-    pub(crate) fn show_status(&mut self, now: u64) {
+    pub(crate) fn show_status(&mut self, rt: &HostRuntime, now: u64) {
         self.learn(now);
         let Some(desk) = &mut self.status else {
             return;
         };
         let _ = desk.look_at_clients(self.traffic.engine().hub());
-        desk.serve(now);
+        desk.serve(rt, now);
     }
 
     // Once a second takes in what is known.
