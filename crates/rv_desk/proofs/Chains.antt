@@ -15,7 +15,7 @@ does_append terms (x ∷ xs) ys a b c (between, does, more) rest = (
   does_append terms xs ys between b c more rest,
 )
 
-left_append : (piece : List ℕ) (xs ys : List Deed)
+pub left_append : (piece : List ℕ) (xs ys : List Deed)
     → left_behind piece (xs ++ ys) ≡ left_behind (left_behind piece xs) ys
 left_append piece xs ys =
     ap (λ n. drop n piece) (ap length (flat_map-append bytes_by xs ys) ∙ length-append (bytes_in xs) (bytes_in

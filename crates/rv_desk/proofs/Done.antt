@@ -1,14 +1,14 @@
 -- Behind a telling nobody waits any longer who was to be told, and nobody begins to.
 use Rattle.std.proofs.Common.{◌≡◌, ◌∙◌, ℕ, zero, suc, List, [], ◌∷◌, Some, sym, ap, subst, arith}
 use Rattle.std.specs.Prelude.{Contains, slice_get}
-use Rattle.std.proofs.lemmas.Option.{none-some}
 use Rattle.rv_text.specs.declared.message.Key.{Key}
 use Rattle.rv_hearers.specs.declared.tables.Hearing.{Hearing}
-use Rattle.rv_hearers.specs.Hearing.{HearsOf, WhoHears}
+use Rattle.rv_hearers.specs.Hearing.{HearsOf}
 use Rattle.rv_desk.specs.View.{DeskState, DeskTerms}
 use Rattle.rv_desk.specs.Deeds.{Deed, DoesAll}
-use Rattle.rv_desk.specs.Order.{TellsClient, TellsEach, TellsKeys}
-use Rattle.rv_desk.proofs.Rows.{is_other}
+use Rattle.rv_desk.specs.Order.{TellsEach, TellsKeys}
+use Rattle.rv_desk.specs.Going.{TellsClient}
+use Rattle.rv_desk.proofs.Rows.{is_other, there_first, there_later}
 use Rattle.rv_desk.proofs.ToldOne.{fewer_hear}
 use Rattle.rv_desk.proofs.Tellings.{tells_sets}
 
@@ -53,37 +53,31 @@ client_done terms s t client deeds tells = (
       })),
 )
 
--- nobody hears a client, once nobody did
-still_nobody : (was now : WhoHears) (client : ℕ)
-    → ((connection : ℕ) (hearing : Hearing) → now connection ≡ Some hearing → was connection ≡ Some hearing)
-    → ((connection : ℕ) → ¬ HearsOf was client connection) → (connection : ℕ)
-    → ¬ HearsOf now client connection
-still_nobody was now client fewer none connection hears =
-    none connection (record {
-      hearing = hears.hearing;
-      there = fewer connection hears.hearing hears.there;
-      same = hears.same;
-    })
+-- whoever isn't among them waits as before
+pub each_still : (terms : DeskTerms) (s t : DeskState) (row : List ℕ) (deeds : List Deed)
+    → TellsEach row deeds → DoesAll terms s deeds t → (n : ℕ) → (Contains row n → ⊥) → t.hears n ≡ s.hears n
+each_still terms s t [] deeds none does n apart =
+    ap (λ (u : DeskState). u.hears n) (subst (λ ds. DoesAll terms s ds t) none does)
+each_still terms s t (m ∷ row) [] none does n apart = absurd none
+each_still terms s t (m ∷ row) (deed ∷ deeds) (tells, each) (mid, does, more) n apart =
+    let sets = tells_sets terms s mid m deed tells does in
+    each_still terms mid t row deeds each more n (λ among. apart (there_later m row n among))
+    ∙ sets.others n (λ same. apart (there_first m row n (sym same)))
 
 pub keys_fewer : (terms : DeskTerms) (s t : DeskState) (keys : List Key) (deeds : List Deed)
     → TellsKeys terms s keys deeds t → (connection : ℕ) (hearing : Hearing)
     → t.hears connection ≡ Some hearing
     → s.hears connection ≡ Some hearing
-keys_fewer terms s t [] deeds (none, same) connection hearing there =
-    ap (λ (u : DeskState). u.hears connection) (sym same) ∙ there
-keys_fewer terms s t (key ∷ keys) deeds (first, rest, mid, parts, tells, more) connection hearing there =
-    (client_done terms s mid key.client first tells).0 connection hearing
-    (keys_fewer terms mid t keys rest more connection hearing there)
+keys_fewer terms s t keys deeds tells connection hearing there =
+    (each_done terms s t tells.row deeds tells.each tells.does connection hearing there).0
 
 pub keys_done : (terms : DeskTerms) (s t : DeskState) (keys : List Key) (deeds : List Deed)
     → TellsKeys terms s keys deeds t → (i : ℕ) (key : Key) → slice_get keys i ≡ Some key
     → (connection : ℕ) → ¬ HearsOf t.hears key.client connection
-keys_done terms s t [] deeds tells i key at connection hears = none-some key at
-keys_done terms s t (head ∷ keys) deeds (first, rest, mid, parts, tells, more) zero key at connection hears =
-    let same : head ≡ key = (cc) in
-    still_nobody mid.hears t.hears key.client (keys_fewer terms mid t keys rest more)
-    (subst (λ (k : Key). (n : ℕ) → ¬ HearsOf mid.hears k.client n) same
-    (client_done terms s mid head.client first tells).1) connection hears
-keys_done terms s t (head ∷ keys) deeds (first, rest, mid, parts, tells, more) (suc i) key at connection
-    hears =
-    keys_done terms mid t keys rest more i key at connection hears
+keys_done terms s t keys deeds tells i key at connection hears =
+    let it = each_done terms s t tells.row deeds tells.each tells.does connection hears.hearing hears.there in
+    it.1 (tells.hearers.all connection i key at (record {
+      hearing = hears.hearing;
+      there = it.0;
+      same = hears.same;
+    }))

@@ -6,6 +6,7 @@ pub mod ToldOne
 pub mod Tellings
 pub mod Late
 pub mod Done
+pub mod KeyByKey
 pub mod Stepped
 pub mod Texts
 pub mod Answering

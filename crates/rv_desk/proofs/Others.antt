@@ -55,12 +55,7 @@ each_kept terms s t (m ∷ row) (deed ∷ deeds) (one, each) (mid, does, more) n
 
 pub keys_kept : (terms : DeskTerms) (s t : DeskState) (keys : List Key) (deeds : List Deed)
     → TellsKeys terms s keys deeds t → (n : ℕ) → StaysOrTold s (told_in_deeds deeds) n t
-keys_kept terms s t [] deeds (none, same) n = inl (ap (λ (u : DeskState). u.open_wires.wires n) same)
-keys_kept terms s t (key ∷ keys) deeds (first, rest, mid, parts, tells, more) n =
-    subst (λ told. StaysOrTold s told n t) (sym (ap told_in_deeds parts ∙ flat_map-append told_of_deed first
-    rest))
-    (kept_on s mid t (told_in_deeds first) (told_in_deeds rest) n
-    (each_kept terms s mid tells.row first tells.each tells.does n) (keys_kept terms mid t keys rest more n))
+keys_kept terms s t keys deeds tells n = each_kept terms s t tells.row deeds tells.each tells.does n
 
 -- ---- a deed of another connection's own
 

@@ -3,7 +3,6 @@ use Rattle.std.proofs.Common.{inl, inr, ◌≡◌, ◌≤◌, ◌∙◌, ◌++�
 use Rattle.std.proofs.Common.{subst, arith, length}
 use Rattle.std.specs.Prelude.{flat_map}
 use Rattle.std.proofs.lemmas.Bool.{cases_eq}
-use Rattle.std.proofs.lemmas.Grind.{flat_map-append}
 use Rattle.rv_text.specs.declared.message.Key.{Key}
 use Rattle.rv_connection.specs.Traffic.{Traffic}
 use Rattle.rv_wires.specs.Connections.{SetsWire, WiresState}
@@ -32,14 +31,7 @@ each_quiet (n ∷ row) (deed ∷ deeds) (one, each) =
 
 pub keys_quiet : (terms : DeskTerms) (s t : DeskState) (keys : List Key) (deeds : List Deed)
     → TellsKeys terms s keys deeds t → (flat_map entries_of_deed deeds ≡ []) × (bytes_in deeds ≡ [])
-keys_quiet terms s t [] deeds (none, same) = (ap (λ ds. flat_map entries_of_deed ds) none, ap bytes_in none)
-keys_quiet terms s t (key ∷ keys) deeds (first, rest, mid, parts, tells, more) =
-    let one = each_quiet tells.row first tells.each in
-    let others = keys_quiet terms mid t keys rest more in (
-      ap (λ ds. flat_map entries_of_deed ds) parts ∙ flat_map-append entries_of_deed first rest
-          ∙ ap (λ l. l ++ flat_map entries_of_deed rest) one.0 ∙ others.0,
-      ap bytes_in parts ∙ flat_map-append bytes_by first rest ∙ ap (λ l. l ++ bytes_in rest) one.1 ∙ others.1,
-    )
+keys_quiet terms s t keys deeds tells = each_quiet tells.row deeds tells.each
 
 -- ---- unread bytes
 
@@ -85,10 +77,5 @@ each_unread terms s t (m ∷ row) (deed ∷ deeds) (one, each) (mid, does, more)
 pub keys_unread : (terms : DeskTerms) (s t : DeskState) (keys : List Key) (deeds : List Deed)
     → TellsKeys terms s keys deeds t → (n : ℕ)
     → unread_of (t.open_wires.wires n) ≤ unread_of (s.open_wires.wires n)
-keys_unread terms s t [] deeds (none, same) n =
-    let equal = ap (λ (u : DeskState). unread_of (u.open_wires.wires n)) same in
-    omega arith
-keys_unread terms s t (key ∷ keys) deeds (first, rest, mid, parts, tells, more) n =
-    let one = each_unread terms s mid tells.row first tells.each tells.does n in
-    let others = keys_unread terms mid t keys rest more n in
-    omega arith
+keys_unread terms s t keys deeds tells n =
+    each_unread terms s t tells.row deeds tells.each tells.does n

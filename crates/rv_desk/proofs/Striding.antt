@@ -35,6 +35,7 @@ use Rattle.rv_desk.specs.Going.{SaysIt, StepsIt, StillGoes, Strides, TakesDueFra
 use Rattle.rv_desk.specs.Going.{unread_at, work_left}
 use Rattle.rv_desk.proofs.Answering.{some_is}
 use Rattle.rv_desk.proofs.Done.{keys_done, keys_fewer}
+use Rattle.rv_desk.proofs.KeyByKey.{no_keys}
 use Rattle.rv_desk.proofs.Quiet.{keys_quiet, keys_unread}
 use Rattle.rv_desk.proofs.Tellings.{goes_none}
 use Rattle.rv_desk.proofs.ToldOne.{fewer_hear}
@@ -390,7 +391,7 @@ unstepped d new connection entries text body steady sound did takes one =
             subst (λ n. n < hearing.until) (sym (ap (λ (x : HubDesk). x.latest) rest))
             (back (λ n h. d.latest < h.until) steady.in_time other hearing there);
       },
-      strides_by d new new connection [] [] [] one (refl, refl)
+      strides_by d new new connection [] [] [] one (no_keys (desk_terms d) (desk_state new))
           (ap (λ (x : HubDesk). x.entries.items) rest ∙ sym (append-nil d.entries.items))
           (ap (λ (x : HubDesk). x.freed.items) rest) (ap desk_terms rest) (goes_none new) takes.work takes.had
           takes.emptied,

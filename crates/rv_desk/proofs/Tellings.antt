@@ -1,16 +1,15 @@
 -- Whoever waits is told one after another: what each telling adds to those before it.
-use Rattle.std.proofs.Common.{◌≡◌, ◌+◌, ◌<◌, ◌∙◌, ◌++◌, ◌∷◌, ℕ, suc, List, [], None, refl, sym, ap, subst}
-use Rattle.std.proofs.Common.{arith, append_assoc, drop, drop-cons, length, get_or}
+use Rattle.std.proofs.Common.{◌≡◌, ◌∙◌, ◌++◌, ◌∷◌, ℕ, List, [], None, refl, sym, ap, subst}
+use Rattle.std.proofs.Common.{arith, append_assoc}
 use Rattle.std.proofs.lemmas.List.{append-nil}
 use Rattle.std.proofs.lemmas.Grind.{flat_map-append}
-use Rattle.rv_text.specs.declared.message.Key.{Key}
 use Rattle.rv_hearers.specs.Hearing.{HearsOf, IsFirstHearer, SetsHearing}
 use Rattle.rv_desk.specs.declared.desk.HubDesk.{HubDesk}
 use Rattle.rv_desk.specs.View.{DeskState, DeskTerms}
 use Rattle.rv_desk.specs.Deeds.{Deed, Does, told_of_deed, told_in_deeds, Closed, Told}
-use Rattle.rv_desk.specs.Order.{TellsClient, TellsKeys, TellsOneHearer}
+use Rattle.rv_desk.specs.Order.{TellsOneHearer}
 use Rattle.rv_desk.specs.Fields.{desk_state, desk_terms}
-use Rattle.rv_desk.specs.Going.{GoesTelling, TellsIt, TellsIts, TellsThem}
+use Rattle.rv_desk.specs.Going.{GoesTelling, TellsClient, TellsIt, TellsIts}
 use Rattle.rv_desk.proofs.Rows.{row_first, row_nobody}
 
 -- ---- one
@@ -108,53 +107,5 @@ tells_all old new client far none = record {
         each = refl;
         does = refl;
       }));
-  goes = far.goes;
-}
-
--- ---- all of some keys
-
-pub record TellsKeysSoFar (old : HubDesk) (keys : List Key) (at : ℕ) (now : HubDesk) : Type 0 where
-  pub done : List Deed
-  pub goes : GoesTelling old done now
-  pub leads : (rest : List Deed) (final : DeskState)
-      → TellsKeys (desk_terms old) (desk_state now) (drop at keys) rest final
-      → TellsKeys (desk_terms old) (desk_state old) keys (done ++ rest) final
-
-pub tells_no_key : (d : HubDesk) (keys : List Key) → TellsKeysSoFar d keys 0 d
-tells_no_key d keys = record { done = []; goes = goes_none d; leads = λ rest final tells. tells }
-
-pub tells_next_key : (old now new : HubDesk) (list keys : List Key) (at : ℕ) (d : Key) → list ≡ keys
-    → at < length list
-    → TellsKeysSoFar old keys at now → TellsIts now (get_or list at d).client new
-    → TellsKeysSoFar old keys (at + 1) new
-tells_next_key old now new list keys at d same within far its =
-    let key = get_or list at d in
-    let tells = subst (λ (terms : DeskTerms). TellsClient terms (desk_state now) key.client its.deeds
-    (desk_state new))
-    (same_terms old now far.done far.goes) its.tells in
-    let next : suc at ≡ at + 1 = omega arith in
-    let parts : drop at keys ≡ key ∷ drop (at + 1) keys = ap (λ l. drop at l) (sym same)
-    ∙ drop-cons list at d within ∙ ap (λ n. key ∷ drop n list) next ∙ ap (λ l. key ∷ drop (at + 1) l) same in
-    record {
-      done = far.done ++ its.deeds;
-      goes = goes_on old now new far.done its.deeds far.goes its.goes;
-      leads = λ rest final more.
-          subst (λ l. TellsKeys (desk_terms old) (desk_state old) keys l final)
-          (sym (append_assoc far.done its.deeds rest))
-          (far.leads (its.deeds ++ rest) final
-          (subst (λ ks. TellsKeys (desk_terms old) (desk_state now) ks (its.deeds ++ rest) final) (sym parts)
-          (its.deeds, rest, desk_state new, refl, tells, more)));
-    }
-
-pub tells_keys : (old new : HubDesk) (keys : List Key) (at : ℕ) → drop at keys ≡ []
-    → TellsKeysSoFar old keys at new
-    → TellsThem old keys new
-tells_keys old new keys at none far = record {
-  deeds = far.done;
-  tells = subst (λ l. TellsKeys (desk_terms old) (desk_state old) keys l (desk_state new))
-      (append-nil far.done)
-      (far.leads [] (desk_state new)
-      (subst (λ ks. TellsKeys (desk_terms old) (desk_state new) ks [] (desk_state new)) (sym none)
-      (refl, refl)));
   goes = far.goes;
 }

@@ -28,6 +28,7 @@ use Rattle.rv_desk.specs.Going.{FeedsPiece, Finishes, Goes, HasDue, NotesOne, St
 use Rattle.rv_desk.specs.Going.{unread_at, unread_of, unread_total, work_left}
 use Rattle.rv_desk.proofs.Answering.{some_is, sound_wire}
 use Rattle.rv_desk.proofs.Chains.{runs_append}
+use Rattle.rv_desk.proofs.KeyByKey.{no_keys}
 use Rattle.rv_desk.proofs.Owing.{Agree}
 
 -- ---- one connection's bytes change, and not what it owes
@@ -199,7 +200,7 @@ fed_some d wires connection piece count steady takes noted =
                 lists = noted.changed;
                 rest = refl;
               };
-              told = (refl, refl);
+              told = no_keys (desk_terms d) (desk_state new);
             });
         goes = record {
           made = sym (append-nil d.entries.items);
@@ -243,7 +244,11 @@ fed_closed d mid new connection piece some more same wires tally closes rest les
             (All-nil (λ (s : Deed × List Deed). IsOwnDeed connection s.0));
         runs = one_stride (desk_terms d) (desk_state d) (desk_state new) piece (Closed connection)
             (record { wire = more.wire; there = more.there; so = inr (inr (more.so, some)) })
-            (record { between = desk_state new; does = closing; told = (refl, refl) });
+            (record {
+              between = desk_state new;
+              does = closing;
+              told = no_keys (desk_terms d) (desk_state new);
+            });
         goes = record {
           made = entries ∙ sym (append-nil d.entries.items);
           freed = freed ∙ sym (append-nil d.freed.items);
@@ -394,7 +399,11 @@ turn_ended old now new connection piece taken far finishes =
           (one_stride (desk_terms now) (desk_state now) (desk_state new) (drop taken piece)
           (Closed connection)
           (record { wire = finished.wire; there = finished.there; so = inl finished.so })
-          (record { between = desk_state new; does = closed; told = (refl, refl) })) ends in
+          (record {
+            between = desk_state new;
+            does = closed;
+            told = no_keys (desk_terms now) (desk_state new);
+          })) ends in
           record {
             deeds = deeds_of (far.strides ++ one);
             turn = record {

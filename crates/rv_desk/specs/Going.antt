@@ -1,5 +1,6 @@
 -- What the calls on a desk leave: their deeds, the entries that these made, and who is free to go on.
 use Rattle.std.specs.Prelude.{ℕ, ◌≡◌, ◌+◌, ◌<◌, ◌≤◌, ◌⊎◌, List, [], ◌∷◌, ◌++◌, All, Option, Some, slice_get}
+use Rattle.std.specs.Prelude.{AllPairs, Contains}
 use Rattle.std.specs.Prelude.{Result, flat_map, length, take, true, vec_capacity}
 use Rattle.rv_json.specs.Bodies.{HasBodyLength}
 use Rattle.rv_text.specs.declared.message.Key.{Key}
@@ -21,6 +22,7 @@ use Rattle.rv_resume.specs.Resuming.{CanResume}
 use Rattle.rv_connection.specs.Traffic.{IsDue, IsFinished, Traffic}
 use Rattle.rv_connection.specs.Steps.{AnswersBy}
 use Rattle.rv_hearers.specs.declared.tables.Hearing.{Hearing}
+use Rattle.rv_hearers.specs.Hearing.{HearsOf, WhoHears}
 use Rattle.rv_hearers.specs.Hearers.{hearers_count}
 use Rattle.rv_wires.specs.Connections.{ChangesWire, HasWire, Notes, count_at, unread_count}
 use Rattle.rv_wires.specs.Wires.{tally_in, wires_in}
@@ -30,9 +32,9 @@ use Rattle.rv_desk.specs.View.{DeskState, DeskTerms}
 use Rattle.rv_desk.specs.Telling.{IsTellable, IsToldAgain, WaitsOn}
 use Rattle.rv_desk.specs.View.{moment_now}
 use Rattle.rv_desk.specs.Fields.{desk_state, desk_terms}
-use Rattle.rv_desk.specs.Deeds.{AnswersNow, AnswersOrWaits, Deed, Does, DoesClose, IsDueWith, WaitsNow}
-use Rattle.rv_desk.specs.Deeds.{Elapsed, bytes_in, entries_of_deed, rests_on, told_in_deeds}
-use Rattle.rv_desk.specs.Order.{IsOwnDeed, IsStride, MayDo, RunsStrides, TellsClient, TellsKeys}
+use Rattle.rv_desk.specs.Deeds.{AnswersNow, AnswersOrWaits, Deed, Does, DoesAll, DoesClose, IsDueWith}
+use Rattle.rv_desk.specs.Deeds.{Elapsed, WaitsNow, bytes_in, entries_of_deed, rests_on, told_in_deeds}
+use Rattle.rv_desk.specs.Order.{IsOwnDeed, IsStride, MayDo, RunsStrides, TellsEach, TellsKeys}
 use Rattle.rv_desk.specs.Order.{TellsOneHearer, TellsOverdue, IsTurn, deeds_of}
 
 -- how many bytes of a connection are unread, if it is open
@@ -108,6 +110,22 @@ pub record TellsIt (old : HubDesk) (connection : ℕ) (new : HubDesk) : Type 0 w
   pub does : Does (desk_terms old) (desk_state old) deed (desk_state new)
   pub fewer : hearers_count new.hearers < hearers_count old.hearers
   pub goes : GoesTelling old (deed ∷ []) new
+
+-- the connections that wait for a request of the client, by their numbers
+pub record AreHearersOfClient (who : WhoHears) (client : ℕ) (row : List ℕ) : Type 0 where
+  pub rise : AllPairs (λ one other. one < other) row
+  pub hear : All (HearsOf who client) row
+  pub all : (connection : ℕ) → HearsOf who client connection → Contains row connection
+
+-- each of them was told
+pub record TellsClient (terms : DeskTerms) (old : DeskState) (client : ℕ) (deeds : List Deed)
+    (new : DeskState) :
+    Type 0
+  where
+    pub row : List ℕ
+    pub hearers : AreHearersOfClient old.hears client row
+    pub each : TellsEach row deeds
+    pub does : DoesAll terms old deeds new
 
 pub record TellsIts (old : HubDesk) (client : ℕ) (new : HubDesk) : Type 0 where
   pub deeds : List Deed

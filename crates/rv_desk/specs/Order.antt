@@ -1,5 +1,5 @@
 -- The order in which the deeds of a desk come.
-use Rattle.std.specs.Prelude.{ℕ, ◌≡◌, ◌<◌, ◌≤◌, ◌⊎◌, List, [], ◌∷◌, ◌++◌, All, AllPairs, Contains, Some}
+use Rattle.std.specs.Prelude.{ℕ, ◌≡◌, ◌<◌, ◌≤◌, ◌⊎◌, List, [], ◌∷◌, All, AllPairs, Contains, Some}
 use Rattle.std.specs.Prelude.{drop, flat_map, length, take}
 use Rattle.rv_text.specs.declared.message.Key.{Key}
 use Rattle.rv_text.specs.declared.answer.Answer.TheVariants as answer
@@ -26,22 +26,16 @@ TellsEach [] deeds = deeds ≡ []
 TellsEach (connection ∷ row) [] = ⊥
 TellsEach (connection ∷ row) (deed ∷ deeds) = TellsOneHearer connection deed × TellsEach row deeds
 
--- all that wait for a request of the client, by number
-pub record TellsClient (terms : DeskTerms) (old : DeskState) (client : ℕ) (deeds : List Deed)
+-- all that wait for a request of the client of one of these keys, each once: in the order of the keys, and
+-- those of one client by number
+pub record TellsKeys (terms : DeskTerms) (old : DeskState) (keys : List Key) (deeds : List Deed)
     (new : DeskState) :
     Type 0
   where
     pub row : List ℕ
-    pub hearers : AreHearersOf old.hears client row
+    pub hearers : AreHearersOf old.hears keys row
     pub each : TellsEach row deeds
     pub does : DoesAll terms old deeds new
-
--- all that wait for a request of the client of one of these keys, key by key
-abbrev pub TellsKeys : DeskTerms → DeskState → List Key → List Deed → DeskState → Type 0
-TellsKeys terms old [] deeds new = (deeds ≡ []) × (new ≡ old)
-TellsKeys terms old (key ∷ keys) deeds new =
-    (first : List Deed) × (rest : List Deed) × (between : DeskState) × (deeds ≡ first ++ rest)
-    × TellsClient terms old key.client first between × TellsKeys terms between keys rest new
 
 -- a deed, and behind it all are told whom it settled
 pub record IsStride (terms : DeskTerms) (old : DeskState) (deed : Deed) (tells : List Deed)

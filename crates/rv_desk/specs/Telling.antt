@@ -1,5 +1,6 @@
 -- What whoever waits for a request is told, and who waits.
 use Rattle.std.specs.Prelude.{ℕ, ◌≡◌, ◌≢◌, ◌<◌, ◌↔◌, ◌⊎◌, List, Some, All, AllPairs, Contains, length}
+use Rattle.std.specs.Prelude.{slice_get}
 use Rattle.rv_text.specs.declared.message.Key.{Key}
 use Rattle.rv_text.specs.declared.answer.Answer.{Answer}
 use Rattle.rv_text.specs.declared.answer.Answer.TheVariants as answer
@@ -37,11 +38,25 @@ pub record IsToldAgain (s : State) (key : Key) (said : Answer) : Type 0 where
       ⊎ ((key.incarnation < session.incarnation)
       × (said ≡ answer.Refused (OldIncarnation session.incarnation)))
 
--- the connections that wait for a request of the client, by their numbers
-pub record AreHearersOf (who : WhoHears) (client : ℕ) (row : List ℕ) : Type 0 where
-  pub rise : AllPairs (λ one other. one < other) row
-  pub hear : All (HearsOf who client) row
-  pub all : (connection : ℕ) → HearsOf who client connection → Contains row connection
+-- a connection waits for a request of the client of the key at this place, the first key of that client
+pub record HearsAt (who : WhoHears) (keys : List Key) (connection place : ℕ) : Type 0 where
+  pub key : Key
+  pub at : slice_get keys place ≡ Some key
+  pub hears : HearsOf who key.client connection
+  pub first : (sooner : ℕ) (other : Key) → sooner < place → slice_get keys sooner ≡ Some other
+      → other.client ≢ key.client
+
+-- of two that do so the one comes sooner: by the places of their keys, and at one place by number
+abbrev pub HearsSooner : WhoHears → List Key → ℕ → ℕ → Type 0
+HearsSooner who keys one other = (i : ℕ) × (j : ℕ) × HearsAt who keys one i × HearsAt who keys other j
+    × ((i < j) ⊎ ((i ≡ j) × (one < other)))
+
+-- these are the connections that wait for a request of the client of one of the keys, in that order
+pub record AreHearersOf (who : WhoHears) (keys : List Key) (row : List ℕ) : Type 0 where
+  pub order : AllPairs (HearsSooner who keys) row
+  pub hear : All (λ n. (place : ℕ) × HearsAt who keys n place) row
+  pub all : (connection place : ℕ) (key : Key) → slice_get keys place ≡ Some key
+      → HearsOf who key.client connection → Contains row connection
 
 -- a session's last request waits
 abbrev pub DoesWait : LastRequest → Type 0

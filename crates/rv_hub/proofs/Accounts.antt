@@ -63,7 +63,7 @@ deeds_rise terms deeds s t does =
 
 -- ---- one account
 
-own_before : (a : Account) (s : DeskState) (moment : ℕ) → IsHubAccount a s → s.now ≤ moment
+pub own_before : (a : Account) (s : DeskState) (moment : ℕ) → IsHubAccount a s → s.now ≤ moment
     → own_moment a ≤ moment
 own_before a s moment is before =
     let agree = (states_agree a is.legal).moment in

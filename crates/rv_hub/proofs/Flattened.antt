@@ -1,29 +1,19 @@
 -- An event's deeds in one list, and the entries that they make.
-use Rattle.std.proofs.Common.{◌≡◌, ◌∙◌, ◌++◌, ◌∷◌, ℕ, List, [], refl, sym, ap, subst}
-use Rattle.std.specs.Prelude.{flat_map}
+use Rattle.std.proofs.Common.{◌≡◌, ◌∙◌, ◌++◌, ◌∷◌, ℕ, suc, List, [], Some, length, refl, sym, ap, subst}
+use Rattle.std.specs.Prelude.{flat_map, slice_get}
 use Rattle.std.proofs.lemmas.Grind.{flat_map-append}
-use Rattle.rv_text.specs.declared.message.Key.{Key}
 use Rattle.rv_desk.specs.View.{DeskState, DeskTerms}
-use Rattle.rv_desk.specs.Deeds.{Deed, DoesAll, entries_of_deed, settled_by, told_in_deeds}
-use Rattle.rv_desk.specs.Order.{IsStride, IsTurn, RunsStrides, TellsKeys, deeds_of}
+use Rattle.rv_desk.specs.Deeds.{Deed, DoesAll, entries_of_deed}
+use Rattle.rv_desk.specs.Order.{IsStride, IsTurn, RunsStrides, deeds_of}
 use Rattle.rv_desk.proofs.Chains.{does_append}
-use Rattle.rv_hub.specs.EventDeeds.{all_deeds}
-use Rattle.rv_hub.specs.Turns.{Offered, RunsTurns, less_by, made_by}
+use Rattle.rv_hub.specs.Turns.{Offered, RunsTurns, all_deeds, made_by}
 
--- ---- what is told, strides and turns
-
-keys_do : (terms : DeskTerms) (s t : DeskState) (keys : List Key) (deeds : List Deed)
-    → TellsKeys terms s keys deeds t
-    → DoesAll terms s deeds t
-keys_do terms s t [] deeds (none, same) = subst (λ ds. DoesAll terms s ds t) (sym none) same
-keys_do terms s t (key ∷ keys) deeds (first, rest, mid, parts, tells, more) =
-    subst (λ ds. DoesAll terms s ds t) (sym parts)
-    (does_append terms first rest s mid t tells.does (keys_do terms mid t keys rest more))
+-- ---- strides and turns
 
 pub stride_does : (terms : DeskTerms) (s t : DeskState) (deed : Deed) (tells : List Deed)
     → IsStride terms s deed tells t → DoesAll terms s (deed ∷ tells) t
 stride_does terms s t deed tells stride =
-    (stride.between, stride.does, keys_do terms stride.between t (settled_by deed) tells stride.told)
+    (stride.between, stride.does, stride.told.does)
 
 strides_do : (terms : DeskTerms) (s t : DeskState) (left : List ℕ) (strides : List (Deed × List Deed))
     → RunsStrides terms s left strides t
@@ -40,16 +30,26 @@ turn_does terms s t connection piece deeds count turn =
     subst (λ ds. DoesAll terms s ds t) (sym turn.deeds_are) (strides_do terms s t piece turn.strides
     turn.runs)
 
-pub turns_do : (terms : DeskTerms) (s t : DeskState) (offer : Offered) (row : List ℕ) (turns :
-    List (List Deed))
-    (count : ℕ) → RunsTurns terms s offer row turns count t → DoesAll terms s (all_deeds turns) t
-turns_do terms s t offer [] [] count (same, none) = same
-turns_do terms s t offer [] (deeds ∷ turns) count runs = absurd runs
-turns_do terms s t offer (connection ∷ row) [] count runs = absurd runs
-turns_do terms s t offer (connection ∷ row) (deeds ∷ turns) count (mid, first, rest, turn, more, sum) =
-    does_append terms deeds (all_deeds turns) s mid t
-    (turn_does terms s mid connection _ deeds first turn.turn)
-    (turns_do terms mid t (less_by offer first) (row ++ told_in_deeds deeds) turns rest more)
+chain_does : (terms : DeskTerms) (turns : List (List Deed)) (states : ℕ → DeskState)
+    → ((place : ℕ) (deeds : List Deed) → slice_get turns place ≡ Some deeds
+    → DoesAll terms (states place) deeds (states (suc place)))
+    → DoesAll terms (states 0) (all_deeds turns) (states (length turns))
+chain_does terms [] states each = refl
+chain_does terms (deeds ∷ turns) states each =
+    does_append terms deeds (all_deeds turns) (states 0) (states 1) (states (length (deeds ∷ turns)))
+    (each 0 deeds refl) (chain_does terms turns (λ i. states (suc i)) (λ place. each (suc place)))
+
+pub turns_do : (terms : DeskTerms) (s t : DeskState) (offer : Offered) (row : List ℕ)
+    (turns : List (List Deed)) (count : ℕ) → RunsTurns terms s offer row turns count t
+    → DoesAll terms s (all_deeds turns) t
+turns_do terms s t offer row turns count runs =
+    subst (λ (u : DeskState). DoesAll terms s (all_deeds turns) u) runs.ends
+    (subst (λ (u : DeskState). DoesAll terms u (all_deeds turns) (runs.states (length turns))) runs.begins
+    (chain_does terms turns runs.states
+    (λ place deeds at.
+    let its = runs.each place deeds at in
+    turn_does terms (runs.states place) (runs.states (suc place)) its.connection _ deeds _
+    its.turn.turn)))
 
 pub turns_made : (turns : List (List Deed)) → flat_map entries_of_deed (all_deeds turns) ≡ made_by turns
 turns_made [] = refl

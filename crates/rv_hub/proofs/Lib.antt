@@ -1,4 +1,5 @@
 pub mod Staying
+pub mod TurnByTurn
 pub mod Rounds
 pub mod Whom
 pub mod Owning

@@ -16,7 +16,7 @@ use Rattle.rv_text.specs.declared.answer.Refusal.TheVariants.{BadText, NoMemory}
 use Rattle.rv_text.specs.Bodies.{IsMessageBody, answer_text}
 use Rattle.rv_account.specs.declared.entry.Act.TheVariants.{Arrive}
 use Rattle.rv_account.specs.declared.entry.Entry.{Entry}
-use Rattle.rv_account.specs.Account.{Account, act_at}
+use Rattle.rv_account.specs.Account.{Account, act_at, own_moment}
 use Rattle.rv_account.specs.Limits.{max_moment}
 use Rattle.rv_rules.specs.StepLimits.{AreStepLimits, StepLimits}
 use Rattle.rv_rules.specs.Steps.{NextUnder}
@@ -40,7 +40,7 @@ use Rattle.rv_hub.specs.Pasts.{HasPast, Past, is_deed_of, no_past, past_after, p
 use Rattle.rv_hub.specs.Pasts.{with_frame, with_said}
 use Rattle.rv_hub.specs.Turns.{made_by}
 use Rattle.rv_hub.proofs.Accounts.{adds_none, adds_on, by_rules, deed_leads, deeds_lead, deeds_rise}
-use Rattle.rv_hub.proofs.Accounts.{events_rise, same_account}
+use Rattle.rv_hub.proofs.Accounts.{events_rise, own_before, same_account}
 use Rattle.rv_hub.proofs.ComesOf.{next_comes}
 use Rattle.rv_hub.proofs.HandedOver.{entries_counted}
 use Rattle.rv_hub.proofs.Histories.{by_own, past_on, pasts_kept}
@@ -49,10 +49,10 @@ use Rattle.rv_hub.proofs.Repeating.{account_is, as_a_repeat}
 
 -- ---- lists of frames and answers
 
-module _ (limits : StepLimits) (a : Account) (frames : List (List ℕ)) (answers : List Given)
-    (paired : ArePaired limits a frames answers) where
+module _ (limits : StepLimits) (a : Account) (time : ℕ) (frames : List (List ℕ)) (answers : List Given)
+    (paired : ArePaired limits a time frames answers) where
   pair_frame : (body : List ℕ) → length frames ≡ length answers
-      → ArePaired limits a (frames ++ body ∷ []) answers
+      → ArePaired limits a time (frames ++ body ∷ []) answers
   pair_frame body same i other given there answered =
       elim (get-append_cases frames body other i there) [
         | inl old ↦ paired i other given old.1 answered
@@ -61,23 +61,25 @@ module _ (limits : StepLimits) (a : Account) (frames : List (List ℕ)) (answers
       ]
 
   pair_answer : (body : List ℕ) (given : Given) → slice_get frames (length answers) ≡ Some body
-      → IsAnswerTo limits a body given → ArePaired limits a frames (answers ++ given ∷ [])
+      → IsAnswerTo limits a time body given → ArePaired limits a time frames (answers ++ given ∷ [])
   pair_answer body given first is i other told there answered =
       elim (get-append_cases answers given told i answered) [
         | inl old ↦ paired i other told there old.1
         | inr new ↦
             (let one : body ≡ other =
             same_Some body other (sym first ∙ ap (slice_get frames) (sym new.0) ∙ there) in
-            subst (λ b. IsAnswerTo limits a b told) one (subst (IsAnswerTo limits a body) new.1 is))
+            subst (λ b. IsAnswerTo limits a time b told) one
+            (subst (IsAnswerTo limits a time body) new.1 is))
       ]
 
 -- a frame, and its answer at once
-pair_both : (limits : StepLimits) (a : Account) (frames : List (List ℕ)) (answers : List Given)
-    (body : List ℕ) (given : Given) → ArePaired limits a frames answers → length frames ≡ length answers
-    → IsAnswerTo limits a body given → ArePaired limits a (frames ++ body ∷ []) (answers ++ given ∷ [])
-pair_both limits a frames answers body given paired same is =
-    pair_answer limits a (frames ++ body ∷ []) answers (pair_frame limits a frames answers paired body same)
-    body given
+pair_both : (limits : StepLimits) (a : Account) (time : ℕ) (frames : List (List ℕ)) (answers : List Given)
+    (body : List ℕ) (given : Given) → ArePaired limits a time frames answers
+    → length frames ≡ length answers → IsAnswerTo limits a time body given
+    → ArePaired limits a time (frames ++ body ∷ []) (answers ++ given ∷ [])
+pair_both limits a time frames answers body given paired same is =
+    pair_answer limits a time (frames ++ body ∷ []) answers
+    (pair_frame limits a time frames answers paired body same) body given
     (ap (slice_get (frames ++ body ∷ [])) (sym same) ∙ get-append_end frames body) is
 
 none_waits : (a : Account) (frames : List (List ℕ)) (answers : List Given) (key : Key)
@@ -87,17 +89,20 @@ none_waits a frames answers key same waits =
 
 -- ---- a longer account
 
-answer_on : (limits : StepLimits) (a b : Account) (made : List Entry) (body : List ℕ) (given : Given)
-    → AddsEntries a made b → IsAnswerTo limits a body given → IsAnswerTo limits b body given
-answer_on limits a b made body given adds (inl nothing) = inl nothing
-answer_on limits a b made body given adds (inr (inl lacks)) = inr (inl lacks)
-answer_on limits a b made body given adds (inr (inr (message, is, step))) = inr (inr (
+answer_on : (limits : StepLimits) (a b : Account) (made : List Entry) (time later : ℕ) (body : List ℕ)
+    (given : Given) → AddsEntries a made b → time ≤ later → IsAnswerTo limits a time body given
+    → IsAnswerTo limits b later body given
+answer_on limits a b made time later body given adds rises (inl nothing) = inl nothing
+answer_on limits a b made time later body given adds rises (inr (inl lacks)) = inr (inl lacks)
+answer_on limits a b made time later body given adds rises (inr (inr (message, is, step))) = inr (inr (
   message,
   is,
   record {
     before = step.before;
     after = step.after;
     now = step.now;
+    not_before = step.not_before;
+    not_after = (let l = step.not_after in omega arith);
     said = step.said;
     steps = step.steps;
     body_is = step.body_is;
@@ -150,10 +155,11 @@ released_open written (Some old) (Some w) wire releases is = (w, refl)
 -- ---- one connection behind a deed
 
 module _ (limits : StepLimits) (a b : Account) (made : List Entry) (adds : AddsEntries a made b)
-    (s t : DeskState) (n : ℕ) (past : Past) (is : InPairs limits a s n past.frames past.answers) where
-  paired_on : ArePaired limits b past.frames past.answers
+    (s t : DeskState) (n : ℕ) (past : Past) (is : InPairs limits a s n past.frames past.answers)
+    (rises : s.now ≤ t.now) where
+  paired_on : ArePaired limits b t.now past.frames past.answers
   paired_on i body given there answered =
-      answer_on limits a b made body given adds (is.paired i body given there answered)
+      answer_on limits a b made s.now t.now body given adds rises (is.paired i body given there answered)
 
   -- it waits as it did
   unchanged : t.hears n ≡ s.hears n → (IsOpen s n → IsOpen t n)
@@ -200,7 +206,7 @@ same_length s n m body past has frame same =
 module _ (limits : StepLimits) (a b : Account) (made : List Entry) (adds : AddsEntries a made b)
     (s mid t : DeskState) (wires : mid.open_wires ≡ s.open_wires) (heard : mid.hears ≡ s.hears) (n m : ℕ)
     (body : List ℕ) (past : Past) (has : HasPast s n past)
-    (is : InPairs limits a s n past.frames past.answers) where
+    (is : InPairs limits a s n past.frames past.answers) (rises : s.now ≤ t.now) where
   due_here : HasWire mid.open_wires m (λ wire. IsDueWith wire body) → n ≡ m
       → length past.frames ≡ length past.answers
   due_here frame same =
@@ -209,7 +215,7 @@ module _ (limits : StepLimits) (a b : Account) (made : List Entry) (adds : AddsE
 
   -- its frame was answered at once
   now_pairs : (rests entries : ℕ) (text : List ℕ) (said : Answer) → AnswersNow mid m body rests text t
-      → IsAnswerTo limits b body (record { body = answer_text said; rests_on = entries })
+      → IsAnswerTo limits b t.now body (record { body = answer_text said; rests_on = entries })
       → InPairs limits b t n
       (cond (nat_eq n m) (with_answer (with_frame past body) entries said) past).frames
       (cond (nat_eq n m) (with_answer (with_frame past body) entries said) past).answers
@@ -219,14 +225,14 @@ module _ (limits : StepLimits) (a b : Account) (made : List Entry) (adds : AddsE
       by_own (λ p. InPairs limits b t n p.frames p.answers) n m
       (with_answer (with_frame past body) entries said) past
       (λ same. record {
-        paired = pair_both limits b past.frames past.answers body
+        paired = pair_both limits b t.now past.frames past.answers body
             (record { body = answer_text said; rests_on = entries })
-            (paired_on limits a b made adds s t n past is) (due_here now.frame same) answers;
+            (paired_on limits a b made adds s t n past is rises) (due_here now.frame same) answers;
         waits = λ hearing there.
             absurd (none_waits a past.frames past.answers hearing.key (due_here now.frame same)
             (is.waits hearing (sym hears ∙ there)).1);
       })
-      (λ apart. unchanged limits a b made adds s t n past is hears
+      (λ apart. unchanged limits a b made adds s t n past is rises hears
       (open_same s t n (now.answers.changes.sets.others n apart
       ∙ ap (λ (w : WiresState). w.wires n) wires)))
 
@@ -238,8 +244,8 @@ module _ (limits : StepLimits) (a b : Account) (made : List Entry) (adds : AddsE
   waits_pairs patience key call place waits body_is arrived =
       by_own (λ p. InPairs limits b t n p.frames p.answers) n m (with_frame past body) past
       (λ same. record {
-        paired = pair_frame limits b past.frames past.answers (paired_on limits a b made adds s t n past is)
-            body (due_here waits.frame same);
+        paired = pair_frame limits b t.now past.frames past.answers
+            (paired_on limits a b made adds s t n past is rises) body (due_here waits.frame same);
         waits = λ hearing there.
             let one = ap (λ (h : Hearing). h.key)
             (same_Some _ hearing (sym waits.hears.own ∙ ap t.hears (sym same) ∙ there)) in (
@@ -255,23 +261,25 @@ module _ (limits : StepLimits) (a b : Account) (made : List Entry) (adds : AddsE
               }),
             );
       })
-      (λ apart. unchanged limits a b made adds s t n past is
+      (λ apart. unchanged limits a b made adds s t n past is rises
       (waits.hears.others n apart ∙ ap (λ (h : WhoHears). h n) heard)
       (open_same s t n (waits.takes.sets.others n apart ∙ ap (λ (w : WiresState). w.wires n) wires)))
 
 -- ---- the answer to a step
 
-of_step : (limits : StepLimits) (a b : Account) (made : List Entry) (now : ℕ) (message : Message)
+of_step : (limits : StepLimits) (a b : Account) (made : List Entry) (now time : ℕ) (message : Message)
     (said : Answer) (count : ℕ) (body : List ℕ) → IsMessageBody body message → AddsEntries a made b
-    → NextUnder limits a now message b said → count ≡ length b.entries
-    → IsAnswerTo limits b body (record { body = answer_text said; rests_on = count })
-of_step limits a b made now message said count body is adds next same = inr (inr (
+    → own_moment a ≤ now → now ≤ time → NextUnder limits a now message b said → count ≡ length b.entries
+    → IsAnswerTo limits b time body (record { body = answer_text said; rests_on = count })
+of_step limits a b made now time message said count body is adds later rises next same = inr (inr (
   message,
   is,
   record {
     before = a;
     after = b;
     now = now;
+    not_before = later;
+    not_after = rises;
     said = said;
     steps = next;
     body_is = refl;
@@ -281,23 +289,25 @@ of_step limits a b made now message said count body is adds next same = inr (inr
   },
 ))
 
-refused_answer : (refusal : Refusal) (limits : StepLimits) (a b : Account) (made : List Entry) (now : ℕ)
+refused_answer : (refusal : Refusal) (limits : StepLimits) (a b : Account) (made : List Entry) (now time : ℕ)
     (message : Message) (count : ℕ) (body : List ℕ) → IsMessageBody body message → AddsEntries a made b
-    → NextUnder limits a now message b (answer.Refused refusal) → count ≡ length b.entries
-    → IsAnswerTo limits b body
+    → own_moment a ≤ now → now ≤ time → NextUnder limits a now message b (answer.Refused refusal)
+    → count ≡ length b.entries → IsAnswerTo limits b time body
     (record {
       body = answer_text (answer.Refused refusal);
       rests_on = rests_on (answer.Refused refusal) count;
     })
-refused_answer NoMemory limits a b made now message count body is adds next same = inr (inl refl)
-refused_answer _ limits a b made now message count body is adds next same =
-    of_step limits a b made now message _ count body is adds next same
+refused_answer NoMemory limits a b made now time message count body is adds later rises next same =
+    inr (inl refl)
+refused_answer _ limits a b made now time message count body is adds later rises next same =
+    of_step limits a b made now time message _ count body is adds later rises next same
 
 module _ (terms : DeskTerms) (a b : Account) (step : Stepped) (adds : AddsEntries a step.entries b)
     (s mid t : DeskState) (wires : mid.open_wires ≡ s.open_wires) (heard : mid.hears ≡ s.hears) (n m : ℕ)
     (body : List ℕ) (past : Past) (has : HasPast s n past)
-    (is : InPairs terms.limits a s n past.frames past.answers) (message : IsMessageBody body step.message)
-    (count : ℕ) (same : count ≡ length b.entries) where
+    (is : InPairs terms.limits a s n past.frames past.answers) (rises : s.now ≤ t.now)
+    (later : own_moment a ≤ s.now) (message : IsMessageBody body step.message) (count : ℕ)
+    (same : count ≡ length b.entries) where
   said_pairs : (said : Answer) → NextUnder terms.limits a s.now step.message b said
       → AnswersOrWaits terms mid m body said t
       → InPairs terms.limits b t n
@@ -305,39 +315,42 @@ module _ (terms : DeskTerms) (a b : Account) (step : Stepped) (adds : AddsEntrie
       (cond (nat_eq n m) (with_said (with_frame past body) count said) past).answers
   said_pairs (answer.Waiting key) next does =
       let comes = next_comes terms.limits a b s.now step.message key next in
-      waits_pairs terms.limits a b step.entries adds s mid t wires heard n m body past has is terms.patience
+      waits_pairs terms.limits a b step.entries adds s mid t wires heard n m body past has is rises
+      terms.patience
       key comes.call comes.place does (subst (IsMessageBody body) comes.is message) comes.arrived
   said_pairs (answer.Replied key reply) next does =
-      now_pairs terms.limits a b step.entries adds s mid t wires heard n m body past has is _ count _
+      now_pairs terms.limits a b step.entries adds s mid t wires heard n m body past has is rises _ count _
       (answer.Replied key reply) does
-      (of_step terms.limits a b step.entries s.now step.message _ count body message adds next same)
+      (of_step terms.limits a b step.entries s.now t.now step.message _ count body message adds later rises
+      next same)
   said_pairs (answer.Welcome epoch client incarnation version) next does =
-      now_pairs terms.limits a b step.entries adds s mid t wires heard n m body past has is _ count _
+      now_pairs terms.limits a b step.entries adds s mid t wires heard n m body past has is rises _ count _
       (answer.Welcome epoch client incarnation version) does
-      (of_step terms.limits a b step.entries s.now step.message _ count body message adds next same)
+      (of_step terms.limits a b step.entries s.now t.now step.message _ count body message adds later rises
+      next same)
   said_pairs (answer.Refused refusal) next does =
-      now_pairs terms.limits a b step.entries adds s mid t wires heard n m body past has is _
+      now_pairs terms.limits a b step.entries adds s mid t wires heard n m body past has is rises _
       (rests_on (answer.Refused refusal) count) _ (answer.Refused refusal) does
-      (refused_answer refusal terms.limits a b step.entries s.now step.message count body message adds next
-      same)
+      (refused_answer refusal terms.limits a b step.entries s.now t.now step.message count body message adds
+      later rises next same)
 
 -- ---- whoever waited is told
 
 told_pairs : (terms : DeskTerms) (s t : DeskState) (a b : Account) (n m : ℕ) (key : Key) (said : Answer)
     (past : Past) (count : ℕ) → (does : Does terms s (Told m key said) t) → s.now ≤ max_moment
-    → IsHubAccount a s → AddsEntries a [] b → count ≡ length a.entries
+    → s.now ≤ t.now → IsHubAccount a s → AddsEntries a [] b → count ≡ length a.entries
     → InPairs terms.limits a s n past.frames past.answers
     → InPairs terms.limits b t n (cond (nat_eq n m) (with_answer past count said) past).frames
     (cond (nat_eq n m) (with_answer past count said) past).answers
-told_pairs terms s t a b n m key said past count does time is adds counted pairs =
+told_pairs terms s t a b n m key said past count does time rises is adds counted pairs =
     by_own (λ p. InPairs terms.limits b t n p.frames p.answers) n m (with_answer past count said) past
     (λ same.
     let waits = subst (WaitsFor a past.frames past.answers) does.key_is
     (pairs.waits does.hearing (ap s.hears same ∙ does.waited)).1 in
     let next = as_a_repeat terms s t a m key said waits.call waits.place time is does waits.arrived in
     record {
-      paired = pair_answer terms.limits b past.frames past.answers
-          (paired_on terms.limits a b [] adds s t n past pairs) waits.body
+      paired = pair_answer terms.limits b t.now past.frames past.answers
+          (paired_on terms.limits a b [] adds s t n past pairs rises) waits.body
           (record { body = answer_text said; rests_on = count }) waits.frame (inr (inr (
             Request key waits.call,
             waits.is,
@@ -345,6 +358,8 @@ told_pairs terms s t a b n m key said past count does time is adds counted pairs
               before = a;
               after = a;
               now = s.now;
+              not_before = own_before a s s.now is (omega arith);
+              not_after = rises;
               said = said;
               steps = next;
               body_is = refl;
@@ -356,7 +371,7 @@ told_pairs terms s t a b n m key said past count does time is adds counted pairs
       waits = λ hearing there.
           absurd (none-some hearing (sym does.hears.own ∙ ap t.hears (sym same) ∙ there));
     })
-    (λ apart. unchanged terms.limits a b [] adds s t n past pairs (does.hears.others n apart)
+    (λ apart. unchanged terms.limits a b [] adds s t n past pairs rises (does.hears.others n apart)
     (open_same s t n (does.answers.sets.others n apart)))
 
 -- ---- each deed
@@ -367,13 +382,15 @@ Behind limits b t n past count deed =
     (cond (is_deed_of n deed) (past_by past count deed) past).answers
 
 deed_pairs : (terms : DeskTerms) (deed : Deed) (s t : DeskState) (a b : Account) (n : ℕ) (past : Past)
-    → Does terms s deed t → s.now ≤ max_moment → IsHubAccount a s → AddsEntries a (entries_of_deed deed) b
+    → Does terms s deed t → s.now ≤ max_moment → s.now ≤ t.now → IsHubAccount a s
+    → AddsEntries a (entries_of_deed deed) b
     → HasPast s n past → InPairs terms.limits a s n past.frames past.answers
     → Behind terms.limits b t n past (s.book.length + length (entries_of_deed deed)) deed
-deed_pairs terms (Elapsed moment entries settled) s t a b n past does time is adds has pairs =
-    unchanged terms.limits a b entries adds s t n past pairs (ap (λ (u : DeskState). u.hears n) does.after)
+deed_pairs terms (Elapsed moment entries settled) s t a b n past does time rises is adds has pairs =
+    unchanged terms.limits a b entries adds s t n past pairs rises (ap (λ (u : DeskState). u.hears n)
+    does.after)
     (open_same s t n (ap (λ (u : DeskState). u.open_wires.wires n) does.after))
-deed_pairs terms (Opened m) s t a b n past does time is adds has pairs =
+deed_pairs terms (Opened m) s t a b n past does time rises is adds has pairs =
     let hears : t.hears n ≡ s.hears n = ap (λ (u : DeskState). u.hears n) does.rest in
     by_own (λ p. InPairs terms.limits b t n p.frames p.answers) n m no_past past
     (λ same. record {
@@ -382,61 +399,63 @@ deed_pairs terms (Opened m) s t a b n past does time is adds has pairs =
           let was = (pairs.waits hearing (sym hears ∙ there)).0 in
           absurd (none-some was.wire (sym does.opens.free ∙ ap s.open_wires.wires (sym same) ∙ was.there));
     })
-    (λ apart. unchanged terms.limits a b [] adds s t n past pairs hears
+    (λ apart. unchanged terms.limits a b [] adds s t n past pairs rises hears
     (open_same s t n (does.opens.sets.others n apart)))
-deed_pairs terms (TookIn m bytes) s t a b n past does time is adds has pairs =
+deed_pairs terms (TookIn m bytes) s t a b n past does time rises is adds has pairs =
     let hears : t.hears n ≡ s.hears n = ap (λ (u : DeskState). u.hears n) does.rest in
     by_own (λ p. InPairs terms.limits b t n p.frames p.answers) n m
     (record past { came = past.came ++ bytes }) past
-    (kept_own terms.limits a b [] adds s t n past pairs m _ hears does.changes)
-    (kept_other terms.limits a b [] adds s t n past pairs m _ hears does.changes)
-deed_pairs terms (EndedInput m) s t a b n past does time is adds has pairs =
+    (kept_own terms.limits a b [] adds s t n past pairs rises m _ hears does.changes)
+    (kept_other terms.limits a b [] adds s t n past pairs rises m _ hears does.changes)
+deed_pairs terms (EndedInput m) s t a b n past does time rises is adds has pairs =
     let hears : t.hears n ≡ s.hears n = ap (λ (u : DeskState). u.hears n) does.rest in
     by_own (λ p. InPairs terms.limits b t n p.frames p.answers) n m past past
-    (kept_own terms.limits a b [] adds s t n past pairs m _ hears does.changes)
-    (kept_other terms.limits a b [] adds s t n past pairs m _ hears does.changes)
-deed_pairs terms (Left m count) s t a b n past does time is adds has pairs =
+    (kept_own terms.limits a b [] adds s t n past pairs rises m _ hears does.changes)
+    (kept_other terms.limits a b [] adds s t n past pairs rises m _ hears does.changes)
+deed_pairs terms (Left m count) s t a b n past does time rises is adds has pairs =
     let hears : t.hears n ≡ s.hears n = ap (λ (u : DeskState). u.hears n) does.rest in
     by_own (λ p. InPairs terms.limits b t n p.frames p.answers) n m
     (record past { sent = past.sent + count }) past
-    (kept_own terms.limits a b [] adds s t n past pairs m _ hears does.changes)
-    (kept_other terms.limits a b [] adds s t n past pairs m _ hears does.changes)
-deed_pairs terms (Wrote entries) s t a b n past does time is adds has pairs =
-    unchanged terms.limits a b [] adds s t n past pairs (ap (λ (u : DeskState). u.hears n) does.rest)
+    (kept_own terms.limits a b [] adds s t n past pairs rises m _ hears does.changes)
+    (kept_other terms.limits a b [] adds s t n past pairs rises m _ hears does.changes)
+deed_pairs terms (Wrote entries) s t a b n past does time rises is adds has pairs =
+    unchanged terms.limits a b [] adds s t n past pairs rises (ap (λ (u : DeskState). u.hears n) does.rest)
     (λ was. let still = released_open entries (s.open_wires.wires n) (t.open_wires.wires n) was.wire
     (does.releases.each n) was.there in record { wire = still.0; there = still.1; so = tt })
-deed_pairs terms (Asked m body step said) s t a b n past does time is adds has pairs =
+deed_pairs terms (Asked m body step said) s t a b n past does time rises is adds has pairs =
     let rules = by_rules terms s t a m body step said time is does in
     let one : rules.0 ≡ b =
     account_is b rules.0 (rules.2.epoch ∙ sym adds.epoch) (rules.2.opened ∙ sym adds.opened)
     (rules.2.entries ∙ sym adds.entries) in
     said_pairs terms a b step adds s does.between t
     (ap (λ (u : DeskState). u.open_wires) does.steps.after)
-    (ap (λ (u : DeskState). u.hears) does.steps.after) n m body past has pairs does.is
+    (ap (λ (u : DeskState). u.hears) does.steps.after) n m body past has pairs rises (own_before a s s.now is
+    (omega arith)) does.is
     (s.book.length + length step.entries)
     (entries_counted a s step.entries is ∙ ap length (sym adds.entries)) said
     (subst (λ (c : Account). NextUnder terms.limits a s.now step.message c said) one rules.1) does.rest
-deed_pairs terms (ReadNothing m body) s t a b n past does time is adds has pairs =
-    now_pairs terms.limits a b [] adds s s t refl refl n m body past has pairs 0 0 _ (answer.Refused BadText)
+deed_pairs terms (ReadNothing m body) s t a b n past does time rises is adds has pairs =
+    now_pairs terms.limits a b [] adds s s t refl refl n m body past has pairs rises 0 0 _
+    (answer.Refused BadText)
     does.answers (inl (does.none, refl))
-deed_pairs terms (Lacked m body None) s t a b n past does time is adds has pairs =
+deed_pairs terms (Lacked m body None) s t a b n past does time rises is adds has pairs =
     now_pairs terms.limits a b [] adds s does.between t
     (ap (λ (u : DeskState). u.open_wires) does.stepped) (ap (λ (u : DeskState). u.hears) does.stepped) n m
-    body past has pairs 0 0 _ (answer.Refused NoMemory) does.answers (inr (inl refl))
-deed_pairs terms (Lacked m body (Some step)) s t a b n past does time is adds has pairs =
+    body past has pairs rises 0 0 _ (answer.Refused NoMemory) does.answers (inr (inl refl))
+deed_pairs terms (Lacked m body (Some step)) s t a b n past does time rises is adds has pairs =
     now_pairs terms.limits a b step.entries adds s does.between t
     (ap (λ (u : DeskState). u.open_wires) does.stepped.steps.after)
-    (ap (λ (u : DeskState). u.hears) does.stepped.steps.after) n m body past has pairs 0 0 _
+    (ap (λ (u : DeskState). u.hears) does.stepped.steps.after) n m body past has pairs rises 0 0 _
     (answer.Refused NoMemory) does.answers (inr (inl refl))
-deed_pairs terms (Lost m body step) s t a b n past does time is adds has pairs =
-    kept_closed terms.limits a b step.entries adds s t n past pairs does.between m
+deed_pairs terms (Lost m body step) s t a b n past does time rises is adds has pairs =
+    kept_closed terms.limits a b step.entries adds s t n past pairs rises does.between m
     (ap (λ (u : DeskState). u.open_wires) does.stepped.steps.after)
     (ap (λ (u : DeskState). u.hears) does.stepped.steps.after) does.closes.sets does.closes.hears
-deed_pairs terms (Told m key said) s t a b n past does time is adds has pairs =
-    told_pairs terms s t a b n m key said past (s.book.length + 0) does time is adds
+deed_pairs terms (Told m key said) s t a b n past does time rises is adds has pairs =
+    told_pairs terms s t a b n m key said past (s.book.length + 0) does time rises is adds
     (entries_counted a s [] is ∙ ap length (append-nil a.entries)) pairs
-deed_pairs terms (Closed m) s t a b n past does time is adds has pairs =
-    kept_closed terms.limits a b [] adds s t n past pairs s m refl refl does.sets does.hears
+deed_pairs terms (Closed m) s t a b n past does time rises is adds has pairs =
+    kept_closed terms.limits a b [] adds s t n past pairs rises s m refl refl does.sets does.hears
 
 -- ---- deeds, one after another
 
@@ -448,6 +467,7 @@ deeds_pairs : (terms : DeskTerms) (deeds : List Deed) (s t : DeskState) (a b : A
 deeds_pairs terms [] s t a b limits same time is adds n past pairs = record {
   has = subst (λ (u : DeskState). HasPast u n past) (sym same) pairs.has;
   pairs = unchanged terms.limits a b [] adds s t n past pairs.pairs
+      (let m : t.now ≡ s.now = ap (λ (u : DeskState). u.now) same in omega arith)
       (ap (λ (u : DeskState). u.hears n) same)
       (open_same s t n (ap (λ (u : DeskState). u.open_wires.wires n) same));
 }
@@ -459,7 +479,8 @@ deeds_pairs terms (deed ∷ deeds) s t a b limits (mid, does, more) time is adds
     let now = cond (is_deed_of n deed) (past_by past (s.book.length + length made) deed) past in
     let one : HasPairs terms.limits first.after mid n now = record {
       has = pasts_kept terms (deed ∷ []) s mid (mid, does, refl) n past pairs.has;
-      pairs = deed_pairs terms deed s mid a first.after n past does (omega arith) is first.adds pairs.has
+      pairs = deed_pairs terms deed s mid a first.after n past does (omega arith) rises is first.adds
+          pairs.has
           pairs.pairs;
     } in
     let counted : mid.book.length ≡ s.book.length + length made = deed_counts terms deed s mid does in

@@ -12,8 +12,9 @@ use Rattle.rv_desk.specs.Order.{IsTurn}
 use Rattle.rv_desk.specs.Rest.{HasComeToStop, TakesNoMore}
 use Rattle.rv_desk.specs.Fields.{IsSteady, desk_state, desk_terms}
 use Rattle.rv_desk.specs.Going.{TakesItsTurn, work_left}
-use Rattle.rv_hub.specs.Turns.{IsWholeTurn, Offered, RunsTurns, less_by, made_by, offered_to}
-use Rattle.rv_hub.specs.Steps.{IsGoing, IsOffering, TurnsOn, offer_from}
+use Rattle.rv_hub.specs.Turns.{IsWholeTurn, Offered, RunsTurns, made_by, offered_to}
+use Rattle.rv_hub.specs.Steps.{IsGoing, IsOffering, TurnsOn, less_by, offer_from}
+use Rattle.rv_hub.proofs.TurnByTurn.{no_turns, turn_first}
 use Rattle.rv_hub.proofs.Staying.{none_in, offered_within, turn_going, turn_offering}
 
 -- ---- one comes off the list
@@ -125,7 +126,9 @@ far_on old now mid new source piece taken connection count far first rest takes 
           end =
           subst (λ l. RunsTurns (desk_terms old) (desk_state now) offer l (takes.deeds ∷ more) (count + n)
           end)
-          (sym first) (desk_state new, count, n, whole, at_freed, refl) in
+          (sym first)
+          (turn_first (desk_terms old) (desk_state now) (desk_state new) end offer connection mid.freed.items
+          takes.deeds more count n whole at_freed) in
           let sum : taken + (count + n) ≡ taken + count + n = omega arith in
           subst (λ l. RunsTurns (desk_terms old) (desk_state old) (offer_from source piece) old.freed.items l
           (taken + count + n) end) (sym (append_assoc far.turns (takes.deeds ∷ []) more))
@@ -183,7 +186,7 @@ far_ended old now new source piece taken far same none rest =
     let long = length-drop taken piece in
     let at_none : RunsTurns (desk_terms old) (desk_state now) offer now.freed.items [] 0 (desk_state new) =
     subst (λ l. RunsTurns (desk_terms old) (desk_state now) offer l [] 0 (desk_state new)) (sym empty)
-    (state, refl) in
+    (no_turns (desk_terms old) (desk_state now) (desk_state new) offer state) in
     record {
       turns = far.turns;
       runs = subst (λ l. RunsTurns (desk_terms old) (desk_state old) (offer_from source piece) old.freed.items
@@ -249,7 +252,8 @@ first_on old mid new connection offer taken count takes stopped stops on =
     (desk_state new)) terms on.runs) in
     record {
       turns = takes.deeds ∷ on.turns;
-      runs = (desk_state mid, taken, count, whole, runs, refl);
+      runs = turn_first (desk_terms old) (desk_state old) (desk_state mid) (desk_state new) offer connection
+          old.freed.items takes.deeds on.turns taken count whole runs;
       made = on.made ∙ ap (λ l. l ++ made_by on.turns) takes.goes.made
           ∙ append_assoc old.entries.items (flat_map entries_of_deed takes.deeds) (made_by on.turns);
       terms = on.terms ∙ terms;

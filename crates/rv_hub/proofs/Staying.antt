@@ -16,8 +16,8 @@ use Rattle.rv_desk.specs.Order.{IsTurn}
 use Rattle.rv_desk.specs.Rest.{HasComeToStop, TakesNoMore}
 use Rattle.rv_desk.specs.Runs.{StaysOrTold}
 use Rattle.rv_desk.proofs.Others.{others_stay}
-use Rattle.rv_hub.specs.Turns.{Offered, less_by, offered_to}
-use Rattle.rv_hub.specs.Steps.{IsGoing, IsOffering}
+use Rattle.rv_hub.specs.Turns.{Offered, offered_to}
+use Rattle.rv_hub.specs.Steps.{IsGoing, IsOffering, less_by}
 
 -- ---- what is asked of a connection's bytes holds where it is closed
 

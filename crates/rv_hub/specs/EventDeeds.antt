@@ -6,10 +6,7 @@ use Rattle.rv_desk.specs.Deeds.{Deed, Elapsed, step_of}
 use Rattle.rv_desk.specs.Runs.{Cause, Heard, Time}
 use Rattle.rv_hub.specs.declared.events.HubEvent.{HubEvent}
 use Rattle.rv_hub.specs.Turns.{EventGoesOn, TakesEvent, last_deeds, own_deeds}
-
--- the deeds of events, or of turns, in one list
-abbrev pub all_deeds : List (List Deed) → List Deed
-all_deeds events = flat_map (λ deeds. deeds) events
+pub use Rattle.rv_hub.specs.Turns.{all_deeds}
 
 -- the deeds of what goes on behind an event's own
 abbrev pub goes_deeds : (terms : DeskTerms) (s : DeskState) (handed : ℕ) (what : HubEvent) (made : List Entry)

@@ -11,7 +11,7 @@ use Rattle.rv_text.specs.declared.answer.Refusal.TheVariants.{BadText, NoMemory}
 use Rattle.rv_text.specs.Bodies.{IsMessageBody, answer_text}
 use Rattle.rv_account.specs.declared.entry.Act.TheVariants.{Arrive}
 use Rattle.rv_account.specs.declared.entry.Entry.{Entry}
-use Rattle.rv_account.specs.Account.{Account, act_at}
+use Rattle.rv_account.specs.Account.{Account, act_at, own_moment}
 use Rattle.rv_account.specs.Limits.{max_moment}
 use Rattle.rv_rules.specs.StepLimits.{AreStepLimits, StepLimits}
 use Rattle.rv_rules.specs.Steps.{NextUnder}
@@ -30,13 +30,15 @@ abbrev pub IsFrontOf : Account → Account → Type 0
 IsFrontOf a b = (made : List Entry) × AddsEntries a made b
 
 -- what was given is the answer of a step with this message between two fronts of the account, and rests on
--- all
--- entries of the later one
-pub record IsAnswerOfStep (limits : StepLimits) (a : Account) (message : Message) (given : Given) :
+-- all entries of the later one; its moment is none before the earlier one's, and at most this one
+pub record IsAnswerOfStep (limits : StepLimits) (a : Account) (time : ℕ) (message : Message)
+    (given : Given) :
     Type 0 where
   pub before : Account
   pub after : Account
   pub now : ℕ
+  pub not_before : own_moment before ≤ now
+  pub not_after : now ≤ time
   pub said : Answer
   pub steps : NextUnder limits before now message after said
   pub body_is : given.body ≡ answer_text said
@@ -48,19 +50,18 @@ pub record IsAnswerOfStep (limits : StepLimits) (a : Account) (message : Message
 abbrev pub on_nothing : Refusal → Given
 on_nothing refusal = record { body = answer_text (Refused refusal); rests_on = 0 }
 
--- what a frame of this body was given: where that is no message's, the answer to bad text; or that for want
--- of
--- memory; or the answer of a step with its message
-abbrev pub IsAnswerTo : StepLimits → Account → List ℕ → Given → Type 0
-IsAnswerTo limits a body given =
+-- what a frame of this body was given by a moment: where that is no message's, the answer to bad text; or
+-- that for want of memory; or the answer of a step with its message
+abbrev pub IsAnswerTo : StepLimits → Account → ℕ → List ℕ → Given → Type 0
+IsAnswerTo limits a time body given =
     (((message : Message) → ¬ IsMessageBody body message) × (given ≡ on_nothing BadText))
     ⊎ ((given ≡ on_nothing NoMemory)
-    ⊎ ((message : Message) × IsMessageBody body message × IsAnswerOfStep limits a message given))
+    ⊎ ((message : Message) × IsMessageBody body message × IsAnswerOfStep limits a time message given))
 
 -- each answer is that to the frame at its place
-abbrev pub ArePaired : StepLimits → Account → List (List ℕ) → List Given → Type 0
-ArePaired limits a frames answers = (i : ℕ) (body : List ℕ) (given : Given) → slice_get frames i ≡ Some body
-    → slice_get answers i ≡ Some given → IsAnswerTo limits a body given
+abbrev pub ArePaired : StepLimits → Account → ℕ → List (List ℕ) → List Given → Type 0
+ArePaired limits a time frames answers = (i : ℕ) (body : List ℕ) (given : Given)
+    → slice_get frames i ≡ Some body → slice_get answers i ≡ Some given → IsAnswerTo limits a time body given
 
 -- the first frame without an answer is that of the request with this key, as it arrived
 pub record WaitsFor (a : Account) (frames : List (List ℕ)) (answers : List Given) (key : Key) : Type 0 where
@@ -74,7 +75,7 @@ pub record WaitsFor (a : Account) (frames : List (List ℕ)) (answers : List Giv
 -- that holds of a connection, and where it waits, it is open and does so for that frame
 pub record InPairs (limits : StepLimits) (a : Account) (s : DeskState) (n : ℕ) (frames : List (List ℕ))
     (answers : List Given) : Type 0 where
-  pub paired : ArePaired limits a frames answers
+  pub paired : ArePaired limits a s.now frames answers
   pub waits : (hearing : Hearing) → s.hears n ≡ Some hearing
       → HasWire s.open_wires n (λ wire. Unit {0}) × WaitsFor a frames answers hearing.key
 

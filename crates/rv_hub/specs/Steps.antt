@@ -1,6 +1,6 @@
 -- What the parts of an event leave of a desk.
 use Rattle.std.specs.Prelude.{ℕ, ◌≡◌, ◌<◌, ◌≤◌, ◌⊎◌, List, [], ◌++◌, None, Option, Some, Contains}
-use Rattle.std.specs.Prelude.{length}
+use Rattle.std.specs.Prelude.{drop, length}
 use Rattle.rv_desk.specs.declared.desk.HubDesk.{HubDesk}
 use Rattle.rv_desk.specs.View.{DeskState}
 use Rattle.rv_desk.specs.Fields.{desk_state, desk_terms}
@@ -13,6 +13,10 @@ use Rattle.rv_hub.specs.Turns.{EventGoesOn, Offered, RunsTurns, made_by, own_dee
 -- the piece came of this connection
 abbrev pub offer_from : ℕ → List ℕ → Offered
 offer_from source piece = record { connection = source; piece = piece }
+
+-- what is left of what was offered, where so many bytes were taken
+abbrev pub less_by : Offered → ℕ → Offered
+less_by offer count = record offer { piece = drop count offer.piece }
 
 -- each connection has stopped, or is to go on
 abbrev pub IsGoing : DeskState → List ℕ → Type 0

@@ -1,14 +1,14 @@
 -- One event of a hub: its deeds, in their order.
 use Rattle.std.specs.Prelude.{ℕ, ◌≡◌, ◌+◌, ◌≤◌, ◌<◌, ◌⊎◌, Bool, false, true, List, [], ◌∷◌, ◌++◌, None}
-use Rattle.std.specs.Prelude.{Option, Some, cond}
-use Rattle.std.specs.Prelude.{drop, flat_map, length, nat_eq, option_to_list}
+use Rattle.std.specs.Prelude.{Option, Some, cond, suc}
+use Rattle.std.specs.Prelude.{flat_map, length, nat_eq, option_to_list, slice_get, take}
 use Rattle.rv_text.specs.declared.message.Key.{Key}
 use Rattle.rv_account.specs.declared.entry.Entry.{Entry}
 use Rattle.rv_connection.specs.Traffic.{IsBad, IsWholeFrame, Traffic, held_count, most_held}
 use Rattle.rv_desk.specs.View.{DeskState, DeskTerms, begun, moment_now}
-use Rattle.rv_desk.specs.Deeds.{Deed, DoesAll, entries_of_deed, told_in_deeds}
+use Rattle.rv_desk.specs.Deeds.{Deed, DoesAll, bytes_in, entries_of_deed, told_in_deeds}
 use Rattle.rv_desk.specs.Deeds.{Closed, Elapsed, EndedInput, Left, Opened, Wrote}
-use Rattle.rv_desk.specs.Order.{IsStride, IsTurn, TellsOverdue}
+use Rattle.rv_desk.specs.Order.{IsStride, IsTurn, TellsOverdue, left_behind}
 use Rattle.rv_desk.specs.Rest.{HasComeToStop, HearersInTime, HearersOwe, HearersWait, OwersHear, TakesNoMore}
 use Rattle.rv_hub.specs.declared.events.EventRefusal.{EventRefusal}
 use Rattle.rv_hub.specs.declared.events.EventRefusal.TheVariants as refused
@@ -25,9 +25,10 @@ pub record Offered : Type 0 where
 abbrev pub offered_to : Offered → ℕ → List ℕ
 offered_to offer connection = cond (nat_eq offer.connection connection) offer.piece []
 
--- and what is left behind a turn of which so many bytes were taken
-abbrev pub less_by : Offered → ℕ → Offered
-less_by offer count = record offer { piece = drop count offer.piece }
+-- and what is offered to it behind deeds which took bytes of the piece
+abbrev pub offered_behind : Offered → List Deed → ℕ → List ℕ
+offered_behind offer deeds connection =
+    cond (nat_eq offer.connection connection) (left_behind offer.piece deeds) []
 
 -- a connection goes on until it stops: behind its turn nothing is to be answered now, and where bytes of its
 -- piece are left it takes no more
@@ -38,17 +39,33 @@ pub record IsWholeTurn (terms : DeskTerms) (old : DeskState) (connection : ℕ) 
     pub stopped : HasComeToStop new connection
     pub takes_no_more : count < length piece → TakesNoMore new connection
 
--- turns of connections in the order in which they were freed: whoever is told goes behind those that were
--- told before. Of the piece so many bytes are taken
-abbrev pub RunsTurns : DeskTerms → DeskState → Offered → List ℕ → List (List Deed) → ℕ → DeskState → Type 0
-RunsTurns terms old offer [] [] count new = (new ≡ old) × (count ≡ 0)
-RunsTurns terms old offer [] (deeds ∷ turns) count new = ⊥
-RunsTurns terms old offer (connection ∷ freed) [] count new = ⊥
-RunsTurns terms old offer (connection ∷ freed) (deeds ∷ turns) count new =
-    (between : DeskState) × (first : ℕ) × (rest : ℕ)
-    × IsWholeTurn terms old connection (offered_to offer connection) deeds first between
-    × RunsTurns terms between (less_by offer first) (freed ++ told_in_deeds deeds) turns rest new
-    × (count ≡ first + rest)
+-- the deeds of events, or of turns, in one list
+abbrev pub all_deeds : List (List Deed) → List Deed
+all_deeds turns = flat_map (λ deeds. deeds) turns
+
+-- the turn at a place, behind the deeds of those before it: it is of the connection at that place of the row,
+-- behind which stand those that were told so far, in the order in which they were told
+pub record HasTurn (terms : DeskTerms) (states : ℕ → DeskState) (offer : Offered) (row : List ℕ)
+    (before deeds : List Deed) (place : ℕ) : Type 0
+  where
+    pub connection : ℕ
+    pub is_next : slice_get (row ++ told_in_deeds before) place ≡ Some connection
+    pub turn : IsWholeTurn terms (states place) connection (offered_behind offer before connection) deeds
+        (length (bytes_in deeds)) (states (suc place))
+
+-- turns of connections, first of this row and then of those that were told, each of whom has one, in the
+-- order in which they were told. Of the piece so many bytes are taken
+pub record RunsTurns (terms : DeskTerms) (old : DeskState) (offer : Offered) (row : List ℕ)
+    (turns : List (List Deed)) (count : ℕ) (new : DeskState) : Type 0
+  where
+    -- the states before each turn, and behind the last
+    pub states : ℕ → DeskState
+    pub begins : states 0 ≡ old
+    pub ends : states (length turns) ≡ new
+    pub each : (place : ℕ) (deeds : List Deed) → slice_get turns place ≡ Some deeds
+        → HasTurn terms states offer row (all_deeds (take place turns)) deeds place
+    pub all : length turns ≡ length (row ++ told_in_deeds (all_deeds turns))
+    pub count_is : count ≡ length (bytes_in (all_deeds turns))
 
 -- the entries that turns made, in order
 abbrev pub made_by : List (List Deed) → List Entry

@@ -3,21 +3,22 @@ use Rattle.rv_desk.proofs.Answering.{answered_it, not_answered}
 use Rattle.rv_desk.proofs.Noting.{still_open}
 use Rattle.rv_desk.proofs.desk.HubDesk.answer_by.Goals as goal
 
-pub returns-in-Ok-clause-answers : goal.returns-in-Ok-clause-answers
-returns-in-Ok-clause-answers c =
-    (answered_it c.args.self.now c.args.connection c.args.entries c.args.body.now c.take_frame.new.self
-    c.answer.new.self c.requires.sound
+pub returns-in-Ok : goal.returns-in-Ok
+returns-in-Ok c =
+    let both = answered_it c.args.self.now c.args.connection c.args.entries c.args.body.now
+    c.take_frame.new.self c.answer.new.self c.requires.sound
     (record {
       due = c.requires.due;
       takes = c.take_frame.ensures.changes;
       noted = c.take_frame.ensures.noted;
     })
-    c.in-Ok.ensures.answers c.in-Ok.ensures.noted).1
+    c.in-Ok.ensures.answers c.in-Ok.ensures.noted in
+    record { sound = both.0; answers = both.1 }
 
-pub returns-in-Err-clause-answers : goal.returns-in-Err-clause-answers
-returns-in-Err-clause-answers c =
-    (not_answered c.args.self.now c.args.connection c.args.entries c.args.body.now c.take_frame.new.self
-    c.answer.new.self c.close.new.self c.requires.sound
+pub returns-in-Err : goal.returns-in-Err
+returns-in-Err c =
+    let both = not_answered c.args.self.now c.args.connection c.args.entries c.args.body.now
+    c.take_frame.new.self c.answer.new.self c.close.new.self c.requires.sound
     (record {
       due = c.requires.due;
       takes = c.take_frame.ensures.changes;
@@ -25,17 +26,5 @@ returns-in-Err-clause-answers c =
     })
     c.in-Err.ensures.refused c.in-Err.ensures.kept c.close.ensures.closed
     (c.close.ensures.noted (still_open _ _ c.args.connection _ c.in-Err.ensures.refused
-    c.take_frame.ensures.changes.sets.own))).1
-
-pub returns-in-Err-clause-sound : goal.returns-in-Err-clause-sound
-returns-in-Err-clause-sound c =
-    (not_answered c.args.self.now c.args.connection c.args.entries c.args.body.now c.take_frame.new.self
-    c.answer.new.self c.close.new.self c.requires.sound
-    (record {
-      due = c.requires.due;
-      takes = c.take_frame.ensures.changes;
-      noted = c.take_frame.ensures.noted;
-    })
-    c.in-Err.ensures.refused c.in-Err.ensures.kept c.close.ensures.closed
-    (c.close.ensures.noted (still_open _ _ c.args.connection _ c.in-Err.ensures.refused
-    c.take_frame.ensures.changes.sets.own))).0
+    c.take_frame.ensures.changes.sets.own)) in
+    record { sound = both.0; answers = both.1 }

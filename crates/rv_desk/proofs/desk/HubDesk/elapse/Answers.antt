@@ -7,12 +7,11 @@ use Rattle.rv_machine.specs.Machines.{state_in}
 use Rattle.rv_desk.proofs.Passed.{elapsed, elapsed_moment}
 use Rattle.rv_desk.proofs.desk.HubDesk.elapse.Goals as goal
 
-pub returns-in-Some-clause-sound : goal.returns-in-Some-clause-sound
-returns-in-Some-clause-sound c =
+pub returns-in-Some : goal.returns-in-Some
+returns-in-Some c =
     let kept = c.push_reserved.ensures.capacity in
-    (elapsed c.args.self.now c.elapse-moment.new.self c.elapse-moment.result.moment c.args.now
-    c.elapse-moment.result
-    c.push_reserved.new.self c.requires.ready
+    let all = elapsed c.args.self.now c.elapse-moment.new.self c.elapse-moment.result.moment c.args.now
+    c.elapse-moment.result c.push_reserved.new.self c.requires.ready
     (c.elapse-moment.ensures.exact ∙ elapsed_moment (state_in c.args.self.now.machine) c.max.result
     c.args.self.now.latest c.args.now c.requires.ready.sound.book.later c.requires.ready.sound.book.time
     c.max.ensures)
@@ -20,43 +19,13 @@ returns-in-Some-clause-sound c =
     c.elapse-moment.ensures.ticks
     (c.push_reserved.ensures.items
     ∙ ap (λ (o : Option Entry). c.args.self.now.entries.items ++ option_to_list o) (sym c.in-Some.is))
-    c.requires.room (omega arith)).0
+    c.requires.room (omega arith) in
+    record { sound = all.0; elapses = all.1; still = all.2 }
 
-pub returns-in-Some-clause-elapses : goal.returns-in-Some-clause-elapses
-returns-in-Some-clause-elapses c =
-    let kept = c.push_reserved.ensures.capacity in
-    (elapsed c.args.self.now c.elapse-moment.new.self c.elapse-moment.result.moment c.args.now
-    c.elapse-moment.result
-    c.push_reserved.new.self c.requires.ready
-    (c.elapse-moment.ensures.exact ∙ elapsed_moment (state_in c.args.self.now.machine) c.max.result
-    c.args.self.now.latest c.args.now c.requires.ready.sound.book.later c.requires.ready.sound.book.time
-    c.max.ensures)
-    refl c.elapse-moment.ensures.ready c.elapse-moment.ensures.numbered c.elapse-moment.ensures.time
-    c.elapse-moment.ensures.ticks
-    (c.push_reserved.ensures.items
-    ∙ ap (λ (o : Option Entry). c.args.self.now.entries.items ++ option_to_list o) (sym c.in-Some.is))
-    c.requires.room (omega arith)).1
-
-pub returns-in-Some-clause-still : goal.returns-in-Some-clause-still
-returns-in-Some-clause-still c =
-    let kept = c.push_reserved.ensures.capacity in
-    (elapsed c.args.self.now c.elapse-moment.new.self c.elapse-moment.result.moment c.args.now
-    c.elapse-moment.result
-    c.push_reserved.new.self c.requires.ready
-    (c.elapse-moment.ensures.exact ∙ elapsed_moment (state_in c.args.self.now.machine) c.max.result
-    c.args.self.now.latest c.args.now c.requires.ready.sound.book.later c.requires.ready.sound.book.time
-    c.max.ensures)
-    refl c.elapse-moment.ensures.ready c.elapse-moment.ensures.numbered c.elapse-moment.ensures.time
-    c.elapse-moment.ensures.ticks
-    (c.push_reserved.ensures.items
-    ∙ ap (λ (o : Option Entry). c.args.self.now.entries.items ++ option_to_list o) (sym c.in-Some.is))
-    c.requires.room (omega arith)).2
-
-pub returns-in-None-clause-sound : goal.returns-in-None-clause-sound
-returns-in-None-clause-sound c =
-    (elapsed c.args.self.now c.elapse-moment.new.self c.elapse-moment.result.moment c.args.now
-    c.elapse-moment.result
-    c.args.self.now.entries c.requires.ready
+pub returns-in-None : goal.returns-in-None
+returns-in-None c =
+    let all = elapsed c.args.self.now c.elapse-moment.new.self c.elapse-moment.result.moment c.args.now
+    c.elapse-moment.result c.args.self.now.entries c.requires.ready
     (c.elapse-moment.ensures.exact ∙ elapsed_moment (state_in c.args.self.now.machine) c.max.result
     c.args.self.now.latest c.args.now c.requires.ready.sound.book.later c.requires.ready.sound.book.time
     c.max.ensures)
@@ -64,32 +33,5 @@ returns-in-None-clause-sound c =
     c.elapse-moment.ensures.ticks
     (sym (append-nil c.args.self.now.entries.items)
     ∙ ap (λ (o : Option Entry). c.args.self.now.entries.items ++ option_to_list o) (sym c.in-None.is))
-    c.requires.room (omega arith)).0
-
-pub returns-in-None-clause-elapses : goal.returns-in-None-clause-elapses
-returns-in-None-clause-elapses c =
-    (elapsed c.args.self.now c.elapse-moment.new.self c.elapse-moment.result.moment c.args.now
-    c.elapse-moment.result
-    c.args.self.now.entries c.requires.ready
-    (c.elapse-moment.ensures.exact ∙ elapsed_moment (state_in c.args.self.now.machine) c.max.result
-    c.args.self.now.latest c.args.now c.requires.ready.sound.book.later c.requires.ready.sound.book.time
-    c.max.ensures)
-    refl c.elapse-moment.ensures.ready c.elapse-moment.ensures.numbered c.elapse-moment.ensures.time
-    c.elapse-moment.ensures.ticks
-    (sym (append-nil c.args.self.now.entries.items)
-    ∙ ap (λ (o : Option Entry). c.args.self.now.entries.items ++ option_to_list o) (sym c.in-None.is))
-    c.requires.room (omega arith)).1
-
-pub returns-in-None-clause-still : goal.returns-in-None-clause-still
-returns-in-None-clause-still c =
-    (elapsed c.args.self.now c.elapse-moment.new.self c.elapse-moment.result.moment c.args.now
-    c.elapse-moment.result
-    c.args.self.now.entries c.requires.ready
-    (c.elapse-moment.ensures.exact ∙ elapsed_moment (state_in c.args.self.now.machine) c.max.result
-    c.args.self.now.latest c.args.now c.requires.ready.sound.book.later c.requires.ready.sound.book.time
-    c.max.ensures)
-    refl c.elapse-moment.ensures.ready c.elapse-moment.ensures.numbered c.elapse-moment.ensures.time
-    c.elapse-moment.ensures.ticks
-    (sym (append-nil c.args.self.now.entries.items)
-    ∙ ap (λ (o : Option Entry). c.args.self.now.entries.items ++ option_to_list o) (sym c.in-None.is))
-    c.requires.room (omega arith)).2
+    c.requires.room (omega arith) in
+    record { sound = all.0; elapses = all.1; still = all.2 }

@@ -7,24 +7,13 @@ tell_overdue-requires-clause-waits c =
     passed_waits c.args.self.now c.elapse.new.self c.tell_settled.new.self c.args.now c.elapse.ensures.elapses
     c.elapse.ensures.still c.tell_settled.ensures.tells
 
-pub returns-clause-steady : goal.returns-clause-steady
-returns-clause-steady c =
-    (passed c.args.self.now c.elapse.new.self c.tell_settled.new.self c.tell_overdue.new.self c.args.now
-    c.requires.ready c.requires.begun c.elapse.ensures.elapses c.elapse.ensures.still
+pub returns : goal.returns
+returns c =
+    let both = passed c.args.self.now c.elapse.new.self c.tell_settled.new.self c.tell_overdue.new.self
+    c.args.now c.requires.ready c.requires.begun c.elapse.ensures.elapses c.elapse.ensures.still
     c.tell_settled.ensures.tells
     (passed_waits c.args.self.now c.elapse.new.self c.tell_settled.new.self c.args.now
-    c.elapse.ensures.elapses
-    c.elapse.ensures.still c.tell_settled.ensures.tells) c.tell_overdue.ensures.sound
-    c.tell_overdue.ensures.tells
-    c.tell_overdue.ensures.in_time c.tell_overdue.ensures.waits).0
-
-pub returns-clause-passes : goal.returns-clause-passes
-returns-clause-passes c =
-    (passed c.args.self.now c.elapse.new.self c.tell_settled.new.self c.tell_overdue.new.self c.args.now
-    c.requires.ready c.requires.begun c.elapse.ensures.elapses c.elapse.ensures.still
-    c.tell_settled.ensures.tells
-    (passed_waits c.args.self.now c.elapse.new.self c.tell_settled.new.self c.args.now
-    c.elapse.ensures.elapses
-    c.elapse.ensures.still c.tell_settled.ensures.tells) c.tell_overdue.ensures.sound
-    c.tell_overdue.ensures.tells
-    c.tell_overdue.ensures.in_time c.tell_overdue.ensures.waits).1
+    c.elapse.ensures.elapses c.elapse.ensures.still c.tell_settled.ensures.tells)
+    c.tell_overdue.ensures.sound c.tell_overdue.ensures.tells c.tell_overdue.ensures.in_time
+    c.tell_overdue.ensures.waits in
+    record { steady = both.0; passes = both.1 }

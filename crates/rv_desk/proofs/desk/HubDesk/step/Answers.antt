@@ -6,53 +6,23 @@ use Rattle.rv_account.specs.declared.entry.Entry.{Entry}
 use Rattle.rv_desk.proofs.Stepped.{stepped}
 use Rattle.rv_desk.proofs.desk.HubDesk.step.Goals as goal
 
-pub returns-in-Some-clause-sound : goal.returns-in-Some-clause-sound
-returns-in-Some-clause-sound c =
+pub returns-in-Some : goal.returns-in-Some
+returns-in-Some c =
     let kept = c.push_reserved.ensures.capacity in
-    (stepped c.args.self.now c.hear-entry.new.self c.push_reserved.new.self c.args.message c.hear-entry.result
-    c.requires.steady c.requires.fits c.hear-entry.ensures.ready c.hear-entry.ensures.numbered
-    c.hear-entry.ensures.hears (c.push_reserved.ensures.items
+    let all = stepped c.args.self.now c.hear-entry.new.self c.push_reserved.new.self c.args.message
+    c.hear-entry.result c.requires.steady c.requires.fits c.hear-entry.ensures.ready
+    c.hear-entry.ensures.numbered c.hear-entry.ensures.hears
+    (c.push_reserved.ensures.items
     ∙ ap (λ (o : Option Entry). c.args.self.now.entries.items ++ option_to_list o) (sym c.in-Some.is))
-    (omega arith)).0
+    (omega arith) in
+    record { sound = all.0; steps = all.1; still = all.2 }
 
-pub returns-in-Some-clause-steps : goal.returns-in-Some-clause-steps
-returns-in-Some-clause-steps c =
-    let kept = c.push_reserved.ensures.capacity in
-    (stepped c.args.self.now c.hear-entry.new.self c.push_reserved.new.self c.args.message c.hear-entry.result
-    c.requires.steady c.requires.fits c.hear-entry.ensures.ready c.hear-entry.ensures.numbered
-    c.hear-entry.ensures.hears (c.push_reserved.ensures.items
-    ∙ ap (λ (o : Option Entry). c.args.self.now.entries.items ++ option_to_list o) (sym c.in-Some.is))
-    (omega arith)).1
-
-pub returns-in-Some-clause-still : goal.returns-in-Some-clause-still
-returns-in-Some-clause-still c =
-    let kept = c.push_reserved.ensures.capacity in
-    (stepped c.args.self.now c.hear-entry.new.self c.push_reserved.new.self c.args.message c.hear-entry.result
-    c.requires.steady c.requires.fits c.hear-entry.ensures.ready c.hear-entry.ensures.numbered
-    c.hear-entry.ensures.hears (c.push_reserved.ensures.items
-    ∙ ap (λ (o : Option Entry). c.args.self.now.entries.items ++ option_to_list o) (sym c.in-Some.is))
-    (omega arith)).2
-
-pub returns-in-None-clause-sound : goal.returns-in-None-clause-sound
-returns-in-None-clause-sound c =
-    (stepped c.args.self.now c.hear-entry.new.self c.args.self.now.entries c.args.message c.hear-entry.result
-    c.requires.steady c.requires.fits c.hear-entry.ensures.ready c.hear-entry.ensures.numbered
-    c.hear-entry.ensures.hears (sym (append-nil c.args.self.now.entries.items)
+pub returns-in-None : goal.returns-in-None
+returns-in-None c =
+    let all = stepped c.args.self.now c.hear-entry.new.self c.args.self.now.entries c.args.message
+    c.hear-entry.result c.requires.steady c.requires.fits c.hear-entry.ensures.ready
+    c.hear-entry.ensures.numbered c.hear-entry.ensures.hears
+    (sym (append-nil c.args.self.now.entries.items)
     ∙ ap (λ (o : Option Entry). c.args.self.now.entries.items ++ option_to_list o) (sym c.in-None.is))
-    (omega arith)).0
-
-pub returns-in-None-clause-steps : goal.returns-in-None-clause-steps
-returns-in-None-clause-steps c =
-    (stepped c.args.self.now c.hear-entry.new.self c.args.self.now.entries c.args.message c.hear-entry.result
-    c.requires.steady c.requires.fits c.hear-entry.ensures.ready c.hear-entry.ensures.numbered
-    c.hear-entry.ensures.hears (sym (append-nil c.args.self.now.entries.items)
-    ∙ ap (λ (o : Option Entry). c.args.self.now.entries.items ++ option_to_list o) (sym c.in-None.is))
-    (omega arith)).1
-
-pub returns-in-None-clause-still : goal.returns-in-None-clause-still
-returns-in-None-clause-still c =
-    (stepped c.args.self.now c.hear-entry.new.self c.args.self.now.entries c.args.message c.hear-entry.result
-    c.requires.steady c.requires.fits c.hear-entry.ensures.ready c.hear-entry.ensures.numbered
-    c.hear-entry.ensures.hears (sym (append-nil c.args.self.now.entries.items)
-    ∙ ap (λ (o : Option Entry). c.args.self.now.entries.items ++ option_to_list o) (sym c.in-None.is))
-    (omega arith)).2
+    (omega arith) in
+    record { sound = all.0; steps = all.1; still = all.2 }

@@ -16,24 +16,15 @@ hear-requires-clause-asked c = (
       c.requires.message.reads.found,
 )
 
-pub returns-in-Err-clause-steady : goal.returns-in-Err-clause-steady
-returns-in-Err-clause-steady c =
+pub returns-in-Err : goal.returns-in-Err
+returns-in-Err c =
     let answers = subst (λ t. AnswersIt c.args.self.now c.args.connection 0 t c.answer_by.new.self)
     c.fault_body.ensures.text c.answer_by.ensures.answers in
     let did = answers.did c.requires.message.body c.requires.message.asked in
-    (unstepped c.args.self.now c.answer_by.new.self c.args.connection 0 (fault_answer c.in-Err.fault)
-    c.requires.message.body c.requires.steady c.answer_by.ensures.sound did answers.takes
+    let both = unstepped c.args.self.now c.answer_by.new.self c.args.connection 0
+    (fault_answer c.in-Err.fault) c.requires.message.body c.requires.steady c.answer_by.ensures.sound did
+    answers.takes
     (fault_deed (desk_terms c.args.self.now) (desk_state c.args.self.now) (desk_state c.answer_by.new.self)
     c.args.connection c.requires.message.body c.args.read c.in-Err.fault c.requires.message.asked.frame
-    c.requires.message.reads c.in-Err.is did)).0
-
-pub returns-in-Err-clause-strides : goal.returns-in-Err-clause-strides
-returns-in-Err-clause-strides c =
-    let answers = subst (λ t. AnswersIt c.args.self.now c.args.connection 0 t c.answer_by.new.self)
-    c.fault_body.ensures.text c.answer_by.ensures.answers in
-    let did = answers.did c.requires.message.body c.requires.message.asked in
-    (unstepped c.args.self.now c.answer_by.new.self c.args.connection 0 (fault_answer c.in-Err.fault)
-    c.requires.message.body c.requires.steady c.answer_by.ensures.sound did answers.takes
-    (fault_deed (desk_terms c.args.self.now) (desk_state c.args.self.now) (desk_state c.answer_by.new.self)
-    c.args.connection c.requires.message.body c.args.read c.in-Err.fault c.requires.message.asked.frame
-    c.requires.message.reads c.in-Err.is did)).1
+    c.requires.message.reads c.in-Err.is did) in
+    record { steady = both.0; strides = both.1 }

@@ -2,7 +2,7 @@
 use Rattle.std.proofs.Common.{◌∙◌, arith, length, sym, ap}
 use Rattle.std.proofs.lemmas.List.{drop_all}
 use Rattle.rv_desk.specs.declared.desk.HubDesk.{HubDesk}
-use Rattle.rv_desk.proofs.Tellings.{tells_keys, tells_next_key}
+use Rattle.rv_desk.proofs.KeyByKey.{tells_keys, tells_next_key}
 use Rattle.rv_desk.proofs.desk.HubDesk.tell_settled.Goals as goal
 
 pub loop-at-preserved : goal.loop-at-preserved
