@@ -1,5 +1,5 @@
 -- The deeds of a hub's events, read off what the events are.
-use Rattle.std.specs.Prelude.{ℕ, Bool, List, [], ◌∷◌, ◌++◌, flat_map, map, option_to_list}
+use Rattle.std.specs.Prelude.{ℕ, Bool, List, [], ◌∷◌, ◌++◌, map, option_to_list}
 use Rattle.rv_account.specs.declared.entry.Entry.{Entry}
 use Rattle.rv_desk.specs.View.{DeskState, DeskTerms, moment_now}
 use Rattle.rv_desk.specs.Deeds.{Deed, Elapsed, step_of}

@@ -1,5 +1,5 @@
 -- One event of a hub: its deeds, in their order.
-use Rattle.std.specs.Prelude.{ℕ, ◌≡◌, ◌+◌, ◌≤◌, ◌<◌, ◌⊎◌, Bool, false, true, List, [], ◌∷◌, ◌++◌, None}
+use Rattle.std.specs.Prelude.{ℕ, ◌≡◌, ◌≤◌, ◌<◌, ◌⊎◌, Bool, false, true, List, [], ◌∷◌, ◌++◌, None}
 use Rattle.std.specs.Prelude.{Option, Some, cond, suc}
 use Rattle.std.specs.Prelude.{flat_map, length, nat_eq, option_to_list, slice_get, take}
 use Rattle.rv_text.specs.declared.message.Key.{Key}
