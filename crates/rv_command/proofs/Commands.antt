@@ -6,7 +6,8 @@ use Rattle.clap.specs.Words.{Row, Text, subcommand_of}
 use Rattle.rv_text.specs.Versions.{number_of_version, version_of}
 use Rattle.rv_text.specs.declared.version.Version.{Version}
 use Rattle.rv_text.specs.declared.version.Version.TheVariants.{One, Two}
-use Rattle.rv_command.specs.Command.{GivesBetween, GivesIdentifier, GivesVersion, SaysCommand, rv_app}
+use Rattle.rv_words.specs.Program.{rv_app}
+use Rattle.rv_command.specs.Command.{GivesBetween, GivesIdentifier, GivesVersion, SaysCommand}
 use Rattle.rv_command.specs.Laws.{OneCommand, SameCommand}
 use Rattle.rv_command.proofs.Options.{first_letter, letter_of}
 use Rattle.rv_command.specs.declared.command.Command.{Command}

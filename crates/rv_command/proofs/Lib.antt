@@ -1,6 +1,3 @@
 -- The lemmas that the proofs of this crate share.
 pub mod Options
 pub mod Commands
-pub mod RecordWords
-pub mod OwnWords
-pub mod Helps

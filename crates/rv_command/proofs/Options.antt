@@ -1,25 +1,17 @@
--- From what a getter of clap gives to the rows that the specs speak of, and what a subcommand's name tells.
-use Rattle.std.proofs.Common.{◌≡◌, ◌∙◌, ap, arith, Bor, Box, codes, get_or, List, option_map, Option, None}
+-- What a subcommand's name tells.
+use Rattle.std.proofs.Common.{◌≡◌, ap, arith, Box, codes, get_or, List, option_map, Option, None}
 use Rattle.std.proofs.Common.{Some, subst, sym, ℕ}
 use Rattle.std.proofs.lemmas.Option.{same_Some}
 use Rattle.std.specs.Box.{box_value}
 use Rattle.std.specs.Option.{IsSomeAnd}
-use Rattle.clap.proofs.WalkLemmas.{first_value-rows}
 use Rattle.clap.specs.Simple.{subcommand_rows}
-use Rattle.clap.specs.Words.{Row, Text, first_of, first_value, rows_of}
+use Rattle.clap.specs.Words.{Row, Text}
 use Rattle.clap.specs.declared.parser.matches.SubCommand.{SubCommand}
 use Rattle.clap.specs.declared.parser.matches.ArgMatches.TheViews.{out-SubCommand}
-use Rattle.clap.specs.declared.parser.matches.Found.{Found}
 use Rattle.rv_text.specs.declared.version.Version.{Version}
 use Rattle.rv_command.specs.Command.{SaysCall, SaysCommand, SaysServe}
 use Rattle.rv_command.specs.declared.command.Command.{Command}
 use Rattle.rv_command.specs.declared.command.Command.TheVariants.{Audit, Book, Call, Play, Serve}
-
--- the value that `get_str` gives
-pub value_in_rows : (f : Found) (name : Text) (value : Option (Bor Text))
-    → option_map (λ v. v.now) value ≡ first_value f name
-    → option_map (λ v. v.now) value ≡ first_of name (rows_of f)
-value_in_rows f name value got = got ∙ first_value-rows f name
 
 -- the first letter of a command's word: no two have the same
 abbrev pub letter_of : Command → ℕ

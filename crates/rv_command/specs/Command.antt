@@ -1,63 +1,14 @@
 -- The commands that the words of a command line name.
-use Rattle.std.specs.Prelude.{codes, List, ℕ, Option, Some, true, [], ◌≡◌, ◌≤◌}
+use Rattle.std.specs.Prelude.{codes, List, ℕ, Option, Some, [], ◌≡◌, ◌≤◌}
 use Rattle.std.specs.Option.{IsSomeAnd}
-use Rattle.clap.specs.Words.{App, Row, Rule, Text, fault_of, first_of, new_app, new_rule}
-use Rattle.clap.specs.Words.{subcommand_of, with_rule, with_subcommand}
-use Rattle.clap.specs.declared.builder.ArgAction.TheVariants.{Set}
+use Rattle.clap.specs.Words.{Row, Text, fault_of, first_of, subcommand_of}
 use Rattle.rv_text.specs.declared.version.Version.{Version}
 use Rattle.rv_text.specs.Versions.{number_of_version}
 use Rattle.rv_text.specs.Limits.{FitsIdentifier}
 use Rattle.rv_lines.specs.Number.{WritesBetween, WritesIdentifier}
+use Rattle.rv_words.specs.Program.{rv_app}
 use Rattle.rv_command.specs.declared.command.Command.{Command}
 use Rattle.rv_command.specs.declared.command.Command.TheVariants.{Audit, Book, Call, Play, Serve}
-
--- an option `--name VALUE` that has to be given
-abbrev pub required_option : Text → Rule
-required_option name =
-    record (new_rule name) { long = Some name; action = Some Set; required = true }
-
--- `rv book --epoch E`
-abbrev pub book_app : App
-book_app = with_rule (new_app (codes "book")) (required_option (codes "epoch"))
-
--- `rv play`
-abbrev pub play_app : App
-play_app = new_app (codes "play")
-
--- `rv audit`
-abbrev pub audit_app : App
-audit_app = new_app (codes "audit")
-
--- `rv serve --listen ADDR --epoch E --workers W --connections N`
-abbrev pub serve_app : App
-serve_app =
-    let listens = with_rule (new_app (codes "serve")) (required_option (codes "listen")) in
-    let numbered = with_rule listens (required_option (codes "epoch")) in
-    let staffed = with_rule numbered (required_option (codes "workers")) in
-    with_rule staffed (required_option (codes "connections"))
-
--- what of `rv call` says who calls, and where
-abbrev pub caller_app : App
-caller_app =
-    let connects = with_rule (new_app (codes "call")) (required_option (codes "connect")) in
-    let named = with_rule connects (required_option (codes "client")) in
-    with_rule named (required_option (codes "incarnation"))
-
--- `rv call --connect ADDR --client C --incarnation I --tries T --speak V`
-abbrev pub call_app : App
-call_app =
-    let patient = with_rule caller_app (required_option (codes "tries")) in
-    with_rule patient (required_option (codes "speak"))
-
--- the subcommands that use no socket
-abbrev pub local_app : App
-local_app =
-    let books = with_subcommand (new_app (codes "rv")) book_app.top in
-    with_subcommand (with_subcommand books play_app.top) audit_app.top
-
--- the program as `clap` reads it: its subcommands, with their options
-abbrev pub rv_app : App
-rv_app = with_subcommand (with_subcommand local_app serve_app.top) call_app.top
 
 -- the value of an option is there, and is the digits of an identifier
 abbrev pub GivesIdentifier : Option Text → ℕ → Type 0

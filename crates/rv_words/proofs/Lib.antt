@@ -1,0 +1,5 @@
+-- The lemmas that the proofs of this crate share.
+pub mod Values
+pub mod RecordWords
+pub mod OwnWords
+pub mod Helps

@@ -1,0 +1,6 @@
+-- The definitions that the contracts cite.
+pub mod Beginning
+pub mod Helping
+pub mod Program
+pub mod Recorded
+pub mod Verifying

@@ -1,0 +1,117 @@
+//! Reads the words of `rv help`.
+ghost use Rattle.std.specs.Prelude.{◌≡◌, [], codes, false, IfOk, IfSome, IsErrOf, None, true};
+ghost use Rattle.clap.specs.Words.{HasKind, app_of, fault_of, is_simple_and_free, kind_of, shape_of};
+ghost use Rattle.clap.specs.declared.Command.TheViews.{out-Command};
+ghost use Rattle.clap.specs.Walk.{texts};
+ghost use Rattle.rv_words.specs.Beginning.{BeginWithout};
+ghost use Rattle.rv_words.specs.Helping.{IsHelpFor, help_app, help_status, record_app, recording_app};
+ghost use Rattle.rv_words.specs.Helping.{verifying_app};
+
+use crate::fault::CommandFault;
+use crate::program::{named, program, required_option};
+use crate::verifying;
+use crate::words::words_of_help;
+use clap::error::ErrorKind;
+use rv_options::host_words;
+use std::alloc::{AllocError, Global};
+use std::fmt;
+
+/// What a call for help is answered with: its `Display` is the text.
+#[derive(Debug, Drop)]
+pub struct HelpAnswer {
+    pub(crate) error: clap::Error,
+}
+
+impl HelpAnswer {
+    /// The status of a program that ends by it: 0 for help, 2 where it can't be given.
+    pub fn status(&self) -> u8
+        ensures { result ≡ help_status (kind_of self.now.error) }
+    {
+        match self.error.kind() {
+            ErrorKind::DisplayHelp => 0,
+            _ => 2,
+        }
+    }
+}
+
+impl fmt::Display for HelpAnswer {
+    fn fmt<W: fmt::Write>(&self, f: &mut fmt::Formatter<W>) -> fmt::Result {
+        let error = &self.error;
+        write!(f, "{error}")
+    }
+}
+
+/// `rv help`, alone or with a command's name behind it: the help that `clap` has, or why it has none. Words
+/// that begin otherwise ask for none. The first word is the program's name.
+pub fn read_help<'a>(
+    alloc: Global,
+    words: &'a [&'a str],
+) -> Result<Option<HelpAnswer>, CommandFault>
+    ensures answered { IfOk result (λ found. IfSome found (IsHelpFor (texts words.entry.now))) }
+    ensures other { IfOk result (λ found. found ≡ None
+        → BeginWithout (codes "help") (texts words.entry.now)) }
+    ensures bad { IsErrOf result CommandFault.Bad → fault_of help_app (texts words.entry.now) ≡ [] }
+{
+    match words_of_help(words) {
+        Some(_) => Ok(Some(answer(alloc, words)?)),
+        None => Ok(None),
+    }
+}
+
+// What clap says of the words, of which it takes none.
+fn answer<'a>(alloc: Global, words: &'a [&'a str]) -> Result<HelpAnswer, CommandFault>
+    ensures answered { IfOk result (IsHelpFor (texts words.entry.now)) }
+    ensures bad { IsErrOf result CommandFault.Bad → fault_of help_app (texts words.entry.now) ≡ [] }
+{
+    let command = whole_program(alloc)?;
+    match refusal_of(command, words) {
+        None => Err(CommandFault::Bad),
+        Some(error) => match error.kind() {
+            ErrorKind::OutOfMemory => Err(CommandFault::NoMemory),
+            _ => Ok(HelpAnswer { error }),
+        },
+    }
+}
+
+// Why a command, of which clap tells each fault, doesn't take the words.
+fn refusal_of<'a>(command: clap::Command<'a>, words: &'a [&'a str]) -> Option<clap::Error>
+    requires { is_simple_and_free (app_of command) ≡ true }
+    ensures some { IfSome result (HasKind (fault_of (app_of command.entry) (texts words.entry.now))) }
+    ensures none { result ≡ None → fault_of (app_of command.entry) (texts words.entry.now) ≡ [] }
+{
+    match command.try_get_matches_from(words) {
+        Ok(_) => None,
+        Err(error) => Some(error),
+    }
+}
+
+// The program with all its commands.
+fn whole_program<'a>(alloc: Global) -> Result<clap::Command<'a>, AllocError>
+    ensures { IfOk result (λ c. app_of c ≡ help_app) }
+{
+    verifying_program(alloc)?.subcommand(host_words(alloc)?)
+}
+
+// All but `host`.
+fn verifying_program<'a>(alloc: Global) -> Result<clap::Command<'a>, AllocError>
+    ensures { IfOk result (λ c. app_of c ≡ verifying_app) }
+{
+    recording_program(alloc)?.subcommand(verifying::command(alloc)?)
+}
+
+// All but `host` and `verify`.
+fn recording_program<'a>(alloc: Global) -> Result<clap::Command<'a>, AllocError>
+    ensures { IfOk result (λ c. app_of c ≡ recording_app) }
+{
+    program(alloc)?
+        .bin_name("rv")?
+        .subcommand(record_words(alloc)?)
+}
+
+// `record --to FILE`, as help tells it.
+fn record_words<'a>(alloc: Global) -> Result<clap::Command<'a>, AllocError>
+    ensures shape { IfOk result (λ c. shape_of c ≡ record_app.top) }
+    ensures local { IfOk result (λ c. (out-Command c).has_globals ≡ false) }
+{
+    named(alloc, "record").arg(required_option(alloc, "to"))
+}

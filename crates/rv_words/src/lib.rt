@@ -1,0 +1,20 @@
+//! The words of the program `rv` as `clap` reads them: its commands with their options, and those that
+//! read their own words.
+#![tactic(auto)]
+
+mod fault;
+mod helping;
+mod program;
+mod reading;
+mod recorded;
+mod texts;
+mod verifying;
+mod words;
+
+pub use fault::CommandFault;
+pub use helping::{HelpAnswer, read_help};
+pub use program::matches_of;
+pub use reading::text_of;
+pub use recorded::read_record;
+pub use verifying::{STANDARD_INPUT, VerifyWords, read_verify};
+pub use words::words_of_host;

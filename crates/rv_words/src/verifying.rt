@@ -1,0 +1,153 @@
+//! Reads the words of `rv verify`.
+ghost use Rattle.std.specs.Prelude.{◌≡◌, ◌∷◌, ◌↔◌, [], codes, false, IfOk, IfSome, IsErrOf, IsTrue};
+ghost use Rattle.std.specs.Prelude.{List, None, Some};
+ghost use Rattle.clap.specs.Words.{Text, app_of, fault_of, first_of, found_of, matches_of, rows_of, rule_of};
+ghost use Rattle.clap.specs.Words.{shape_of};
+ghost use Rattle.clap.specs.Walk.{texts};
+ghost use Rattle.clap.specs.declared.Command.TheViews.{out-Command};
+ghost use Rattle.rv_words.specs.Verifying.{BeginOtherwise, ClapSays, NamesNoVerify, NamesVerify};
+ghost use Rattle.rv_words.specs.Verifying.{SaysVerify};
+ghost use Rattle.rv_words.specs.Verifying.{file_rule, files_app, follow_rule, replies_rule, verify_app};
+
+use crate::fault::CommandFault;
+use crate::program::named;
+use crate::reading::{taken, text_of};
+use crate::words::words_of_verify;
+use clap::{Arg, ArgAction, ArgMatches};
+use std::alloc::{AllocError, Global};
+
+/// What the words call standard input.
+pub const STANDARD_INPUT: &str = "-";
+
+/// What the words of `rv verify` say.
+#[derive(Clone, Copy, Debug, PartialEq, Eq)]
+pub struct VerifyWords<'a> {
+    /// The account's file, or `-` for standard input.
+    pub file: &'a str,
+    /// The file of a record of replies, if one is named.
+    pub replies: Option<&'a str>,
+    /// Whether to go on as the account's file grows.
+    pub follow: bool,
+}
+
+/// `rv verify FILE`, in any order with `--replies FILE` and `--follow`, which standard input can't be. Words
+/// that begin otherwise are none of it. The first word is the program's name.
+pub fn read_verify<'a>(
+    alloc: Global,
+    words: &'a [&'a str],
+) -> Result<Option<VerifyWords<'a>>, CommandFault>
+    ensures named { IfOk result (λ found. IfSome found (NamesVerify (texts words.entry.now))) }
+    ensures other { IfOk result (λ found. found ≡ None → BeginOtherwise (texts words.entry.now)) }
+    ensures bad { IsErrOf result CommandFault.Bad → NamesNoVerify (texts words.entry.now) }
+{
+    match words_of_verify(words) {
+        Some(own) => Ok(Some(said(alloc, own)?)),
+        None => Ok(None),
+    }
+}
+
+// What the words from `verify` on say.
+fn said<'a>(alloc: Global, own: &'a [&'a str]) -> Result<VerifyWords<'a>, CommandFault>
+    ensures says { IfOk result (ClapSays (texts own.entry.now)) }
+    ensures bad { IsErrOf result CommandFault.Bad → (v : VerifyWords) → ¬ ClapSays (texts own.entry.now) v }
+{
+    let matches = matches_in(alloc, own)?;
+    said_by(&matches).ok_or(CommandFault::Bad)
+}
+
+// What the matches say.
+fn said_by<'a>(matches: &ArgMatches<'a>) -> Option<VerifyWords<'a>>
+    ensures some { IfSome result (SaysVerify (rows_of (found_of matches.now))) }
+    ensures none { result ≡ None → (v : VerifyWords) → ¬ SaysVerify (rows_of (found_of matches.now)) v }
+{
+    let file = text_of(matches, "FILE")?;
+    let follow = is_given(matches, "follow");
+    if follow && is_standard_input(file) {
+        return None;
+    }
+    Some(VerifyWords {
+        file,
+        replies: text_of(matches, "replies"),
+        follow,
+    })
+}
+
+// Whether a flag is given.
+fn is_given(matches: &ArgMatches, name: &str) -> bool
+    ensures { IsTrue result ↔ (first_of name.now (rows_of (found_of matches.now)) ≡ Some (codes "true")) }
+{
+    match text_of(matches, name) {
+        Some(text) => text == "true",
+        None => false,
+    }
+}
+
+// Whether these words call standard input.
+fn is_standard_input(file: &str) -> bool
+    ensures { IsTrue result ↔ (file.now ≡ codes "-") }
+{
+    file == STANDARD_INPUT
+}
+
+// The words as clap reads them.
+fn matches_in<'a>(alloc: Global, own: &'a [&'a str]) -> Result<ArgMatches<'a>, CommandFault>
+    ensures taken { IfOk result (λ _. fault_of verify_app (texts own.entry.now) ≡ []) }
+    ensures found { IfOk result (λ m.
+        rows_of (found_of m) ≡ matches_of verify_app (texts own.entry.now)) }
+    ensures bad { IsErrOf result CommandFault.Bad
+        → ¬ (fault_of verify_app (texts own.entry.now) ≡ []) }
+{
+    taken(command(alloc)?, own)
+}
+
+/// `verify FILE --replies FILE --follow`, as clap reads it.
+pub(crate) fn command<'a>(alloc: Global) -> Result<clap::Command<'a>, AllocError>
+    ensures app { IfOk result (λ c. app_of c ≡ verify_app) }
+    ensures shape { IfOk result (λ c. shape_of c ≡ verify_app.top) }
+    ensures local { IfOk result (λ c. (out-Command c).has_globals ≡ false) }
+{
+    named_files(alloc)?.arg(follow_flag(alloc))
+}
+
+// Those of its words that name files.
+fn named_files<'a>(alloc: Global) -> Result<clap::Command<'a>, AllocError>
+    ensures app { IfOk result (λ c. app_of c ≡ files_app) }
+    ensures local { IfOk result (λ c. (out-Command c).has_globals ≡ false) }
+{
+    named(alloc, "verify")
+        .arg(file_word(alloc))?
+        .arg(replies_option(alloc))
+}
+
+// A value that has to be given, with no option before it.
+fn file_word<'a>(alloc: Global) -> Arg<'a>
+    ensures rule { rule_of result ≡ file_rule }
+    ensures local { result.global ≡ false }
+{
+    Arg::new(alloc, "FILE")
+        .required(true)
+        .action(ArgAction::Set)
+        .help("The account's file, or - for standard input")
+}
+
+// An option `--replies FILE`, which may lack.
+fn replies_option<'a>(alloc: Global) -> Arg<'a>
+    ensures rule { rule_of result ≡ replies_rule }
+    ensures local { result.global ≡ false }
+{
+    Arg::new(alloc, "replies")
+        .long("replies")
+        .action(ArgAction::Set)
+        .help("A file of recorded replies, each of which the account has to keep")
+}
+
+// A flag `--follow`.
+fn follow_flag<'a>(alloc: Global) -> Arg<'a>
+    ensures rule { rule_of result ≡ follow_rule }
+    ensures local { result.global ≡ false }
+{
+    Arg::new(alloc, "follow")
+        .long("follow")
+        .action(ArgAction::SetTrue)
+        .help("Go on as the file grows")
+}
