@@ -1,6 +1,7 @@
 """Crowds of Python and Java clients on one server, of version 1 and 2 in turn, over a link that loses,
 repeats, cuts and delays: what each was told must stand in the account, which must be legal by the model's
 audit and by `rv audit`; and in the record that all of them share, as soon as they are told it."""
+import contextlib
 import json
 import pathlib
 import random
@@ -47,14 +48,8 @@ class Client:
         """Asks for as long as that holds."""
         while goes_on():
             call, ask = self.call()
-            over = threading.Event()
-            if call.get("wait") == "forever":
-                threading.Thread(target=self.give_up, args=(over, self.chance.random() * 0.08),
-                                 daemon=True).start()
-            try:
+            with self.given_up_later() if call.get("wait") == "forever" else contextlib.nullcontext():
                 ended = self.ended(ask)
-            finally:
-                over.set()
             if judged(self.record.new(), call, ended):
                 add(self.ledger, call, answer_members(ended.outcome))
             time.sleep(self.chance.random() * 0.01)
@@ -71,8 +66,20 @@ class Client:
             return Ended(outcome, None, outcome, again=True)
         return Ended(value, None, self.session.last)
 
+    @contextlib.contextmanager
+    def given_up_later(self):
+        """The call of the block is cancelled a little later, unless it is over; behind the block none is, whoever was slow."""
+        over = threading.Event()
+        later = threading.Thread(target=self.give_up, args=(over, self.chance.random() * 0.08), daemon=True)
+        later.start()
+        try:
+            yield
+        finally:
+            over.set()
+            later.join()
+
     def give_up(self, over, pause):
-        """Cancels the running call a little later, unless it is over."""
+        """Cancels the running call after a pause, unless it is over."""
         while not over.wait(pause) and not self.session.cancel():
             pause = 0.005
 
