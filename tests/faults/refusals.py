@@ -26,10 +26,7 @@ sys.dont_write_bytecode, sys.path[0] = True, str(ROOT)
 from tests.faults.preload import built, switches  # noqa: E402
 
 # By crate, the tests that hold whichever growth is refused.
-HOLD = {
-    "rv_wire_tests": ["frames::a_refused_growth_changes_nothing"],
-    "rv_tests": [],
-}
+HOLD = {"rv_tests": ["frames::a_refused_growth_changes_nothing"]}
 # By crate, tests that ask for as many growths as each other: what the second does beside the first takes no memory.
 ALIKE = {"rv_tests": [("deadlines::forty_are_added", "deadlines::forty_are_added_twice")]}
 # A test has so many seconds.

@@ -16,7 +16,7 @@ use std::marker::Model;
 
 /// All entries of an epoch, in the order in which they were recorded. Contracts see its epoch, its opening
 /// moment and the list of its entries, and for how many entries more it has room.
-#[derive(Debug, Drop)]
+#[derive(Drop)]
 pub struct Account {
     epoch: u64,
     opened: u64,

@@ -6,7 +6,7 @@ use rv_text::{Call, Key, NoMemory, Version};
 use std::alloc::Global;
 
 /// What an entry records.
-#[derive(Debug, PartialEq, Eq, Drop)]
+#[derive(PartialEq, Eq, Drop)]
 pub enum Act {
     /// A client opened a session of this version.
     Hello {
@@ -28,7 +28,7 @@ pub enum Act {
 }
 
 /// One line of an account.
-#[derive(Debug, PartialEq, Eq, Drop)]
+#[derive(PartialEq, Eq, Drop)]
 pub struct Entry {
     /// When it was recorded, in milliseconds; in a book's account at most 2^62.
     pub moment: u64,

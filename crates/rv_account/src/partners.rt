@@ -11,7 +11,7 @@ use std::alloc::Global;
 use std::marker::Model;
 
 /// The places of an entry's partners, which contracts see as a list. In a legal account they rise.
-#[derive(Debug, Drop)]
+#[derive(Drop)]
 pub struct Partners {
     places: Vec<Place>,
 }

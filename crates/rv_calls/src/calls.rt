@@ -23,7 +23,7 @@ use std::alloc::Global;
 use std::io::{Read, Write};
 
 /// The end of a run of calls.
-#[derive(Clone, Copy, Debug, PartialEq, Eq)]
+#[derive(Clone, Copy)]
 pub enum CallSaid {
     /// The call of each line was settled.
     Whole,

@@ -7,7 +7,7 @@ use rv_text::{NoMemory, Refusal};
 use std::alloc::Global;
 
 // The reason why a run of calls ends before its lines do.
-#[derive(Clone, Copy, Debug)]
+#[derive(Clone, Copy)]
 pub(crate) enum EndWord {
     // No welcome came: the link failed, or no answer said anything to the client.
     NotWelcome,

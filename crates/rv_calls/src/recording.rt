@@ -27,7 +27,7 @@ use std::io::{Read, Write};
 use thiserror::Error;
 
 /// The reason why the record lacks the entry of a settled call.
-#[derive(Clone, Copy, Debug, PartialEq, Eq, Error)]
+#[derive(Clone, Copy, Debug, Error)]
 pub enum RecordFault {
     /// A write of the entry failed, after so many of its bytes.
     #[error("a write failed after {0} bytes of a line")]
@@ -58,7 +58,7 @@ impl From<AllocError> for RecordFault {
 }
 
 /// The reason why a run of calls that keeps a record ended early.
-#[derive(Clone, Copy, Debug, PartialEq, Eq, Error)]
+#[derive(Clone, Copy, Debug, Error)]
 pub enum RecordingFault {
     /// That of a run without a record.
     #[error("{0}")]

@@ -11,7 +11,7 @@ use std::marker::Model;
 ///
 /// It sends its [`message`](New::message), the hello, and hears the answers that come to it by
 /// [`welcome`](New::welcome).
-#[derive(Debug, Drop)]
+#[derive(Drop)]
 pub struct New {
     client: u64,
     incarnation: u64,
@@ -27,7 +27,7 @@ impl Model for New {
 }
 
 /// The result of an answer to a client that is not welcome yet.
-#[derive(Debug, Drop)]
+#[derive(Drop)]
 pub enum WelcomeOutcome {
     /// The client is welcome, and idle.
     Idle(Idle),

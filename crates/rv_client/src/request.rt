@@ -7,7 +7,7 @@ use std::marker::Model;
 
 /// A client that was welcomed and waits for no answer. Contracts see the key of its next request, or none
 /// once the greatest number was used.
-#[derive(Debug, Drop)]
+#[derive(Drop)]
 pub struct Idle {
     next: Option<Key>,
 }
@@ -43,7 +43,7 @@ impl Model for Outstanding {
 /// A request that was begun and is laid aside until it is woken: plain data, which a list or a table can
 /// hold. Only [`Outstanding::park`] makes one. It can't be copied, and dropping it gives the request up.
 /// Contracts see the request's key and call.
-#[derive(Debug, Drop)]
+#[derive(Drop)]
 pub struct Resting {
     key: Key,
     call: Call,

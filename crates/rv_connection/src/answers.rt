@@ -16,7 +16,7 @@ use std::alloc::Global;
 use std::collections::VecDeque;
 
 // An answer that may not leave yet: how many entries it rests on, and how many bytes it has.
-#[derive(Clone, Copy, Debug)]
+#[derive(Clone, Copy)]
 pub(crate) struct Mark {
     pub(crate) entries: u64,
     pub(crate) bytes: usize,

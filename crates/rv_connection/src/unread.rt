@@ -6,7 +6,7 @@ ghost use Rattle.rv_connection.specs.Fields.{IsBegun, LeavesOne, told_size};
 use std::alloc::Global;
 
 /// The unread bytes, as far as they tell of a frame.
-#[derive(Clone, Copy, Debug)]
+#[derive(Clone, Copy)]
 pub enum Coming<'a> {
     /// Less than a frame, or nothing.
     Part,

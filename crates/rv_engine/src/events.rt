@@ -9,7 +9,7 @@ use thiserror::Error;
 
 /// What happened to a connection, or that time went on. That entries are written is no such event: the engine
 /// itself tells the hub so.
-#[derive(Clone, Copy, Debug)]
+#[derive(Clone, Copy)]
 pub enum LinkEvent<'a> {
     /// A connection was opened.
     Opened,
@@ -26,7 +26,7 @@ pub enum LinkEvent<'a> {
 }
 
 /// Why an event isn't taken, or lines aren't written.
-#[derive(Clone, Copy, Debug, PartialEq, Eq, Error)]
+#[derive(Clone, Copy, Debug, Error)]
 pub enum EngineFault {
     /// The hub refused the event.
     #[error("the hub refused an event: {0}")]

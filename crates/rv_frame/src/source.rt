@@ -9,7 +9,7 @@ use thiserror::Error;
 
 /// A read of the device failed, at this call or at an earlier one: `Source::failed` is true from
 /// then on. The call took nothing from the device.
-#[derive(Clone, Copy, Debug, PartialEq, Eq, Error)]
+#[derive(Clone, Copy, Debug, Error)]
 #[error("a read of the device failed")]
 pub struct ReadFault;
 

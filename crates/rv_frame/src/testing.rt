@@ -108,7 +108,7 @@ impl Read for TestReader<'_> {
 }
 
 /// The answer of a `TestWriter` in place of one write.
-#[derive(Clone, Copy, Debug, PartialEq, Eq)]
+#[derive(Clone, Copy)]
 pub enum Stop {
     /// An error of this kind.
     Error(ErrorKind),

@@ -16,7 +16,7 @@ use std::collections::BTreeMap;
 pub type ConnectionNumber = usize;
 
 /// A connection's wait for the reply of a request.
-#[derive(Clone, Copy, Debug)]
+#[derive(Clone, Copy)]
 pub struct Hearing {
     /// The request's key.
     pub key: Key,

@@ -13,7 +13,7 @@ const EMFILE: i32 = 24;
 const ENFILE: i32 = 23;
 
 // When the listener may be asked.
-#[derive(Clone, Copy, PartialEq, Eq)]
+#[derive(Clone, Copy)]
 enum DoorState {
     // It told that someone waits.
     Now,

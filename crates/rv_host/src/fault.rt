@@ -5,7 +5,7 @@ use std::io::ErrorKind;
 use std::{fmt, io};
 
 /// Why a server ended, or didn't start.
-#[derive(Debug, Drop)]
+#[derive(Drop)]
 pub(crate) enum HostEnd {
     /// The system refused what it was asked for, named by this word.
     System(&'static str, io::Error),

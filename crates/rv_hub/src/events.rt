@@ -3,7 +3,7 @@ use rv_hearers::ConnectionNumber;
 use thiserror::Error;
 
 /// An event of a hub. Each is handed over with its moment.
-#[derive(Clone, Copy, Debug)]
+#[derive(Clone, Copy)]
 pub enum HubEvent<'a> {
     /// A connection was opened.
     Opened,
@@ -22,7 +22,7 @@ pub enum HubEvent<'a> {
 }
 
 /// Why an event isn't taken: it can't be, or memory was refused.
-#[derive(Clone, Copy, Debug, PartialEq, Eq, Error)]
+#[derive(Clone, Copy, Debug, Error)]
 pub enum EventRefusal {
     /// The connection isn't open.
     #[error("the connection isn't open")]

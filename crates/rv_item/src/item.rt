@@ -16,7 +16,7 @@ pub const MAX_ITEM_BYTES: usize = 512;
 ///
 /// An item that is read from a body has at most 512 bytes. One that a program makes may be longer;
 /// [`Item::fits`] tells.
-#[derive(Debug, Drop)]
+#[derive(Drop)]
 pub struct Item {
     text: String,
 }

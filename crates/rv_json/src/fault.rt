@@ -6,7 +6,7 @@ use thiserror::Error;
 pub type NoMemory = AllocError;
 
 /// The reason why bytes are not read as a message, or not as an answer or a call if that is wanted.
-#[derive(Clone, Copy, Debug, PartialEq, Eq, Error)]
+#[derive(Clone, Copy, Debug, Error)]
 pub enum TextFault {
     /// Fault 1: the bytes have the length of a body, and `serde_json` cannot read them. They are no JSON
     /// text (RFC 8259), or one that it does not take, such as one that is nested over 127 deep.

@@ -6,7 +6,7 @@ use rv_text::TextFault;
 use std::alloc::AllocError;
 
 /// Why a line says nothing.
-#[derive(Clone, Copy, Debug, PartialEq, Eq)]
+#[derive(Clone, Copy)]
 pub enum LineFault {
     /// The line has another form.
     Bad,
@@ -39,7 +39,7 @@ impl From<TextFault> for LineFault {
 }
 
 /// Why lines are not read as an account.
-#[derive(Clone, Copy, Debug, PartialEq, Eq)]
+#[derive(Clone, Copy)]
 pub enum AccountFault {
     /// The first line that has another form, counted from 1. With no lines that is line 1, and with more
     /// than 100,000 lines of entries it is the one past them at the latest.

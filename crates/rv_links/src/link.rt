@@ -8,7 +8,7 @@ use std::alloc::{AllocError, Global};
 use std::io::{Error, ErrorKind, Read, Write};
 
 /// What came of one read of a socket.
-#[derive(Clone, Copy, Debug, PartialEq, Eq)]
+#[derive(Clone, Copy)]
 pub enum ReadOutcome {
     /// At least one byte.
     Piece,
@@ -21,7 +21,7 @@ pub enum ReadOutcome {
 }
 
 /// What came of one write to a socket.
-#[derive(Clone, Copy, Debug, PartialEq, Eq)]
+#[derive(Clone, Copy)]
 pub enum WriteOutcome {
     /// It took so many bytes, from the first on.
     Took(usize),
@@ -45,7 +45,7 @@ pub struct Socket<S> {
 }
 
 // Why a call on a socket gave nothing.
-#[derive(Clone, Copy, PartialEq, Eq)]
+#[derive(Clone, Copy)]
 pub(crate) enum Trouble {
     // It would have blocked.
     Blocks,

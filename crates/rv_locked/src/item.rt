@@ -1,7 +1,7 @@
 //! What kind of body answers a frame.
 
 /// The kind of body that answered a frame.
-#[derive(Clone, Copy, Debug, PartialEq, Eq)]
+#[derive(Clone, Copy)]
 pub enum Item {
     /// That of refusal 1: the frame's own body is no message's.
     BadText,

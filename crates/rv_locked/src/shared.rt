@@ -123,7 +123,7 @@ pub struct Closing<D: Desk> {
 }
 
 /// The number of seats is not the number that was made. Nothing has changed.
-#[derive(Clone, Copy, Debug, PartialEq, Eq, Error)]
+#[derive(Clone, Copy, Debug, Error)]
 #[error("there are not as many seats as were made")]
 pub struct ForeignSeat;
 

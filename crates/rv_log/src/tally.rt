@@ -7,7 +7,7 @@ ghost use Rattle.rv_log.specs.Tallies.{IsToBeTold, IsUntold, greatest_count, not
 const PAUSE: u64 = 60_000;
 
 /// How often something came since it was told, and the moment at which it was told last.
-#[derive(Clone, Copy, Debug, PartialEq, Eq)]
+#[derive(Clone, Copy)]
 pub struct FaultTally {
     pub(crate) count: u64,
     pub(crate) told: Option<u64>,

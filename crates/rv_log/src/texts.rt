@@ -7,7 +7,7 @@ use crate::kind::FaultKind;
 use std::alloc::{AllocError, Global};
 
 /// What is said of a server that started.
-#[derive(Clone, Copy, Debug, PartialEq, Eq)]
+#[derive(Clone, Copy)]
 pub struct StartSaid<'a> {
     /// The address at which it listens.
     pub address: &'a str,

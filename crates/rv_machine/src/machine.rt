@@ -14,7 +14,7 @@ use rv_text::{Key, Refusal, Reply, Version};
 use std::alloc::Global;
 
 /// What is said of a step. An answer is made of it, and of the state after the step.
-#[derive(Clone, Copy, Debug, PartialEq, Eq)]
+#[derive(Clone, Copy)]
 pub enum Said {
     /// A welcome: the epoch, the client, its incarnation and its version.
     Welcome(u64, u64, u64, Version),

@@ -14,7 +14,7 @@ use rv_text::NoMemory;
 use std::alloc::Global;
 
 /// Why no machine was made of a state.
-#[derive(Clone, Copy, Debug, PartialEq, Eq)]
+#[derive(Clone, Copy)]
 pub enum NoMachine {
     /// The state lacks something that a state to resume from has.
     Unfit,

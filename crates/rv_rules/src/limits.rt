@@ -22,7 +22,7 @@ const MOST_OPEN_PLACES: usize = 100_000;
 
 /// The limits under which a step is made: how many entries there may be, how many clients, and how many
 /// places may stand open, if that is bounded. Contracts see them as those of the step's definition.
-#[derive(Debug, Drop)]
+#[derive(Drop)]
 pub struct Limits {
     entries: usize,
     clients: usize,

@@ -9,7 +9,7 @@ use std::alloc::AllocError;
 use thiserror::Error;
 
 /// The reason why a run ended before its output was whole.
-#[derive(Clone, Copy, Debug, PartialEq, Eq, Error)]
+#[derive(Clone, Copy, Debug, Error)]
 #[error("run fault {}", self.number())]
 pub enum RunFault {
     /// 1: a read of the input failed. Nothing was printed.

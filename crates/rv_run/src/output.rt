@@ -12,7 +12,7 @@ use thiserror::Error;
 /// A write of the output failed. At the first fault `sent` counts the bytes that went out: the first of all
 /// that the output had taken in and of the line that it was to take in then, and not all. A later fault
 /// doesn't count the bytes that went out at the first.
-#[derive(Clone, Copy, Debug, PartialEq, Eq, Error)]
+#[derive(Clone, Copy, Debug, Error)]
 #[error("a write failed after {sent} bytes")]
 pub struct OutputFault {
     /// The number of bytes that went out.

@@ -29,7 +29,7 @@ pub struct Report<L: Ledger> {
 }
 
 /// The reason why no connection was accepted. A peer that had connected finds its connection closed.
-#[derive(Clone, Copy, Debug, PartialEq, Eq, Error)]
+#[derive(Clone, Copy, Debug, Error)]
 #[error("serve fault {}", self.number())]
 pub enum ServeFault {
     /// 1: there was no seat, or no thread could be started.

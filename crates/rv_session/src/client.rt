@@ -8,7 +8,7 @@ use std::alloc::Global;
 use std::mem;
 
 /// What became of the last request of a session.
-#[derive(Debug, Drop)]
+#[derive(Drop)]
 pub enum LastRequest {
     /// There is none yet.
     Fresh,
@@ -22,7 +22,7 @@ pub enum LastRequest {
 }
 
 /// A client's session, as the state of an account has it.
-#[derive(Debug, Drop)]
+#[derive(Drop)]
 pub struct ClientState {
     /// The incarnation of the client's last hello.
     pub incarnation: u64,

@@ -25,7 +25,7 @@ impl Model for Duty {
 /// A duty that is laid aside, as plain data in a list or a table, until it is woken. Only a duty makes it,
 /// and it can't be copied. It can be dropped, and then its request is never settled: its keeper has to
 /// promise that none is lost.
-#[derive(Debug, Drop)]
+#[derive(Drop)]
 pub struct Parked {
     place: Place,
     client: u64,

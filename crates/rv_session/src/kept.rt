@@ -10,7 +10,7 @@ pub type Place = usize;
 /// The reply that is kept for a session's last request. It takes no memory: a text is named by the place
 /// of the arrival that brought it, the texts of a drain by the drain's own place, and a consumer's key by the
 /// place where it arrived.
-#[derive(Clone, Copy, Debug, PartialEq, Eq)]
+#[derive(Clone, Copy)]
 pub enum Kept {
     /// A put was accepted.
     Done,

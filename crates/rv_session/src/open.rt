@@ -6,7 +6,7 @@ use rv_text::{Item, Key, NoMemory, Side};
 use std::alloc::Global;
 
 /// Who waits at an open place.
-#[derive(Clone, Copy, Debug, PartialEq, Eq)]
+#[derive(Clone, Copy)]
 pub struct Waiter {
     /// The key of the request.
     pub key: Key,
@@ -15,7 +15,7 @@ pub struct Waiter {
 }
 
 /// An arrival that is open, as the state of an account has it.
-#[derive(Debug, Drop)]
+#[derive(Drop)]
 pub struct OpenPlace {
     /// Where it arrived.
     pub place: Place,

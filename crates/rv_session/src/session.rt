@@ -8,7 +8,7 @@ use crate::standing::{Greeting, Standing};
 use rv_text::{Key, Refusal, Version};
 
 /// What stands of a session's last number.
-#[derive(Clone, Copy, Debug, PartialEq, Eq)]
+#[derive(Clone, Copy)]
 pub enum RequestState {
     /// Nothing was asked yet.
     Fresh,
@@ -19,7 +19,7 @@ pub enum RequestState {
 }
 
 /// A client's session, as contracts see it.
-#[derive(Clone, Copy, Debug, PartialEq, Eq)]
+#[derive(Clone, Copy)]
 pub struct Session {
     /// The incarnation of the client's last hello.
     pub incarnation: u64,

@@ -3,7 +3,7 @@ use crate::kept::{Kept, Place};
 use rv_text::{Call, Refusal, Reply, Version};
 
 /// What a hello of an incarnation and a version is to the table.
-#[derive(Clone, Copy, Debug, PartialEq, Eq)]
+#[derive(Clone, Copy)]
 pub enum Greeting {
     /// The client's session has this incarnation and this version already.
     Again,
@@ -20,7 +20,7 @@ pub enum Greeting {
 }
 
 /// What stands of a key.
-#[derive(Clone, Copy, Debug, PartialEq, Eq)]
+#[derive(Clone, Copy)]
 pub enum Standing {
     /// The key is refused: for another epoch, no session, an old incarnation, an old number, a request
     /// that still waits, or a gap.
@@ -35,7 +35,7 @@ pub enum Standing {
 }
 
 /// What stands of a key in a table of [`Clients`](crate::Clients). Calls and replies are lent by the table.
-#[derive(Clone, Copy, Debug)]
+#[derive(Clone, Copy)]
 pub enum KeyStanding<'a> {
     /// The key is refused: for another epoch, no session, an old incarnation, an old number, a request
     /// that still waits, or a gap.

@@ -1,14 +1,28 @@
 //! What no clause and no program says of the crates below the program: a list of events, the copy of an
-//! account, room on both sides of a queue, and that a deadline that is there takes no memory.
+//! account, room on both sides of a queue, and that a deadline that is there takes no memory; the fault that
+//! a request or a worker meets at its link, how often devices are asked, and sizes that no program has; how
+//! many of its connections a server counts as served.
 #![tactic(auto)]
 
 #[cfg(test)]
 mod accounts;
 #[cfg(test)]
+mod asks;
+#[cfg(test)]
+mod counts;
+#[cfg(test)]
 mod deadlines;
 #[cfg(test)]
 mod expect;
 #[cfg(test)]
+mod faults;
+#[cfg(test)]
+mod frames;
+#[cfg(test)]
+mod items;
+#[cfg(test)]
 mod queues;
+#[cfg(test)]
+mod still;
 #[cfg(test)]
 mod worlds;

@@ -12,7 +12,7 @@ use thiserror::Error;
 pub const MAX_COUNTED: u64 = 100_000;
 
 /// The outcome of a request. Once given, it stays the request's reply.
-#[derive(Debug, PartialEq, Eq, Drop)]
+#[derive(PartialEq, Eq, Drop)]
 pub enum Reply {
     /// A put was accepted.
     Done,
@@ -207,7 +207,7 @@ impl Refusal {
 }
 
 /// What the server sends back for a message.
-#[derive(Debug, PartialEq, Eq, Drop)]
+#[derive(PartialEq, Eq, Drop)]
 pub enum Answer {
     /// A hello was accepted: the client's session has this incarnation and this version in this epoch.
     Welcome {

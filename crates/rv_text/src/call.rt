@@ -17,7 +17,7 @@ pub const MAX_EXCHANGER: u64 = 63;
 pub const MAX_WAIT: u64 = 86_400_000;
 
 /// How long a request may wait for its partner.
-#[derive(Clone, Copy, Debug, PartialEq, Eq)]
+#[derive(Clone, Copy, PartialEq, Eq)]
 pub enum Wait {
     /// Not at all, as Java's untimed `poll`.
     Now,
@@ -29,7 +29,7 @@ pub enum Wait {
 
 /// What a request asks of a queue or of an exchanger, each 0 to 63. A call has the item that it hands over,
 /// if it does, and tells how long it waits for a partner, if it may.
-#[derive(Clone, Debug, PartialEq, Eq, Drop)]
+#[derive(Clone, PartialEq, Eq, Drop)]
 pub enum Call {
     /// Appends the item at the queue's tail and never waits (Java's `TransferQueue.put`).
     Put {
@@ -80,7 +80,7 @@ pub(crate) struct Nature<'a> {
 }
 
 /// The queue or exchanger of a call, and the call's side of it, which decides what calls it may meet.
-#[derive(Clone, Copy, Debug, PartialEq, Eq)]
+#[derive(Clone, Copy, PartialEq, Eq)]
 pub enum Side {
     /// It gives an item to this queue, and meets calls that take from it.
     Gives(u64),

@@ -10,7 +10,7 @@ pub const MAX_IDENTIFIER: u64 = 9_007_199_254_740_991;
 
 /// What names a request. Any numbers make a key; [`Key::fits`] tells whether they are within their limits, 1
 /// to 2^53 - 1 each. That no two requests of an epoch have the same key is the book's promise.
-#[derive(Clone, Copy, Debug, PartialEq, Eq)]
+#[derive(Clone, Copy, PartialEq, Eq)]
 pub struct Key {
     /// The server's epoch.
     pub epoch: u64,
@@ -23,7 +23,7 @@ pub struct Key {
 }
 
 /// A message from a client.
-#[derive(Debug, PartialEq, Eq, Drop)]
+#[derive(Drop)]
 pub enum Message {
     /// Opens a session of this version, and ends the client's session of a lower incarnation, if it has one.
     /// Said again it is welcomed again.

@@ -1,7 +1,7 @@
 //! What comes of a connection's turn.
 
 /// What came of a connection's turn to be read.
-#[derive(Clone, Copy, Debug, PartialEq, Eq)]
+#[derive(Clone, Copy)]
 pub enum Reading {
     /// Nothing was handed on.
     Nothing,
@@ -16,7 +16,7 @@ pub enum Reading {
 }
 
 /// What came of a connection's turn to be written to.
-#[derive(Clone, Copy, Debug, PartialEq, Eq)]
+#[derive(Clone, Copy)]
 pub enum Writing {
     /// Nothing was written.
     Nothing,
@@ -31,7 +31,7 @@ pub enum Writing {
 }
 
 /// How many connections were given up in a round in which each was read.
-#[derive(Clone, Copy, Debug, PartialEq, Eq)]
+#[derive(Clone, Copy)]
 pub struct ReadFaults {
     /// The sockets of so many failed.
     pub broken: usize,

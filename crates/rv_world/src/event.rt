@@ -6,7 +6,7 @@ use rv_text::{Call, Version, fits_identifier};
 
 /// One event. The packets of each direction are numbered from 0. Each may be delivered never, once or many
 /// times, in any order.
-#[derive(Debug, PartialEq, Eq, Drop)]
+#[derive(Drop)]
 pub enum Event {
     /// A client starts in an incarnation, and asks for a version. Its running process, if it has one, ends.
     Start(u64, u64, Version),

@@ -6,7 +6,7 @@ use rv_text::{Answer, Message, NoMemory};
 use std::alloc::Global;
 
 /// An answer that was sent, and the client to which it goes.
-#[derive(Debug, PartialEq, Eq, Drop)]
+#[derive(Drop)]
 pub struct Packet {
     /// The client of the message that is answered.
     pub client: u64,

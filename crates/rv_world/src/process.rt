@@ -10,7 +10,7 @@ use rv_text::{Answer, Key, Message, NoMemory, Reply};
 use std::alloc::Global;
 
 /// A process that runs, as it is kept between events.
-#[derive(Debug, Drop)]
+#[derive(Drop)]
 pub(crate) enum Running {
     New(New),
     Idle(Idle),

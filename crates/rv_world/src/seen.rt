@@ -3,7 +3,7 @@ use rv_text::{Key, NoMemory, Refusal};
 use thiserror::Error;
 
 /// The visible result of an event.
-#[derive(Clone, Copy, Debug, PartialEq, Eq)]
+#[derive(Clone, Copy)]
 pub enum Seen {
     /// A client sent a message: the packet of this number.
     Sent(usize),
