@@ -12,7 +12,7 @@ use rv_audit::Rule;
 use rv_machine::Machine;
 
 /// What became of an entry that was written before.
-#[derive(Clone, Copy, Debug, PartialEq, Eq)]
+#[derive(Clone, Copy)]
 pub enum Followed {
     /// It follows, and the machine holds the state after it.
     Done,
