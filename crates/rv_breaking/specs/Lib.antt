@@ -1,6 +1,6 @@
 -- What a reader must agree with: all that the public contracts cite.
 pub mod Breaking
--- What the tables are to the entries that were passed, which a reader of an audit needs not know.
+-- What the tables are to the entries that were passed, which a reader of an audit need not know.
 pub mod Passed
 pub mod Marks
 pub mod Lines
