@@ -6,7 +6,7 @@ use Rattle.std.specs.List.{All, AllZip}
 use Rattle.std.proofs.lemmas.List.{take_all}
 use Rattle.std.proofs.lemmas.List.Elements.{All-cons, All-nil}
 use Rattle.rv_account.specs.Account.{Account}
-use Rattle.rv_audit.specs.declared.rule.Rule.{Rule}
+use Rattle.rv_breaking.specs.declared.rule.Rule.{Rule}
 use Rattle.rv_findings.specs.Statuses.{status_by}
 use Rattle.rv_findings.specs.declared.findings.Finding.TheVariants.{Kept}
 use Rattle.rv_findings.specs.declared.verdict.AccountVerdict.{AccountVerdict}

@@ -2,7 +2,7 @@
 use Rattle.std.specs.Prelude.{ℕ, List, Option, Some}
 use Rattle.std.specs.List.{All, AllZip}
 use Rattle.rv_account.specs.Account.{Account}
-use Rattle.rv_audit.specs.declared.rule.Rule.{Rule}
+use Rattle.rv_breaking.specs.declared.rule.Rule.{Rule}
 use Rattle.rv_findings.specs.Findings.{IsFinding}
 use Rattle.rv_findings.specs.declared.findings.Finding.TheVariants.{Kept}
 use Rattle.rv_findings.specs.declared.findings.Told.{Told}

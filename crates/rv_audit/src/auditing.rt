@@ -1,45 +1,14 @@
 //! The audit of an account: whether it is legal, or its first fault.
-ghost use Rattle.std.specs.Prelude.{◌≡◌, ◌↔◌, IfNone, IfOk, IfSome};
+ghost use Rattle.std.specs.Prelude.{◌≡◌, ◌↔◌, IfOk};
 ghost use Rattle.rv_rules.specs.Legal.{Legal};
-ghost use Rattle.rv_audit.specs.Breaking.{IsToldOf};
-ghost use Rattle.rv_audit.specs.Passed.{BreaksFirst, BreaksNone};
-ghost use Rattle.rv_audit.specs.Passed.{IsFront, passed_account};
-ghost use Rattle.rv_audit.specs.declared.rule.Audit.TheVariants as tells;
+ghost use Rattle.rv_audit.specs.Faults.{IsToldOf};
+ghost use Rattle.rv_audit.specs.declared.outcome.Audit.TheVariants as tells;
 
-use crate::front::Front;
-use crate::rule::{Audit, Rule};
-use crate::rules::breaks;
-use rv_account::{Account, Entry};
+use crate::outcome::Audit;
+use rv_account::Account;
+use rv_breaking::{Front, first_broken};
 use rv_text::NoMemory;
 use std::alloc::Global;
-
-// The first rule that the entry breaks, in the order of the rules.
-fn first_broken(front: &Front<'_>, entry: &Entry) -> Option<Rule>
-    requires { IsFront front.now }
-    ensures some { IfSome result (BreaksFirst (passed_account front.now) entry.now) }
-    ensures none { IfNone result (BreaksNone (passed_account front.now) entry.now) }
-{
-    let rules = [
-        Rule::M1,
-        Rule::M2,
-        Rule::M3,
-        Rule::N1,
-        Rule::N2,
-        Rule::N3,
-        Rule::P1,
-        Rule::P2,
-        Rule::P3,
-        Rule::P4,
-        Rule::S1,
-        Rule::S2,
-    ];
-    for rule in &rules {
-        if breaks(front, *rule, entry) {
-            return Some(*rule);
-        }
-    }
-    None
-}
 
 /// Audits any account. It tells that the account is legal, or else the first place at which a rule is broken,
 /// and the first rule that is broken there, in the order of the rules. Fails only if memory was refused. The

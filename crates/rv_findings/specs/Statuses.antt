@@ -1,6 +1,6 @@
 -- The status by which `rv verify` ends.
 use Rattle.std.specs.Prelude.{true, false, Bool, ℕ, None, Option, Some}
-use Rattle.rv_audit.specs.declared.rule.Rule.{Rule}
+use Rattle.rv_breaking.specs.declared.rule.Rule.{Rule}
 use Rattle.rv_findings.specs.declared.verdict.AccountVerdict.{AccountVerdict}
 use Rattle.rv_findings.specs.declared.verdict.AccountVerdict.TheVariants.{BadLine, BeyondLimits, Fault}
 use Rattle.rv_findings.specs.declared.verdict.AccountVerdict.TheVariants.{Legal as LegalSoFar, NotOpen}

@@ -3,7 +3,7 @@ ghost use Rattle.std.specs.Prelude.{◌≡◌};
 ghost use Rattle.rv_findings.specs.Statuses.{closed_status, legal_status, status_by, torn_or};
 
 use crate::verdict::{AccountFinding, AccountVerdict};
-use rv_audit::Rule;
+use rv_breaking::Rule;
 
 // The status of an account in which a rule is broken, or that has a bad line.
 const BROKEN: u8 = 1;

@@ -1,6 +1,6 @@
 //! What is found of an account.
 use rv_account::{Entry, Place};
-use rv_audit::Rule;
+use rv_breaking::Rule;
 
 /// The verdict on the lines of an account.
 #[derive(Drop)]

@@ -15,9 +15,9 @@ use Rattle.std.proofs.Common.{is_some}
 use Rattle.std.proofs.lemmas.Bool.{false≢true}
 use Rattle.rv_state.specs.Kept.{HelloRises, NumberInTurn}
 use Rattle.rv_audit.specs.Breaking.{ArrivesAs, IsPaired, IsSwapped}
-use Rattle.rv_audit.specs.declared.rule.Rule.{Rule}
-use Rattle.rv_audit.specs.declared.rule.Rule.TheVariants.{M1, M2, M3, N1, N3, P1, P2, P3, P4, S1, S2}
-use Rattle.rv_audit.proofs.RulesSuffice.{paired_or_swapped, swapped_opposite}
+use Rattle.rv_breaking.specs.declared.rule.Rule.{Rule}
+use Rattle.rv_breaking.specs.declared.rule.Rule.TheVariants.{M1, M2, M3, N1, N3, P1, P2, P3, P4, S1, S2}
+use Rattle.rv_breaking.proofs.RulesSuffice.{paired_or_swapped, swapped_opposite}
 use Rattle.rv_resume.specs.Resuming.{CanResume}
 use Rattle.rv_resume.proofs.Alone.{in_line}
 use Rattle.rv_rules.proofs.Naming.{first_among}

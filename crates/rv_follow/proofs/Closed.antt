@@ -5,7 +5,7 @@ use Rattle.std.proofs.lemmas.Option.{none-some, same_Some}
 use Rattle.rv_account.specs.declared.entry.Entry.{Entry}
 use Rattle.rv_account.specs.Account.{Among}
 use Rattle.rv_audit.specs.Breaking.{rank_of}
-use Rattle.rv_audit.specs.declared.rule.Rule.TheVariants.{P2}
+use Rattle.rv_breaking.specs.declared.rule.Rule.TheVariants.{P2}
 use Rattle.rv_rules.proofs.Naming.{among_or_not}
 use Rattle.rv_state.specs.State.{State, place_list}
 use Rattle.rv_follow.specs.Ruling.{KeepsUpTo, NamesClosed}

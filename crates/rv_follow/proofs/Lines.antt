@@ -14,7 +14,7 @@ use Rattle.rv_account.specs.Account.{Among, call_in}
 use Rattle.rv_account.specs.Calls.{may_name, opposite}
 use Rattle.rv_account.specs.Limits.{FitsAct}
 use Rattle.rv_audit.specs.Breaking.{ArrivesAs, IsSwapped}
-use Rattle.rv_audit.proofs.RulesSuffice.{one_partner}
+use Rattle.rv_breaking.proofs.RulesSuffice.{one_partner}
 use Rattle.rv_resume.specs.Resuming.{CanResume}
 use Rattle.rv_rules.proofs.Places.{within}
 use Rattle.rv_state.specs.Kept.{IsOpposite, NamesAll, NamesOldest, NamesOpposites, NamesWell}

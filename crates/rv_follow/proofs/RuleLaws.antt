@@ -19,13 +19,14 @@ use Rattle.rv_state.specs.State.{place_list}
 use Rattle.rv_state.proofs.Agreed.{agreed}
 use Rattle.rv_state.proofs.FollowsBoth.{account_to_state, state_to_account}
 use Rattle.rv_state.proofs.RulesKept.{rules_agree}
-use Rattle.rv_audit.specs.Breaking.{BreaksBehind, FirstFault, IsToldOf, rank_of}
-use Rattle.rv_audit.specs.declared.rule.Audit.{Audit}
-use Rattle.rv_audit.specs.declared.rule.Audit.TheVariants as tells
-use Rattle.rv_audit.specs.declared.rule.Rule.{Rule}
-use Rattle.rv_audit.specs.declared.rule.Rule.TheVariants.{M1, M2, M3, N1, N2, N3, P1, P2, P3, P4, S1, S2}
+use Rattle.rv_audit.specs.Breaking.{BreaksBehind, rank_of}
+use Rattle.rv_audit.specs.Faults.{FirstFault, IsToldOf}
+use Rattle.rv_audit.specs.declared.outcome.Audit.{Audit}
+use Rattle.rv_audit.specs.declared.outcome.Audit.TheVariants as tells
+use Rattle.rv_breaking.specs.declared.rule.Rule.{Rule}
+use Rattle.rv_breaking.specs.declared.rule.Rule.TheVariants.{M1, M2, M3, N1, N2, N3, P1, P2, P3, P4, S1, S2}
 use Rattle.rv_audit.proofs.ByRules.{one_rank}
-use Rattle.rv_audit.proofs.RulesKept.{breaks_nothing}
+use Rattle.rv_breaking.proofs.RulesKept.{breaks_nothing}
 use Rattle.rv_follow.specs.Laws.{ClosedBreaks, FollowsLegally, RulesBreak, ToldOnNamed}
 use Rattle.rv_follow.specs.Ruling.{IsFirstBroken, IsOnNamed, KeepsUpTo, KeepsRule, NamesClosed}
 use Rattle.rv_follow.proofs.Rules.{breaks_not, keeps_below, opposites_open}

@@ -19,14 +19,14 @@ use Rattle.rv_state.proofs.Filtered.{filter_get, map_get}
 use Rattle.rv_state.proofs.PlacesLeft.{among_place}
 use Rattle.rv_audit.specs.Breaking.{ArrivesAs, BreaksBehind, IsPaired, IsSwapped, MeetsWrongly, MissesPartner}
 use Rattle.rv_audit.specs.Breaking.{rank_of}
-use Rattle.rv_audit.specs.declared.rule.Rule.{Rule}
-use Rattle.rv_audit.specs.declared.rule.Rule.TheVariants.{M1, M2, M3, N1, N2, N3, P1, P2, P3, P4, S1, S2}
-use Rattle.rv_audit.proofs.RulesKept.{counts_in_turn, falls_not_back, is_of_session, meets_rightly}
-use Rattle.rv_audit.proofs.RulesKept.{meets_somebody, names_rightly, paired_meets, passes_no_limit}
-use Rattle.rv_audit.proofs.RulesKept.{passes_nobody_over, starts_newer, swapped_meets, ticks_for_something}
-use Rattle.rv_audit.proofs.RulesSuffice.{cancels_in_turn, counts_up, keeps_limits, keeps_time}
-use Rattle.rv_audit.proofs.RulesSuffice.{names_free_partners, of_session, pairs_oldest, pairs_opposites}
-use Rattle.rv_audit.proofs.RulesSuffice.{pairs_where_possible, raises_incarnation}
+use Rattle.rv_breaking.specs.declared.rule.Rule.{Rule}
+use Rattle.rv_breaking.specs.declared.rule.Rule.TheVariants.{M1, M2, M3, N1, N2, N3, P1, P2, P3, P4, S1, S2}
+use Rattle.rv_breaking.proofs.RulesKept.{counts_in_turn, falls_not_back, is_of_session, meets_rightly}
+use Rattle.rv_breaking.proofs.RulesKept.{meets_somebody, names_rightly, paired_meets, passes_no_limit}
+use Rattle.rv_breaking.proofs.RulesKept.{passes_nobody_over, starts_newer, swapped_meets, ticks_for_something}
+use Rattle.rv_breaking.proofs.RulesSuffice.{cancels_in_turn, counts_up, keeps_limits, keeps_time}
+use Rattle.rv_breaking.proofs.RulesSuffice.{names_free_partners, of_session, pairs_oldest, pairs_opposites}
+use Rattle.rv_breaking.proofs.RulesSuffice.{pairs_where_possible, raises_incarnation}
 use Rattle.rv_follow.specs.Ruling.{KeepsUpTo, KeepsRule}
 
 -- ---- whom it might meet

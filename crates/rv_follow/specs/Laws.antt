@@ -6,10 +6,10 @@ use Rattle.rv_account.specs.Account.{Account, with_entry}
 use Rattle.rv_rules.specs.Legal.{Legal}
 use Rattle.rv_state.specs.After.{state_of}
 use Rattle.rv_state.specs.Follows.{FollowsState}
-use Rattle.rv_audit.specs.Breaking.{FirstFault, IsToldOf}
-use Rattle.rv_audit.specs.declared.rule.Audit.{Audit}
-use Rattle.rv_audit.specs.declared.rule.Audit.TheVariants.{Fault}
-use Rattle.rv_audit.specs.declared.rule.Rule.{Rule}
+use Rattle.rv_audit.specs.Faults.{FirstFault, IsToldOf}
+use Rattle.rv_audit.specs.declared.outcome.Audit.{Audit}
+use Rattle.rv_audit.specs.declared.outcome.Audit.TheVariants.{Fault}
+use Rattle.rv_breaking.specs.declared.rule.Rule.{Rule}
 use Rattle.rv_follow.specs.Ruling.{IsFirstBroken, IsOnNamed, NamesClosed}
 
 -- an entry follows the state of a legal account exactly where the account with it is legal

@@ -14,8 +14,8 @@ use Rattle.rv_state.specs.Kept.{HelloRises, KeyInSession, NamesAll, NamesOldest,
 use Rattle.rv_state.specs.Kept.{NamesWell, NumberInTurn}
 use Rattle.rv_state.specs.State.{State, place_list}
 use Rattle.rv_audit.specs.Breaking.{ArrivesAs, IsPaired, IsSwapped, rank_of}
-use Rattle.rv_audit.specs.declared.rule.Rule.{Rule}
-use Rattle.rv_audit.specs.declared.rule.Rule.TheVariants.{M1, M2, M3, N1, N2, N3, P1, P2, P3, P4, S1, S2}
+use Rattle.rv_breaking.specs.declared.rule.Rule.{Rule}
+use Rattle.rv_breaking.specs.declared.rule.Rule.TheVariants.{M1, M2, M3, N1, N2, N3, P1, P2, P3, P4, S1, S2}
 
 -- this holds of an entry that arrives as such a side
 abbrev pub IfArrives : (Side → Type 0) → Entry → Type 0 → Type 0

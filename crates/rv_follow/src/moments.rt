@@ -3,7 +3,7 @@ ghost use Rattle.std.specs.Prelude.{◌≡◌, ◌≢◌, ◌↔◌, [], IsTrue}
 ghost use Rattle.rv_state.specs.After.{due_at};
 ghost use Rattle.rv_machine.specs.Machines.{state_in};
 ghost use Rattle.rv_follow.specs.Ruling.{KeepsRule};
-ghost use Rattle.rv_audit.specs.declared.rule.Rule.TheVariants.{M1, M2, M3};
+ghost use Rattle.rv_breaking.specs.declared.rule.Rule.TheVariants.{M1, M2, M3};
 
 use rv_account::{Act, Entry};
 use rv_machine::Machine;

@@ -9,7 +9,7 @@ ghost use Rattle.rv_account.specs.Account.{Among, Names, call_in};
 ghost use Rattle.rv_account.specs.Calls.{may_name, opposite};
 ghost use Rattle.rv_account.specs.Limits.{FitsEntry};
 ghost use Rattle.rv_audit.specs.Breaking.{ArrivesAs, ArrivesToMeet, IsPaired, IsSwapped, NamesTooMany};
-ghost use Rattle.rv_audit.specs.declared.rule.Rule.TheVariants.{P1, P2, P3, P4, S1, S2};
+ghost use Rattle.rv_breaking.specs.declared.rule.Rule.TheVariants.{P1, P2, P3, P4, S1, S2};
 ghost use Rattle.rv_machine.specs.Machines.{state_in};
 ghost use Rattle.rv_resume.specs.Resuming.{CanResume};
 ghost use Rattle.rv_state.specs.Kept.{IsOpposite, NamesOpen, NamesWell};

@@ -4,7 +4,7 @@ use Rattle.std.proofs.Common.{refl}
 use Rattle.std.proofs.Common.{slice_get, subst, sym, true, Bool, ◌+◌, ◌/◌}
 use Rattle.std.specs.Fmt.{decimal}
 use Rattle.rv_account.specs.Account.{Account}
-use Rattle.rv_audit.specs.declared.rule.Rule.{Rule}
+use Rattle.rv_breaking.specs.declared.rule.Rule.{Rule}
 use Rattle.rv_findings.specs.Tallies.{words_of}
 use Rattle.rv_findings.specs.declared.findings.Finding.{Finding}
 use Rattle.rv_findings.specs.declared.findings.Finding.TheVariants.{Impossible, Kept, NoRecord}

@@ -3,8 +3,8 @@ use Rattle.std.specs.Prelude.{◌≡◌, ◌∷◌, ◌++◌, ◌+◌, [], true,
 use Rattle.std.specs.Prelude.{filter, length}
 use Rattle.std.specs.Fmt.{decimal}
 use Rattle.rv_account.specs.Account.{Account}
-use Rattle.rv_audit.specs.Breaking.{name_of}
-use Rattle.rv_audit.specs.declared.rule.Rule.{Rule}
+use Rattle.rv_breaking.specs.Breaking.{name_of}
+use Rattle.rv_breaking.specs.declared.rule.Rule.{Rule}
 use Rattle.rv_findings.specs.Fates.{IsFateOf}
 use Rattle.rv_findings.specs.Tallies.{is_finding, words_of}
 use Rattle.rv_findings.specs.declared.fate.Fate.{Fate}

@@ -3,7 +3,7 @@ use Rattle.std.specs.Prelude.{◌≡◌, ◌<◌, ◌≤◌, ◌+◌, ◌⊎◌,
 use Rattle.std.specs.Prelude.{length, slice_get, take}
 use Rattle.std.specs.List.{flat_map}
 use Rattle.rv_account.specs.Account.{Account}
-use Rattle.rv_audit.specs.declared.rule.Rule.{Rule}
+use Rattle.rv_breaking.specs.declared.rule.Rule.{Rule}
 use Rattle.rv_findings.specs.declared.findings.Finding.{Finding}
 use Rattle.rv_findings.specs.declared.findings.Told.{Told}
 use Rattle.rv_findings.specs.declared.verdict.AccountFinding.{AccountFinding}

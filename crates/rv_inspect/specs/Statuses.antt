@@ -1,7 +1,7 @@
 -- Which status tells what was found.
 use Rattle.std.specs.Prelude.{◌≡◌, ◌↔◌, IsTrue, true, Bool, ℕ, None, Option, Some, slice_get}
 use Rattle.rv_account.specs.Account.{Account}
-use Rattle.rv_audit.specs.declared.rule.Rule.{Rule}
+use Rattle.rv_breaking.specs.declared.rule.Rule.{Rule}
 use Rattle.rv_findings.specs.Statuses.{status_by}
 use Rattle.rv_findings.specs.declared.findings.Finding.TheVariants.{Kept}
 use Rattle.rv_findings.specs.declared.verdict.AccountFinding.{AccountFinding}

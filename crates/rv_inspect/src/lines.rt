@@ -9,7 +9,7 @@ ghost use Rattle.rv_inspect.specs.Lines.{SaysFate, call_said, count_lines, diffe
 ghost use Rattle.rv_inspect.specs.Lines.{finding_text, instead_said, reply_said, verdict_lines, verdict_text};
 ghost use Rattle.rv_inspect.specs.Texts.{IsLineText, IsOneText, first_counts, last_counts, next_counts};
 
-use rv_audit::Rule;
+use rv_breaking::Rule;
 use rv_findings::{AccountFinding, AccountVerdict, Fate, Finding, count_of};
 use rv_replies::{Flaw, Line, Records};
 use rv_text::{Answer, Key, Message, NoMemory, Reply, encode_answer, encode_message};

@@ -8,7 +8,7 @@ ghost use Rattle.rv_inspect.specs.Statuses.{IsKeptBeside, TellsFound, TellsKept}
 ghost use Rattle.rv_inspect.specs.Texts.{IsOneText};
 
 use crate::lines::{count_lines, record_lines, verdict_lines};
-use rv_audit::Rule;
+use rv_breaking::Rule;
 use rv_findings::{AccountFinding, Finding, are_kept, status_of};
 use rv_frame::Sink;
 use rv_replies::Records;

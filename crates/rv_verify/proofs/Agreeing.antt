@@ -2,10 +2,10 @@
 use Rattle.std.proofs.Common.{◌≡◌, ◌≤◌, ◌+◌, ◌∙◌, ℕ, List, length, refl, sym, ap, subst, arith}
 use Rattle.rv_account.specs.Account.{Account}
 use Rattle.rv_account.specs.declared.entry.Entry.{Entry}
-use Rattle.rv_audit.specs.Breaking.{IsToldOf}
-use Rattle.rv_audit.specs.declared.rule.Audit.{Audit}
-use Rattle.rv_audit.specs.declared.rule.Audit.TheVariants as tells
-use Rattle.rv_audit.specs.declared.rule.Rule.{Rule}
+use Rattle.rv_audit.specs.Faults.{IsToldOf}
+use Rattle.rv_audit.specs.declared.outcome.Audit.{Audit}
+use Rattle.rv_audit.specs.declared.outcome.Audit.TheVariants as tells
+use Rattle.rv_breaking.specs.declared.rule.Rule.{Rule}
 use Rattle.rv_audit.proofs.ByRules.{one_audit}
 use Rattle.rv_follow.specs.Ruling.{IsOnNamed}
 use Rattle.rv_lines.specs.Reading.{ReadsAccount}

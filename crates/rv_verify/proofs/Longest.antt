@@ -6,7 +6,7 @@ use Rattle.std.proofs.lemmas.Bool.{cases_lt}
 use Rattle.std.proofs.lemmas.List.{take_all, take-take}
 use Rattle.rv_account.specs.declared.entry.Entry.{Entry}
 use Rattle.rv_account.specs.Account.{Account, with_entry}
-use Rattle.rv_audit.specs.declared.rule.Audit.TheVariants as tells
+use Rattle.rv_audit.specs.declared.outcome.Audit.TheVariants as tells
 use Rattle.rv_lines.proofs.OneReading.{account_one, front_of_front, front_read, front_read_as}
 use Rattle.rv_lines.proofs.Turns.{so_many_lines}
 use Rattle.rv_resume.specs.Laws.{HadRoom}

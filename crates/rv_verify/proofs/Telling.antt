@@ -10,7 +10,7 @@ use Rattle.rv_state.proofs.Agreed.{agreed, state_pushed}
 use Rattle.rv_resume.specs.Laws.{HadRoom}
 use Rattle.rv_resume.specs.Resuming.{StaysInRoom}
 use Rattle.rv_machine.specs.Machines.{state_in}
-use Rattle.rv_audit.specs.declared.rule.Rule.{Rule}
+use Rattle.rv_breaking.specs.declared.rule.Rule.{Rule}
 use Rattle.rv_follow.specs.Ruling.{IsFirstBroken, IsOnNamed, NamesClosed}
 use Rattle.rv_follow.proofs.RuleLaws.{closed_breaks, follows_legally, rules_break}
 use Rattle.rv_verify.specs.Standing.{HasRead, StandsAt, StopsBehind}

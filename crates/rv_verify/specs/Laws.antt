@@ -1,9 +1,9 @@
 -- What is told of lines that an audit reads too.
 use Rattle.std.specs.Prelude.{◌≡◌, ℕ, List}
 use Rattle.rv_account.specs.Account.{Account}
-use Rattle.rv_audit.specs.Breaking.{IsToldOf}
-use Rattle.rv_audit.specs.declared.rule.Audit.{Audit}
-use Rattle.rv_audit.specs.declared.rule.Audit.TheVariants as tells
+use Rattle.rv_audit.specs.Faults.{IsToldOf}
+use Rattle.rv_audit.specs.declared.outcome.Audit.{Audit}
+use Rattle.rv_audit.specs.declared.outcome.Audit.TheVariants as tells
 use Rattle.rv_follow.specs.Ruling.{IsOnNamed}
 use Rattle.rv_lines.specs.Reading.{ReadsAccount}
 use Rattle.rv_resume.specs.Laws.{HadRoom}

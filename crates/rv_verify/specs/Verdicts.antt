@@ -11,10 +11,10 @@ use Rattle.rv_rules.specs.Legal.{Legal, before}
 use Rattle.rv_state.specs.After.{state_of}
 use Rattle.rv_resume.specs.Laws.{HadRoom}
 use Rattle.rv_resume.specs.Resuming.{StaysInRoom}
-use Rattle.rv_audit.specs.Breaking.{IsToldOf}
-use Rattle.rv_audit.specs.declared.rule.Audit.{Audit}
-use Rattle.rv_audit.specs.declared.rule.Audit.TheVariants as tells
-use Rattle.rv_audit.specs.declared.rule.Rule.{Rule}
+use Rattle.rv_audit.specs.Faults.{IsToldOf}
+use Rattle.rv_audit.specs.declared.outcome.Audit.{Audit}
+use Rattle.rv_audit.specs.declared.outcome.Audit.TheVariants as tells
+use Rattle.rv_breaking.specs.declared.rule.Rule.{Rule}
 use Rattle.rv_follow.specs.Ruling.{IsOnNamed, NamesClosed}
 use Rattle.rv_lines.specs.Reading.{FirstBadLineUnder, LineLimits, ReadsAccountUnder, ReadsEntryUpTo}
 use Rattle.rv_findings.specs.declared.verdict.AccountVerdict.{AccountVerdict}

@@ -1,6 +1,6 @@
 -- The line of a fault.
 use Rattle.std.proofs.Common.{string_bytes, subst}
-use Rattle.rv_audit.specs.Breaking.{IsToldOf}
+use Rattle.rv_audit.specs.Faults.{IsToldOf}
 use Rattle.rv_app.proofs.Telling.{fault_line}
 use Rattle.rv_app.proofs.audit.tell_account.Goals as goal
 

@@ -1,7 +1,7 @@
 use Rattle.std.proofs.Common.{arith, ap, sym, subst, IsTrue}
 use Rattle.rv_audit.specs.Breaking.{rank_of}
-use Rattle.rv_audit.specs.declared.rule.Rule.{Rule}
-use Rattle.rv_audit.specs.declared.rule.Rule.TheVariants.{P1, P2, P3}
+use Rattle.rv_breaking.specs.declared.rule.Rule.{Rule}
+use Rattle.rv_breaking.specs.declared.rule.Rule.TheVariants.{P1, P2, P3}
 use Rattle.rv_machine.specs.Machines.{state_in}
 use Rattle.rv_follow.specs.Ruling.{KeepsRule}
 use Rattle.rv_follow.proofs.DueNow.{Iff}

@@ -1,0 +1,11 @@
+pub mod Words
+pub mod Pairs
+pub mod Beside
+pub mod Closing
+pub mod Saying
+pub mod Audited
+pub mod Passing
+pub mod Named
+pub mod RulesKept
+pub mod RulesSuffice
+pub mod Telling
