@@ -15,7 +15,7 @@ use std::alloc::{AllocError, Global};
 use std::fmt;
 
 /// What a call for help is answered with: its `Display` is the text.
-#[derive(Debug, Drop)]
+#[derive(Drop)]
 pub struct HelpAnswer {
     pub(crate) error: clap::Error,
 }

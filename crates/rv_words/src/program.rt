@@ -1,7 +1,7 @@
 //! The program's commands and their options, as `clap` reads them.
 ghost use Rattle.std.specs.Prelude.{◌≡◌, [], codes, false, IfOk, IsErrOf};
-ghost use Rattle.clap.specs.Words.{app_of, fault_of, new_app, rule_of, shape_of, subcommand_of};
-ghost use Rattle.clap.specs.Words.{subcommand_rows_of};
+ghost use Rattle.clap.specs.Words.{Shape, app_of, fault_of, new_app, rule_of, shape_of, subcommand_of};
+ghost use Rattle.clap.specs.Words.{subcommand_rows_of, with_subcommand};
 ghost use Rattle.clap.specs.Walk.{texts};
 ghost use Rattle.clap.specs.declared.Command.TheViews.{out-Command};
 ghost use Rattle.rv_words.specs.Program.{command_app, listed, required_option, rv_app, with_commands};
@@ -62,8 +62,8 @@ pub(crate) fn with_command<'a>(
     command: Result<Command<'a>, AllocError>,
 ) -> Result<Command<'a>, AllocError>
     requires { IfOk command (λ c. (out-Command c).has_globals ≡ false) }
-    ensures { IfOk command.entry (λ c. IfOk result (λ p.
-        app_of p ≡ with_subcommand (app_of program.entry) (shape_of c))) }
+    ensures { (s : Shape) → IfOk command.entry (λ c. shape_of c ≡ s)
+        → IfOk result (λ p. app_of p ≡ with_subcommand (app_of program.entry) s) }
 {
     program.subcommand(command?)
 }
