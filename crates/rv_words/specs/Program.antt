@@ -43,5 +43,5 @@ abbrev pub rv_app : App
 rv_app = with_commands (new_app (codes "rv")) rv_commands
 
 -- commands as the code lists them
-abbrev pub listed : List (Bor Text × Bor (List (Bor Text))) → List (Text × List Text)
-listed = map (λ command. (command.0.now, texts command.1.now))
+abbrev pub listed_commands : List (Bor Text × Bor (List (Bor Text))) → List (Text × List Text)
+listed_commands = map (λ command. (command.0.now, texts command.1.now))

@@ -4,8 +4,8 @@ ghost use Rattle.clap.specs.Words.{Shape, app_of, fault_of, new_app, rule_of, sh
 ghost use Rattle.clap.specs.Words.{subcommand_rows_of, with_subcommand};
 ghost use Rattle.clap.specs.Walk.{texts};
 ghost use Rattle.clap.specs.declared.Command.TheViews.{out-Command};
-ghost use Rattle.rv_words.specs.Program.{command_app, listed, required_option, rv_app, with_commands};
-ghost use Rattle.rv_words.specs.Program.{with_options};
+ghost use Rattle.rv_words.specs.Program.{command_app, listed_commands, required_option, rv_app};
+ghost use Rattle.rv_words.specs.Program.{with_commands, with_options};
 
 use crate::fault::CommandFault;
 use crate::reading::taken;
@@ -37,7 +37,10 @@ const COMMANDS: &[(&str, &[&str])] = &[
     ("play", &[]),
     ("audit", &[]),
     ("serve", &["listen", "epoch", "workers", "connections"]),
-    ("call", &["connect", "client", "incarnation", "tries", "speak"]),
+    (
+        "call",
+        &["connect", "client", "incarnation", "tries", "speak"],
+    ),
 ];
 
 /// The program with these commands too.
@@ -47,7 +50,7 @@ pub(crate) fn with_commands<'a>(
     commands: &'a [(&'a str, &'a [&'a str])],
 ) -> Result<Command<'a>, AllocError>
     ensures { IfOk result (λ c.
-        app_of c ≡ with_commands (app_of program.entry) (listed commands.entry.now)) }
+        app_of c ≡ with_commands (app_of program.entry) (listed_commands commands.entry.now)) }
 {
     let mut program = program;
     for (name, options) in commands {
