@@ -21,7 +21,7 @@ const MAX_WORKERS: u64 = 64;
 const MAX_COUNT: u64 = 4_294_967_295;
 
 /// A command of the program.
-#[derive(Clone, Copy, Debug, PartialEq, Eq)]
+#[derive(Clone, Copy)]
 pub enum Command<'a> {
     /// `rv book --epoch E`: run the book of this epoch, 1 to 9,007,199,254,740,991, over the lines
     /// of standard input.

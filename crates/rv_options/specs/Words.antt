@@ -19,34 +19,24 @@ number_rule number usual = record (text_rule (option_word number) false) { defau
 abbrev pub flag_rule : Rule
 flag_rule = record (new_rule (codes "quiet")) { long = Some (codes "quiet"); action = Some SetTrue }
 
--- `host --listen ADDR --account FILE --status ADDR`
-abbrev pub place_app : App
-place_app =
-    let listens = with_rule (new_app (codes "host")) (text_rule (codes "listen") true) in
-    let keeps = with_rule listens (text_rule (codes "account") false) in
-    with_rule keeps (text_rule (codes "status") false)
+-- the app with these rules too, one after another
+abbrev pub with_rules : App → List Rule → App
+with_rules app [] = app
+with_rules app (rule ∷ rules) = with_rules (with_rule app rule) rules
 
--- and `--epoch N --epoch-above N`
-abbrev pub epoch_app : App
-epoch_app =
-    let opened = with_rule place_app (number_rule number.Epoch []) in
-    with_rule opened (number_rule number.EpochAbove [])
-
--- and `--clients N --open N`
-abbrev pub bounded_app : App
-bounded_app =
-    let clients = with_rule epoch_app (number_rule number.Clients (codes "65536" ∷ [])) in
-    with_rule clients (number_rule number.Open (codes "100000" ∷ []))
-
--- and `--connections N --memory N`
-abbrev pub link_app : App
-link_app =
-    let connected = with_rule bounded_app (number_rule number.Connections (codes "10000" ∷ [])) in
-    with_rule connected (number_rule number.Memory (codes "256" ∷ []))
-
--- and `--idle N --stall N --quiet`
+-- `host` with its options
 abbrev pub host_app : App
-host_app =
-    let idle = with_rule link_app (number_rule number.Idle (codes "3600" ∷ [])) in
-    let stalled = with_rule idle (number_rule number.Stall (codes "30" ∷ [])) in
-    with_rule stalled flag_rule
+host_app = with_rules (new_app (codes "host"))
+    (text_rule (codes "listen") true
+    ∷ text_rule (codes "account") false
+    ∷ text_rule (codes "status") false
+    ∷ number_rule number.Epoch []
+    ∷ number_rule number.EpochAbove []
+    ∷ number_rule number.Clients (codes "65536" ∷ [])
+    ∷ number_rule number.Open (codes "100000" ∷ [])
+    ∷ number_rule number.Connections (codes "10000" ∷ [])
+    ∷ number_rule number.Memory (codes "256" ∷ [])
+    ∷ number_rule number.Idle (codes "3600" ∷ [])
+    ∷ number_rule number.Stall (codes "30" ∷ [])
+    ∷ flag_rule
+    ∷ [])

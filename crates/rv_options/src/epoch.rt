@@ -9,7 +9,7 @@ ghost use Rattle.rv_options.specs.declared.epoch.EpochRule.TheVariants.{Above, C
 const MAX_EPOCH: u64 = 9_007_199_254_740_991;
 
 /// How a server chooses the epoch of its book.
-#[derive(Clone, Copy, Debug, PartialEq, Eq)]
+#[derive(Clone, Copy)]
 pub enum EpochRule {
     /// The wall clock's milliseconds at the start.
     Clock,

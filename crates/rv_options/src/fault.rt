@@ -10,7 +10,7 @@ use std::alloc::AllocError;
 use std::fmt;
 
 /// Why words name no options. Its `Display` is the text for whoever wrote them.
-#[derive(Debug, Drop)]
+#[derive(Drop)]
 pub enum HostFault<'a> {
     /// `clap` refuses the words, or they ask for help.
     Refused(clap::Error),

@@ -3,7 +3,7 @@ ghost use Rattle.std.specs.Prelude.{◌≡◌, IfSome, None, ℕ};
 ghost use Rattle.rv_options.specs.Numbers.{WritesWithin, least_of, most_of, option_word};
 
 /// A number that an option says.
-#[derive(Clone, Copy, Debug, PartialEq, Eq)]
+#[derive(Clone, Copy)]
 pub enum HostNumber {
     /// `--epoch`: the epoch, 1 to 9,007,199,254,740,991.
     Epoch,

@@ -16,7 +16,7 @@ use clap::ArgMatches;
 use std::alloc::Global;
 
 /// The options of a server that stays.
-#[derive(Clone, Copy, Debug, PartialEq, Eq)]
+#[derive(Clone, Copy)]
 pub struct HostOptions<'a> {
     /// The address to listen at, as it was written.
     pub listen: &'a str,
@@ -69,7 +69,9 @@ fn options_of<'a>(given: &ArgMatches<'a>) -> Result<HostOptions<'a>, HostFault<'
     ensures fits { IfOk result FitOptions }
     ensures fault { IfErr result (IsFaultOf (rows_of (found_of given.now))) }
 {
-    let listen = text_of(given, "listen").ok_or(HostFault::Missing("listen"))?;
+    let Some(listen) = text_of(given, "listen") else {
+        return Err(HostFault::Missing("listen"));
+    };
     Ok(HostOptions {
         listen,
         epoch: epoch_of(given)?,

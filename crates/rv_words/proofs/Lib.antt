@@ -3,3 +3,4 @@ pub mod Values
 pub mod RecordWords
 pub mod OwnWords
 pub mod Helps
+pub mod Listing

@@ -1,6 +1,8 @@
 -- The program's commands and their options, as `clap` reads them.
-use Rattle.std.specs.Prelude.{codes, Some, true}
+use Rattle.std.specs.Borrow.{Bor}
+use Rattle.std.specs.Prelude.{codes, List, Some, true, map, [], ◌∷◌}
 use Rattle.clap.specs.Words.{App, Rule, Text, new_app, new_rule, with_rule, with_subcommand}
+use Rattle.clap.specs.Walk.{texts}
 use Rattle.clap.specs.declared.builder.ArgAction.TheVariants.{Set}
 
 -- an option `--name VALUE` that has to be given
@@ -8,52 +10,38 @@ abbrev pub required_option : Text → Rule
 required_option name =
     record (new_rule name) { long = Some name; action = Some Set; required = true }
 
--- `rv book --epoch E`
-abbrev pub book_app : App
-book_app = with_rule (new_app (codes "book")) (required_option (codes "epoch"))
+-- the app with such options too, one after another
+abbrev pub with_options : App → List Text → App
+with_options app [] = app
+with_options app (name ∷ names) = with_options (with_rule app (required_option name)) names
 
--- `rv play`
-abbrev pub play_app : App
-play_app = new_app (codes "play")
+-- a command of this name with such options
+abbrev pub command_app : Text → List Text → App
+command_app name options = with_options (new_app name) options
 
--- `rv audit`
-abbrev pub audit_app : App
-audit_app = new_app (codes "audit")
+-- the app with these commands too, each a name and its options
+abbrev pub with_commands : App → List (Text × List Text) → App
+with_commands app [] = app
+with_commands app (command ∷ commands) =
+    with_commands (with_subcommand app (command_app command.0 command.1).top) commands
 
--- what of `rv serve` says where it listens, and in which epoch
-abbrev pub listening_app : App
-listening_app =
-    let listens = with_rule (new_app (codes "serve")) (required_option (codes "listen")) in
-    with_rule listens (required_option (codes "epoch"))
+-- the program's commands
+abbrev pub rv_commands : List (Text × List Text)
+rv_commands =
+    (codes "book", codes "epoch" ∷ [])
+    ∷ (codes "play", [])
+    ∷ (codes "audit", [])
+    ∷ (codes "serve", codes "listen" ∷ codes "epoch" ∷ codes "workers" ∷ codes "connections" ∷ [])
+    ∷ (
+      codes "call",
+      codes "connect" ∷ codes "client" ∷ codes "incarnation" ∷ codes "tries" ∷ codes "speak" ∷ [],
+    )
+    ∷ []
 
--- `rv serve --listen ADDR --epoch E --workers W --connections N`
-abbrev pub serve_app : App
-serve_app =
-    let staffed = with_rule listening_app (required_option (codes "workers")) in
-    with_rule staffed (required_option (codes "connections"))
-
--- what of `rv call` says which client calls, and where
-abbrev pub connecting_app : App
-connecting_app =
-    let connects = with_rule (new_app (codes "call")) (required_option (codes "connect")) in
-    with_rule connects (required_option (codes "client"))
-
--- and in which incarnation
-abbrev pub caller_app : App
-caller_app = with_rule connecting_app (required_option (codes "incarnation"))
-
--- `rv call --connect ADDR --client C --incarnation I --tries T --speak V`
-abbrev pub call_app : App
-call_app =
-    let patient = with_rule caller_app (required_option (codes "tries")) in
-    with_rule patient (required_option (codes "speak"))
-
--- the subcommands that use no socket
-abbrev pub local_app : App
-local_app =
-    let books = with_subcommand (new_app (codes "rv")) book_app.top in
-    with_subcommand (with_subcommand books play_app.top) audit_app.top
-
--- the program as `clap` reads it: its subcommands, with their options
+-- the program as `clap` reads it: its commands, with their options
 abbrev pub rv_app : App
-rv_app = with_subcommand (with_subcommand local_app serve_app.top) call_app.top
+rv_app = with_commands (new_app (codes "rv")) rv_commands
+
+-- commands as the code lists them
+abbrev pub listed_commands : List (Bor Text × Bor (List (Bor Text))) → List (Text × List Text)
+listed_commands = map (λ command. (command.0.now, texts command.1.now))

@@ -9,7 +9,7 @@ use std::alloc::AllocError;
 use thiserror::Error;
 
 /// The reason why the words of a command line give no command.
-#[derive(Clone, Copy, Debug, PartialEq, Eq, Error)]
+#[derive(Clone, Copy, Debug, Error)]
 pub enum CommandFault {
     /// The words name no command, and a call for help is none: `clap` refuses them, or a number is
     /// written otherwise or lies outside its limits.

@@ -1,14 +1,12 @@
 //! Reads the words of `rv help`.
 ghost use Rattle.std.specs.Prelude.{◌≡◌, [], codes, false, IfOk, IfSome, IsErrOf, None, true};
-ghost use Rattle.clap.specs.Words.{HasKind, app_of, fault_of, is_simple_and_free, kind_of, shape_of};
-ghost use Rattle.clap.specs.declared.Command.TheViews.{out-Command};
+ghost use Rattle.clap.specs.Words.{HasKind, app_of, fault_of, is_simple_and_free, kind_of};
 ghost use Rattle.clap.specs.Walk.{texts};
 ghost use Rattle.rv_words.specs.Beginning.{BeginWithout};
-ghost use Rattle.rv_words.specs.Helping.{IsHelpFor, help_app, help_status, record_app, recording_app};
-ghost use Rattle.rv_words.specs.Helping.{verifying_app};
+ghost use Rattle.rv_words.specs.Helping.{IsHelpFor, help_app, help_status};
 
 use crate::fault::CommandFault;
-use crate::program::{named, program, required_option};
+use crate::program::{program, with_command, with_commands};
 use crate::verifying;
 use crate::words::words_of_help;
 use clap::error::ErrorKind;
@@ -17,7 +15,7 @@ use std::alloc::{AllocError, Global};
 use std::fmt;
 
 /// What a call for help is answered with: its `Display` is the text.
-#[derive(Debug, Drop)]
+#[derive(Drop)]
 pub struct HelpAnswer {
     pub(crate) error: clap::Error,
 }
@@ -85,33 +83,12 @@ fn refusal_of<'a>(command: clap::Command<'a>, words: &'a [&'a str]) -> Option<cl
     }
 }
 
-// The program with all its commands.
+// The program with all its commands, as help tells them.
 fn whole_program<'a>(alloc: Global) -> Result<clap::Command<'a>, AllocError>
     ensures { IfOk result (λ c. app_of c ≡ help_app) }
 {
-    verifying_program(alloc)?.subcommand(host_words(alloc)?)
-}
-
-// All but `host`.
-fn verifying_program<'a>(alloc: Global) -> Result<clap::Command<'a>, AllocError>
-    ensures { IfOk result (λ c. app_of c ≡ verifying_app) }
-{
-    recording_program(alloc)?.subcommand(verifying::command(alloc)?)
-}
-
-// All but `host` and `verify`.
-fn recording_program<'a>(alloc: Global) -> Result<clap::Command<'a>, AllocError>
-    ensures { IfOk result (λ c. app_of c ≡ recording_app) }
-{
-    program(alloc)?
-        .bin_name("rv")?
-        .subcommand(record_words(alloc)?)
-}
-
-// `record --to FILE`, as help tells it.
-fn record_words<'a>(alloc: Global) -> Result<clap::Command<'a>, AllocError>
-    ensures shape { IfOk result (λ c. shape_of c ≡ record_app.top) }
-    ensures local { IfOk result (λ c. (out-Command c).has_globals ≡ false) }
-{
-    named(alloc, "record").arg(required_option(alloc, "to"))
+    let program = program(alloc)?.bin_name("rv")?;
+    let recording = with_commands(alloc, program, &[("record", &["to"])])?;
+    let verifying = with_command(recording, verifying::command(alloc))?;
+    with_command(verifying, host_words(alloc))
 }

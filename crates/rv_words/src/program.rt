@@ -1,12 +1,11 @@
 //! The program's commands and their options, as `clap` reads them.
 ghost use Rattle.std.specs.Prelude.{◌≡◌, [], codes, false, IfOk, IsErrOf};
-ghost use Rattle.clap.specs.Words.{app_of, fault_of, new_app, rule_of, shape_of, subcommand_of};
-ghost use Rattle.clap.specs.Words.{subcommand_rows_of};
+ghost use Rattle.clap.specs.Words.{Shape, app_of, fault_of, new_app, rule_of, shape_of, subcommand_of};
+ghost use Rattle.clap.specs.Words.{subcommand_rows_of, with_subcommand};
 ghost use Rattle.clap.specs.Walk.{texts};
 ghost use Rattle.clap.specs.declared.Command.TheViews.{out-Command};
-ghost use Rattle.rv_words.specs.Program.{audit_app, book_app, call_app, caller_app, connecting_app};
-ghost use Rattle.rv_words.specs.Program.{listening_app, local_app, play_app, required_option, rv_app};
-ghost use Rattle.rv_words.specs.Program.{serve_app};
+ghost use Rattle.rv_words.specs.Program.{command_app, listed_commands, required_option, rv_app};
+ghost use Rattle.rv_words.specs.Program.{with_commands, with_options};
 
 use crate::fault::CommandFault;
 use crate::reading::taken;
@@ -29,91 +28,64 @@ pub fn matches_of<'a>(alloc: Global, words: &'a [&'a str]) -> Result<ArgMatches<
 pub(crate) fn program<'a>(alloc: Global) -> Result<Command<'a>, AllocError>
     ensures { IfOk result (λ c. app_of c ≡ rv_app) }
 {
-    local_program(alloc)?
-        .subcommand(serve_words(alloc)?)?
-        .subcommand(call_words(alloc)?)
+    with_commands(alloc, named(alloc, "rv"), COMMANDS)
 }
 
-// Those of its subcommands that use no socket.
-fn local_program<'a>(alloc: Global) -> Result<Command<'a>, AllocError>
-    ensures { IfOk result (λ c. app_of c ≡ local_app) }
+// Its commands, each with the options that have to be given.
+const COMMANDS: &[(&str, &[&str])] = &[
+    ("book", &["epoch"]),
+    ("play", &[]),
+    ("audit", &[]),
+    ("serve", &["listen", "epoch", "workers", "connections"]),
+    (
+        "call",
+        &["connect", "client", "incarnation", "tries", "speak"],
+    ),
+];
+
+/// The program with these commands too.
+pub(crate) fn with_commands<'a>(
+    alloc: Global,
+    program: Command<'a>,
+    commands: &'a [(&'a str, &'a [&'a str])],
+) -> Result<Command<'a>, AllocError>
+    ensures { IfOk result (λ c.
+        app_of c ≡ with_commands (app_of program.entry) (listed_commands commands.entry.now)) }
 {
-    named(alloc, "rv")
-        .subcommand(book_words(alloc)?)?
-        .subcommand(play_words(alloc))?
-        .subcommand(audit_words(alloc))
+    let mut program = program;
+    for (name, options) in commands {
+        program = with_command(program, command(alloc, name, options))?;
+    }
+    Ok(program)
 }
 
-// `book --epoch E`, as clap reads it.
-fn book_words<'a>(alloc: Global) -> Result<Command<'a>, AllocError>
-    ensures shape { IfOk result (λ c. shape_of c ≡ book_app.top) }
+/// The program with a command, if there was memory for it.
+pub(crate) fn with_command<'a>(
+    program: Command<'a>,
+    command: Result<Command<'a>, AllocError>,
+) -> Result<Command<'a>, AllocError>
+    requires { IfOk command (λ c. (out-Command c).has_globals ≡ false) }
+    ensures { (s : Shape) → IfOk command.entry (λ c. shape_of c ≡ s)
+        → IfOk result (λ p. app_of p ≡ with_subcommand (app_of program.entry) s) }
+{
+    program.subcommand(command?)
+}
+
+// A command of this name with these options, which have to be given.
+fn command<'a>(
+    alloc: Global,
+    name: &'a str,
+    options: &'a [&'a str],
+) -> Result<Command<'a>, AllocError>
+    ensures shape { IfOk result (λ c.
+        shape_of c ≡ (command_app name.entry.now (texts options.entry.now)).top) }
     ensures local { IfOk result (λ c. (out-Command c).has_globals ≡ false) }
 {
-    named(alloc, "book").arg(required_option(alloc, "epoch"))
-}
-
-// `play`, as clap reads it.
-fn play_words<'a>(alloc: Global) -> Command<'a>
-    ensures shape { shape_of result ≡ play_app.top }
-    ensures local { (out-Command result).has_globals ≡ false }
-{
-    named(alloc, "play")
-}
-
-// `audit`, as clap reads it.
-fn audit_words<'a>(alloc: Global) -> Command<'a>
-    ensures shape { shape_of result ≡ audit_app.top }
-    ensures local { (out-Command result).has_globals ≡ false }
-{
-    named(alloc, "audit")
-}
-
-// `serve --listen ADDR --epoch E --workers W --connections N`, as clap reads it.
-fn serve_words<'a>(alloc: Global) -> Result<Command<'a>, AllocError>
-    ensures shape { IfOk result (λ c. shape_of c ≡ serve_app.top) }
-    ensures local { IfOk result (λ c. (out-Command c).has_globals ≡ false) }
-{
-    listening_words(alloc)?
-        .arg(required_option(alloc, "workers"))?
-        .arg(required_option(alloc, "connections"))
-}
-
-// Those of its options that say where it listens, and in which epoch.
-fn listening_words<'a>(alloc: Global) -> Result<Command<'a>, AllocError>
-    ensures shape { IfOk result (λ c. shape_of c ≡ listening_app.top) }
-    ensures local { IfOk result (λ c. (out-Command c).has_globals ≡ false) }
-{
-    named(alloc, "serve")
-        .arg(required_option(alloc, "listen"))?
-        .arg(required_option(alloc, "epoch"))
-}
-
-// `call --connect ADDR --client C --incarnation I --tries T --speak V`, as clap reads it.
-fn call_words<'a>(alloc: Global) -> Result<Command<'a>, AllocError>
-    ensures shape { IfOk result (λ c. shape_of c ≡ call_app.top) }
-    ensures local { IfOk result (λ c. (out-Command c).has_globals ≡ false) }
-{
-    caller_words(alloc)?
-        .arg(required_option(alloc, "tries"))?
-        .arg(required_option(alloc, "speak"))
-}
-
-// Those of its options that name the caller and the server.
-fn caller_words<'a>(alloc: Global) -> Result<Command<'a>, AllocError>
-    ensures shape { IfOk result (λ c. shape_of c ≡ caller_app.top) }
-    ensures local { IfOk result (λ c. (out-Command c).has_globals ≡ false) }
-{
-    connecting_words(alloc)?.arg(required_option(alloc, "incarnation"))
-}
-
-// Those that name the client and the server.
-fn connecting_words<'a>(alloc: Global) -> Result<Command<'a>, AllocError>
-    ensures shape { IfOk result (λ c. shape_of c ≡ connecting_app.top) }
-    ensures local { IfOk result (λ c. (out-Command c).has_globals ≡ false) }
-{
-    named(alloc, "call")
-        .arg(required_option(alloc, "connect"))?
-        .arg(required_option(alloc, "client"))
+    let mut command = named(alloc, name);
+    for option in options {
+        command = command.arg(required_option(alloc, option))?;
+    }
+    Ok(command)
 }
 
 /// A command of this name, with no option yet, and what help says of it.
@@ -124,8 +96,8 @@ pub(crate) fn named<'a>(alloc: Global, name: &'a str) -> Command<'a>
     Command::new(alloc, name).about(about(name))
 }
 
-/// An option `--name VALUE` that has to be given.
-pub(crate) fn required_option<'a>(alloc: Global, name: &'a str) -> Arg<'a>
+// An option `--name VALUE` that has to be given.
+fn required_option<'a>(alloc: Global, name: &'a str) -> Arg<'a>
     ensures rule { rule_of result ≡ required_option name.entry.now }
     ensures local { result.global ≡ false }
 {

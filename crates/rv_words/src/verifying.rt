@@ -20,7 +20,7 @@ use std::alloc::{AllocError, Global};
 pub const STANDARD_INPUT: &str = "-";
 
 /// What the words of `rv verify` say.
-#[derive(Clone, Copy, Debug, PartialEq, Eq)]
+#[derive(Clone, Copy)]
 pub struct VerifyWords<'a> {
     /// The account's file, or `-` for standard input.
     pub file: &'a str,
