@@ -132,11 +132,12 @@ module _ {S : Type 0} (journal : Bool) (terms : DeskTerms) where
   reads_run remaining now n old reading.Ended new is =
       hands_run journal terms old.engine now _ is.given new.engine is.hands
   reads_run remaining now n old reading.Broken new is =
-      gone_run journal terms old.engine new.engine now n is.told
-  reads_run remaining now n old reading.NoMemory new (bytes, is) =
-      runs_join journal terms old.engine is.between.engine new.engine
-      (hands_run journal terms old.engine now is.what is.given is.between.engine is.hands)
-      (gone_run journal terms is.between.engine new.engine now n is.gives_up.told)
+      gone_run journal terms old.engine new.engine now n is.gives_up.told
+  reads_run remaining now n old reading.NoMemory new is =
+      runs_join journal terms old.engine is.loses.between.engine new.engine
+      (hands_run journal terms old.engine now is.loses.what is.loses.given is.loses.between.engine
+      is.loses.hands) (gone_run journal terms is.loses.between.engine new.engine now n
+      is.loses.gives_up.told)
 
   writes_run : (contents : S → Option (List ℕ)) (now n : ℕ) (old : TrafficState S) (what : Writing)
       (new : TrafficState S) → WritesOne contents journal terms now n old what new
@@ -149,7 +150,7 @@ module _ {S : Type 0} (journal : Bool) (terms : DeskTerms) where
   writes_run contents now n old writing.Gone new (none, same, given, hands) =
       hands_run journal terms old.engine now _ given new.engine hands
   writes_run contents now n old writing.Broken new is =
-      gone_run journal terms old.engine new.engine now n is.told
+      gone_run journal terms old.engine new.engine now n is.gives_up.told
 
   where_run : {A : Type 0} (does : TrafficState S → A → TrafficState S → Type 0)
       → ((s : TrafficState S) (a : A) (t : TrafficState S) → does s a t

@@ -69,13 +69,14 @@ module _ {S : Type 0} where
     others = is.link.others;
   }
   reads_keep remaining journal terms now n old reading.Broken new is = record {
-    round = gone_keeps journal terms old.engine now n new.engine is.told;
-    others = is.link.others;
+    round = gone_keeps journal terms old.engine now n new.engine is.gives_up.told;
+    others = is.gives_up.link.others;
   }
-  reads_keep remaining journal terms now n old reading.NoMemory new (bytes, is) = record {
-    round = gone_keeps journal terms is.between.engine now n new.engine is.gives_up.told
-        ∙ is.hands.hands.looks.round;
-    others = one_then old.table is.between.table new.table n is.others is.gives_up.link.others;
+  reads_keep remaining journal terms now n old reading.NoMemory new is = record {
+    round = gone_keeps journal terms is.loses.between.engine now n new.engine is.loses.gives_up.told
+        ∙ is.loses.hands.hands.looks.round;
+    others = one_then old.table is.read new.table n is.came.others
+        (one_then is.read is.loses.between.table new.table n is.loses.others is.loses.gives_up.link.others);
   }
 
   -- ---- a write
@@ -85,7 +86,7 @@ module _ {S : Type 0} where
   unsent_keeps contents n old new is =
       elim is.why [
         | inl none ↦ same_one old.table new.table n none.1
-        | inr changes ↦ changes.others
+        | inr changes ↦ changes.1.others
       ]
 
   pub writes_keep : (contents : S → Option (List ℕ)) (journal : Bool) (terms : DeskTerms) (now n : ℕ)
@@ -108,8 +109,8 @@ module _ {S : Type 0} where
     others = same_one old.table new.table n same;
   }
   writes_keep contents journal terms now n old writing.Broken new is = record {
-    round = gone_keeps journal terms old.engine now n new.engine is.told;
-    others = is.link.others;
+    round = gone_keeps journal terms old.engine now n new.engine is.gives_up.told;
+    others = is.gives_up.link.others;
   }
 
   -- ---- a turn

@@ -15,8 +15,8 @@ use Rattle.rv_links.specs.declared.link.Socket.{Socket}
 use Rattle.rv_links.specs.Table.{ChangesOne, PendsSlot, ReadsSlot, link_at, pending_of}
 use Rattle.rv_traffic.specs.declared.outcomes.Reading.{Reading}
 use Rattle.rv_traffic.specs.declared.outcomes.Reading.TheVariants as reading
-use Rattle.rv_traffic.specs.Calls.{ChangesLink, GaveEnd, GivesUp, Hands, KeepsUntaken, LosesRest}
-use Rattle.rv_traffic.specs.Calls.{NoneCame, Offers, OffersPiece, ReadsOne}
+use Rattle.rv_traffic.specs.Calls.{ChangesLink, GaveEnd, GivesUp, Hands, IsReadable, KeepsUntaken, LosesRest}
+use Rattle.rv_traffic.specs.Calls.{MayBeOffered, NoneCame, Offers, OffersPiece, ReadsOne}
 use Rattle.rv_traffic.specs.Views.{IsPieceOf, TrafficState}
 use Rattle.rv_traffic.proofs.Tables.{consumes_none, none_changed, one_then}
 
@@ -131,18 +131,48 @@ module _ {S : Type 0} where
             others = one_then old mid new n first later.others;
           }
 
+  piece_came : (remaining : S → Option (List ℕ)) (old new : List (Option (Socket S))) (n : ℕ)
+      (bytes : List ℕ) → ReadsSlot remaining (link_at old n) input.Piece bytes (link_at new n)
+      → ChangesOne old n new
+      → ChangesLink old n (λ link after. Consumes (remaining link.stream) (remaining after.stream) bytes) new
+  piece_came remaining old new n bytes reads others = at (link_at old n) refl reads
+    where
+      at : (o : Option (Socket S)) → link_at old n ≡ o
+          → ReadsSlot remaining o input.Piece bytes (link_at new n)
+          → ChangesLink old n (λ link after. Consumes (remaining link.stream) (remaining after.stream) bytes)
+          new
+      at None is (nothing, no_bytes, is_new) =
+          absurd (let differ : input.Piece ≡ input.Nothing = nothing in cc)
+      at (Some link) is (after, read, is_new) = record {
+        link = link;
+        after = after;
+        there = is;
+        changes = read.gives.2;
+        is = is_new;
+        others = others;
+      }
+
+  -- a socket whose read failed may be read
+  pub broken_readable : (remaining : S → Option (List ℕ)) (o : Option (Socket S)) (bytes : List ℕ)
+      (new : Option (Socket S)) → ReadsSlot remaining o input.Broken bytes new → IsReadable o
+  broken_readable remaining None bytes new (nothing, no_bytes, is) =
+      absurd (let differ : input.Broken ≡ input.Nothing = nothing in cc)
+  broken_readable remaining (Some link) bytes new (after, read, is) = read.gives.1
+
   -- what came of a piece is what came of the read
   pub piece_read : (remaining : S → Option (List ℕ)) (journal : Bool) (terms : DeskTerms) (now n : ℕ)
       (old mid : TrafficState S) (bytes : List ℕ) (result : Reading) (new : TrafficState S)
-      → mid.engine ≡ old.engine → pending_of (link_at old.table n) ≡ []
+      → MayBeOffered old.engine.hub n → mid.engine ≡ old.engine → pending_of (link_at old.table n) ≡ []
       → ReadsSlot remaining (link_at old.table n) input.Piece bytes (link_at mid.table n)
       → ChangesOne old.table n mid.table → OffersPiece journal terms now n bytes mid result new
       → ReadsOne remaining journal terms now n old result new
-  piece_read remaining journal terms now n old mid bytes reading.Nothing new same none reads first is =
+  piece_read remaining journal terms now n old mid bytes reading.Nothing new may same none reads first is =
       absurd is
-  piece_read remaining journal terms now n old mid bytes reading.Offered new same none reads first is =
+  piece_read remaining journal terms now n old mid bytes reading.Offered new may same none reads first is =
       record {
+        may = may;
         bytes = bytes;
+        in_turn = inr none;
         what = is.what;
         given = is.given;
         hands = subst (λ (e : EngineState). Hands journal terms e now is.what is.given new.engine) same
@@ -151,23 +181,28 @@ module _ {S : Type 0} where
             is.piece
             is.link;
       }
-  piece_read remaining journal terms now n old mid bytes reading.Ended new same none reads first is =
+  piece_read remaining journal terms now n old mid bytes reading.Ended new may same none reads first is =
       absurd is
-  piece_read remaining journal terms now n old mid bytes reading.Broken new same none reads first is =
+  piece_read remaining journal terms now n old mid bytes reading.Broken new may same none reads first is =
       absurd is
-  piece_read remaining journal terms now n old mid bytes reading.NoMemory new same none reads first is = (
-    bytes,
-    record {
-      what = is.what;
-      piece = is.piece;
-      given = is.given;
-      between = is.between;
-      hands = subst (λ (e : EngineState). Hands journal terms e now is.what is.given is.between.engine) same
-          is.hands;
-      others = one_then old.table mid.table is.between.table n first is.others;
-      gives_up = is.gives_up;
-    },
-  )
+  piece_read remaining journal terms now n old mid bytes reading.NoMemory new may same none reads first is =
+      record {
+        may = may;
+        none_pending = none;
+        bytes = bytes;
+        read = mid.table;
+        came = piece_came remaining old.table mid.table n bytes reads first;
+        loses = record {
+          what = is.what;
+          piece = is.piece;
+          given = is.given;
+          between = is.between;
+          hands = subst (λ (e : EngineState). Hands journal terms e now is.what is.given is.between.engine)
+              same is.hands;
+          others = is.others;
+          gives_up = is.gives_up;
+        };
+      }
 
   -- nothing came
   pub nothing_came : (remaining : S → Option (List ℕ)) (old new : List (Option (Socket S))) (n : ℕ)
@@ -214,14 +249,16 @@ module _ {S : Type 0} where
   -- what is pending was offered, as a whole
   pub offers_made : (remaining : S → Option (List ℕ)) (journal : Bool) (terms : DeskTerms) (now n : ℕ)
       (old new : TrafficState S) (what : HubEvent) (made : List Entry) (given count : ℕ)
-      → HandsOn journal terms old.engine now what made given new.engine → IsSome (link_at old.table n)
-      → IsPieceOf what n (pending_of (link_at old.table n))
+      → MayBeOffered old.engine.hub n → HandsOn journal terms old.engine now what made given new.engine
+      → IsSome (link_at old.table n) → IsPieceOf what n (pending_of (link_at old.table n))
       → drop count (pending_of (link_at old.table n)) ≡ drop given (pending_of (link_at old.table n))
       → PendsSlot (link_at old.table n) (drop count (pending_of (link_at old.table n))) (link_at new.table n)
       → ChangesOne old.table n new.table → Offers remaining journal terms now n old new
-  offers_made remaining journal terms now n old new what made given count does there piece same pends others =
-      record {
+  offers_made remaining journal terms now n old new what made given count may does there piece same pends others
+      = record {
+        may = may;
         bytes = [];
+        in_turn = inl refl;
         what = what;
         given = given;
         hands = record { made = made; hands = does };

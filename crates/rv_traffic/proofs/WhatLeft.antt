@@ -1,14 +1,30 @@
 -- What is written to a connection.
-use Rattle.std.proofs.Common.{◌≡◌, ◌≤◌, ℕ, IsSome, List, None, Option, Some, length, refl, subst, sym, take}
+use Rattle.std.proofs.Common.{◌≡◌, ◌<◌, ◌≤◌, ℕ, IsSome, List, None, Option, Some, arith, false, length, nat_eq}
+use Rattle.std.proofs.Common.{refl, suc, subst, sym, take, zero}
 use Rattle.std.proofs.lemmas.Bool.{false≢true}
 use Rattle.std.specs.Io.KnownBytes.{Appends, Keeps}
 use Rattle.rv_links.specs.declared.link.Socket.{Socket}
 use Rattle.rv_links.specs.declared.link.WriteOutcome.TheVariants as output
-use Rattle.rv_links.specs.Table.{ChangesOne, SameSlot, WritesSlot, link_at}
+use Rattle.rv_links.specs.Table.{ChangesOne, IsWritable, SameSlot, WritesSlot, link_at}
 use Rattle.rv_traffic.specs.Calls.{ChangesLink, TookNone}
 use Rattle.rv_traffic.proofs.Tables.{keeps_same}
 
+-- a list that isn't empty has a member
+some_count : (count : ℕ) → nat_eq count 0 ≡ false → 0 < count
+some_count zero is = absurd (false≢true (sym is))
+some_count (suc n) is = omega arith
+
+pub some_ready : (ready : List ℕ) → nat_eq (length ready) 0 ≡ false → 0 < length ready
+some_ready ready is = some_count (length ready) is
+
 module _ {S : Type 0} where
+  -- a socket to which a write failed may be written to
+  pub broken_writable : (contents : S → Option (List ℕ)) (o : Option (Socket S)) (ready : List ℕ)
+      (new : Option (Socket S)) → WritesSlot contents o ready output.Broken new → IsWritable o
+  broken_writable contents None ready new (nothing, is) =
+      absurd (let differ : output.Broken ≡ output.Nothing = nothing in cc)
+  broken_writable contents (Some link) ready new (after, wrote, is) = wrote.takes.0
+
   pub took_within : (contents : S → Option (List ℕ)) (o : Option (Socket S)) (ready : List ℕ) (count : ℕ)
       (new : Option (Socket S)) → WritesSlot contents o ready (output.Took count) new → count ≤ length ready
   took_within contents None ready count new (nothing, is) =

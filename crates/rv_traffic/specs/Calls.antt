@@ -11,7 +11,7 @@ use Rattle.rv_hub.specs.declared.events.HubEvent.TheVariants as event
 use Rattle.rv_engine.specs.Engines.{EngineState}
 use Rattle.rv_engine.specs.Handing.{Gathers, HandsOn, LooksAt}
 use Rattle.rv_links.specs.declared.link.Socket.{Socket}
-use Rattle.rv_links.specs.Table.{ChangesOne, IsFreshSlot, link_at, pending_of}
+use Rattle.rv_links.specs.Table.{ChangesOne, IsFreshSlot, IsWritable, link_at, pending_of}
 use Rattle.rv_traffic.specs.declared.outcomes.Reading.{Reading}
 use Rattle.rv_traffic.specs.declared.outcomes.Reading.TheVariants as reading
 use Rattle.rv_traffic.specs.declared.outcomes.Writing.{Writing}
@@ -21,6 +21,15 @@ use Rattle.rv_traffic.specs.Views.{IsPieceOf, TrafficState}
 -- more of a connection's input may be offered
 abbrev pub MayBeOffered : DeskState → ℕ → Type 0
 MayBeOffered s number = HasWire s.open_wires number MayOffer
+
+-- it is open
+abbrev pub IsOpen : DeskState → ℕ → Type 0
+IsOpen s number = HasWire s.open_wires number (λ wire. Unit {0})
+
+-- its socket may be read
+abbrev pub IsReadable : {S : Type 0} → Option (Socket S) → Type 0
+IsReadable None = ⊥
+IsReadable (Some link) = link.is_readable ≡ true
 
 -- its socket is another value now, and that of all others as it was
 pub record ChangesLink {S : Type 0} (old : List (Option (Socket S))) (number : ℕ)
@@ -50,13 +59,14 @@ pub record Hands (journal : Bool) (terms : DeskTerms) (old : EngineState) (now :
     pub made : List Entry
     pub hands : HandsOn journal terms old now what made given new
 
--- bytes that came from the socket are offered behind those that were pending, of which the hub takes some:
--- the
--- others are pending
+-- what is pending of a connection that may be offered more, or where nothing is, what came from its socket, is
+-- offered, of which the hub takes some: the others are pending
 pub record Offers {S : Type 0} (remaining : S → Option (List ℕ)) (journal : Bool) (terms : DeskTerms)
     (now number : ℕ) (old new : TrafficState S) : Type 0
   where
+    pub may : MayBeOffered old.engine.hub number
     pub bytes : List ℕ
+    pub in_turn : (bytes ≡ []) ⊎ (pending_of (link_at old.table number) ≡ [])
     pub what : HubEvent
     pub given : ℕ
     pub hands : Hands journal terms old.engine now what given new.engine
@@ -137,10 +147,12 @@ pub record ReadsNothing {S : Type 0} (remaining : S → Option (List ℕ)) (numb
         ⊎ ((pending_of (link_at old.table number) ≡ [])
         × NoneCame remaining number old.table new.table)
 
--- its input ended, and the hub is told so
+-- its input ended, of which nothing was pending, and the hub is told so
 pub record EndsInput {S : Type 0} (remaining : S → Option (List ℕ)) (journal : Bool) (terms : DeskTerms)
     (now number : ℕ) (old new : TrafficState S) : Type 0
   where
+    pub may : MayBeOffered old.engine.hub number
+    pub none_pending : pending_of (link_at old.table number) ≡ []
     pub given : ℕ
     pub hands : Hands journal terms old.engine now (event.Ended number) given new.engine
     pub link : ChangesLink old.table number (GaveEnd remaining) new.table
@@ -168,6 +180,28 @@ pub record LosesRest {S : Type 0} (journal : Bool) (terms : DeskTerms) (now numb
     pub others : ChangesOne old.table number between.table
     pub gives_up : GivesUp journal terms now number between new
 
+-- a piece came of its socket, of which nothing was pending, and was offered, but memory was refused to what the
+-- hub didn't take of it
+pub record LosesPiece {S : Type 0} (remaining : S → Option (List ℕ)) (journal : Bool) (terms : DeskTerms)
+    (now number : ℕ) (old new : TrafficState S) : Type 0
+  where
+    pub may : MayBeOffered old.engine.hub number
+    pub none_pending : pending_of (link_at old.table number) ≡ []
+    pub bytes : List ℕ
+    pub read : List (Option (Socket S))
+    pub came : ChangesLink old.table number
+        (λ link after. Consumes (remaining link.stream) (remaining after.stream) bytes) read
+    pub loses : LosesRest journal terms now number bytes (record old { table = read }) new
+
+-- a read of its socket failed, of which nothing was pending: the connection is given up
+pub record FailsToRead {S : Type 0} (journal : Bool) (terms : DeskTerms) (now number : ℕ)
+    (old new : TrafficState S) : Type 0
+  where
+    pub may : MayBeOffered old.engine.hub number
+    pub none_pending : pending_of (link_at old.table number) ≡ []
+    pub readable : IsReadable (link_at old.table number)
+    pub gives_up : GivesUp journal terms now number old new
+
 -- what comes of one connection's turn to be read
 abbrev pub ReadsOne : {S : Type 0} → (S → Option (List ℕ)) → Bool → DeskTerms → ℕ → ℕ → TrafficState S
     → Reading → TrafficState S → Type 0
@@ -176,9 +210,10 @@ ReadsOne remaining journal terms now number old reading.Offered new =
     Offers remaining journal terms now number old new
 ReadsOne remaining journal terms now number old reading.Ended new =
     EndsInput remaining journal terms now number old new
-ReadsOne remaining journal terms now number old reading.Broken new = GivesUp journal terms now number old new
+ReadsOne remaining journal terms now number old reading.Broken new =
+    FailsToRead journal terms now number old new
 ReadsOne remaining journal terms now number old reading.NoMemory new =
-    (bytes : List ℕ) × LosesRest journal terms now number bytes old new
+    LosesPiece remaining journal terms now number old new
 
 -- what comes of a piece that was read of a connection of which nothing was pending
 abbrev pub OffersPiece : {S : Type 0} → Bool → DeskTerms → ℕ → ℕ → List ℕ → TrafficState S → Reading
@@ -212,7 +247,7 @@ pub record TookNone {S : Type 0} (contents : S → Option (List ℕ)) (link afte
   pub keeps : Keeps (contents link.stream) (contents after.stream)
   pub pending : after.pending ≡ link.pending
 
--- nothing is written or told: nothing may leave, or the socket took none
+-- nothing is written or told: the connection is closed and has no socket, or is open, and its socket took none
 pub record SendsNothing {S : Type 0} (contents : S → Option (List ℕ)) (number : ℕ) (old new :
     TrafficState S) :
     Type 0
@@ -220,7 +255,15 @@ pub record SendsNothing {S : Type 0} (contents : S → Option (List ℕ)) (numbe
     pub engine : new.engine ≡ old.engine
     pub why : ((link_at old.table number ≡ None) × (new.table ≡ old.table)
         × (old.engine.hub.open_wires.wires number ≡ None))
-        ⊎ ChangesLink old.table number (TookNone contents) new.table
+        ⊎ (IsOpen old.engine.hub number × ChangesLink old.table number (TookNone contents) new.table)
+
+-- bytes were ready, and a write to its socket failed: the connection is given up
+pub record FailsToWrite {S : Type 0} (journal : Bool) (terms : DeskTerms) (now number : ℕ)
+    (old new : TrafficState S) : Type 0
+  where
+    pub ready : HasWire old.engine.hub.open_wires number (λ wire. 0 < length wire.ready)
+    pub writable : IsWritable (link_at old.table number)
+    pub gives_up : GivesUp journal terms now number old new
 
 -- a connection that isn't open has no socket any more
 pub record ClosesSocket {S : Type 0} (number : ℕ) (old new : TrafficState S) : Type 0 where
@@ -238,4 +281,5 @@ WritesOne contents journal terms now number old writing.Closed new = ClosesSocke
 WritesOne contents journal terms now number old writing.Gone new =
     (link_at old.table number ≡ None) × (new.table ≡ old.table) × (given : ℕ)
     × Hands journal terms old.engine now (event.Gone number) given new.engine
-WritesOne contents journal terms now number old writing.Broken new = GivesUp journal terms now number old new
+WritesOne contents journal terms now number old writing.Broken new =
+    FailsToWrite journal terms now number old new

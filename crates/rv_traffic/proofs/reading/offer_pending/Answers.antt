@@ -17,7 +17,7 @@ returns-clause-offers g c =
     (hub_terms c.args.traffic.now.engine.hub) c.args.now c.args.number (traffic_state c.args.traffic.now)
     (record { engine = engine_state c.hand-taken.new.self; table = c.advance.new.self.table.items }) _
     c.hand-taken.new.self.hub.desk.entries.items c.hand-taken.result c.at_most-count.result
-    c.hand-taken.ensures.takes c.requires.there (refl, c.pending-piece.ensures)
+    c.requires.may c.hand-taken.ensures.takes c.requires.there (refl, c.pending-piece.ensures)
     (subst (λ (p : List ℕ). drop c.at_most-count.result p ≡ drop c.hand-taken.result p)
     c.pending-piece.ensures
     c.at_most-count.ensures.same) c.advance.ensures.pends c.advance.ensures.others

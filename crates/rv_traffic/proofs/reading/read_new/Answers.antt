@@ -3,7 +3,7 @@ use Rattle.std.proofs.Common.{inr, refl}
 use Rattle.rv_hub.specs.Hubs.{hub_terms}
 use Rattle.rv_engine.specs.Engines.{engine_state}
 use Rattle.rv_traffic.specs.Views.{traffic_state}
-use Rattle.rv_traffic.proofs.WhatCame.{end_came, nothing_came, piece_read, piece_there}
+use Rattle.rv_traffic.proofs.WhatCame.{broken_readable, end_came, nothing_came, piece_read, piece_there}
 use Rattle.rv_traffic.proofs.Tables.{gives_up_then, may_end}
 use Rattle.rv_traffic.proofs.reading.read_new.Goals as goal
 
@@ -26,11 +26,13 @@ returns-in-Piece-clause-reads g c =
     (record {
       engine = engine_state c.args.traffic.now.engine;
       table = c.read.new.self.table.items;
-    }) c.read.new.self.buffer.items c.offer_piece.result (traffic_state c.offer_piece.new.traffic) refl
-    c.requires.none_pending c.in-Piece.ensures.reads c.read.ensures.others c.offer_piece.ensures.offers
+    }) c.read.new.self.buffer.items c.offer_piece.result (traffic_state c.offer_piece.new.traffic)
+    c.requires.may refl c.requires.none_pending c.in-Piece.ensures.reads c.read.ensures.others c.offer_piece.ensures.offers
 
 pub returns-in-End-clause-reads : goal.returns-in-End-clause-reads
 returns-in-End-clause-reads g c = record {
+  may = c.requires.may;
+  none_pending = c.requires.none_pending;
   given = c.hand.result;
   hands = record { made = c.hand.new.self.hub.desk.entries.items; hands = c.hand.ensures.takes };
   link = end_came g.S.Read.remaining c.args.traffic.now.links.table.items c.read.new.self.table.items
@@ -48,10 +50,14 @@ returns-in-Nothing-clause-reads g c = record {
 }
 
 pub returns-in-Broken-clause-reads : goal.returns-in-Broken-clause-reads
-returns-in-Broken-clause-reads g c =
-    gives_up_then c.args.traffic.now.engine.hub.has_journal (hub_terms c.args.traffic.now.engine.hub)
-    c.args.now c.args.number (traffic_state c.args.traffic.now)
-    (record {
-      engine = engine_state c.args.traffic.now.engine;
-      table = c.read.new.self.table.items;
-    }) (traffic_state c.give_up.new.traffic) refl c.read.ensures.others c.give_up.ensures.gives_up
+returns-in-Broken-clause-reads g c = record {
+  may = c.requires.may;
+  none_pending = c.requires.none_pending;
+  readable = broken_readable g.S.Read.remaining _ _ _ c.in-Broken.ensures.reads;
+  gives_up = gives_up_then c.args.traffic.now.engine.hub.has_journal
+      (hub_terms c.args.traffic.now.engine.hub) c.args.now c.args.number (traffic_state c.args.traffic.now)
+      (record {
+        engine = engine_state c.args.traffic.now.engine;
+        table = c.read.new.self.table.items;
+      }) (traffic_state c.give_up.new.traffic) refl c.read.ensures.others c.give_up.ensures.gives_up;
+}

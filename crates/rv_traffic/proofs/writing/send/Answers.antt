@@ -1,10 +1,11 @@
 -- What a socket took.
-use Rattle.std.proofs.Common.{◌≤◌, ℕ, List, inr, length, refl, subst}
+use Rattle.std.proofs.Common.{◌<◌, ◌≤◌, ◌∙◌, ℕ, List, inr, length, refl, subst, sym}
 use Rattle.rv_hub.specs.Hubs.{hub_terms}
 use Rattle.rv_engine.specs.Engines.{engine_state}
 use Rattle.rv_traffic.specs.Views.{traffic_state}
 use Rattle.rv_traffic.proofs.Tables.{gives_up_then}
-use Rattle.rv_traffic.proofs.WhatLeft.{same_none, took_none, took_ready, took_within}
+use Rattle.rv_traffic.proofs.WhatLeft.{broken_writable, same_none, some_ready, took_none, took_ready}
+use Rattle.rv_traffic.proofs.WhatLeft.{took_within}
 use Rattle.rv_traffic.proofs.writing.send.Goals as goal
 
 pub hand-requires-clause-can : goal.hand-requires-clause-can
@@ -20,8 +21,11 @@ hand-requires-clause-can g c =
 pub returns-then-is_empty-clause-writes : goal.returns-then-is_empty-clause-writes
 returns-then-is_empty-clause-writes g c = record {
   engine = refl;
-  why = inr (same_none g.S.Write.contents c.args.traffic.now.links.table.items c.rest.new.self.table.items
-      c.args.number c.requires.there c.rest.ensures.same c.rest.ensures.others);
+  why = inr (
+    c.requires.is_open,
+    same_none g.S.Write.contents c.args.traffic.now.links.table.items c.rest.new.self.table.items
+        c.args.number c.requires.there c.rest.ensures.same c.rest.ensures.others,
+  );
 }
 
 pub returns-in-Took-clause-writes : goal.returns-in-Took-clause-writes
@@ -43,16 +47,30 @@ returns-in-Took-clause-writes g c =
 pub returns-in-Nothing-clause-writes : goal.returns-in-Nothing-clause-writes
 returns-in-Nothing-clause-writes g c = record {
   engine = refl;
-  why = inr (took_none g.S.Write.contents c.args.traffic.now.links.table.items c.write.new.self.table.items
-      c.args.number c.ready_of-ready.result.now c.requires.there c.in-Nothing.ensures.writes
-      c.write.ensures.others);
+  why = inr (
+    c.requires.is_open,
+    took_none g.S.Write.contents c.args.traffic.now.links.table.items c.write.new.self.table.items
+        c.args.number c.ready_of-ready.result.now c.requires.there c.in-Nothing.ensures.writes
+        c.write.ensures.others,
+  );
 }
 
 pub returns-in-Broken-clause-writes : goal.returns-in-Broken-clause-writes
 returns-in-Broken-clause-writes g c =
-    gives_up_then c.args.traffic.now.engine.hub.has_journal (hub_terms c.args.traffic.now.engine.hub)
-    c.args.now c.args.number (traffic_state c.args.traffic.now)
-    (record {
-      engine = engine_state c.args.traffic.now.engine;
-      table = c.write.new.self.table.items;
-    }) (traffic_state c.give_up.new.traffic) refl c.write.ensures.others c.give_up.ensures.gives_up
+    let is = c.ready_of-ready.ensures c.requires.is_open.wire c.requires.is_open.there in
+    record {
+      ready = record {
+        wire = c.requires.is_open.wire;
+        there = c.requires.is_open.there;
+        so = subst (λ (l : List ℕ). 0 < length l) is
+            (some_ready _ (sym c.is_empty.ensures ∙ c.if-is_empty.false));
+      };
+      writable = broken_writable g.S.Write.contents _ _ _ c.in-Broken.ensures.writes;
+      gives_up = gives_up_then c.args.traffic.now.engine.hub.has_journal
+          (hub_terms c.args.traffic.now.engine.hub) c.args.now c.args.number
+          (traffic_state c.args.traffic.now)
+          (record {
+            engine = engine_state c.args.traffic.now.engine;
+            table = c.write.new.self.table.items;
+          }) (traffic_state c.give_up.new.traffic) refl c.write.ensures.others c.give_up.ensures.gives_up;
+    }
