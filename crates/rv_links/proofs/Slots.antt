@@ -5,29 +5,22 @@ use Rattle.rv_links.specs.declared.link.Socket.{Socket}
 use Rattle.rv_links.specs.declared.link.WriteOutcome.{WriteOutcome}
 use Rattle.rv_links.specs.Reading.{ReadsOnce}
 use Rattle.rv_links.specs.Writing.{WritesOnce}
-use Rattle.rv_links.specs.Table.{HasPending, PendsSlot, ReadsSlot, SameSlot, SameStream, WritesSlot}
-use Rattle.rv_links.specs.Table.{pending_of}
+use Rattle.rv_links.specs.Table.{HasPending, PendsSlot, ReadsSlot, WritesSlot, pending_of}
 
 module _ {S : Type 0} where
-  pub read_some : (remaining : S → Option (List ℕ)) (o : Option (Socket S)) (link : Socket S) (came :
-      ReadOutcome)
-      (bytes : List ℕ) (after : Socket S) → o ≡ Some link → ReadsOnce remaining link came bytes after
-      → ReadsSlot remaining o came bytes (Some after)
-  read_some remaining o link came bytes after is reads =
-      subst (λ (x : Option (Socket S)). ReadsSlot remaining x came bytes (Some after)) (sym is)
+  pub read_some : (remaining : S → Option (List ℕ)) (now : ℕ) (o : Option (Socket S)) (link : Socket S)
+      (came : ReadOutcome) (bytes : List ℕ) (after : Socket S) → o ≡ Some link
+      → ReadsOnce remaining now link came bytes after → ReadsSlot remaining now o came bytes (Some after)
+  read_some remaining now o link came bytes after is reads =
+      subst (λ (x : Option (Socket S)). ReadsSlot remaining now x came bytes (Some after)) (sym is)
       (after, reads, refl)
 
-  pub write_some : (contents : S → Option (List ℕ)) (o : Option (Socket S)) (link : Socket S) (ready : List ℕ)
-      (what : WriteOutcome) (after : Socket S) → o ≡ Some link → WritesOnce contents link ready what after
-      → WritesSlot contents o ready what (Some after)
-  write_some contents o link ready what after is writes =
-      subst (λ (x : Option (Socket S)). WritesSlot contents x ready what (Some after)) (sym is)
+  pub write_some : (contents : S → Option (List ℕ)) (now : ℕ) (o : Option (Socket S)) (link : Socket S)
+      (ready : List ℕ) (what : WriteOutcome) (after : Socket S) → o ≡ Some link
+      → WritesOnce contents now link ready what after → WritesSlot contents now o ready what (Some after)
+  write_some contents now o link ready what after is writes =
+      subst (λ (x : Option (Socket S)). WritesSlot contents now x ready what (Some after)) (sym is)
       (after, writes, refl)
-
-  pub same_some : (o : Option (Socket S)) (link after : Socket S) → o ≡ Some link → SameStream link after
-      → SameSlot o (Some after)
-  same_some o link after is same =
-      subst (λ (x : Option (Socket S)). SameSlot x (Some after)) (sym is) (after, same, refl)
 
   pub same_pending : (o : Option (Socket S)) (link after : Socket S) → o ≡ Some link
       → HasPending link link.pending.items after → PendsSlot o (pending_of o) (Some after)

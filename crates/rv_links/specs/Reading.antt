@@ -1,5 +1,5 @@
 -- What a read of a connection's socket gives.
-use Rattle.std.specs.Prelude.{ℕ, ◌≡◌, ◌<◌, List, [], Option, length, true}
+use Rattle.std.specs.Prelude.{ℕ, ◌≡◌, ◌<◌, Bool, List, [], Option, length, true}
 use Rattle.std.specs.Io.KnownBytes.{Consumes, IsAtEnd, Keeps}
 use Rattle.rv_links.specs.declared.link.ReadOutcome.{ReadOutcome}
 use Rattle.rv_links.specs.declared.link.ReadOutcome.TheVariants as input
@@ -34,9 +34,25 @@ GivesInput remaining old input.Nothing bytes new = (bytes ≡ [])
 GivesInput remaining old input.Broken bytes new = (bytes ≡ []) × (old.is_readable ≡ true)
     × Keeps (remaining old.stream) (remaining new.stream)
 
--- one read
-pub record ReadsOnce {S : Type 0} (remaining : S → Option (List ℕ)) (old : Socket S) (came : ReadOutcome)
-    (bytes : List ℕ) (new : Socket S) : Type 0
+-- when bytes of a socket last came, behind a read at a moment
+abbrev pub heard_after : ℕ → ℕ → ReadOutcome → ℕ
+heard_after now before input.Piece = now
+heard_after now before input.End = before
+heard_after now before input.Nothing = before
+heard_after now before input.Broken = before
+
+-- whether the socket may be read stays as it was; where nothing came it may have been found to block
+abbrev pub StaysReadable : ReadOutcome → Bool → Bool → Type 0
+StaysReadable input.Piece before after = after ≡ before
+StaysReadable input.End before after = after ≡ before
+StaysReadable input.Nothing before after = after ≡ true → before ≡ true
+StaysReadable input.Broken before after = after ≡ before
+
+-- one read at a moment
+pub record ReadsOnce {S : Type 0} (remaining : S → Option (List ℕ)) (now : ℕ) (old : Socket S)
+    (came : ReadOutcome) (bytes : List ℕ) (new : Socket S) : Type 0
   where
     pub gives : GivesInput remaining old came bytes new
     pub rest : KeepsOutput old new
+    pub readable : StaysReadable came old.is_readable new.is_readable
+    pub heard : new.heard ≡ heard_after now old.heard came

@@ -1,5 +1,6 @@
 -- The sockets under their numbers.
-use Rattle.std.specs.Prelude.{ℕ, ◌≡◌, ◌<◌, ◌-◌, ◌^◌, ◌⊎◌, List, [], None, Option, Some, get_or, length}
+use Rattle.std.specs.Prelude.{ℕ, ◌≡◌, ◌<◌, ◌-◌, ◌^◌, ◌⊎◌, ◌||◌, Bool, List, [], None, Option, Some, get_or}
+use Rattle.std.specs.Prelude.{length}
 use Rattle.std.specs.Prelude.{slice_set, true}
 use Rattle.std.specs.List.{sum_by}
 use Rattle.rv_links.specs.declared.link.ReadOutcome.{ReadOutcome}
@@ -7,7 +8,7 @@ use Rattle.rv_links.specs.declared.link.ReadOutcome.TheVariants as input
 use Rattle.rv_links.specs.declared.link.Socket.{Socket}
 use Rattle.rv_links.specs.declared.link.WriteOutcome.{WriteOutcome}
 use Rattle.rv_links.specs.declared.link.WriteOutcome.TheVariants as output
-use Rattle.rv_links.specs.Reading.{ReadsOnce}
+use Rattle.rv_links.specs.Reading.{ReadsOnce, fresh_link}
 use Rattle.rv_links.specs.Writing.{WritesOnce}
 
 -- the socket under a number, if there is one
@@ -26,18 +27,18 @@ pending_of (Some link) = link.pending.items
 -- ---- one number
 
 -- one read of the socket, if there is one
-abbrev pub ReadsSlot : {S : Type 0} → (S → Option (List ℕ)) → Option (Socket S) → ReadOutcome → List ℕ
+abbrev pub ReadsSlot : {S : Type 0} → (S → Option (List ℕ)) → ℕ → Option (Socket S) → ReadOutcome → List ℕ
     → Option (Socket S) → Type 0
-ReadsSlot remaining None came bytes new = (came ≡ input.Nothing) × (bytes ≡ []) × (new ≡ None)
-ReadsSlot remaining (Some link) came bytes new =
-    (after : _) × ReadsOnce remaining link came bytes after × (new ≡ Some after)
+ReadsSlot remaining now None came bytes new = (came ≡ input.Nothing) × (bytes ≡ []) × (new ≡ None)
+ReadsSlot remaining now (Some link) came bytes new =
+    (after : _) × ReadsOnce remaining now link came bytes after × (new ≡ Some after)
 
 -- one write to the socket, if there is one
-abbrev pub WritesSlot : {S : Type 0} → (S → Option (List ℕ)) → Option (Socket S) → List ℕ → WriteOutcome
-    → Option (Socket S) → Type 0
-WritesSlot contents None ready what new = (what ≡ output.Nothing) × (new ≡ None)
-WritesSlot contents (Some link) ready what new =
-    (after : _) × WritesOnce contents link ready what after × (new ≡ Some after)
+abbrev pub WritesSlot : {S : Type 0} → (S → Option (List ℕ)) → ℕ → Option (Socket S) → List ℕ
+    → WriteOutcome → Option (Socket S) → Type 0
+WritesSlot contents now None ready what new = (what ≡ output.Nothing) × (new ≡ None)
+WritesSlot contents now (Some link) ready what new =
+    (after : _) × WritesOnce contents now link ready what after × (new ≡ Some after)
 
 -- these bytes are pending of the socket now, and nothing else of it changed
 pub record HasPending {S : Type 0} (old : Socket S) (bytes : List ℕ) (new : Socket S) : Type 0 where
@@ -52,19 +53,22 @@ abbrev pub PendsSlot : {S : Type 0} → Option (Socket S) → List ℕ → Optio
 PendsSlot None bytes new = new ≡ None
 PendsSlot (Some link) bytes new = (after : _) × HasPending link bytes after × (new ≡ Some after)
 
--- nothing was read of the socket or written to it
-pub record SameStream {S : Type 0} (old new : Socket S) : Type 0 where
-  pub stream : new.stream ≡ old.stream
-  pub pending : new.pending ≡ old.pending
+-- a socket of which a poll told: it may be read, or written to, if it could be or the poll says so, and all else
+-- is as it was
+abbrev pub heeded : {S : Type 0} → Socket S → Bool → Bool → Socket S
+heeded link is_readable is_writable = record link {
+  is_readable = link.is_readable || is_readable;
+  is_writable = link.is_writable || is_writable;
+}
 
-abbrev pub SameSlot : {S : Type 0} → Option (Socket S) → Option (Socket S) → Type 0
-SameSlot None new = new ≡ None
-SameSlot (Some link) new = (after : _) × SameStream link after × (new ≡ Some after)
+-- a socket for which nothing was there to leave at a moment
+abbrev pub rested : {S : Type 0} → Socket S → ℕ → Socket S
+rested link now = record link { moved = now }
 
--- a socket that was accepted, of which nothing is pending
-abbrev pub IsFreshSlot : {S : Type 0} → S → Option (Socket S) → Type 0
-IsFreshSlot stream None = ⊥
-IsFreshSlot stream (Some link) = (link.stream ≡ stream) × (link.pending.items ≡ [])
+-- a socket that was accepted at a moment, of which nothing is pending, and which may be read and written to
+abbrev pub IsFreshSlot : {S : Type 0} → S → ℕ → Option (Socket S) → Type 0
+IsFreshSlot stream now None = ⊥
+IsFreshSlot stream now (Some link) = link ≡ fresh_link stream now link.pending.spare
 
 -- there is something to offer, or the socket may be read
 abbrev pub HasInput : {S : Type 0} → Option (Socket S) → Type 0

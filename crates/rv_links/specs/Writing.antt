@@ -1,5 +1,5 @@
 -- What a write to a connection's socket takes.
-use Rattle.std.specs.Prelude.{ℕ, ◌≡◌, ◌≤◌, List, Option, length, take, true}
+use Rattle.std.specs.Prelude.{ℕ, ◌≡◌, ◌≤◌, Bool, List, Option, length, take, true}
 use Rattle.std.specs.Io.KnownBytes.{Appends, Keeps}
 use Rattle.rv_links.specs.declared.link.Socket.{Socket}
 use Rattle.rv_links.specs.declared.link.WriteOutcome.{WriteOutcome}
@@ -20,9 +20,23 @@ TakesOutput contents old ready output.Nothing new = Keeps (contents old.stream) 
 TakesOutput contents old ready output.Broken new = (old.is_writable ≡ true)
     × Keeps (contents old.stream) (contents new.stream)
 
--- one write
-pub record WritesOnce {S : Type 0} (contents : S → Option (List ℕ)) (old : Socket S) (ready : List ℕ)
-    (what : WriteOutcome) (new : Socket S) : Type 0
+-- when bytes last left to a socket, behind a write at a moment
+abbrev pub moved_after : ℕ → ℕ → WriteOutcome → ℕ
+moved_after now before (output.Took count) = now
+moved_after now before output.Nothing = before
+moved_after now before output.Broken = before
+
+-- whether the socket may be written to stays as it was; where it took nothing it may have been found to block
+abbrev pub StaysWritable : WriteOutcome → Bool → Bool → Type 0
+StaysWritable (output.Took count) before after = after ≡ before
+StaysWritable output.Nothing before after = after ≡ true → before ≡ true
+StaysWritable output.Broken before after = after ≡ before
+
+-- one write at a moment
+pub record WritesOnce {S : Type 0} (contents : S → Option (List ℕ)) (now : ℕ) (old : Socket S)
+    (ready : List ℕ) (what : WriteOutcome) (new : Socket S) : Type 0
   where
     pub takes : TakesOutput contents old ready what new
     pub rest : KeepsInput old new
+    pub writable : StaysWritable what old.is_writable new.is_writable
+    pub moved : new.moved ≡ moved_after now old.moved what

@@ -83,7 +83,7 @@ impl<S: Read> Socket<S> {
     // Reads once into the buffer, whose bytes are then those that came, if the socket may have some.
     pub(crate) fn read(&mut self, now: u64, buffer: &mut BytesMut) -> ReadOutcome
         requires { 0 < length buffer.old.items + buffer.old.spare }
-        ensures reads { ReadsOnce S.remaining self.old result buffer.new.items self.new }
+        ensures reads { ReadsOnce S.remaining now self.old result buffer.new.items self.new }
         ensures room { 0 < length buffer.new.items + buffer.new.spare }
     {
         buffer.clear();
@@ -112,7 +112,7 @@ impl<S: Read> Socket<S> {
 impl<S: Write> Socket<S> {
     // Writes bytes once, if the socket may take some.
     pub(crate) fn write(&mut self, now: u64, ready: &[u8]) -> WriteOutcome
-        ensures { WritesOnce S.contents self.old ready.now result self.new }
+        ensures { WritesOnce S.contents now self.old ready.now result self.new }
     {
         if !self.is_writable {
             return WriteOutcome::Nothing;

@@ -4,8 +4,8 @@ ghost use Rattle.std.specs.Prelude.{IsTrue, OnErr, OnOk};
 ghost use Rattle.std.specs.List.{sum_by};
 ghost use Rattle.std.specs.Option.{option_map};
 ghost use Rattle.rv_links.specs.Table.{HasInput, IsWritable};
-ghost use Rattle.rv_links.specs.Table.{AreTallied, ChangesOne, IsFreshSlot, PendsSlot, ReadsSlot, SameSlot};
-ghost use Rattle.rv_links.specs.Table.{WritesSlot, link_at, one_at, pending_at, pending_of};
+ghost use Rattle.rv_links.specs.Table.{AreTallied, ChangesOne, IsFreshSlot, PendsSlot, ReadsSlot};
+ghost use Rattle.rv_links.specs.Table.{WritesSlot, heeded, link_at, one_at, pending_at, pending_of, rested};
 
 use crate::link::{ReadOutcome, Socket, WriteOutcome};
 use crate::slot::{
@@ -160,7 +160,8 @@ impl<S: Drop> Links<S> {
 
     /// A connection's socket may be read, or written, once more, as a poll told.
     pub fn heed(&mut self, number: usize, is_readable: bool, is_writable: bool)
-        ensures same { SameSlot (link_at self.old.table.items number) (link_at self.new.table.items number) }
+        ensures heeds { link_at self.new.table.items number
+            ≡ option_map (λ link. heeded link is_readable is_writable) (link_at self.old.table.items number) }
         ensures others { ChangesOne self.old.table.items number self.new.table.items }
     {
         if number < self.table.len() {
@@ -170,7 +171,8 @@ impl<S: Drop> Links<S> {
 
     /// Nothing was there to leave of a connection at this moment.
     pub fn rest(&mut self, number: usize, now: u64)
-        ensures same { SameSlot (link_at self.old.table.items number) (link_at self.new.table.items number) }
+        ensures rests { link_at self.new.table.items number
+            ≡ option_map (λ link. rested link now) (link_at self.old.table.items number) }
         ensures others { ChangesOne self.old.table.items number self.new.table.items }
     {
         if number < self.table.len() {
@@ -182,7 +184,7 @@ impl<S: Drop> Links<S> {
 impl<S: Read> Links<S> {
     /// Reads once from a connection's socket, at a moment in milliseconds: `piece` has the bytes that came.
     pub fn read(&mut self, number: usize, now: u64) -> ReadOutcome
-        ensures reads { ReadsSlot S.remaining (link_at self.old.table.items number) result
+        ensures reads { ReadsSlot S.remaining now (link_at self.old.table.items number) result
             self.new.buffer.items (link_at self.new.table.items number) }
         ensures others { ChangesOne self.old.table.items number self.new.table.items }
     {
@@ -197,7 +199,7 @@ impl<S: Read> Links<S> {
 impl<S: Write> Links<S> {
     /// Writes bytes once to a connection's socket, at a moment in milliseconds.
     pub fn write(&mut self, number: usize, now: u64, ready: &[u8]) -> WriteOutcome
-        ensures writes { WritesSlot S.contents (link_at self.old.table.items number) ready.now result
+        ensures writes { WritesSlot S.contents now (link_at self.old.table.items number) ready.now result
             (link_at self.new.table.items number) }
         ensures others { ChangesOne self.old.table.items number self.new.table.items }
     {
@@ -241,7 +243,7 @@ impl<S: Drop> Links<S> {
     /// blocks.
     pub fn insert(&mut self, number: usize, stream: S, now: u64)
         requires within { number < length self.old.table.items }
-        ensures fresh { IsFreshSlot stream (link_at self.new.table.items number) }
+        ensures fresh { IsFreshSlot stream now (link_at self.new.table.items number) }
         ensures others { ChangesOne self.old.table.items number self.new.table.items }
     {
         self.remove(number);

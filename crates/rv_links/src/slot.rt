@@ -1,6 +1,7 @@
 //! What may be under a number: a socket, or none.
 ghost use Rattle.std.specs.Prelude.{◌≡◌, ◌≤◌, ◌<◌, ◌^◌, ◌+◌, ◌++◌, drop, length, OnErr, OnOk};
-ghost use Rattle.rv_links.specs.Table.{PendsSlot, ReadsSlot, SameSlot, WritesSlot, pending_of};
+ghost use Rattle.std.specs.Option.{option_map};
+ghost use Rattle.rv_links.specs.Table.{PendsSlot, ReadsSlot, WritesSlot, heeded, pending_of, rested};
 
 use crate::link::{ReadOutcome, Socket, WriteOutcome};
 use bytes::BytesMut;
@@ -14,7 +15,7 @@ pub(crate) fn read_slot<S: Read>(
     buffer: &mut BytesMut,
 ) -> ReadOutcome
     requires { 0 < length buffer.old.items + buffer.old.spare }
-    ensures reads { ReadsSlot S.remaining slot.old result buffer.new.items slot.new }
+    ensures reads { ReadsSlot S.remaining now slot.old result buffer.new.items slot.new }
     ensures room { 0 < length buffer.new.items + buffer.new.spare }
 {
     match slot {
@@ -32,7 +33,7 @@ pub(crate) fn write_slot<S: Write>(
     now: u64,
     ready: &[u8],
 ) -> WriteOutcome
-    ensures { WritesSlot S.contents slot.old ready.now result slot.new }
+    ensures { WritesSlot S.contents now slot.old ready.now result slot.new }
 {
     match slot {
         Some(link) => link.write(now, ready),
@@ -71,17 +72,17 @@ pub(crate) fn advance_slot<S>(slot: &mut Option<Socket<S>>, alloc: Global, count
 
 // The socket may be read, or written, once more.
 pub(crate) fn heed_slot<S>(slot: &mut Option<Socket<S>>, is_readable: bool, is_writable: bool)
-    ensures { SameSlot slot.old slot.new }
+    ensures { slot.new ≡ option_map (λ link. heeded link is_readable is_writable) slot.old }
 {
     if let Some(link) = slot {
-        link.is_readable = link.is_readable || is_readable;
-        link.is_writable = link.is_writable || is_writable;
+        link.is_readable |= is_readable;
+        link.is_writable |= is_writable;
     }
 }
 
 // Nothing was there to leave at this moment.
 pub(crate) fn rest_slot<S>(slot: &mut Option<Socket<S>>, now: u64)
-    ensures { SameSlot slot.old slot.new }
+    ensures { slot.new ≡ option_map (λ link. rested link now) slot.old }
 {
     if let Some(link) = slot {
         link.moved = now;

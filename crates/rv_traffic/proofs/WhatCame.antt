@@ -16,7 +16,7 @@ use Rattle.rv_links.specs.Table.{ChangesOne, PendsSlot, ReadsSlot, link_at, pend
 use Rattle.rv_traffic.specs.declared.outcomes.Reading.{Reading}
 use Rattle.rv_traffic.specs.declared.outcomes.Reading.TheVariants as reading
 use Rattle.rv_traffic.specs.Calls.{ChangesLink, GaveEnd, GivesUp, Hands, IsReadable, KeepsUntaken, LosesRest}
-use Rattle.rv_traffic.specs.Calls.{MayBeOffered, NoneCame, Offers, OffersPiece, ReadsOne}
+use Rattle.rv_traffic.specs.Calls.{MayBeOffered, NoneCame, Offers, OffersPiece, ReadsOne, SameFlags}
 use Rattle.rv_traffic.specs.Views.{IsPieceOf, TrafficState}
 use Rattle.rv_traffic.proofs.Tables.{consumes_none, none_changed, one_then}
 
@@ -30,7 +30,7 @@ module _ {S : Type 0} where
       → ChangesOne old n new
       → ChangesLink old n (λ link after. Consumes (remaining link.stream) (remaining after.stream) []
       × IsPieceOf what n (link.pending.items ++ [])
-      × (after.pending.items ≡ drop given (link.pending.items ++ []))) new
+      × (after.pending.items ≡ drop given (link.pending.items ++ [])) × SameFlags link after) new
   pending_offered remaining old new n what given count there piece same pends others =
       at (link_at old n) refl there piece same pends
     where
@@ -39,7 +39,7 @@ module _ {S : Type 0} where
           → PendsSlot o (drop count (pending_of o)) (link_at new n)
           → ChangesLink old n (λ link after. Consumes (remaining link.stream) (remaining after.stream) []
           × IsPieceOf what n (link.pending.items ++ [])
-          × (after.pending.items ≡ drop given (link.pending.items ++ []))) new
+          × (after.pending.items ≡ drop given (link.pending.items ++ [])) × SameFlags link after) new
       at None is some offered so is_new = absurd (false≢true some)
       at (Some link) is some offered so (after, has, is_new) = record {
         link = link;
@@ -50,6 +50,7 @@ module _ {S : Type 0} where
               (consumes_none (remaining link.stream)),
           subst (IsPieceOf what n) (sym (append-nil link.pending.items)) offered,
           has.pending ∙ so ∙ ap (drop given) (sym (append-nil link.pending.items)),
+          record { readable = has.readable; writable = has.writable; moved = has.moved },
         );
         is = is_new;
         others = others;
@@ -60,22 +61,25 @@ module _ {S : Type 0} where
       → IsSome (link_at old n) → pending_of (link_at old n) ≡ [] → drop count bytes ≡ drop given bytes
       → PendsSlot (link_at old n) (pending_of (link_at old n) ++ drop count bytes) (link_at new n)
       → ChangesOne old n new
-      → ChangesLink old n (λ link after. (after.stream ≡ link.stream) × (after.pending.items ≡ drop given
-      bytes))
-      new
+      → ChangesLink old n (λ link after. (after.stream ≡ link.stream)
+      × (after.pending.items ≡ drop given bytes) × SameFlags link after) new
   rest_kept old new n bytes given count there none same pends others =
       at (link_at old n) refl there none pends
     where
       at : (o : Option (Socket S)) → link_at old n ≡ o → IsSome o → pending_of o ≡ []
           → PendsSlot o (pending_of o ++ drop count bytes) (link_at new n)
           → ChangesLink old n (λ link after. (after.stream ≡ link.stream)
-          × (after.pending.items ≡ drop given bytes)) new
+          × (after.pending.items ≡ drop given bytes) × SameFlags link after) new
       at None is some empty is_new = absurd (false≢true some)
       at (Some link) is some empty (after, has, is_new) = record {
         link = link;
         after = after;
         there = is;
-        changes = (has.stream, has.pending ∙ ap (λ (l : List ℕ). l ++ drop count bytes) empty ∙ same);
+        changes = (
+          has.stream,
+          has.pending ∙ ap (λ (l : List ℕ). l ++ drop count bytes) empty ∙ same,
+          record { readable = has.readable; writable = has.writable; moved = has.moved },
+        );
         is = is_new;
         others = others;
       }
@@ -84,34 +88,33 @@ module _ {S : Type 0} where
   some_after new after is = subst IsSome (sym is) refl
 
   -- a piece came of a socket
-  pub piece_there : (remaining : S → Option (List ℕ)) (o : Option (Socket S)) (bytes : List ℕ)
-      (new : Option (Socket S)) → ReadsSlot remaining o input.Piece bytes new → pending_of o ≡ []
+  pub piece_there : (remaining : S → Option (List ℕ)) (now : ℕ) (o : Option (Socket S)) (bytes : List ℕ)
+      (new : Option (Socket S)) → ReadsSlot remaining now o input.Piece bytes new → pending_of o ≡ []
       → IsSome new × (pending_of new ≡ [])
-  piece_there remaining None bytes new (none, empty, is) pending =
+  piece_there remaining now None bytes new (none, empty, is) pending =
       absurd (let differ : input.Piece ≡ input.Nothing = none in cc)
-  piece_there remaining (Some link) bytes new (after, reads, is) pending = (
+  piece_there remaining now (Some link) bytes new (after, reads, is) pending = (
     some_after new after is,
     ap pending_of is ∙ ap (λ p. p.items) reads.rest.pending ∙ pending,
   )
 
-  came_then : (remaining : S → Option (List ℕ)) (old mid new : List (Option (Socket S))) (n : ℕ)
+  came_then : (remaining : S → Option (List ℕ)) (now : ℕ) (old mid new : List (Option (Socket S))) (n : ℕ)
       (bytes : List ℕ) (what : HubEvent) (given : ℕ) → pending_of (link_at old n) ≡ []
-      → ReadsSlot remaining (link_at old n) input.Piece bytes (link_at mid n) → ChangesOne old n mid
+      → ReadsSlot remaining now (link_at old n) input.Piece bytes (link_at mid n) → ChangesOne old n mid
       → IsPieceOf what n bytes
-      → ChangesLink mid n (λ link after. (after.stream ≡ link.stream) × (after.pending.items ≡ drop given
-      bytes))
-      new
+      → ChangesLink mid n (λ link after. (after.stream ≡ link.stream)
+      × (after.pending.items ≡ drop given bytes) × SameFlags link after) new
       → ChangesLink old n (λ link after. Consumes (remaining link.stream) (remaining after.stream) bytes
       × IsPieceOf what n (link.pending.items ++ bytes)
-      × (after.pending.items ≡ drop given (link.pending.items ++ bytes))) new
-  came_then remaining old mid new n bytes what given none reads first piece later =
+      × (after.pending.items ≡ drop given (link.pending.items ++ bytes)) × SameFlags link after) new
+  came_then remaining now old mid new n bytes what given none reads first piece later =
       at (link_at old n) refl none reads
     where
       at : (o : Option (Socket S)) → link_at old n ≡ o → pending_of o ≡ []
-          → ReadsSlot remaining o input.Piece bytes (link_at mid n)
+          → ReadsSlot remaining now o input.Piece bytes (link_at mid n)
           → ChangesLink old n (λ link after. Consumes (remaining link.stream) (remaining after.stream) bytes
           × IsPieceOf what n (link.pending.items ++ bytes)
-          × (after.pending.items ≡ drop given (link.pending.items ++ bytes))) new
+          × (after.pending.items ≡ drop given (link.pending.items ++ bytes)) × SameFlags link after) new
       at None is empty (nothing, no_bytes, is_mid) =
           absurd (let differ : input.Piece ≡ input.Nothing = nothing in cc)
       at (Some link) is empty (between, read, is_mid) =
@@ -126,19 +129,25 @@ module _ {S : Type 0} where
                   (sym (later.changes.0 ∙ ap (λ (l : Socket S). l.stream) same)) read.gives.2,
               subst (IsPieceOf what n) all piece,
               later.changes.1 ∙ ap (drop given) all,
+              record {
+                readable = later.changes.2.readable ∙ ap (λ (l : Socket S). l.is_readable) same ∙ read.readable;
+                writable = later.changes.2.writable ∙ ap (λ (l : Socket S). l.is_writable) same
+                    ∙ read.rest.writable;
+                moved = later.changes.2.moved ∙ ap (λ (l : Socket S). l.moved) same ∙ read.rest.moved;
+              },
             );
             is = later.is;
             others = one_then old mid new n first later.others;
           }
 
-  piece_came : (remaining : S → Option (List ℕ)) (old new : List (Option (Socket S))) (n : ℕ)
-      (bytes : List ℕ) → ReadsSlot remaining (link_at old n) input.Piece bytes (link_at new n)
+  piece_came : (remaining : S → Option (List ℕ)) (now : ℕ) (old new : List (Option (Socket S))) (n : ℕ)
+      (bytes : List ℕ) → ReadsSlot remaining now (link_at old n) input.Piece bytes (link_at new n)
       → ChangesOne old n new
       → ChangesLink old n (λ link after. Consumes (remaining link.stream) (remaining after.stream) bytes) new
-  piece_came remaining old new n bytes reads others = at (link_at old n) refl reads
+  piece_came remaining now old new n bytes reads others = at (link_at old n) refl reads
     where
       at : (o : Option (Socket S)) → link_at old n ≡ o
-          → ReadsSlot remaining o input.Piece bytes (link_at new n)
+          → ReadsSlot remaining now o input.Piece bytes (link_at new n)
           → ChangesLink old n (λ link after. Consumes (remaining link.stream) (remaining after.stream) bytes)
           new
       at None is (nothing, no_bytes, is_new) =
@@ -153,17 +162,17 @@ module _ {S : Type 0} where
       }
 
   -- a socket whose read failed may be read
-  pub broken_readable : (remaining : S → Option (List ℕ)) (o : Option (Socket S)) (bytes : List ℕ)
-      (new : Option (Socket S)) → ReadsSlot remaining o input.Broken bytes new → IsReadable o
-  broken_readable remaining None bytes new (nothing, no_bytes, is) =
+  pub broken_readable : (remaining : S → Option (List ℕ)) (now : ℕ) (o : Option (Socket S)) (bytes : List ℕ)
+      (new : Option (Socket S)) → ReadsSlot remaining now o input.Broken bytes new → IsReadable o
+  broken_readable remaining now None bytes new (nothing, no_bytes, is) =
       absurd (let differ : input.Broken ≡ input.Nothing = nothing in cc)
-  broken_readable remaining (Some link) bytes new (after, read, is) = read.gives.1
+  broken_readable remaining now (Some link) bytes new (after, read, is) = read.gives.1
 
   -- what came of a piece is what came of the read
   pub piece_read : (remaining : S → Option (List ℕ)) (journal : Bool) (terms : DeskTerms) (now n : ℕ)
       (old mid : TrafficState S) (bytes : List ℕ) (result : Reading) (new : TrafficState S)
       → MayBeOffered old.engine.hub n → mid.engine ≡ old.engine → pending_of (link_at old.table n) ≡ []
-      → ReadsSlot remaining (link_at old.table n) input.Piece bytes (link_at mid.table n)
+      → ReadsSlot remaining now (link_at old.table n) input.Piece bytes (link_at mid.table n)
       → ChangesOne old.table n mid.table → OffersPiece journal terms now n bytes mid result new
       → ReadsOne remaining journal terms now n old result new
   piece_read remaining journal terms now n old mid bytes reading.Nothing new may same none reads first is =
@@ -177,7 +186,7 @@ module _ {S : Type 0} where
         given = is.given;
         hands = subst (λ (e : EngineState). Hands journal terms e now is.what is.given new.engine) same
             is.hands;
-        link = came_then remaining old.table mid.table new.table n bytes is.what is.given none reads first
+        link = came_then remaining now old.table mid.table new.table n bytes is.what is.given none reads first
             is.piece
             is.link;
       }
@@ -191,7 +200,7 @@ module _ {S : Type 0} where
         none_pending = none;
         bytes = bytes;
         read = mid.table;
-        came = piece_came remaining old.table mid.table n bytes reads first;
+        came = piece_came remaining now old.table mid.table n bytes reads first;
         loses = record {
           what = is.what;
           piece = is.piece;
@@ -205,30 +214,30 @@ module _ {S : Type 0} where
       }
 
   -- nothing came
-  pub nothing_came : (remaining : S → Option (List ℕ)) (old new : List (Option (Socket S))) (n : ℕ)
-      (bytes : List ℕ) → ReadsSlot remaining (link_at old n) input.Nothing bytes (link_at new n)
+  pub nothing_came : (remaining : S → Option (List ℕ)) (now : ℕ) (old new : List (Option (Socket S))) (n : ℕ)
+      (bytes : List ℕ) → ReadsSlot remaining now (link_at old n) input.Nothing bytes (link_at new n)
       → ChangesOne old n new → NoneCame remaining n old new
-  nothing_came remaining old new n bytes reads others = at (link_at old n) refl reads
+  nothing_came remaining now old new n bytes reads others = at (link_at old n) refl reads
     where
       at : (o : Option (Socket S)) → link_at old n ≡ o
-          → ReadsSlot remaining o input.Nothing bytes (link_at new n) → NoneCame remaining n old new
+          → ReadsSlot remaining now o input.Nothing bytes (link_at new n) → NoneCame remaining n old new
       at None is (nothing, no_bytes, is_new) = inl (is, none_changed old new n others (is_new ∙ sym is))
       at (Some link) is (after, read, is_new) = inr (record {
         link = link;
         after = after;
         there = is;
-        changes = record { keeps = read.gives.1; pending = read.rest.pending };
+        changes = record { keeps = read.gives.1; rest = read.rest; heard = read.heard };
         is = is_new;
         others = others;
       })
 
   -- the end came
-  pub end_came : (remaining : S → Option (List ℕ)) (old new : List (Option (Socket S))) (n : ℕ)
-      (bytes : List ℕ) → ReadsSlot remaining (link_at old n) input.End bytes (link_at new n)
+  pub end_came : (remaining : S → Option (List ℕ)) (now : ℕ) (old new : List (Option (Socket S))) (n : ℕ)
+      (bytes : List ℕ) → ReadsSlot remaining now (link_at old n) input.End bytes (link_at new n)
       → ChangesOne old n new → ChangesLink old n (GaveEnd remaining) new
-  end_came remaining old new n bytes reads others = at (link_at old n) refl reads
+  end_came remaining now old new n bytes reads others = at (link_at old n) refl reads
     where
-      at : (o : Option (Socket S)) → link_at old n ≡ o → ReadsSlot remaining o input.End bytes (link_at new n)
+      at : (o : Option (Socket S)) → link_at old n ≡ o → ReadsSlot remaining now o input.End bytes (link_at new n)
           → ChangesLink old n (GaveEnd remaining) new
       at None is (nothing, no_bytes, is_new) = absurd (let differ : input.End ≡ input.Nothing = nothing in cc)
       at (Some link) is (after, read, is_new) = record {
@@ -240,7 +249,8 @@ module _ {S : Type 0} where
           none = subst (λ (l : List ℕ). Consumes (remaining link.stream) (remaining after.stream) l)
               read.gives.0
               read.gives.3;
-          pending = read.rest.pending;
+          rest = read.rest;
+          heard = read.heard;
         };
         is = is_new;
         others = others;

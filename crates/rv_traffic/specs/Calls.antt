@@ -11,6 +11,8 @@ use Rattle.rv_hub.specs.declared.events.HubEvent.TheVariants as event
 use Rattle.rv_engine.specs.Engines.{EngineState}
 use Rattle.rv_engine.specs.Handing.{Gathers, HandsOn, LooksAt}
 use Rattle.rv_links.specs.declared.link.Socket.{Socket}
+use Rattle.rv_links.specs.Reading.{KeepsOutput}
+use Rattle.rv_links.specs.Writing.{KeepsInput}
 use Rattle.rv_links.specs.Table.{ChangesOne, IsFreshSlot, IsWritable, link_at, pending_of}
 use Rattle.rv_traffic.specs.declared.outcomes.Reading.{Reading}
 use Rattle.rv_traffic.specs.declared.outcomes.Reading.TheVariants as reading
@@ -42,6 +44,12 @@ pub record ChangesLink {S : Type 0} (old : List (Option (Socket S))) (number : �
     pub is : link_at new number ≡ Some after
     pub others : ChangesOne old number new
 
+-- its readiness, and when bytes last left, are as they were
+pub record SameFlags {S : Type 0} (link after : Socket S) : Type 0 where
+  pub readable : after.is_readable ≡ link.is_readable
+  pub writable : after.is_writable ≡ link.is_writable
+  pub moved : after.moved ≡ link.moved
+
 -- it has none
 pub record LetsGo {S : Type 0} (old : List (Option (Socket S))) (number : ℕ)
     (new : List (Option (Socket S))) :
@@ -72,7 +80,7 @@ pub record Offers {S : Type 0} (remaining : S → Option (List ℕ)) (journal : 
     pub hands : Hands journal terms old.engine now what given new.engine
     pub link : ChangesLink old.table number (λ link after. Consumes (remaining link.stream)
         (remaining after.stream) bytes × IsPieceOf what number (link.pending.items ++ bytes)
-        × (after.pending.items ≡ drop given (link.pending.items ++ bytes))) new.table
+        × (after.pending.items ≡ drop given (link.pending.items ++ bytes)) × SameFlags link after) new.table
 
 -- memory is refused to lines of the account, or a connection isn't open: it is to be looked at
 pub record LooksLater (old : EngineState) (number : ℕ) (new : EngineState) : Type 0 where
@@ -99,9 +107,9 @@ pub record GivesUp {S : Type 0} (journal : Bool) (terms : DeskTerms) (now number
 -- ---- accepting
 
 -- a socket that was accepted stands under a number that has room, in place of one that was there
-pub record PutsUnder {S : Type 0} (number : ℕ) (stream : S) (old new : TrafficState S) : Type 0 where
+pub record PutsUnder {S : Type 0} (now number : ℕ) (stream : S) (old new : TrafficState S) : Type 0 where
   pub room : number < length old.table
-  pub fresh : IsFreshSlot stream (link_at new.table number)
+  pub fresh : IsFreshSlot stream now (link_at new.table number)
   pub others : ChangesOne old.table number new.table
   pub engine : new.engine ≡ old.engine
 
@@ -114,7 +122,7 @@ pub record HasNoRoom {S : Type 0} (journal : Bool) (terms : DeskTerms) (now numb
 
 abbrev pub Attaches : {S : Type 0} → Bool → DeskTerms → ℕ → ℕ → S → TrafficState S → Bool → TrafficState S
     → Type 0
-Attaches journal terms now number stream old true new = PutsUnder number stream old new
+Attaches journal terms now number stream old true new = PutsUnder now number stream old new
 Attaches journal terms now number stream old false new = HasNoRoom journal terms now number old new
 
 -- ---- reading
@@ -122,7 +130,8 @@ Attaches journal terms now number stream old false new = HasNoRoom journal terms
 -- no byte came of the socket, if there is one, and what is pending is as it was
 pub record GaveNone {S : Type 0} (remaining : S → Option (List ℕ)) (link after : Socket S) : Type 0 where
   pub keeps : Keeps (remaining link.stream) (remaining after.stream)
-  pub pending : after.pending ≡ link.pending
+  pub rest : KeepsOutput link after
+  pub heard : after.heard ≡ link.heard
 
 -- nothing came of its socket, or it has none
 abbrev pub NoneCame : {S : Type 0} → (S → Option (List ℕ)) → ℕ → List (Option (Socket S))
@@ -135,7 +144,8 @@ NoneCame remaining number old new = ((link_at old number ≡ None) × (new ≡ o
 pub record GaveEnd {S : Type 0} (remaining : S → Option (List ℕ)) (link after : Socket S) : Type 0 where
   pub is_end : IsAtEnd (remaining after.stream)
   pub none : Consumes (remaining link.stream) (remaining after.stream) []
-  pub pending : after.pending ≡ link.pending
+  pub rest : KeepsOutput link after
+  pub heard : after.heard ≡ link.heard
 
 -- nothing is handed on: it may not be offered more, or nothing is pending and nothing came
 pub record ReadsNothing {S : Type 0} (remaining : S → Option (List ℕ)) (number : ℕ) (old new :
@@ -166,7 +176,7 @@ pub record KeepsUntaken {S : Type 0} (journal : Bool) (terms : DeskTerms) (now n
     pub given : ℕ
     pub hands : Hands journal terms old.engine now what given new.engine
     pub link : ChangesLink old.table number (λ link after. (after.stream ≡ link.stream)
-        × (after.pending.items ≡ drop given bytes)) new.table
+        × (after.pending.items ≡ drop given bytes) × SameFlags link after) new.table
 
 -- or memory was refused to the others: the connection is given up
 pub record LosesRest {S : Type 0} (journal : Bool) (terms : DeskTerms) (now number : ℕ) (bytes : List ℕ)
@@ -228,6 +238,15 @@ OffersPiece journal terms now number bytes old reading.NoMemory new =
 
 -- ---- writing
 
+-- the socket took these bytes at a moment
+pub record TookSome {S : Type 0} (contents : S → Option (List ℕ)) (now : ℕ) (bytes : List ℕ)
+    (link after : Socket S) : Type 0
+  where
+    pub appends : Appends (contents link.stream) (contents after.stream) bytes
+    pub rest : KeepsInput link after
+    pub writable : after.is_writable ≡ link.is_writable
+    pub moved : after.moved ≡ now
+
 -- the socket took the first of the bytes that the hub offers, and the hub is told exactly how many
 pub record Sends {S : Type 0} (contents : S → Option (List ℕ)) (journal : Bool) (terms : DeskTerms)
     (now number : ℕ) (old new : TrafficState S) : Type 0
@@ -238,14 +257,12 @@ pub record Sends {S : Type 0} (contents : S → Option (List ℕ)) (journal : Bo
     pub within : count ≤ length wire.ready
     pub given : ℕ
     pub hands : Hands journal terms old.engine now (event.Took number count) given new.engine
-    pub link : ChangesLink old.table number (λ link after.
-        Appends (contents link.stream) (contents after.stream) (take count wire.ready)
-        × (after.pending ≡ link.pending)) new.table
+    pub link : ChangesLink old.table number (TookSome contents now (take count wire.ready)) new.table
 
 -- the socket took none
 pub record TookNone {S : Type 0} (contents : S → Option (List ℕ)) (link after : Socket S) : Type 0 where
   pub keeps : Keeps (contents link.stream) (contents after.stream)
-  pub pending : after.pending ≡ link.pending
+  pub rest : KeepsInput link after
 
 -- nothing is written or told: the connection is closed and has no socket, or is open, and its socket took none
 pub record SendsNothing {S : Type 0} (contents : S → Option (List ℕ)) (number : ℕ) (old new :

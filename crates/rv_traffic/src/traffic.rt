@@ -64,7 +64,8 @@ impl<S: Drop> Switchboard<S> {
     ghost use Rattle.std.specs.Bool.{OnFalse, OnTrue};
     ghost use Rattle.rv_engine.specs.Handing.{Gathers, LooksAt};
     ghost use Rattle.rv_traffic.specs.Calls.{Attaches, GivesUp, Hands};
-    ghost use Rattle.rv_links.specs.Table.{ChangesOne, SameSlot, link_at};
+    ghost use Rattle.std.specs.Option.{option_map};
+    ghost use Rattle.rv_links.specs.Table.{ChangesOne, heeded, link_at};
     ghost use Rattle.rv_traffic.specs.Views.{SameTerms, traffic_state};
 
     /// A connection is opened at a moment: it gives its number, under which a socket is to be put, or why
@@ -107,8 +108,9 @@ impl<S: Drop> Switchboard<S> {
 
     /// A poll told that a connection's socket may be read, or written, once more: it is to be looked at.
     pub fn heed(&mut self, number: ConnectionNumber, is_readable: bool, is_writable: bool)
-        ensures same { SameSlot (link_at self.old.links.table.items number)
-            (link_at self.new.links.table.items number) }
+        ensures heeds { link_at self.new.links.table.items number
+            ≡ option_map (λ link. heeded link is_readable is_writable)
+            (link_at self.old.links.table.items number) }
         ensures others { ChangesOne self.old.links.table.items number self.new.links.table.items }
         ensures looks { LooksAt (engine_state self.old.engine) (number ∷ []) (engine_state self.new.engine) }
         ensures hub { self.new.engine.hub ≡ self.old.engine.hub }

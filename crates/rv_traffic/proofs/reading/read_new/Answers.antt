@@ -9,11 +9,11 @@ use Rattle.rv_traffic.proofs.reading.read_new.Goals as goal
 
 pub offer_piece-requires-clause-none_pending : goal.offer_piece-requires-clause-none_pending
 offer_piece-requires-clause-none_pending g c =
-    (piece_there g.S.Read.remaining _ _ _ c.in-Piece.ensures.reads c.requires.none_pending).1
+    (piece_there g.S.Read.remaining _ _ _ _ c.in-Piece.ensures.reads c.requires.none_pending).1
 
 pub offer_piece-requires-clause-there : goal.offer_piece-requires-clause-there
 offer_piece-requires-clause-there g c =
-    (piece_there g.S.Read.remaining _ _ _ c.in-Piece.ensures.reads c.requires.none_pending).0
+    (piece_there g.S.Read.remaining _ _ _ _ c.in-Piece.ensures.reads c.requires.none_pending).0
 
 pub hand-requires-clause-can : goal.hand-requires-clause-can
 hand-requires-clause-can g c = may_end (engine_state c.args.traffic.now.engine).hub c.args.number
@@ -35,7 +35,7 @@ returns-in-End-clause-reads g c = record {
   none_pending = c.requires.none_pending;
   given = c.hand.result;
   hands = record { made = c.hand.new.self.hub.desk.entries.items; hands = c.hand.ensures.takes };
-  link = end_came g.S.Read.remaining c.args.traffic.now.links.table.items c.read.new.self.table.items
+  link = end_came g.S.Read.remaining c.args.now c.args.traffic.now.links.table.items c.read.new.self.table.items
       c.args.number c.read.new.self.buffer.items c.in-End.ensures.reads c.read.ensures.others;
 }
 
@@ -44,7 +44,7 @@ returns-in-Nothing-clause-reads g c = record {
   engine = refl;
   why = inr (
     c.requires.none_pending,
-    nothing_came g.S.Read.remaining c.args.traffic.now.links.table.items c.read.new.self.table.items
+    nothing_came g.S.Read.remaining c.args.now c.args.traffic.now.links.table.items c.read.new.self.table.items
         c.args.number c.read.new.self.buffer.items c.in-Nothing.ensures.reads c.read.ensures.others,
   );
 }
@@ -53,7 +53,7 @@ pub returns-in-Broken-clause-reads : goal.returns-in-Broken-clause-reads
 returns-in-Broken-clause-reads g c = record {
   may = c.requires.may;
   none_pending = c.requires.none_pending;
-  readable = broken_readable g.S.Read.remaining _ _ _ c.in-Broken.ensures.reads;
+  readable = broken_readable g.S.Read.remaining _ _ _ _ c.in-Broken.ensures.reads;
   gives_up = gives_up_then c.args.traffic.now.engine.hub.has_journal
       (hub_terms c.args.traffic.now.engine.hub) c.args.now c.args.number (traffic_state c.args.traffic.now)
       (record {

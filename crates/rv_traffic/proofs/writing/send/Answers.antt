@@ -4,7 +4,7 @@ use Rattle.rv_hub.specs.Hubs.{hub_terms}
 use Rattle.rv_engine.specs.Engines.{engine_state}
 use Rattle.rv_traffic.specs.Views.{traffic_state}
 use Rattle.rv_traffic.proofs.Tables.{gives_up_then}
-use Rattle.rv_traffic.proofs.WhatLeft.{broken_writable, same_none, some_ready, took_none, took_ready}
+use Rattle.rv_traffic.proofs.WhatLeft.{broken_writable, rested_none, some_ready, took_none, took_ready}
 use Rattle.rv_traffic.proofs.WhatLeft.{took_within}
 use Rattle.rv_traffic.proofs.writing.send.Goals as goal
 
@@ -15,7 +15,7 @@ hand-requires-clause-can g c =
       wire = c.requires.is_open.wire;
       there = c.requires.is_open.there;
       so = subst (λ (l : List ℕ). c.in-Took.count ≤ length l) is
-          (took_within g.S.Write.contents _ _ _ _ c.in-Took.ensures.writes);
+          (took_within g.S.Write.contents _ _ _ _ _ c.in-Took.ensures.writes);
     }
 
 pub returns-then-is_empty-clause-writes : goal.returns-then-is_empty-clause-writes
@@ -23,8 +23,8 @@ returns-then-is_empty-clause-writes g c = record {
   engine = refl;
   why = inr (
     c.requires.is_open,
-    same_none g.S.Write.contents c.args.traffic.now.links.table.items c.rest.new.self.table.items
-        c.args.number c.requires.there c.rest.ensures.same c.rest.ensures.others,
+    rested_none g.S.Write.contents c.args.traffic.now.links.table.items c.rest.new.self.table.items
+        c.args.number c.args.now c.requires.there c.rest.ensures.rests c.rest.ensures.others,
   );
 }
 
@@ -36,10 +36,10 @@ returns-in-Took-clause-writes g c =
       is_open = c.requires.is_open.there;
       count = c.in-Took.count;
       within = subst (λ (l : List ℕ). c.in-Took.count ≤ length l) is
-          (took_within g.S.Write.contents _ _ _ _ c.in-Took.ensures.writes);
+          (took_within g.S.Write.contents _ _ _ _ _ c.in-Took.ensures.writes);
       given = c.hand.result;
       hands = record { made = c.hand.new.self.hub.desk.entries.items; hands = c.hand.ensures.takes };
-      link = took_ready g.S.Write.contents c.args.traffic.now.links.table.items c.write.new.self.table.items
+      link = took_ready g.S.Write.contents c.args.now c.args.traffic.now.links.table.items c.write.new.self.table.items
           c.args.number c.ready_of-ready.result.now c.requires.is_open.wire.ready c.in-Took.count is
           c.in-Took.ensures.writes c.write.ensures.others;
     }
@@ -49,7 +49,7 @@ returns-in-Nothing-clause-writes g c = record {
   engine = refl;
   why = inr (
     c.requires.is_open,
-    took_none g.S.Write.contents c.args.traffic.now.links.table.items c.write.new.self.table.items
+    took_none g.S.Write.contents c.args.now c.args.traffic.now.links.table.items c.write.new.self.table.items
         c.args.number c.ready_of-ready.result.now c.requires.there c.in-Nothing.ensures.writes
         c.write.ensures.others,
   );
@@ -65,7 +65,7 @@ returns-in-Broken-clause-writes g c =
         so = subst (λ (l : List ℕ). 0 < length l) is
             (some_ready _ (sym c.is_empty.ensures ∙ c.if-is_empty.false));
       };
-      writable = broken_writable g.S.Write.contents _ _ _ c.in-Broken.ensures.writes;
+      writable = broken_writable g.S.Write.contents _ _ _ _ c.in-Broken.ensures.writes;
       gives_up = gives_up_then c.args.traffic.now.engine.hub.has_journal
           (hub_terms c.args.traffic.now.engine.hub) c.args.now c.args.number
           (traffic_state c.args.traffic.now)
