@@ -1,5 +1,5 @@
 -- What a write to a connection's socket takes.
-use Rattle.std.specs.Prelude.{ℕ, ◌≡◌, ◌≤◌, Bool, List, Option, length, take, true}
+use Rattle.std.specs.Prelude.{ℕ, ◌≡◌, ◌<◌, ◌≤◌, Bool, List, Option, length, take, true}
 use Rattle.std.specs.Io.KnownBytes.{Appends, Keeps}
 use Rattle.rv_links.specs.declared.link.Socket.{Socket}
 use Rattle.rv_links.specs.declared.link.WriteOutcome.{WriteOutcome}
@@ -11,11 +11,11 @@ pub record KeepsInput {S : Type 0} (old new : Socket S) : Type 0 where
   pub readable : new.is_readable ≡ old.is_readable
   pub heard : new.heard ≡ old.heard
 
--- the socket took so many bytes, if it may be written, and these are all that it took
+-- the socket took so many bytes, at least one, if it may be written, and these are all that it took
 abbrev pub TakesOutput : {S : Type 0} → (S → Option (List ℕ)) → Socket S → List ℕ → WriteOutcome → Socket S
     → Type 0
-TakesOutput contents old ready (output.Took count) new = (count ≤ length ready) × (old.is_writable ≡ true)
-    × Appends (contents old.stream) (contents new.stream) (take count ready)
+TakesOutput contents old ready (output.Took count) new = (0 < count) × (count ≤ length ready)
+    × (old.is_writable ≡ true) × Appends (contents old.stream) (contents new.stream) (take count ready)
 TakesOutput contents old ready output.Nothing new = Keeps (contents old.stream) (contents new.stream)
 TakesOutput contents old ready output.Broken new = (old.is_writable ≡ true)
     × Keeps (contents old.stream) (contents new.stream)

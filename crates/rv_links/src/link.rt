@@ -23,11 +23,11 @@ pub enum ReadOutcome {
 /// What came of one write to a socket.
 #[derive(Clone, Copy)]
 pub enum WriteOutcome {
-    /// It took so many bytes, from the first on.
+    /// It took so many bytes, at least one, from the first on.
     Took(usize),
     /// It takes none yet.
     Nothing,
-    /// The write failed.
+    /// The write failed, or took no byte.
     Broken,
 }
 
@@ -118,6 +118,7 @@ impl<S: Write> Socket<S> {
             return WriteOutcome::Nothing;
         }
         let error = match self.stream.write(ready) {
+            Ok(0) => return WriteOutcome::Broken,
             Ok(count) => {
                 self.moved = now;
                 return WriteOutcome::Took(count);

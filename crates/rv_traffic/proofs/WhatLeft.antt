@@ -26,10 +26,11 @@ module _ {S : Type 0} where
 
   pub took_within : (contents : S → Option (List ℕ)) (now : ℕ) (o : Option (Socket S)) (ready : List ℕ)
       (count : ℕ) (new : Option (Socket S)) → WritesSlot contents now o ready (output.Took count) new
-      → count ≤ length ready
+      → (0 < count) × (count ≤ length ready)
   took_within contents now None ready count new (nothing, is) =
       absurd (let differ : output.Took count ≡ output.Nothing = nothing in cc)
-  took_within contents now (Some link) ready count new (after, writes, is) = writes.takes.0
+  took_within contents now (Some link) ready count new (after, writes, is) =
+      (writes.takes.0, writes.takes.1)
 
   took_some : (contents : S → Option (List ℕ)) (now : ℕ) (old new : List (Option (Socket S))) (n : ℕ)
       (ready : List ℕ) (count : ℕ)
@@ -46,7 +47,7 @@ module _ {S : Type 0} where
         after = after;
         there = is;
         changes = record {
-          appends = wrote.takes.2;
+          appends = wrote.takes.3;
           rest = wrote.rest;
           writable = wrote.writable;
           moved = wrote.moved;

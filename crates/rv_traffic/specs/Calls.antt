@@ -247,13 +247,14 @@ pub record TookSome {S : Type 0} (contents : S → Option (List ℕ)) (now : ℕ
     pub writable : after.is_writable ≡ link.is_writable
     pub moved : after.moved ≡ now
 
--- the socket took the first of the bytes that the hub offers, and the hub is told exactly how many
+-- the socket took the first of the bytes that the hub offers, at least one, and the hub is told exactly how many
 pub record Sends {S : Type 0} (contents : S → Option (List ℕ)) (journal : Bool) (terms : DeskTerms)
     (now number : ℕ) (old new : TrafficState S) : Type 0
   where
     pub wire : Traffic
     pub is_open : old.engine.hub.open_wires.wires number ≡ Some wire
     pub count : ℕ
+    pub some : 0 < count
     pub within : count ≤ length wire.ready
     pub given : ℕ
     pub hands : Hands journal terms old.engine now (event.Took number count) given new.engine

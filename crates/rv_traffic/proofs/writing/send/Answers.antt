@@ -15,7 +15,7 @@ hand-requires-clause-can g c =
       wire = c.requires.is_open.wire;
       there = c.requires.is_open.there;
       so = subst (λ (l : List ℕ). c.in-Took.count ≤ length l) is
-          (took_within g.S.Write.contents _ _ _ _ _ c.in-Took.ensures.writes);
+          (took_within g.S.Write.contents _ _ _ _ _ c.in-Took.ensures.writes).1;
     }
 
 pub returns-then-is_empty-clause-writes : goal.returns-then-is_empty-clause-writes
@@ -35,12 +35,13 @@ returns-in-Took-clause-writes g c =
       wire = c.requires.is_open.wire;
       is_open = c.requires.is_open.there;
       count = c.in-Took.count;
+      some = (took_within g.S.Write.contents _ _ _ _ _ c.in-Took.ensures.writes).0;
       within = subst (λ (l : List ℕ). c.in-Took.count ≤ length l) is
-          (took_within g.S.Write.contents _ _ _ _ _ c.in-Took.ensures.writes);
+          (took_within g.S.Write.contents _ _ _ _ _ c.in-Took.ensures.writes).1;
       given = c.hand.result;
       hands = record { made = c.hand.new.self.hub.desk.entries.items; hands = c.hand.ensures.takes };
-      link = took_ready g.S.Write.contents c.args.now c.args.traffic.now.links.table.items c.write.new.self.table.items
-          c.args.number c.ready_of-ready.result.now c.requires.is_open.wire.ready c.in-Took.count is
+      link = took_ready g.S.Write.contents c.args.now c.args.traffic.now.links.table.items
+          c.write.new.self.table.items c.args.number c.ready_of-ready.result.now c.requires.is_open.wire.ready c.in-Took.count is
           c.in-Took.ensures.writes c.write.ensures.others;
     }
 
