@@ -53,8 +53,8 @@ abbrev pub PendsSlot : {S : Type 0} → Option (Socket S) → List ℕ → Optio
 PendsSlot None bytes new = new ≡ None
 PendsSlot (Some link) bytes new = (after : _) × HasPending link bytes after × (new ≡ Some after)
 
--- a socket of which a poll told: it may be read, or written to, if it could be or the poll says so, and all else
--- is as it was
+-- a socket of which a poll told: it may be read, or written to, if it could be or the poll says so, and all
+-- else is as it was
 abbrev pub heeded : {S : Type 0} → Socket S → Bool → Bool → Socket S
 heeded link is_readable is_writable = record link {
   is_readable = link.is_readable || is_readable;

@@ -130,7 +130,8 @@ module _ {S : Type 0} where
               subst (IsPieceOf what n) all piece,
               later.changes.1 ∙ ap (drop given) all,
               record {
-                readable = later.changes.2.readable ∙ ap (λ (l : Socket S). l.is_readable) same ∙ read.readable;
+                readable = later.changes.2.readable ∙ ap (λ (l : Socket S). l.is_readable) same
+                    ∙ read.readable;
                 writable = later.changes.2.writable ∙ ap (λ (l : Socket S). l.is_writable) same
                     ∙ read.rest.writable;
                 moved = later.changes.2.moved ∙ ap (λ (l : Socket S). l.moved) same ∙ read.rest.moved;
@@ -237,7 +238,8 @@ module _ {S : Type 0} where
       → ChangesOne old n new → ChangesLink old n (GaveEnd remaining) new
   end_came remaining now old new n bytes reads others = at (link_at old n) refl reads
     where
-      at : (o : Option (Socket S)) → link_at old n ≡ o → ReadsSlot remaining now o input.End bytes (link_at new n)
+      at : (o : Option (Socket S)) → link_at old n ≡ o
+          → ReadsSlot remaining now o input.End bytes (link_at new n)
           → ChangesLink old n (GaveEnd remaining) new
       at None is (nothing, no_bytes, is_new) = absurd (let differ : input.End ≡ input.Nothing = nothing in cc)
       at (Some link) is (after, read, is_new) = record {
@@ -264,7 +266,8 @@ module _ {S : Type 0} where
       → drop count (pending_of (link_at old.table n)) ≡ drop given (pending_of (link_at old.table n))
       → PendsSlot (link_at old.table n) (drop count (pending_of (link_at old.table n))) (link_at new.table n)
       → ChangesOne old.table n new.table → Offers remaining journal terms now n old new
-  offers_made remaining journal terms now n old new what made given count may does there piece same pends others
+  offers_made remaining journal terms now n old new what made given count may does there piece same pends
+      others
       = record {
         may = may;
         bytes = [];

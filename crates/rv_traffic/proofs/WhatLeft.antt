@@ -1,5 +1,6 @@
 -- What is written to a connection.
-use Rattle.std.proofs.Common.{◌≡◌, ◌<◌, ◌≤◌, ℕ, IsSome, List, None, Option, Some, arith, false, length, nat_eq}
+use Rattle.std.proofs.Common.{◌≡◌, ◌<◌, ◌≤◌, ℕ, IsSome, List, None, Option, Some, arith, false, length}
+use Rattle.std.proofs.Common.{nat_eq}
 use Rattle.std.proofs.Common.{option_map, refl, suc, subst, sym, take, zero}
 use Rattle.std.proofs.lemmas.Bool.{false≢true}
 use Rattle.rv_links.specs.declared.link.Socket.{Socket}

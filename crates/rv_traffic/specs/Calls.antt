@@ -25,8 +25,8 @@ abbrev pub MayBeOffered : DeskState → ℕ → Type 0
 MayBeOffered s number = HasWire s.open_wires number MayOffer
 
 -- it is open
-abbrev pub IsOpen : DeskState → ℕ → Type 0
-IsOpen s number = HasWire s.open_wires number (λ wire. Unit {0})
+abbrev pub IsConnected : DeskState → ℕ → Type 0
+IsConnected s number = HasWire s.open_wires number (λ wire. Unit {0})
 
 -- its socket may be read
 abbrev pub IsReadable : {S : Type 0} → Option (Socket S) → Type 0
@@ -67,8 +67,8 @@ pub record Hands (journal : Bool) (terms : DeskTerms) (old : EngineState) (now :
     pub made : List Entry
     pub hands : HandsOn journal terms old now what made given new
 
--- what is pending of a connection that may be offered more, or where nothing is, what came from its socket, is
--- offered, of which the hub takes some: the others are pending
+-- what is pending of a connection that may be offered more is offered, or where nothing is, what came from
+-- its socket; the hub takes some of it, and the others are pending
 pub record Offers {S : Type 0} (remaining : S → Option (List ℕ)) (journal : Bool) (terms : DeskTerms)
     (now number : ℕ) (old new : TrafficState S) : Type 0
   where
@@ -190,8 +190,8 @@ pub record LosesRest {S : Type 0} (journal : Bool) (terms : DeskTerms) (now numb
     pub others : ChangesOne old.table number between.table
     pub gives_up : GivesUp journal terms now number between new
 
--- a piece came of its socket, of which nothing was pending, and was offered, but memory was refused to what the
--- hub didn't take of it
+-- a piece came of its socket, of which nothing was pending, and was offered, but memory was refused to what
+-- the hub didn't take of it
 pub record LosesPiece {S : Type 0} (remaining : S → Option (List ℕ)) (journal : Bool) (terms : DeskTerms)
     (now number : ℕ) (old new : TrafficState S) : Type 0
   where
@@ -247,7 +247,8 @@ pub record TookSome {S : Type 0} (contents : S → Option (List ℕ)) (now : ℕ
     pub writable : after.is_writable ≡ link.is_writable
     pub moved : after.moved ≡ now
 
--- the socket took the first of the bytes that the hub offers, at least one, and the hub is told exactly how many
+-- the socket took the first of the bytes that the hub offers, at least one, and the hub is told exactly how
+-- many
 pub record Sends {S : Type 0} (contents : S → Option (List ℕ)) (journal : Bool) (terms : DeskTerms)
     (now number : ℕ) (old new : TrafficState S) : Type 0
   where
@@ -265,7 +266,8 @@ pub record TookNone {S : Type 0} (contents : S → Option (List ℕ)) (link afte
   pub keeps : Keeps (contents link.stream) (contents after.stream)
   pub rest : KeepsInput link after
 
--- nothing is written or told: the connection is closed and has no socket, or is open, and its socket took none
+-- nothing is written or told: the connection is closed and has no socket, or it is open, and its socket took
+-- none
 pub record SendsNothing {S : Type 0} (contents : S → Option (List ℕ)) (number : ℕ) (old new :
     TrafficState S) :
     Type 0
@@ -273,7 +275,7 @@ pub record SendsNothing {S : Type 0} (contents : S → Option (List ℕ)) (numbe
     pub engine : new.engine ≡ old.engine
     pub why : ((link_at old.table number ≡ None) × (new.table ≡ old.table)
         × (old.engine.hub.open_wires.wires number ≡ None))
-        ⊎ (IsOpen old.engine.hub number × ChangesLink old.table number (TookNone contents) new.table)
+        ⊎ (IsConnected old.engine.hub number × ChangesLink old.table number (TookNone contents) new.table)
 
 -- bytes were ready, and a write to its socket failed: the connection is given up
 pub record FailsToWrite {S : Type 0} (journal : Bool) (terms : DeskTerms) (now number : ℕ)

@@ -27,7 +27,8 @@ returns-in-Piece-clause-reads g c =
       engine = engine_state c.args.traffic.now.engine;
       table = c.read.new.self.table.items;
     }) c.read.new.self.buffer.items c.offer_piece.result (traffic_state c.offer_piece.new.traffic)
-    c.requires.may refl c.requires.none_pending c.in-Piece.ensures.reads c.read.ensures.others c.offer_piece.ensures.offers
+    c.requires.may refl c.requires.none_pending c.in-Piece.ensures.reads c.read.ensures.others
+    c.offer_piece.ensures.offers
 
 pub returns-in-End-clause-reads : goal.returns-in-End-clause-reads
 returns-in-End-clause-reads g c = record {
@@ -35,7 +36,8 @@ returns-in-End-clause-reads g c = record {
   none_pending = c.requires.none_pending;
   given = c.hand.result;
   hands = record { made = c.hand.new.self.hub.desk.entries.items; hands = c.hand.ensures.takes };
-  link = end_came g.S.Read.remaining c.args.now c.args.traffic.now.links.table.items c.read.new.self.table.items
+  link = end_came g.S.Read.remaining c.args.now c.args.traffic.now.links.table.items
+      c.read.new.self.table.items
       c.args.number c.read.new.self.buffer.items c.in-End.ensures.reads c.read.ensures.others;
 }
 
@@ -44,7 +46,8 @@ returns-in-Nothing-clause-reads g c = record {
   engine = refl;
   why = inr (
     c.requires.none_pending,
-    nothing_came g.S.Read.remaining c.args.now c.args.traffic.now.links.table.items c.read.new.self.table.items
+    nothing_came g.S.Read.remaining c.args.now c.args.traffic.now.links.table.items
+        c.read.new.self.table.items
         c.args.number c.read.new.self.buffer.items c.in-Nothing.ensures.reads c.read.ensures.others,
   );
 }

@@ -41,7 +41,8 @@ returns-in-Took-clause-writes g c =
       given = c.hand.result;
       hands = record { made = c.hand.new.self.hub.desk.entries.items; hands = c.hand.ensures.takes };
       link = took_ready g.S.Write.contents c.args.now c.args.traffic.now.links.table.items
-          c.write.new.self.table.items c.args.number c.ready_of-ready.result.now c.requires.is_open.wire.ready c.in-Took.count is
+          c.write.new.self.table.items c.args.number c.ready_of-ready.result.now c.requires.is_open.wire.ready
+          c.in-Took.count is
           c.in-Took.ensures.writes c.write.ensures.others;
     }
 
