@@ -76,9 +76,14 @@ pub(crate) struct Shell {
     pub(crate) unread: usize,
 }
 
-// What of a shell the system or memory may refuse.
+/// A shell without its engine: where it is asked, what it keeps, a poll that tells who comes, and room for
+/// sockets.
 #[derive(Drop)]
-struct ShellParts {
+pub(crate) struct ShellParts {
+    doors: ShellDoors,
+    account: Option<Journal>,
+    // How many connections there may be.
+    connections: usize,
     start: Duration,
     poll: Poll,
     events: Events,
@@ -103,66 +108,62 @@ impl ShellDoors {
     }
 }
 
-// A poll that tells of listeners, and room for so many sockets.
-fn make_parts(
-    rt: &HostRuntime,
-    doors: &mut ShellDoors,
-    connections: usize,
-) -> Result<ShellParts, HostEnd> {
-    let alloc = rt.alloc();
-    let links = Links::new(alloc, connections)?;
-    let events = Events::with_capacity(alloc, EVENTS)?;
-    let start = rt.monotonic()?;
+// A poll that tells of the doors.
+fn watching(rt: &HostRuntime, doors: &mut ShellDoors) -> io::Result<Poll> {
     let poll = Poll::new(rt)?;
     doors.register(&poll)?;
-    Ok(ShellParts {
-        start,
-        poll,
-        events,
-        links,
-    })
+    Ok(poll)
+}
+
+impl ShellParts {
+    /// A poll that tells of these doors, and room for so many sockets.
+    pub(crate) fn new(
+        rt: &HostRuntime,
+        mut doors: ShellDoors,
+        account: Option<Journal>,
+        connections: usize,
+    ) -> Result<ShellParts, HostEnd> {
+        let start = rt.monotonic()?;
+        let poll = watching(rt, &mut doors)?;
+        let events = Events::with_capacity(rt.alloc(), EVENTS)?;
+        let links = Links::new(rt.alloc(), connections)?;
+        Ok(ShellParts {
+            doors,
+            account,
+            connections,
+            start,
+            poll,
+            events,
+            links,
+        })
+    }
 }
 
 impl Shell {
+    /// A shell that has not turned yet.
     pub(crate) fn new(
-        rt: &HostRuntime,
+        parts: ShellParts,
         engine: Engine,
-        account: Option<Journal>,
-        mut doors: ShellDoors,
         report: HostReport,
         options: &HostOptions<'_>,
-        connections: usize,
-    ) -> Result<Shell, HostEnd> {
-        match make_parts(rt, &mut doors, connections) {
-            Ok(
-                ShellParts {
-                    start,
-                    poll,
-                    events,
-                    links,
-                },
-            ) => {
-                let ShellDoors { door, status } = doors;
-                Ok(Shell {
-                    start,
-                    poll,
-                    events,
-                    door,
-                    traffic: Switchboard::new(engine, links),
-                    account,
-                    status,
-                    report,
-                    connections,
-                    memory: options.memory as u128 * 1_048_576,
-                    idle: options.idle.saturating_mul(1_000),
-                    stall: options.stall.saturating_mul(1_000),
-                    opened: 0,
-                    clock_faults: 0,
-                    looked_over: 0,
-                    unread: 0,
-                })
-            }
-            Err(end) => Err(end),
+    ) -> Shell {
+        Shell {
+            start: parts.start,
+            poll: parts.poll,
+            events: parts.events,
+            door: parts.doors.door,
+            traffic: Switchboard::new(engine, parts.links),
+            account: parts.account,
+            status: parts.doors.status,
+            report,
+            connections: parts.connections,
+            memory: options.memory as u128 * 1_048_576,
+            idle: options.idle.saturating_mul(1_000),
+            stall: options.stall.saturating_mul(1_000),
+            opened: 0,
+            clock_faults: 0,
+            looked_over: 0,
+            unread: 0,
         }
     }
 

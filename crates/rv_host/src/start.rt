@@ -7,7 +7,7 @@ use crate::door::Door;
 use crate::fault::HostEnd;
 use crate::journal::{Journal, begin_account};
 use crate::report::HostReport;
-use crate::shell::{Shell, ShellDoors};
+use crate::shell::{Shell, ShellDoors, ShellParts};
 use crate::status::StatusDesk;
 use libc::types::rlimit;
 use libc::{RLIMIT_NOFILE, getrlimit};
@@ -43,38 +43,72 @@ pub(crate) fn begin(
     requires { FitOptions options.now }
 {
     let epoch = options.epoch.epoch(wall_clock(rt));
+    let ground = ground_of(rt, options, epoch)?;
+    let room = room_of(options);
+    let engine = engine_of(rt, options, epoch, room.connections as usize)?;
+    match open_doors(rt, options, &mut report, ground, epoch, room) {
+        Ok(parts) => Ok(Shell::new(parts, engine, report, options)),
+        Err(end) => {
+            drop(engine);
+            Err(end)
+        }
+    }
+}
+
+// Where a server listens, and the account that it keeps.
+#[derive(Drop)]
+struct Ground {
+    listener: TcpListener,
+    status: Option<TcpListener>,
+    account: Option<Journal>,
+}
+
+// The addresses and the file that the words name.
+fn ground_of(rt: &HostRuntime, options: &HostOptions<'_>, epoch: u64) -> Result<Ground, HostEnd> {
     let listener = listening(rt, options.listen)?;
     let status = status_of(rt, options)?;
     let account = account_of(rt, options, epoch)?;
-    let open_files = open_files();
-    let connections = open_files
-        .saturating_sub(spare(options))
-        .max(1)
-        .min(options.connections);
-    let engine = engine_of(rt, options, epoch, connections as usize)?;
-    tell_start(
-        rt,
-        options,
-        &mut report,
-        &listener,
-        epoch,
-        open_files,
-        connections,
-    )?;
-    let status = status_desk(rt, options, &mut report, status)?;
-    let doors = ShellDoors {
-        door: Door::new(listener),
+    Ok(Ground {
+        listener,
         status,
-    };
-    Shell::new(
-        rt,
-        engine,
         account,
-        doors,
-        report,
-        options,
-        connections as usize,
-    )
+    })
+}
+
+// How many descriptors there may be, and how many connections.
+#[derive(Clone, Copy)]
+struct Room {
+    open_files: u64,
+    connections: u64,
+}
+
+// What the system's limit leaves of the connections that the words name.
+fn room_of(options: &HostOptions<'_>) -> Room {
+    let open_files = open_files();
+    Room {
+        open_files,
+        connections: open_files
+            .saturating_sub(spare(options))
+            .max(1)
+            .min(options.connections),
+    }
+}
+
+// Says that a server has begun, and has a poll tell who comes.
+fn open_doors(
+    rt: &HostRuntime,
+    options: &HostOptions<'_>,
+    report: &mut HostReport,
+    ground: Ground,
+    epoch: u64,
+    room: Room,
+) -> Result<ShellParts, HostEnd> {
+    tell_start(rt, options, report, &ground.listener, epoch, room)?;
+    let doors = ShellDoors {
+        status: status_desk(rt, options, report, ground.status)?,
+        door: Door::new(ground.listener),
+    };
+    ShellParts::new(rt, doors, ground.account, room.connections as usize)
 }
 
 // The wall clock's milliseconds.
@@ -179,7 +213,6 @@ fn engine_of(
 ) -> Result<Engine, HostEnd>
     requires { Fits number.Epoch epoch }
 {
-    let machine = Machine::open(rt.alloc(), epoch, 0)?;
     let Some(limits) = Limits::new(
         MOST_ENTRIES,
         options.clients as usize,
@@ -187,6 +220,7 @@ fn engine_of(
     ) else {
         return Err(HostEnd::Limits);
     };
+    let machine = Machine::open(rt.alloc(), epoch, 0)?;
     let engine = Engine::new(
         rt.alloc(),
         machine,
@@ -218,16 +252,15 @@ fn tell_start(
     report: &mut HostReport,
     listener: &TcpListener,
     epoch: u64,
-    open_files: u64,
-    connections: u64,
+    room: Room,
 ) -> Result<(), HostEnd> {
     let address = listener.local_addr()?;
     let name = format!(in rt.alloc(); "{address}")?;
     let said = StartSaid {
         address: &name,
         epoch,
-        connections,
-        open_files,
+        connections: room.connections,
+        open_files: room.open_files,
         clients: options.clients,
         open_places: options.open_places,
         memory: options.memory,

@@ -64,9 +64,10 @@ impl<S: Drop> Visitors<S> {
         requires { deque_len self.old.line < 32 }
         ensures { StaysUnlessLeaving now visitor self.old.line.items self.new.line.items }
     {
-        if !visitor.is_over(now) {
-            self.line.push_back_reserved(visitor);
+        if visitor.is_over(now) {
+            return drop(visitor);
         }
+        self.line.push_back_reserved(visitor);
     }
 }
 
