@@ -1,6 +1,8 @@
 # Proves, builds, runs, tests, installs and measures rv. Each target works from a clean clone.
 PREFIX ?= /usr/local
 PROGRAM = crates/rv_app/out/rv_app
+# the program for tests
+STEPS = crates/rv_steps/out/rv_steps
 
 .PHONY: run demo test check edits torture soak install deb package-test bench build
 
@@ -63,15 +65,13 @@ package-test: deb
 # with OLD=PROGRAM beside that of another build; and rv host beside redis-server, and what its status page costs
 bench: build
 	@command -v python3 > /dev/null || { echo "python3 is missing: the measurement is written in it" >&2; exit 1; }
-	@tools/build.py rv_bench
 	@tools/build.py rv_steps
-	@tools/build.py rv_hub_steps
-	@tools/bench/months.py crates/rv_steps/out/rv_steps
-	@tools/bench/held.py crates/rv_steps/out/rv_steps
-	@tools/bench/hubs.py crates/rv_hub_steps/out/rv_hub_steps
+	@tools/bench/months.py $(STEPS)
+	@tools/bench/held.py $(STEPS)
+	@tools/bench/hubs.py $(STEPS)
 	@tools/bench/verified.py $(PROGRAM)
-	@tools/bench/instructions.py $(PROGRAM) crates/rv_bench/out/rv_bench
-	@tools/bench/bench.py $(PROGRAM) crates/rv_bench/out/rv_bench $(if $(OLD),--old $(OLD))
+	@tools/bench/instructions.py $(PROGRAM) $(STEPS)
+	@tools/bench/bench.py $(PROGRAM) $(STEPS) $(if $(OLD),--old $(OLD))
 	@tools/bench/host.py $(PROGRAM)
 	@tools/bench/status.py $(PROGRAM)
 

@@ -51,7 +51,7 @@ SAME = {"MAX_EXCHANGER": "MAX_QUEUE"}
 # The folders of edits: those that the gate tries, all others that the prover must refuse, and those that a test must see.
 KINDS = ("must-fail", "edits", "test-edits")
 # Crates of tests and measurements, files of laws and of devices for tests, and what has no other body than its own.
-TESTS = ("rv_tests", "rv_bench", "rv_steps", "rv_hub_steps")
+TESTS = ("rv_tests", "rv_steps")
 BESIDE = ("src/laws.rt", "src/testing.rt")
 NO_WRONG_BODY = (r"\w+::swap::Swap\w*::new", r"\w+::waiters::Waiters\w*::empty", r"\w+::shared::Shared\w*::lock",
                  r"\w+::account::Account\w*::allocator", r"\w+::\w+::Verifier\w*::machine", r"\w+::records::Records\w*::new",

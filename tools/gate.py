@@ -32,7 +32,7 @@ import time
 ROOT = pathlib.Path(__file__).resolve().parents[1]
 sys.dont_write_bytecode, sys.path[0] = True, str(ROOT)
 from tools import proved  # noqa: E402
-from tools.outside import BAR, HUB_STEPS, OF_TESTS, PROGRAM, STEPS, count, finish, outcome, outside, run, seed_of_commit  # noqa: E402
+from tools.outside import BAR, OF_TESTS, PROGRAM, STEPS, count, finish, outcome, outside, run, seed_of_commit  # noqa: E402
 
 # How many units the gate may take where all is proved from nothing.
 BUDGET = 100
@@ -114,7 +114,7 @@ def processor_minutes():
 
 def build():
     """Sees that the proved programs are there: rt ci leaves them. What it counts is a failure for each that is not."""
-    lacking = [path for path in (PROGRAM, STEPS, HUB_STEPS) if not os.path.exists(path)]
+    lacking = [path for path in (PROGRAM, STEPS) if not os.path.exists(path)]
     return [0, sum(run(["tools/build.py", pathlib.Path(path).name])[1] != 0 for path in lacking)]
 
 
@@ -144,7 +144,7 @@ def main():
     print(f"seed of random tests: {asked.seed}", flush=True)
     _, status, _ = run(["rt", "selftest"])
     unit = processor_minutes()
-    for path in (PROGRAM, STEPS, HUB_STEPS):
+    for path in (PROGRAM, STEPS):
         pathlib.Path(path).unlink(missing_ok=True)
     provers = Provers(unit)
     provers.start()

@@ -7,10 +7,8 @@ import sys
 import threading
 
 PROGRAM = "crates/rv_app/out/rv_app"
-# The program for tests that makes steps under limits of one's own.
+# The program for tests: a machine's steps under limits of one's own, a hub's events, and JSON that is written back.
 STEPS = "crates/rv_steps/out/rv_steps"
-# The program for tests that hands events to a hub.
-HUB_STEPS = "crates/rv_hub_steps/out/rv_hub_steps"
 # What stands for the seed in the commands below, and the seed where there is no commit.
 SEED, NO_COMMIT = "SEED", 1
 OUTSIDE = [
@@ -24,6 +22,7 @@ OUTSIDE = [
     ["tests/commands/replies.py", PROGRAM],
     ["tests/commands/fill.py", PROGRAM],
     ["tests/commands/waits.py", PROGRAM],
+    ["tests/commands/steps.py", STEPS],
     ["tests/model/compare.py", "--selftest"],
     ["tests/model/compare.py", "--seed", SEED, "--lines", "10000", "--program", PROGRAM],
     ["tests/model/compare.py", "--play", "--seed", SEED, "--lines", "5000", "--program", PROGRAM],
@@ -38,8 +37,8 @@ OUTSIDE = [
     ["tests/model/states.py", "--selftest"],
     ["tests/model/states.py", "--seed", SEED, "--steps", "10000", "--entries", "2000"],
     ["tests/model/hubs.py", "--selftest"],
-    ["tests/model/hubs.py", "--seed", SEED, "--events", "5000", "--program", HUB_STEPS],
-    ["tests/faults/hub_growths.py", HUB_STEPS],
+    ["tests/model/hubs.py", "--seed", SEED, "--events", "5000", "--program", STEPS],
+    ["tests/faults/hub_growths.py", STEPS],
     ["tests/sockets/serve.py", "--seed", SEED, PROGRAM],
     ["tests/sockets/serve.py", "--selftest"],
     ["tests/host/run.py", "--seed", SEED, PROGRAM],
@@ -118,7 +117,7 @@ def outcome(words):
 
 def outside(seed):
     """What the runs of the programs from outside count, where they are there, and the documents."""
-    runs = OUTSIDE if all(map(os.path.exists, (PROGRAM, STEPS, HUB_STEPS))) else []
+    runs = OUTSIDE if all(map(os.path.exists, (PROGRAM, STEPS))) else []
     seeded = [[str(seed) if word == SEED else word for word in words] for words in runs]
     return [count(words) for words in [*seeded, ["tools/docs.py"]]]
 

@@ -10,7 +10,7 @@ import subprocess
 
 ROOT = pathlib.Path(__file__).resolve().parents[1]
 # The crates that are programs.
-PROGRAMS = ("rv_app", "rv_bench", "rv_steps", "rv_hub_steps")
+PROGRAMS = ("rv_app", "rv_steps")
 # How much memory the proof of a crate may take.
 PROOF_BYTES = 3 << 30
 # What a crate's folder holds that no program is made of.

@@ -33,7 +33,7 @@ class Machines:
         """The program's words."""
         open_places = self.limits.open_places
         bound = "none" if open_places is None else str(open_places)
-        return [str(self.limits.entries), str(self.limits.clients), bound, *(["anew"] if self.anew else [])]
+        return ["machine", str(self.limits.entries), str(self.limits.clients), bound, *(["anew"] if self.anew else [])]
 
     def script(self, chance, _, left):
         """The program's words for one machine, its lines, and that nothing is wrong with the model. A script ends some lines

@@ -1,6 +1,6 @@
 """The lines of a hub's driver: of events, and of what came of each.
 
-The driver's words `ENTRIES CLIENTS OPEN|none PATIENCE journal|none` say how its hub begins, over a book of epoch 1 without
+The driver's words `hub ENTRIES CLIENTS OPEN|none PATIENCE journal|none` say how its hub begins, over a book of epoch 1 without
 entries. An event is a line, its moment first: `AT opened`, `AT came N HEX` (`-` for no bytes), `AT ended N`, `AT gone N`,
 `AT took N COUNT`, `AT written COUNT`, `AT passed`; `show COUNT`, which is no event, looks at the connections of so many numbers.
 
@@ -30,7 +30,7 @@ def hub_words(terms: Terms) -> list[str]:
     limits = terms.limits
     bound = "none" if limits.open_places is None else limits.open_places
     journal = "journal" if terms.has_journal else "none"
-    return [str(word) for word in (limits.entries, limits.clients, bound, terms.patience, journal)]
+    return [str(word) for word in ("hub", limits.entries, limits.clients, bound, terms.patience, journal)]
 
 
 def event_line(moment: int, event: Event) -> bytes:

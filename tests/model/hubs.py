@@ -4,7 +4,7 @@ which say what is good and what is not, and whose peers take late what is writte
 
 A script has a hub of its own, and up to 120 events. Of each the program must tell what the model tells: how many bytes
 were taken, or why it can't be, the entries, each connection that changed with its bytes to hand out, the totals and the next
-moment. The program is rv_hub_steps, whose lines tests/model/hub_lines.py has.
+moment. The program is rv_steps, whose lines tests/model/hub_lines.py has.
 """
 import argparse
 import pathlib
@@ -22,8 +22,8 @@ from tests.model.hub_rows import SHORT_ROWS, events_of, hub_row_faults  # noqa: 
 from tests.model.hub_scripts import Script, make_hub_script  # noqa: E402
 from tests.model.hub_tally import Tally  # noqa: E402
 from tests.model.wrong_hubs import wrong_hub_faults  # noqa: E402
+from tools.outside import STEPS  # noqa: E402
 
-PROGRAM = "crates/rv_hub_steps/out/rv_hub_steps"
 # A run of so many events has to meet all that is counted.
 FULL_RUN = 20_000
 # How many events a script has at most.
@@ -92,7 +92,7 @@ def main() -> None:
     parser = argparse.ArgumentParser(description=__doc__)
     parser.add_argument("--seed", type=int, default=random.randrange(10**9), help="default: any")
     parser.add_argument("--events", type=int, default=5_000)
-    parser.add_argument("--program", default=PROGRAM)
+    parser.add_argument("--program", default=STEPS)
     parser.add_argument("--selftest", action="store_true", help="test the model itself, with no program")
     asked = parser.parse_args()
     if asked.selftest:

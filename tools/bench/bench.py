@@ -1,11 +1,11 @@
 #!/usr/bin/env python3
-"""Measures a program on some 100,000 lines, beside a plain loop that reads and writes the same JSON, and what a
+"""Measures a program on some 100,000 lines, beside a plain loop that reads and writes the same JSON, which STEPS has, and what a
 hand-over costs in an empty book and in a full one. It fails where the full one takes twice the time. As many events of
 `rv play` stand beside the lines of `rv book`. Then what a line costs in full tables, shape by shape, and beside it in those
 of another program where one is given; it fails at 1.2 times the cost in nearly empty ones. Then audits of accounts, and
 it fails where those are out of bounds; and what `rv serve` takes, beside `redis-server` where that is installed.
 
-usage: tools/bench/bench.py PROGRAM PLAIN_LOOP [--old PROGRAM]
+usage: tools/bench/bench.py PROGRAM STEPS [--old PROGRAM]
 """
 import argparse
 import contextlib
@@ -156,8 +156,8 @@ def timed(words, messages):
 def beside_plain(book, plain):
     """What the book and the plain loop take for the same lines."""
     with written(book, book_lines(in_turn(LINES))) as (path, lines, size):
-        seconds, plain_seconds = audit.seconds_in_turn([book, [plain]], path)
-        share, plain_share = (audit.peak(words, path) / lines for words in (book, [plain]))
+        seconds, plain_seconds = audit.seconds_in_turn([book, plain], path)
+        share, plain_share = (audit.peak(words, path) / lines for words in (book, plain))
     print(f"input            {lines} lines, {size} bytes")
     print(f"rv book          {lines / seconds:.0f} lines a second, peak memory {share:.0f} bytes a line")
     print(f"plain JSON loop  {lines / plain_seconds:.0f} lines a second, peak memory {plain_share:.0f} bytes a line")
@@ -187,11 +187,11 @@ def beside_empty(book, name, empty, full, before=()):
 def main():
     parser = argparse.ArgumentParser()
     parser.add_argument("program")
-    parser.add_argument("plain")
+    parser.add_argument("steps")
     parser.add_argument("--old", action="append", default=[])
     words = parser.parse_args()
-    program, plain = words.program, words.plain
-    book = [program, "book", "--epoch", "1"]
+    program = words.program
+    book, plain = [program, "book", "--epoch", "1"], [words.steps, "json"]
     beside_plain(book, plain)
     play_beside_book(program, book)
     good = [

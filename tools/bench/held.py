@@ -92,7 +92,7 @@ def beside_lines(program: str, lines: Iterator[Line]) -> int:
         with open(path, "w", encoding="ascii") as file:
             for moment, message in lines:
                 file.write(f"{moment} {json.dumps(message, separators=(',', ':'), sort_keys=True)}\n")
-        return peak([program, *LIMITS], path) - os.path.getsize(path)
+        return peak([program, "machine", *LIMITS], path) - os.path.getsize(path)
 
 
 def bytes_each(program: str, held: Held) -> float:

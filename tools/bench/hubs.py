@@ -22,8 +22,8 @@ sys.dont_write_bytecode, sys.path[0] = True, str(ROOT)
 from tools.bench.audit import hello, keyed, peak  # noqa: E402
 from tools.bench.instructions import counted  # noqa: E402
 
-# A step's limits, for how long a request waits before it is told so, and no journal: the driver's words.
-TERMS = [str(2**53 - 1), "65536", "100000", "1000000000", "none"]
+# A hub, a step's limits, for how long a request waits before it is told so, and no journal: the driver's words.
+TERMS = ["hub", str(2**53 - 1), "65536", "100000", "1000000000", "none"]
 # The most bytes that a connection that says nothing may take in a hub.
 MOST = 512
 FEW, MANY = 1_000, 100_000

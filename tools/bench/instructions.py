@@ -1,13 +1,13 @@
 #!/usr/bin/env python3
 """Counts the instructions that a line of `rv book` takes, part by part, and those of the plain loop over the
-same lines: items put and taken in turn. callgrind counts them, so that what else the machine does changes
+same lines, which STEPS has: items put and taken in turn. callgrind counts them, so that what else the machine does changes
 nothing. A count is that of a long input less that of a short one: what a start takes is left out.
 
 What the reader of JSON sets to zero is told apart: 16 KiB for each text, of which callgrind counts each byte.
 
 Where valgrind is missing, that is said, and nothing is counted.
 
-usage: tools/bench/instructions.py PROGRAM PLAIN_LOOP
+usage: tools/bench/instructions.py PROGRAM STEPS
 """
 import pathlib
 import re
@@ -40,7 +40,7 @@ PARTS = {
 }
 # How the names of those begin that set memory to zero, and of those that do so to read JSON.
 ZEROING = ("memset", "__memset")
-READERS = (*PARTS[PARSE], "rv_app", "rv_bench")
+READERS = (*PARTS[PARSE], "rv_app", "rv_steps")
 # A row of the annotator: instructions and their share; "<" before a caller, and behind all callers "*" before
 # the function that they call; its file; its name; how often; its program.
 ROW = re.compile(r" *([\d,]+) \( *[\d.]+%\) +([<*]) +[^:]*:(.*?)(?: \([\d,]+x\))?(?: \[[^\]]*\])?")
@@ -131,14 +131,14 @@ def main() -> None:
     if not shutil.which("valgrind") or not shutil.which("callgrind_annotate"):
         print("valgrind is missing: the instructions of a line are not counted")
         return
-    program, plain = sys.argv[1:]
-    book = [program, "book", "--epoch", "1"]
+    program, steps = sys.argv[1:]
+    book, plain = [program, "book", "--epoch", "1"], [steps, "json"]
     with tempfile.TemporaryDirectory() as folder:
         short, long = (pathlib.Path(folder) / f"{count}.in" for count in (SHORT, LONG))
         for path, count in ((short, SHORT), (long, LONG)):
             path.write_text("".join(f"{line}\n" for line in book_lines(in_turn(count))), encoding="ascii")
         audit.see_good(book, long)
-        print_table(of_a_line(book, short, long), of_a_line([plain], short, long))
+        print_table(of_a_line(book, short, long), of_a_line(plain, short, long))
 
 
 if __name__ == "__main__":

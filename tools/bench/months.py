@@ -35,7 +35,7 @@ class Cost:
 
 def words(program, entries):
     """The words of a run with so many entries, two a turn."""
-    return [program, *LIMITS, "turns", str(entries // 2)]
+    return [program, "machine", *LIMITS, "turns", str(entries // 2)]
 
 
 def seconds(program, entries):

@@ -1,135 +1,135 @@
-//! A program for tests: it makes the steps of a machine under limits of one's own, and prints what each is
-//! told.
+//! A program for tests, whose first word says what it does.
+//!
+//! `machine ENTRIES CLIENTS OPEN|none [anew | turns COUNT]`: a machine of epoch 1 makes the step of each line
+//! of standard input under these limits, and what that is told is printed. By `anew` a machine that is made
+//! anew hears each line; by `turns` the machine takes so many turns of the program's own, and no line.
+//!
+//! `hub ENTRIES CLIENTS OPEN|none PATIENCE journal|none`: a hub over such a machine is handed the event of
+//! each line, and what comes of that is printed.
+//!
+//! `json`: the JSON of each line is written back.
 #![tactic(auto)]
 
-ghost use Rattle.rv_steps.specs.Ready.{IsReady};
+ghost use Rattle.rv_rules.specs.StepLimits.{AreStepLimits};
+ghost use Rattle.rv_steps.specs.Hearing.{CanHear};
 
 mod anew;
 mod answers;
+mod driver;
+mod events;
+mod hexes;
+mod json;
 mod steps;
+mod telling;
 mod turns;
+mod words;
 
-use anew::answer_by;
+use driver::{Driver, answer, begin};
+use json::rewrite_lines;
 use rv_frame::Source;
-use rv_lines::{first_line, read_number};
+use rv_lines::first_line;
 use rv_machine::Machine;
 use rv_rules::Limits;
 use rv_run::read_input;
+use std::alloc::Global;
 use std::env;
 use std::io::{BufWriter, Write};
 use std::process::ExitCode;
 use turns::take_turns;
+use words::{Beginning, Task, Work, is_json, work_of};
 
 // The epoch of the machine.
 const EPOCH: u64 = 1;
 
-// Other words than those of limits, or limits that no step may have, are told on standard error.
+const USAGE: &str = "usage: rv_steps machine ENTRIES CLIENTS OPEN|none [anew | turns COUNT]
+       rv_steps hub ENTRIES CLIENTS OPEN|none PATIENCE journal|none
+       rv_steps json
+with limits that a step may have";
+
+// Other words than those of a task, or limits that no step may have, are told on standard error.
 fn main(rt: HostRuntime) -> anyhow::Result<ExitCode> {
     let words: Vec<String> = env::args(&rt)?.collect(rt.alloc())?;
+    if is_json(&words) {
+        return rewrite_lines(&rt);
+    }
     match work_of(&words) {
-        Some(Work::Lines(limits, anew)) => run_steps(&rt, &limits, anew),
-        Some(Work::Turns(limits, turns)) => run_turns(&rt, &limits, turns),
+        Some(work) => run(&rt, work),
         None => {
-            eprintln!(rt;
-                "usage: rv_steps ENTRIES CLIENTS OPEN|none [anew | turns COUNT], limits that a step may have"
-            )?;
+            eprintln!(rt; "{USAGE}")?;
             Ok(ExitCode::from(2))
         }
     }
 }
 
-// What to do, and under which limits.
-#[derive(Drop)]
-enum Work {
-    // A step for each line of standard input, and whether the machine is made anew behind each.
-    Lines(Limits, bool),
-    // So many turns of the program's own.
-    Turns(Limits, u64),
-}
-
-// What the words name, behind the program's name.
-fn work_of(words: &[String]) -> Option<Work> {
-    match words.len() {
-        4 => Some(Work::Lines(limits_of(words)?, false)),
-        5 if words[4].as_bytes() == b"anew".as_slice() => {
-            Some(Work::Lines(limits_of(words)?, true))
-        }
-        6 if words[4].as_bytes() == b"turns".as_slice() => {
-            let turns = read_number(words[5].as_bytes())?;
-            Some(Work::Turns(limits_of(words)?, turns))
-        }
-        _ => None,
+// Does what the words name.
+fn run(rt: &HostRuntime, work: Work) -> anyhow::Result<ExitCode>
+    requires { AreStepLimits work.limits }
+{
+    let Work { limits, task } = work;
+    match task {
+        Task::Lines(beginning) => run_lines(rt, limits, beginning),
+        Task::Turns(turns) => run_turns(rt, &limits, turns),
     }
 }
 
-// The limits that the words name.
-fn limits_of(words: &[String]) -> Option<Limits> {
-    if words.len() < 4 {
-        return None;
-    }
-    let entries = read_number(words[1].as_bytes())?;
-    let clients = read_number(words[2].as_bytes())?;
-    Limits::new(
-        entries as usize,
-        clients as usize,
-        bound_of(words[3].as_bytes())?,
-    )
-}
-
-// The bound on open places that a word names, if it names a bound or that there is none.
-fn bound_of(word: &[u8]) -> Option<Option<usize>> {
-    if word == b"none".as_slice() {
-        return Some(None);
-    }
-    Some(Some(read_number(word)? as usize))
-}
-
-// Opens a machine at moment 0, and answers each line of standard input, if need be by one made anew.
-fn run_steps(rt: &HostRuntime, limits: &Limits, anew: bool) -> anyhow::Result<ExitCode> {
+// Begins what is to hear lines, and hands it those of standard input.
+fn run_lines(rt: &HostRuntime, limits: Limits, beginning: Beginning) -> anyhow::Result<ExitCode>
+    requires { AreStepLimits limits }
+{
     let input = read_input(rt.alloc(), &mut Source::new(rt.stdin()))?;
-    let mut machine = Machine::open(rt.alloc(), EPOCH, 0)?;
-    answer_all(rt, limits, anew, &mut machine, &input)
+    let mut driver = begin(rt.alloc(), limits, beginning)?;
+    answer_all(rt, &mut driver, &input)
 }
 
-// Answers each line, and prints the bodies.
-fn answer_all(
-    rt: &HostRuntime,
-    limits: &Limits,
-    anew: bool,
-    machine: &mut Machine,
-    input: &[u8],
-) -> anyhow::Result<ExitCode>
-    requires { IsReady machine.old }
+// Does what each line says, and prints what is told of that. Why a line ends the run is told on standard
+// error.
+fn answer_all(rt: &HostRuntime, driver: &mut Driver, input: &[u8]) -> anyhow::Result<ExitCode>
+    requires { CanHear driver.old }
 {
     let mut output = BufWriter::new(rt.alloc(), rt.stdout())?;
     let mut rest = input;
     while let Some((line, after)) = first_line(rest) {
-        let Some(body) = answer_by(rt.alloc(), limits, anew, machine, line)? else {
-            return told_otherwise(rt);
-        };
-        output.write_all(body.as_bytes())?;
-        output.write_all(b"\n")?;
+        if !print_answer(rt.alloc(), &mut output, driver, line)? {
+            return tell_ended(rt, driver);
+        }
         rest = after;
     }
     output.flush()?;
     Ok(ExitCode::SUCCESS)
 }
 
-// Tells that a machine made anew isn't the one that heard the line.
-fn told_otherwise(rt: &HostRuntime) -> anyhow::Result<ExitCode> {
-    eprintln!(rt; "a machine made anew differs")?;
-    Ok(ExitCode::FAILURE)
+// Does what a line says, and prints what is told of it. False if it ends the run.
+fn print_answer<W: Write>(
+    alloc: Global,
+    output: &mut W,
+    driver: &mut Driver,
+    line: &[u8],
+) -> anyhow::Result<bool>
+    requires { CanHear driver.old }
+    ensures { CanHear driver.new }
+{
+    let mut text = Vec::new(alloc);
+    let goes_on = answer(alloc, driver, &mut text, line)?;
+    output.write_all(&text)?;
+    Ok(goes_on)
+}
+
+// Tells why a line ended the run.
+fn tell_ended(rt: &HostRuntime, driver: &Driver) -> anyhow::Result<ExitCode> {
+    let (why, status) = driver.ended();
+    eprintln!(rt; "{why}")?;
+    Ok(ExitCode::from(status))
 }
 
 // Opens a machine at moment 0, and takes turns in it.
 fn run_turns(rt: &HostRuntime, limits: &Limits, turns: u64) -> anyhow::Result<ExitCode> {
     let mut machine = Machine::open(rt.alloc(), EPOCH, 0)?;
     let heard = take_turns(rt.alloc(), limits, &mut machine, turns)?;
-    told_turns(rt, turns, heard)
+    tell_turns(rt, turns, heard)
 }
 
 // Tells whether all turns were heard.
-fn told_turns(rt: &HostRuntime, turns: u64, heard: bool) -> anyhow::Result<ExitCode> {
+fn tell_turns(rt: &HostRuntime, turns: u64, heard: bool) -> anyhow::Result<ExitCode> {
     if heard {
         println!(rt; "{turns} turns")?;
         return Ok(ExitCode::SUCCESS);

@@ -1,63 +1,14 @@
-//! Reads how a hub begins, and the lines of its events.
-ghost use Rattle.std.specs.Prelude.{IfSome};
-ghost use Rattle.rv_rules.specs.StepLimits.{AreStepLimits};
-
+//! Reads the lines of a hub's events.
+//!
+//! A line is an event, its moment first: `AT opened`, `AT came N HEX` (`-` for no bytes), `AT ended N`, `AT
+//! gone N`, `AT took N COUNT`, `AT written COUNT`, `AT passed`; or `show COUNT`, which is none. Another line
+//! ends the run.
 use crate::hexes::read_hex;
+use crate::words::read_size;
 use rv_hub::HubEvent;
 use rv_lines::{cut_at, read_number};
-use rv_rules::Limits;
 use rv_text::NoMemory;
 use std::alloc::Global;
-
-/// How a hub begins.
-#[derive(Drop)]
-pub(crate) struct Terms {
-    /// The limits of each step.
-    pub(crate) limits: Limits,
-    /// For how many milliseconds a request waits before it is told so.
-    pub(crate) patience: u32,
-    /// Whether it is told what is written.
-    pub(crate) has_journal: bool,
-}
-
-/// The terms that the program's words name, behind its own name.
-pub(crate) fn read_terms(words: &[String]) -> Option<Terms>
-    ensures { IfSome result (λ terms. AreStepLimits terms.limits) }
-{
-    if words.len() != 6 {
-        return None;
-    }
-    let entries = number(words[1].as_bytes())?;
-    let clients = number(words[2].as_bytes())?;
-    let bound = read_bound(words[3].as_bytes())?;
-    let patience = read_number(words[4].as_bytes())?;
-    Some(Terms {
-        limits: Limits::new(entries, clients, bound)?,
-        patience: u32::try_from(patience).ok()?,
-        has_journal: read_journal(words[5].as_bytes())?,
-    })
-}
-
-// The bound on open places that a word names, or that there is none.
-fn read_bound(word: &[u8]) -> Option<Option<usize>> {
-    if word == b"none".as_slice() {
-        return Some(None);
-    }
-    Some(Some(number(word)?))
-}
-
-// Whether a word names a journal.
-fn read_journal(word: &[u8]) -> Option<bool> {
-    if word == b"journal".as_slice() {
-        return Some(true);
-    }
-    (word == b"none".as_slice()).then_some(false)
-}
-
-// The number that a word writes.
-fn number(word: &[u8]) -> Option<usize> {
-    Some(read_number(word)? as usize)
-}
 
 /// The words of a line, those behind its end empty: the moment, what came, and what more is told of that.
 #[derive(Clone, Copy)]
@@ -94,7 +45,7 @@ pub(crate) fn read_show(words: LineWords<'_>) -> Option<usize> {
     if words.moment != b"show".as_slice() {
         return None;
     }
-    number(words.kind)
+    read_size(words.kind)
 }
 
 /// The bytes of a line's piece; none, if it tells of another event.
@@ -114,12 +65,12 @@ pub(crate) fn read_event<'a>(words: LineWords<'_>, piece: &'a [u8]) -> Option<(u
     if words.kind == b"passed".as_slice() {
         return Some((moment, HubEvent::Passed));
     }
-    let first = number(words.first)?;
+    let first = read_size(words.first)?;
     if words.kind == b"came".as_slice() {
         return Some((moment, HubEvent::Came(first, piece)));
     }
     if words.kind == b"took".as_slice() {
-        return Some((moment, HubEvent::Took(first, number(words.second)?)));
+        return Some((moment, HubEvent::Took(first, read_size(words.second)?)));
     }
     Some((moment, read_counted(words.kind, first)?))
 }

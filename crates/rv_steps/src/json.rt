@@ -1,11 +1,11 @@
 //! A plain loop for measurements: it reads the JSON of each line of standard input, and writes it back.
-#![tactic(auto)]
-
 use anyhow::Context;
 use serde_json::Value;
 use std::io::{self, BufWriter, Write};
+use std::process::ExitCode;
 
-fn main(rt: HostRuntime) -> anyhow::Result<()> {
+/// Writes back the JSON that stands behind the first space of each line.
+pub(crate) fn rewrite_lines(rt: &HostRuntime) -> anyhow::Result<ExitCode> {
     let alloc = rt.alloc();
     let input = io::read_to_string(alloc, rt.stdin())?;
     let mut output = BufWriter::new(alloc, rt.stdout())?;
@@ -16,5 +16,5 @@ fn main(rt: HostRuntime) -> anyhow::Result<()> {
         output.write_all(b"\n")?;
     }
     output.flush()?;
-    Ok(())
+    Ok(ExitCode::SUCCESS)
 }

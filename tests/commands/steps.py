@@ -1,0 +1,105 @@
+#!/usr/bin/env python3
+"""Runs the program for tests on lines worked by hand: events of a hub, and JSON that is written back; and on words and lines that it
+doesn't take. Those of a machine are in its crate.
+
+usage: tests/commands/steps.py STEPS
+"""
+import pathlib
+import subprocess
+import sys
+
+ROOT = pathlib.Path(__file__).resolve().parents[2]
+sys.dont_write_bytecode, sys.path[0] = True, str(ROOT)
+from tests.commands.judged import all_of, judge, run  # noqa: E402
+
+HUB = ["hub", "8", "4", "4", "500", "journal"]
+HELLO = '{"client":1,"incarnation":1,"kind":"hello"}'
+TAKE = '{"call":"take","client":1,"epoch":1,"incarnation":1,"kind":"request","number":1,"queue":3,"wait":20}'
+WELCOME = '{"client":1,"epoch":1,"incarnation":1,"kind":"welcome"}'
+TIMED_OUT = '{"client":1,"epoch":1,"incarnation":1,"kind":"reply","number":1,"reply":"timedout"}'
+USAGE = b"""\
+usage: rv_steps machine ENTRIES CLIENTS OPEN|none [anew | turns COUNT]
+       rv_steps hub ENTRIES CLIENTS OPEN|none PATIENCE journal|none
+       rv_steps json
+with limits that a step may have
+"""
+# Words that name no task, or limits that no step may have.
+OTHERS = ["", "machine 4 1", "machine 4 1 1 again", "machine 9007199254740992 1 1", "hub 8 4 4 500", "hub 8 4 4 500 yes", "json 1"]
+
+
+def framed(body: str) -> str:
+    """The frame of a body, in hexadecimal digits."""
+    return (len(body).to_bytes(2, "big") + body.encode()).hex()
+
+
+# A client waits for 20 ms, and is told so when its entries are written.
+EVENTS = f"""\
+0 opened
+0 came 0 {framed(HELLO)}{framed(TAKE)}
+0 written 2
+0 took 0 54
+5 took 0 3
+20 passed
+0 written 3
+20 ended 0
+20 took 0 85
+show 1000
+"""
+TOLD = f"""\
+ok 0
+0 open 0 0 0 1 -
+= 0 - 0
+ok 147
++ 0 - {HELLO}
++ 0 - {TAKE}
+0 open 1 0 57 0 -
+= 57 20 0
+ok 0
+0 open 1 0 57 0 {framed(WELCOME)}
+= 57 20 0
+ok 0
+0 open 1 0 3 0 65227d
+= 3 20 0
+ok 0
+0 open 1 0 0 0 -
+= 0 20 0
+ok 0
++ 20 - tick
+0 open 0 0 85 1 -
+= 85 - 0
+ok 0
+0 open 0 0 85 1 {framed(TIMED_OUT)}
+= 85 - 0
+ok 0
+0 open 0 0 85 0 {framed(TIMED_OUT)}
+= 85 - 0
+ok 0
+0 closed
+= 0 - 0
+shown
+= 0 - 0
+"""
+
+
+def case(name: str, words: list[str], lines: str, printed: str, said: bytes = b"", status: int = 0) -> None:
+    """A run over lines must print this, say that on standard error, and end so."""
+    ran = run(words, input=lines.encode(), stdout=subprocess.PIPE)
+    judge(name, ran, printed.encode(), said, status)
+
+
+def events() -> None:
+    case("a hub's events", HUB, EVENTS, TOLD)
+    case("a line that is no event", HUB, "0 opened\n0 open\n0 opened\n", "ok 0\n0 open 0 0 0 1 -\n= 0 - 0\n", b"a line says nothing\n", 2)
+
+
+def texts() -> None:
+    case("JSON that is written back", ["json"], '0 {"a":1, "b":[]}\n', '{"a":1,"b":[]}\n')
+    case("a line without a space", ["json"], "{}\n", "", b"Error: a line has no space\n", 1)
+
+
+def others() -> None:
+    for words in OTHERS:
+        case(f"other words: {words}", words.split(), "", "", USAGE, 2)
+
+
+all_of([events, texts, others])
