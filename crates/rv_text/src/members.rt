@@ -2,6 +2,7 @@
 ghost use Rattle.std.specs.Prelude.{◌≡◌};
 ghost use Rattle.serde_json.specs.View.{members_view};
 ghost use Rattle.rv_text.specs.Reading.{FindsAmong, wait_among, call_among, version_among};
+ghost use Rattle.rv_text.specs.Reading.{transfer_among, swap_among, drain_among, counted_among};
 ghost use Rattle.rv_text.specs.Reading.{received_among, reply_among, refusal_among, current_version_among};
 
 use crate::answer::{Refusal, Reply};
@@ -35,32 +36,46 @@ pub(crate) fn read_call(members: &mut Members) -> Result<Call, TextFault>
             queue: read_whole(members, "queue")?,
             item: take_item(members)?,
         }),
-        "transfer" => Ok(Call::Transfer {
-            queue: read_whole(members, "queue")?,
-            wait: read_wait(members)?,
-            item: take_item(members)?,
-        }),
+        "transfer" => read_transfer(members),
         "take" => Ok(Call::Take {
             queue: read_whole(members, "queue")?,
             wait: read_wait(members)?,
         }),
-        "swap" => Ok(Call::Swap {
-            exchanger: read_whole(members, "exchanger")?,
-            wait: read_wait(members)?,
-            item: take_item(members)?,
-        }),
-        "count" => Ok(Call::Count {
-            queue: read_whole(members, "queue")?,
-        }),
-        "peek" => Ok(Call::Peek {
-            queue: read_whole(members, "queue")?,
-        }),
-        "drain" => Ok(Call::Drain {
-            queue: read_whole(members, "queue")?,
-            max: read_whole(members, "max")?,
-        }),
+        "swap" => read_swap(members),
+        "count" => read_whole(members, "queue").map(|queue| Call::Count { queue }),
+        "peek" => read_whole(members, "queue").map(|queue| Call::Peek { queue }),
+        "drain" => read_drain(members),
         _ => Err(TextFault::NotMessage),
     }
+}
+
+fn read_transfer(members: &mut Members) -> Result<Call, TextFault>
+    ensures { FindsAmong members.old result transfer_among }
+{
+    Ok(Call::Transfer {
+        queue: read_whole(members, "queue")?,
+        wait: read_wait(members)?,
+        item: take_item(members)?,
+    })
+}
+
+fn read_swap(members: &mut Members) -> Result<Call, TextFault>
+    ensures { FindsAmong members.old result swap_among }
+{
+    Ok(Call::Swap {
+        exchanger: read_whole(members, "exchanger")?,
+        wait: read_wait(members)?,
+        item: take_item(members)?,
+    })
+}
+
+fn read_drain(members: &Members) -> Result<Call, TextFault>
+    ensures { FindsAmong members.now result drain_among }
+{
+    Ok(Call::Drain {
+        queue: read_whole(members, "queue")?,
+        max: read_whole(members, "max")?,
+    })
 }
 
 // The version that a hello or a welcome names, or else the first.
@@ -89,6 +104,15 @@ fn read_received(members: &Members, epoch: u64) -> Result<Reply, TextFault>
     }
 }
 
+fn read_counted(members: &Members) -> Result<Reply, TextFault>
+    ensures { FindsAmong members.now result counted_among }
+{
+    Ok(Reply::Counted {
+        items: read_whole(members, "items")?,
+        consumers: read_whole(members, "consumers")?,
+    })
+}
+
 // The reply in an answer of this epoch.
 pub(crate) fn read_reply(
     alloc: Global,
@@ -101,17 +125,14 @@ pub(crate) fn read_reply(
         "done" => Ok(Reply::Done),
         "received" => read_received(members, epoch),
         "nobody" => Ok(Reply::Nobody),
-        "item" => Ok(Reply::Item(take_item(members)?)),
+        "item" => take_item(members).map(Reply::Item),
         "empty" => Ok(Reply::Empty),
-        "swapped" => Ok(Reply::Swapped(take_item(members)?)),
+        "swapped" => take_item(members).map(Reply::Swapped),
         "timedout" => Ok(Reply::TimedOut),
         "cancelled" => Ok(Reply::Cancelled),
-        "counted" => Ok(Reply::Counted {
-            items: read_whole(members, "items")?,
-            consumers: read_whole(members, "consumers")?,
-        }),
-        "peeked" => Ok(Reply::Peeked(take_item(members)?)),
-        "drained" => Ok(Reply::Drained(take_texts(alloc, members)?)),
+        "counted" => read_counted(members),
+        "peeked" => take_item(members).map(Reply::Peeked),
+        "drained" => take_texts(alloc, members).map(Reply::Drained),
         _ => Err(TextFault::NotMessage),
     }
 }
@@ -128,17 +149,17 @@ pub(crate) fn read_refusal(members: &Members) -> Result<Refusal, TextFault>
 {
     match read_whole(members, "code")? {
         1 => Ok(Refusal::BadText),
-        2 => Ok(Refusal::OtherEpoch(read_whole(members, "current")?)),
+        2 => read_whole(members, "current").map(Refusal::OtherEpoch),
         3 => Ok(Refusal::NoSession),
-        4 => Ok(Refusal::OldIncarnation(read_whole(members, "current")?)),
-        5 => Ok(Refusal::OldNumber(read_whole(members, "last")?)),
+        4 => read_whole(members, "current").map(Refusal::OldIncarnation),
+        5 => read_whole(members, "last").map(Refusal::OldNumber),
         6 => Ok(Refusal::OtherCall),
-        7 => Ok(Refusal::Busy(read_whole(members, "open")?)),
-        8 => Ok(Refusal::Gap(read_whole(members, "last")?)),
+        7 => read_whole(members, "open").map(Refusal::Busy),
+        8 => read_whole(members, "last").map(Refusal::Gap),
         9 => Ok(Refusal::ClientsFull),
         10 => Ok(Refusal::EpochFull),
         11 => Ok(Refusal::NoMemory),
-        12 => Ok(Refusal::OtherVersion(read_current_version(members)?)),
+        12 => read_current_version(members).map(Refusal::OtherVersion),
         _ => Err(TextFault::NotMessage),
     }
 }
