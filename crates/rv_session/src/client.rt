@@ -55,10 +55,8 @@ impl LastRequest {
         ensures { result ≡ answered reply self }
     {
         match self {
-            LastRequest::Fresh => LastRequest::Fresh,
             LastRequest::Waits { call, .. } => LastRequest::RepliedTo { call, reply },
-            LastRequest::RepliedTo { call, reply } => LastRequest::RepliedTo { call, reply },
-            LastRequest::CancelledUnseen => LastRequest::CancelledUnseen,
+            request => request,
         }
     }
 

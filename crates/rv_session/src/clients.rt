@@ -1,5 +1,6 @@
 //! The table of clients: of each its session, its last number, and the texts of its last request.
-ghost use Rattle.std.specs.Prelude.{◌≡◌, ◌<◌, ◌≤◌, ℕ, Some, None, IfOk, IsSome, OnErr, OnOk, length};
+ghost use Rattle.std.specs.Prelude.{◌≡◌, ◌<◌, ◌≤◌, ◌++◌, ◌∷◌, [], ℕ, Some, None, IfOk, IsSome, OnErr, OnOk};
+ghost use Rattle.std.specs.Prelude.{length};
 ghost use Rattle.std.specs.FinMap.{entries, get, insert, len};
 ghost use Rattle.std.specs.Ordering.{nat_cmp};
 ghost use Rattle.std.specs.BTreeMap.Range.{range_contains};
@@ -57,6 +58,18 @@ fn bound_above(after: Option<u64>) -> Bound<u64>
         Some(client) => Bound::Excluded(client),
         None => Bound::Unbounded,
     }
+}
+
+// Adds a client with a copy of its state.
+fn push_copy(
+    alloc: Global,
+    states: &mut Vec<(u64, ClientState)>,
+    client: u64,
+    state: &ClientState,
+) -> Result<(), NoMemory>
+    ensures { OnOk result (states.new.items ≡ states.old.items ++ (client, state.now) ∷ []) }
+{
+    Ok(states.push((client, state.copy(alloc)?))?)
 }
 
 impl Clients {
@@ -148,7 +161,7 @@ impl Clients {
     {
         let mut states = Vec::with_capacity(alloc, self.clients.len())?;
         for (client, state) in &self.clients {
-            states.push((*client, state.copy(alloc)?))?;
+            push_copy(alloc, &mut states, *client, state)?;
         }
         Ok(states)
     }
