@@ -188,7 +188,10 @@ impl HubDesk {
     {
         match self.entries.reserve(1) {
             Ok(()) => self.hear_in_room(connection, message),
-            Err(_) => self.lack(connection),
+            Err(_) => {
+                drop(message);
+                self.lack(connection);
+            }
         }
     }
 

@@ -86,19 +86,24 @@ impl HubDesk {
             ≡ record { limits = limits; patience = max 1 patience }) }
     {
         let latest = machine.moment();
-        let wires = Wires::new(alloc, machine.length() as u64);
-        let entries = Vec::with_capacity(alloc, 1)?;
-        Ok(HubDesk {
-            alloc,
-            machine,
-            limits,
-            patience: patience.max(1),
-            latest,
-            wires,
-            hearers: Hearers::new(alloc),
-            freed: VecDeque::new(alloc),
-            entries,
-        })
+        let length = machine.length() as u64;
+        match Vec::with_capacity(alloc, 1) {
+            Ok(entries) => Ok(HubDesk {
+                alloc,
+                machine,
+                limits,
+                patience: patience.max(1),
+                latest,
+                wires: Wires::new(alloc, length),
+                hearers: Hearers::new(alloc),
+                freed: VecDeque::new(alloc),
+                entries,
+            }),
+            Err(refused) => {
+                drop(machine);
+                Err(refused)
+            }
+        }
     }
 
     /// The machine.

@@ -64,7 +64,9 @@ impl Machine {
         ensures stays { result ≡ false → state_in self.new ≡ state_in self.old }
         ensures spare { NeedsNoMemory (state_in self.old) (act_of message) → result ≡ true }
     {
-        match self.hear(&Limits::widest(), moment, message).said {
+        let heard = self.hear(&Limits::widest(), moment, message);
+        drop(heard.entry);
+        match heard.said {
             Said::Refused(_) => false,
             Said::Welcome(..) => true,
             Said::Told(_) => true,

@@ -69,9 +69,9 @@ impl Machine {
         ensures err { OnErr result (IsAsBefore self.old self.new) }
     {
         let alloc = self.allocator();
-        let copy = call.copy(alloc)?;
-        let opened = self.opening(moment, &key, &call)?;
         self.settled.reserve(self.table.waiting() + 1)?;
+        let opened = self.opening(moment, &key, &call)?;
+        let copy = call.copy(alloc)?;
         let put = self
             .table
             .park(&mut self.clients, opened, &key, call, &copy)?;

@@ -10,6 +10,7 @@ ghost use Rattle.rv_open.specs.OpenMap.{StandBelow, due_in, found_at, line_in, o
 ghost use Rattle.rv_open.specs.OpenMap.{IsFirstDue, NeverDue, with_limit, all_but, without_limit};
 ghost use Rattle.rv_open.specs.OpenMap.{first_behind};
 ghost use Rattle.rv_open.specs.Indexed.{ClosesPlace, ClosesDue, ClosesFirst, MayPark, ParksPlace, WaitsIn};
+ghost use Rattle.rv_waiters.specs.Meeting.{HasRoomOn, MakesRoomFor};
 ghost use Rattle.rv_open.specs.Reopening.{MayReopen, MayResume, duty_of_waiter};
 
 use crate::opens::OpenMap;
@@ -89,7 +90,34 @@ fn lay_limit(opens: &mut OpenMap, due: &mut Due, limit: u64, place: Place) -> Re
     match due.add(limit, place) {
         Ok(()) => Ok(()),
         Err(refused) => {
-            opens.take(place);
+            drop(opens.take(place));
+            Err(refused)
+        }
+    }
+}
+
+// Makes room for an arrival with a call, and lays its open place. Fails only if memory was refused, and then
+// all stays but for the room.
+fn lay_for(
+    waiters: &mut Waiters,
+    opens: &mut OpenMap,
+    due: &mut Due,
+    opened: OpenPlace,
+    call: &Call,
+) -> Result<(), NoMemory>
+    requires fits { FitsSide (side_of call.now) }
+    requires below { StandBelow opens.old opened.place }
+    ensures makes { MakesRoomFor waiters.old waiters.new (side_of call.now) (wait_of call.now) }
+    ensures room { OnOk result (HasRoomOn waiters.new (side_of call.now) (wait_of call.now)) }
+    ensures opened { OnOk result (opens.new ≡ opens.old ++ opened ∷ []) }
+    ensures limit { OnOk result (due.new ≡ with_limit opened.limit opened.place due.old) }
+    ensures opens { OnErr result (opens.new ≡ opens.old) }
+    ensures due { OnErr result (due.new ≡ due.old) }
+{
+    match waiters.reserve(call) {
+        Ok(()) => lay(opens, due, opened),
+        Err(refused) => {
+            drop(opened);
             Err(refused)
         }
     }
@@ -149,10 +177,25 @@ impl OpenTable {
         ensures { IfOk result (λ table. table ≡ places.items) }
     {
         let mut table = OpenTable::empty(alloc)?;
-        for opened in places {
-            table.reopen(clients, opened)?;
+        match table.reopen_all(clients, places) {
+            Ok(()) => Ok(table),
+            Err(refused) => {
+                drop(table);
+                Err(refused)
+            }
         }
-        Ok(table)
+    }
+
+    // All that was open before is open in a table of nothing. Fails only if memory was refused.
+    fn reopen_all(&mut self, clients: &Clients, places: Vec<OpenPlace>) -> Result<(), NoMemory>
+        requires nothing { self.old ≡ [] }
+        requires may { MayResume places.items clients.now.clients }
+        ensures { OnOk result (self.new ≡ places.items) }
+    {
+        for opened in places {
+            self.reopen(clients, opened)?;
+        }
+        Ok(())
     }
 
     // One more that was open before is open, behind all others. Fails only if memory was refused.
@@ -322,12 +365,24 @@ impl OpenTable {
         ensures same { OnErr result (self.new ≡ self.old) }
         ensures clients { OnErr result (clients.new ≡ clients.old) }
     {
-        self.waiters.reserve(copy)?;
         let place = opened.place;
-        lay(&mut self.opens, &mut self.due, opened)?;
-        let (duty, _) = clients.begin(key, place, call);
-        let own = parked(self.waiters.arrive(copy, duty));
-        self.waiting += 1 - owing(&own);
-        Ok(own)
+        match lay_for(
+            &mut self.waiters,
+            &mut self.opens,
+            &mut self.due,
+            opened,
+            copy,
+        ) {
+            Ok(()) => {
+                let (duty, _) = clients.begin(key, place, call);
+                let own = parked(self.waiters.arrive(copy, duty));
+                self.waiting += 1 - owing(&own);
+                Ok(own)
+            }
+            Err(refused) => {
+                drop(call);
+                Err(refused)
+            }
+        }
     }
 }

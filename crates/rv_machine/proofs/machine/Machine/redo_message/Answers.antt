@@ -6,23 +6,27 @@ use Rattle.rv_machine.proofs.machine.Machine.redo_message.Goals as goal
 
 pub returns-in-Refused-clause-stays : goal.returns-in-Refused-clause-stays
 returns-in-Refused-clause-stays c is =
-    heard_stays c.args.self.now c.hear.new.self c.args.moment c.args.message c.hear.result c.requires.goes_on
-    c.widest.result c.widest.ensures c.hear.ensures.hears c.in-Refused.field-0 c.in-Refused.is
+    heard_stays c.args.self.now c.hear-heard.new.self c.args.moment c.args.message c.hear-heard.result
+    c.requires.goes_on
+    c.widest.result c.widest.ensures c.hear-heard.ensures.hears c.in-Refused.field-0 c.in-Refused.is
 
 pub returns-in-Refused-clause-spare : goal.returns-in-Refused-clause-spare
 returns-in-Refused-clause-spare c none =
-    absurd (heard_spares c.args.self.now c.hear.new.self c.args.moment c.args.message c.hear.result
-    c.requires.goes_on c.widest.result c.widest.ensures c.hear.ensures.hears none c.in-Refused.field-0
+    absurd (heard_spares c.args.self.now c.hear-heard.new.self c.args.moment c.args.message
+    c.hear-heard.result
+    c.requires.goes_on c.widest.result c.widest.ensures c.hear-heard.ensures.hears none c.in-Refused.field-0
     c.in-Refused.is)
 
 pub returns-in-Welcome-clause-done : goal.returns-in-Welcome-clause-done
 returns-in-Welcome-clause-done c is =
-    heard_redone c.args.self.now c.hear.new.self c.args.moment c.args.message c.hear.result c.requires.goes_on
-    c.widest.result c.widest.ensures c.hear.ensures.hears
+    heard_redone c.args.self.now c.hear-heard.new.self c.args.moment c.args.message c.hear-heard.result
+    c.requires.goes_on
+    c.widest.result c.widest.ensures c.hear-heard.ensures.hears
     (subst (λ (x : Said). Accepts x) (sym c.in-Welcome.is) tt)
 
-pub returns-clause-done : goal.returns-clause-done
-returns-clause-done c is =
-    heard_redone c.args.self.now c.hear.new.self c.args.moment c.args.message c.hear.result c.requires.goes_on
-    c.widest.result c.widest.ensures c.hear.ensures.hears
+pub returns-in-Told-clause-done : goal.returns-in-Told-clause-done
+returns-in-Told-clause-done c is =
+    heard_redone c.args.self.now c.hear-heard.new.self c.args.moment c.args.message c.hear-heard.result
+    c.requires.goes_on
+    c.widest.result c.widest.ensures c.hear-heard.ensures.hears
     (subst (λ (x : Said). Accepts x) (sym c.in-Told.is) tt)

@@ -4,11 +4,11 @@ use Rattle.std.specs.Vec.Iter.{into_iter_items}
 use Rattle.rv_state.specs.State.{OpenPlace}
 use Rattle.rv_open.specs.Reopening.{MayResume}
 use Rattle.rv_open.proofs.Fronting.{reopens}
-use Rattle.rv_open.proofs.table.OpenTable.resume.Goals as goal
+use Rattle.rv_open.proofs.table.OpenTable.reopen_all.Goals as goal
 
 pub reopen-requires : goal.reopen-requires
 reopen-requires c =
-    reopens c.loop-opened.table (into_iter_items c.next.new.self) c.in-Some.opened c.args.clients.now.clients
+    reopens c.loop-opened.self (into_iter_items c.next.new.self) c.in-Some.opened c.args.clients.now.clients
     (subst (λ (all : List OpenPlace). MayResume all c.args.clients.now.clients)
-    (sym c.loop-opened.invariant.0 ∙ ap (λ rest. c.loop-opened.table ++ rest) c.in-Some.ensures.steps.0)
-    c.requires)
+    (sym c.loop-opened.invariant.0 ∙ ap (λ rest. c.loop-opened.self ++ rest) c.in-Some.ensures.steps.0)
+    c.requires.may)
