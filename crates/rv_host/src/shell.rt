@@ -123,18 +123,14 @@ impl ShellParts {
         account: Option<Journal>,
         connections: usize,
     ) -> Result<ShellParts, HostEnd> {
-        let start = rt.monotonic()?;
-        let poll = watching(rt, &mut doors)?;
-        let events = Events::with_capacity(rt.alloc(), EVENTS)?;
-        let links = Links::new(rt.alloc(), connections)?;
         Ok(ShellParts {
+            start: rt.monotonic()?,
+            poll: watching(rt, &mut doors)?,
+            events: Events::with_capacity(rt.alloc(), EVENTS)?,
+            links: Links::new(rt.alloc(), connections)?,
             doors,
             account,
             connections,
-            start,
-            poll,
-            events,
-            links,
         })
     }
 }

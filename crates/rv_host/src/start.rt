@@ -44,9 +44,9 @@ pub(crate) fn begin(
 {
     let epoch = options.epoch.epoch(wall_clock(rt));
     let ground = ground_of(rt, options, epoch)?;
-    let room = room_of(options);
-    let engine = engine_of(rt, options, epoch, room.connections as usize)?;
-    match open_doors(rt, options, &mut report, ground, epoch, room) {
+    let descriptors = descriptors_of(options);
+    let engine = engine_of(rt, options, epoch, descriptors.connections as usize)?;
+    match open_doors(rt, options, &mut report, ground, epoch, descriptors) {
         Ok(parts) => Ok(Shell::new(parts, engine, report, options)),
         Err(end) => {
             drop(engine);
@@ -65,27 +65,24 @@ struct Ground {
 
 // The addresses and the file that the words name.
 fn ground_of(rt: &HostRuntime, options: &HostOptions<'_>, epoch: u64) -> Result<Ground, HostEnd> {
-    let listener = listening(rt, options.listen)?;
-    let status = status_of(rt, options)?;
-    let account = account_of(rt, options, epoch)?;
     Ok(Ground {
-        listener,
-        status,
-        account,
+        listener: listening(rt, options.listen)?,
+        status: status_of(rt, options)?,
+        account: account_of(rt, options, epoch)?,
     })
 }
 
 // How many descriptors there may be, and how many connections.
 #[derive(Clone, Copy)]
-struct Room {
+struct Descriptors {
     open_files: u64,
     connections: u64,
 }
 
 // What the system's limit leaves of the connections that the words name.
-fn room_of(options: &HostOptions<'_>) -> Room {
+fn descriptors_of(options: &HostOptions<'_>) -> Descriptors {
     let open_files = open_files();
-    Room {
+    Descriptors {
         open_files,
         connections: open_files
             .saturating_sub(spare(options))
@@ -101,14 +98,14 @@ fn open_doors(
     report: &mut HostReport,
     ground: Ground,
     epoch: u64,
-    room: Room,
+    descriptors: Descriptors,
 ) -> Result<ShellParts, HostEnd> {
-    tell_start(rt, options, report, &ground.listener, epoch, room)?;
+    tell_start(rt, options, report, &ground.listener, epoch, descriptors)?;
     let doors = ShellDoors {
         status: status_desk(rt, options, report, ground.status)?,
         door: Door::new(ground.listener),
     };
-    ShellParts::new(rt, doors, ground.account, room.connections as usize)
+    ShellParts::new(rt, doors, ground.account, descriptors.connections as usize)
 }
 
 // The wall clock's milliseconds.
@@ -221,15 +218,14 @@ fn engine_of(
         return Err(HostEnd::Limits);
     };
     let machine = Machine::open(rt.alloc(), epoch, 0)?;
-    let engine = Engine::new(
+    Ok(Engine::new(
         rt.alloc(),
         machine,
         limits,
         PATIENCE,
         options.account.is_some(),
         connections,
-    )?;
-    Ok(engine)
+    )?)
 }
 
 // The limit of open files.
@@ -252,15 +248,15 @@ fn tell_start(
     report: &mut HostReport,
     listener: &TcpListener,
     epoch: u64,
-    room: Room,
+    descriptors: Descriptors,
 ) -> Result<(), HostEnd> {
     let address = listener.local_addr()?;
     let name = format!(in rt.alloc(); "{address}")?;
     let said = StartSaid {
         address: &name,
         epoch,
-        connections: room.connections,
-        open_files: room.open_files,
+        connections: descriptors.connections,
+        open_files: descriptors.open_files,
         clients: options.clients,
         open_places: options.open_places,
         memory: options.memory,
