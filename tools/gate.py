@@ -119,8 +119,9 @@ def build():
 
 
 def keeps():
-    """Whether this kit's rt ci keeps what it passed, and so has a word by which it keeps nothing."""
-    return "--anew" in subprocess.run(["rt", "help"], stdout=subprocess.PIPE, text=True, errors="replace").stdout
+    """Whether this kit's rt ci keeps what it passed, and so has a word by which it keeps nothing. Help may come on either stream."""
+    told = subprocess.run(["rt", "help"], stdout=subprocess.PIPE, stderr=subprocess.STDOUT, text=True, errors="replace")
+    return "--anew" in told.stdout
 
 
 def gate(anew):
