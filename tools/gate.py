@@ -119,7 +119,8 @@ def build():
 
 
 def keeps():
-    """Whether this kit's rt ci keeps what it passed, and so has a word by which it keeps nothing. Help may come on either stream."""
+    """Whether this kit's rt ci keeps what it passed, and so has a word by which it keeps nothing. Its help comes on either
+    stream."""
     told = subprocess.run(["rt", "help"], stdout=subprocess.PIPE, stderr=subprocess.STDOUT, text=True, errors="replace")
     return "--anew" in told.stdout
 
