@@ -92,7 +92,7 @@ def main():
     print(f"The auditor's word on it: {verdict[0]}")
     print(f"\nA picture of it: {draw(results)}")
     if is_tried:
-        print("\nNext, `make install PREFIX=$HOME/.local` proves all, in about 20 minutes, and README.md has a hand-over between\n"
+        print("\nNext, `make install PREFIX=$HOME/.local` proves all, in about 40 minutes on four cores, and README.md has a hand-over between\n"
               "two programs.")
 
 
