@@ -11,7 +11,7 @@ from collections.abc import Iterator
 
 from tests.sockets.programs import free_port
 from tests.sockets.hosts import Host
-from tests.sockets.wire import PATIENCE, demand, until
+from tests.sockets.wire import PATIENCE, demand, frame, hello, until
 
 LISTEN = ["--listen", "127.0.0.1:0"]
 # Each number's option, and its limits as they are told.
@@ -55,6 +55,16 @@ def numbers(program: str) -> None:
         most = int(limits.partition(" to ")[2].replace(",", ""))
         for given in [*NO_NUMBERS, str(most + 1)]:
             only(program, ["host", *LISTEN, f"--{name}={given}"], 2, f"--{name} {given}: {limits}")
+
+
+def limits_are_taken(program: str) -> None:
+    """The least and the greatest that each number may be are taken: a host serves by them."""
+    for name, limits in NUMBERS.items():
+        for given in limits.replace(",", "").split(" to "):
+            with Host(program, epoch=None, options=(f"--{name}={given}",)) as host, host.connect() as peer:
+                peer.send(frame(hello(1)))
+                got = peer.hear()
+                demand(b'"kind":"welcome"' in (got or b""), f"by --{name}={given} a hello was answered {got!r}")
 
 
 def misspelt(program: str) -> None:
@@ -140,4 +150,4 @@ def it_is_open_to_others(program: str) -> None:
         process.communicate()
 
 
-CASES = [numbers, misspelt, addresses, accounts, help_tells, its_first_lines, it_is_open_to_others]
+CASES = [numbers, limits_are_taken, misspelt, addresses, accounts, help_tells, its_first_lines, it_is_open_to_others]

@@ -18,6 +18,8 @@ from tests.sockets.wire import Peer, demand, frame, give, replied, request, take
 HEAD, LONGEST, FLOOD = 4_096, 10, 1_000
 # So many connections take the last descriptors, and so often a page is asked for then.
 CROWD, OFTEN = 20, 5
+# A request's bytes in a piece, and the seconds from one to the next: more than those between two visits.
+PIECE, PAUSE = 9, 0.05
 # The seconds that a test gives a number which is read off once a second, and a connection that is to end.
 SOON = 30
 HTML, JSON, METRICS, PLAIN = "text/html", "application/json", "text/plain; version=0.0.4", "text/plain"
@@ -133,6 +135,21 @@ def ends(peer: Peer, began: float) -> bytes:
     return peer.got
 
 
+def a_request_in_pieces(program: str) -> None:
+    """A request that comes piece by piece, each of which the host can see alone, is answered as one that comes whole."""
+    port, whole = free_port(), b"GET /healthz HTTP/1.1\r\nhost: a\r\nconnection: close\r\n\r\n"
+    with Host(program, options=("--status", f"127.0.0.1:{port}")) as host:
+        until("it listens", lambda: f"127.0.0.1:{port}".encode() in host.said)
+        began = time.monotonic()
+        with contextlib.closing(visitor(port, b"")) as peer:
+            for at in range(0, len(whole), PIECE):
+                peer.send(whole[at : at + PIECE])
+                time.sleep(PAUSE)
+            answer = ends(peer, began)
+        demand(answer.startswith(b"HTTP/1.1 200"), f"it is answered {answer!r}")
+        host.ended()
+
+
 def hostile_visitors(program: str) -> None:
     """Silence, half requests, long heads and a flood end within their time, and touch nobody; then a page is told again."""
     port = free_port()
@@ -165,4 +182,6 @@ def told_without_descriptors(program: str) -> None:
         host.ended()
 
 
-CASES = [addresses, pages_by_path, nothing_listens, a_worked_scene, hostile_visitors, told_without_descriptors]
+CASES = [
+    addresses, pages_by_path, nothing_listens, a_worked_scene, a_request_in_pieces, hostile_visitors, told_without_descriptors,
+]
