@@ -4,11 +4,13 @@ A test in Python is one of the client's own, which its runner finds in a copy of
 tests/clients/run.py has there. A case of the Java client is one of those too, and is run with other classes in place of some
 that were built.
 """
+import compileall
 import concurrent.futures
 import contextlib
 import functools
 import os
 import pathlib
+import py_compile
 import shutil
 import subprocess
 import sys
@@ -20,7 +22,8 @@ from tests.clients.wrong_java import IN_JAVA
 from tests.clients.wrong_python import IN_PYTHON, TESTS
 from tests.sockets.wire import demand
 
-FOLDERS = ["clients", "examples", "tests"]
+# What a case of the runner's takes, and what a test of the Python client does.
+FOLDERS, CLIENT = ["clients", "examples", "tests"], ["clients/python"]
 # What has cases, and what it says at last where all of them passed.
 RUNNER, PASSED = "tests/clients/run.py", " passed, 0 failed\n"
 PATIENCE = 1200
@@ -43,13 +46,26 @@ def edited(edits):
     return texts
 
 
+@functools.cache
+def right():
+    """The folder of a copy without edits, with the bytecode of the client and its tests, which is gone when this program ends.
+    Bytecode goes by its source's hash: that of an edited file is not used."""
+    folder = tempfile.TemporaryDirectory(prefix="rv-right-")
+    for part in FOLDERS:
+        shutil.copytree(ROOT / part, pathlib.Path(folder.name, part), ignore=shutil.ignore_patterns("__pycache__"))
+    for part in CLIENT:
+        compileall.compile_dir(pathlib.Path(folder.name, part), quiet=1,
+                               invalidation_mode=py_compile.PycInvalidationMode.CHECKED_HASH)
+    return folder
+
+
 @contextlib.contextmanager
-def copied(edits):
-    """The folder of a copy with these edits, which is gone behind the block."""
+def copied(parts, edits):
+    """The folder of a copy of these parts with these edits, which is gone behind the block."""
     with tempfile.TemporaryDirectory(prefix="rv-wrong-") as name:
         folder = pathlib.Path(name)
-        for part in FOLDERS:
-            shutil.copytree(ROOT / part, folder / part, ignore=shutil.ignore_patterns("__pycache__"))
+        for part in parts:
+            shutil.copytree(pathlib.Path(right().name, part), folder / part)
         for file, text in edited(edits).items():
             (folder / file).write_text(text)
         yield folder
@@ -83,7 +99,7 @@ def is_case(name):
 
 def said_in_python(test, edits):
     """What a test of the Python client says where these edits are made, and whether it passes."""
-    with copied(edits) as folder:
+    with copied(FOLDERS if is_case(test) else CLIENT, edits) as folder:
         if is_case(test):
             # so that a copy doesn't build what it has not changed
             built = {} if java.missing() else {java.CLASSES: java.classes()}
@@ -123,6 +139,9 @@ def selftest(count):
     if not java.missing() and in_java + in_python:
         # so that they are not built by more than one thread
         java.classes()
+    if in_python:
+        # for the same reason
+        right()
     judge_all(count, "Python", in_python, said_in_python)
     if java.missing():
         print(f"Java was left out: {java.missing()}", flush=True)

@@ -1,5 +1,6 @@
 """Random scripts: lines of `rv book`, good ones and bad ones, with what the model answers to each."""
 import json
+from functools import cache
 
 from tests.model.account import (
     MAX_CLIENTS, Account, Key, Request, incarnation, last_number, limit, reply, version, waiting, waiting_of)
@@ -222,10 +223,11 @@ class Script:
             return "".join(self.chance.choices(LETTERS, k=self.chance.randint(0, 3)))
         size = self.chance.choice([0, 1, 255, 256, 257, 300, 511, 512, 512, 513])
         letters = self.chance.choices(LETTERS, k=self.chance.randint(1, 8))
-        text = ""
-        while size - len(text.encode()) >= 4:
-            text += self.chance.choice(letters)
-        return text + "x" * (size - len(text.encode()))
+        chosen, left = [], size
+        while left >= 4:
+            chosen.append(self.chance.choice(letters))
+            left -= len(chosen[-1].encode())
+        return "".join(chosen) + "x" * left
 
     def spoil(self, members):
         """Leaves a member out, adds one or changes one's value."""
@@ -286,12 +288,18 @@ class Script:
     def letter(self, letter, often):
         """A letter of a JSON string, so often with an escape that it needs not have."""
         if not self.odds(often):
-            return written(letter)[1:-1]
+            return plain_letter(letter)
         if letter == "/":
             return "\\/"
         units = letter.encode("utf-16-be")
         form = self.chance.choice(["\\u{:04x}", "\\u{:04X}"])
         return "".join(form.format(int.from_bytes(units[i : i + 2])) for i in range(0, len(units), 2))
+
+
+@cache
+def plain_letter(letter):
+    """A letter of a JSON string, with an escape where it needs one."""
+    return written(letter)[1:-1]
 
 
 def make_script(chance, epoch, count):

@@ -1,6 +1,7 @@
 """Bodies and lines: how a line of `rv book` is read, and how a body is written (docs/FORMATS.md, sections 1 and 4)."""
 import json
 import re
+from functools import lru_cache
 
 from tests.model.account import Call, Cancel, Hello, Key, Request
 from tests.model.calls import KINDS
@@ -26,7 +27,7 @@ class NoReading(Exception):
 
 def written(members):
     """The one text of an object: no white space, members in byte order of their names."""
-    return json.dumps(members, sort_keys=True, separators=(",", ":"), ensure_ascii=False)
+    return ENCODER.encode(members)
 
 
 def members_of(message):
@@ -69,6 +70,7 @@ def read_line(line):
     return int(digits), read_message(body)
 
 
+@lru_cache(maxsize=10_000)
 def read_message(body):
     """The message whose body the bytes are."""
     demand(1 <= len(body) <= MAX_BODY_BYTES)
@@ -172,4 +174,5 @@ def depth(text):
     return deepest
 
 
+ENCODER = json.JSONEncoder(sort_keys=True, separators=(",", ":"), ensure_ascii=False)
 DECODER = json.JSONDecoder(object_pairs_hook=object_of, parse_int=number, parse_float=fraction, parse_constant=no_constant)

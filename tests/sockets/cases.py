@@ -1,8 +1,11 @@
 """Cases that are run, told where they fail, and counted; and the double of the program, on which they are tested themselves."""
 import concurrent.futures
+import contextlib
 import multiprocessing
 import os
+import signal
 import sys
+import tempfile
 import time
 
 from tests import ROOT
@@ -36,11 +39,37 @@ def came_of_double(wrong, case, *given):
     return came_of(case, DOUBLE, *given)
 
 
-def came_at_once(came_of_name, tried, patience=PATIENCE):
-    """Each wrong and name with what came of it. Several are tried at once, in processes that read anew how long they wait."""
-    os.environ["RV_PATIENCE"] = str(patience)
+def came_at_once(came_of_name, tried, patience=PATIENCE, first_fault="counts"):
+    """Each wrong and name with what came of it. Several are tried at once, in processes that read anew how long they wait, and
+    whether the first fault `ends` a case."""
+    os.environ.update(RV_PATIENCE=str(patience), RV_FIRST_FAULT=first_fault)
     with concurrent.futures.ProcessPoolExecutor(AT_ONCE, multiprocessing.get_context("spawn")) as pool:
-        yield from zip(tried, pool.map(came_of_name, *zip(*tried)))
+        yield from zip(tried, pool.map(came_apart, *zip(*((came_of_name, *one) for one in tried))))
+
+
+def came_apart(came_of_name, wrong, name):
+    """What came of a wrong and a name, in a process of its own, behind which nothing that it started runs on, and no file that it
+    made is left."""
+    forks = multiprocessing.get_context("fork")
+    hears, tells = forks.Pipe(duplex=False)
+    with tempfile.TemporaryDirectory(prefix="rv-try-", ignore_cleanup_errors=True) as folder:
+        tries = forks.Process(target=tell_apart, args=(tells, folder, came_of_name, wrong, name))
+        tries.start()
+        tells.close()
+        try:
+            return hears.recv()
+        finally:
+            with contextlib.suppress(ProcessLookupError):
+                os.killpg(tries.pid, signal.SIGKILL)
+            tries.join()
+
+
+def tell_apart(tells, folder, came_of_name, wrong, name):
+    """Tells what came of a wrong and a name, in a group of processes whose files stand in a folder."""
+    os.setpgid(0, 0)
+    os.environ["TMPDIR"] = tempfile.tempdir = folder
+    tells.send(came_of_name(wrong, name))
+    signal.pause()
 
 
 class Count:
@@ -71,7 +100,7 @@ class Count:
         """Each double that does a thing wrong must fail the case that is named beside it, and the one that does none must
         pass all of these. `came_of_name` gives what came of a wrong and a name."""
         tried = [(wrong, name) for wrong, name in wrongs if self.wants(name)]
-        for (wrong, name), (fault, _, seconds) in came_at_once(came_of_name, tried, SHORT):
+        for (wrong, name), (fault, _, seconds) in came_at_once(came_of_name, tried, SHORT, "ends"):
             self.judge(f"a server that {wrong}, {name}", None if fault else "it passes", seconds=seconds)
             if fault and self.verbose:
                 print(f"    {fault[:200]}")

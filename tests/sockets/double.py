@@ -21,10 +21,12 @@ import time
 
 ROOT = pathlib.Path(__file__).resolve().parents[2]
 sys.dont_write_bytecode, sys.path[0] = True, str(ROOT)
-from tests.model.account import Account, Call, Hello, Key, Request, limit, waiting  # noqa: E402
+from tests.model.account import Account, Call, Hello, Key, Request  # noqa: E402
 from tests.model.answers import read_answer  # noqa: E402
 from tests.model.lines import account_text  # noqa: E402
-from tests.model.steps import refused, step  # noqa: E402
+from tests.model.state import State  # noqa: E402
+from tests.model.state_steps import step  # noqa: E402
+from tests.model.steps import refused  # noqa: E402
 from tests.model.tables import table_audit  # noqa: E402
 from tests.model.texts import (  # noqa: E402
     KEY, MAX_BODY_BYTES, MAX_IDENTIFIER, NoReading, demand, members_of, read_call, read_json, read_message, written)
@@ -47,15 +49,19 @@ class AddressFault(Exception):
 
 
 class Desk:
-    """The model's book behind a lock. What a waiting request was told is kept until the book changes."""
+    """The model's book behind a lock: its state, and the entries that its steps made."""
 
     def __init__(self, epoch):
         self.lock = threading.Lock()
-        self.account = Account(epoch, 0)
-        self.kept, self.due = {}, None
+        self.state, self.entries = State(epoch, 0), []
         self.began = time.monotonic()
         # What a wrong server was asked before, and how many puts of its own it made.
         self.put_before, self.injected = set(), 0
+
+    @property
+    def account(self):
+        """The account so far."""
+        return Account(self.state.epoch, 0, tuple(self.entries))
 
     def moment(self):
         """The milliseconds since it began."""
@@ -66,17 +72,10 @@ class Desk:
 
     def handle(self, message):
         """The members of the answer to a message."""
-        now = self.moment()
-        kept = self.kept.get(message)
-        if kept and (self.due is None or now < self.due):
-            return kept
-        account, answer = step(self.account, now, message)
-        if len(account.entries) > len(self.account.entries):
-            self.account, self.kept = account, {}
-            limits = [limit(account.entries, r) for r in waiting(account.entries)]
-            self.due = min((moment for moment in limits if moment is not None), default=None)
-        self.kept[message] = answer
-        return answer
+        made = step(self.state, self.moment(), message)
+        self.state = made.state
+        self.entries += made.entries
+        return made.answer
 
     def ask(self, body, send):
         """The members of the answer to a body. `send` is done before each pause."""
@@ -111,7 +110,7 @@ class Desk:
         if not self.injected:
             self.handle(Hello(1_000_000, 1))
         self.injected += 1
-        key = Key(self.account.epoch, 1_000_000, 1, self.injected)
+        key = Key(self.state.epoch, 1_000_000, 1, self.injected)
         self.handle(Request(key, Call("put", call.at, call.item)))
 
     def spoilt_answer(self, message, answer):

@@ -47,16 +47,19 @@ def listens_at(pid, port):
         own = {os.readlink(path) for path in pathlib.Path(f"/proc/{pid}/fd").glob("*")}
     except OSError:
         return False
-    for name in ("tcp", "tcp6"):
-        try:
-            rows = pathlib.Path(f"/proc/net/{name}").read_text().splitlines()[1:]
-        except OSError:
-            continue
-        for row in rows:
-            cells = row.split()
-            if cells[3] == "0A" and int(cells[1].rpartition(":")[2], 16) == port and f"socket:[{cells[9]}]" in own:
-                return True
-    return False
+    sockets = {name for name in own if name.startswith("socket:")}
+    return bool(sockets) and any(sockets.intersection(listening(table, port)) for table in ("tcp", "tcp6"))
+
+
+def listening(table, port):
+    """The names of the sockets that listen at a port, by one of the system's tables."""
+    try:
+        text = pathlib.Path(f"/proc/net/{table}").read_text()
+    except OSError:
+        return []
+    # of thousands of rows those alone are taken apart that name the port, local or remote
+    rows = [row.split() for row in text.splitlines() if f":{port:04X} " in row]
+    return [f"socket:[{cells[9]}]" for cells in rows if cells[3] == "0A" and int(cells[1].rpartition(":")[2], 16) == port]
 
 
 def is_socket(path):

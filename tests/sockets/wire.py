@@ -1,6 +1,7 @@
 """Messages and answers on a socket: frames, and a client's end of a connection. Everything has a time-out."""
 import errno
 import os
+import queue
 import socket
 import struct
 import sys
@@ -13,6 +14,9 @@ from tests.model.texts import KEY, members_of_version, read_json, written
 # How long a client waits for bytes, for room, or for a server that is to end, in seconds: long, for a slow machine, but
 # where servers are tried that never answer.
 PATIENCE = int(os.environ.get("RV_PATIENCE", "120"))
+# Whether the first fault ends a case at once, though its other parts go on: so where a server is wrong, and all that the case
+# began ends with its process.
+FIRST_FAULT_ENDS = os.environ.get("RV_FIRST_FAULT") == "ends"
 MAX_FRAME = 65_535
 BAD_TEXT = b'{"code":1,"kind":"refused"}'
 
@@ -195,24 +199,31 @@ def members_of(body):
 
 
 def together(*parts, limit=10 * PATIENCE):
-    """Runs parts at once, each in a thread, and gives what they gave. Tells the first that went wrong."""
-    given, faults = [None] * len(parts), []
+    """Runs parts at once, each in a thread, and gives what they gave. Tells the first that went wrong: behind the end of all,
+    or at once where nothing counts behind a fault."""
+    given, faults, ended = [None] * len(parts), [], queue.SimpleQueue()
 
     def run(number, part):
         try:
             given[number] = part()
         except Exception as fault:
             faults.append(fault)
+        finally:
+            ended.put(number)
 
-    threads = [threading.Thread(target=run, args=pair, daemon=True) for pair in enumerate(parts)]
     ends = time.monotonic() + limit
-    for thread in threads:
-        thread.start()
-    for thread in threads:
-        thread.join(max(0, ends - time.monotonic()))
+    for pair in enumerate(parts):
+        threading.Thread(target=run, args=pair, daemon=True).start()
+    for _ in parts:
+        try:
+            ended.get(timeout=max(0, ends - time.monotonic()))
+        except queue.Empty:
+            faults.append(Wrong(f"a client was not done within {limit} seconds"))
+            break
+        if faults and FIRST_FAULT_ENDS:
+            break
     if faults:
         raise faults[0]
-    demand(not any(thread.is_alive() for thread in threads), f"a client was not done within {limit} seconds")
     return given
 
 

@@ -34,7 +34,8 @@ PARTS = {
     PARSE: ("rv_text::decode", "rv_text::members", "rv_text::message", "rv_text::serde_json",
             "rv_json::value", "rv_json::members", "rv_json::serde_json", "serde_json", "json::index"),
     "step: the machine and the book": (
-        "rv_book", "rv_machine", "rv_kept", "rv_open", "rv_session", "rv_text::answer", "rv_text::call"),
+        "rv_book", "rv_machine", "rv_kept", "rv_recall", "rv_open", "rv_session", "rv_text::answer",
+        "rv_text::call"),
     "write: answer to text": ("rv_text::encode", "rv_json::writer", "json::write"),
     "print: output": ("rv_run::output", "rv_frame::sink"),
 }

@@ -3,14 +3,13 @@ ghost use Rattle.std.specs.Prelude.{◌≡◌, ◌<◌, ◌≤◌, ◌+◌, ◌=
 ghost use Rattle.std.specs.Prelude.{IfOk, IsSome, OnErr, OnOk};
 ghost use Rattle.std.specs.Prelude.{length, option_map, slice_get};
 ghost use Rattle.std.specs.Option.{option_copied};
-ghost use Rattle.rv_account.specs.Account.{call_at, item_at, key_at, items_at, limit_at, own_moment};
-ghost use Rattle.rv_account.specs.Account.{partners_items, with_entry};
+ghost use Rattle.rv_account.specs.Account.{call_at, item_at, key_at, limit_at, own_moment, with_entry};
 ghost use Rattle.rv_account.specs.Limits.{FitEntries};
 
 use crate::entry::{Act, Entry};
 use crate::waits::limit_after;
 use rv_session::Place;
-use rv_text::{Call, Item, Items, Key, NoMemory};
+use rv_text::{Call, Item, Key, NoMemory};
 use std::alloc::Global;
 use std::marker::Model;
 
@@ -106,29 +105,6 @@ impl Account {
         ensures { item_at self.now.account.entries place ≡ Some result.now }
     {
         self.call(place).and_then(Call::item).unwrap()
-    }
-
-    /// Copies of the items that the partners of the entry at a place hand over, in the order in which it
-    /// names them. Each partner must hand an item over. Fails only if memory was refused.
-    pub fn partners_items(&self, place: Place) -> Result<Items, NoMemory>
-        requires { IsSome (partners_items self.now.account.entries place) }
-        ensures { IfOk result (λ items. partners_items self.now.account.entries place ≡ Some items) }
-    {
-        let partners = self.entry(place).unwrap().partners.as_slice();
-        self.items(partners)
-    }
-
-    // Copies of the items that the arrivals at these places hand over, in their order.
-    fn items(&self, places: &[Place]) -> Result<Items, NoMemory>
-        requires { IsSome (items_at self.now.account.entries places.now) }
-        ensures { IfOk result (λ items. items_at self.now.account.entries places.now ≡ Some items) }
-    {
-        let alloc = self.allocator();
-        let mut items = Vec::with_capacity(alloc, places.len())?;
-        for place in places {
-            items.push(self.item(*place).copy(alloc)?)?;
-        }
-        Ok(Items::from_vec(items))
     }
 
     /// The last entry's moment, or the opening moment if there are no entries.

@@ -1,7 +1,9 @@
 -- The bytes behind those that may leave: an answer more, and the first one less.
 use Rattle.std.proofs.Common.{◌≡◌, ◌<◌, ◌≤◌, ◌+◌, ◌∙◌, ℕ, List, [], ◌∷◌, ◌++◌, refl, sym, ap, subst}
 use Rattle.std.proofs.Common.{append-nil, append_assoc, arith, drop, length, length-append, length-drop, take}
-use Rattle.std.proofs.Common.{None, Some, get_or, inl, inr, suc, zero, ◌⊎◌}
+use Rattle.std.proofs.Common.{Bool, None, Some, false, get_or, inl, inr, not, suc, true, zero, ◌==◌, ◌⊎◌}
+use Rattle.std.specs.Bool.{OnFalse}
+use Rattle.std.proofs.lemmas.Bool.{eqb-true}
 use Rattle.std.specs.List.{All}
 use Rattle.std.proofs.lemmas.List.{drop-append-le, drop-drop, length-map, length-take-le, map-append}
 use Rattle.std.proofs.lemmas.List.{take-append-le}
@@ -121,6 +123,13 @@ waits_none marks rest none = ap (λ l. first_rests_on (marked_bytes l rest)) non
 pub no_marks : (marks : List Mark) → NoneEmpty marks → marked_count marks ≡ 0 → marks ≡ []
 no_marks [] none all = refl
 no_marks (m ∷ marks) none all = absurd (omega (arith, none.0))
+
+-- who has nothing to wait for rests on what is written, and has nothing before it
+pub may_leave : (written entries : ℕ) (marks : List Mark) (empty : Bool) → entries ≤ written
+    → empty ≡ (length marks == 0) → OnFalse (not empty) ((entries ≤ written) × (marks ≡ []))
+may_leave written entries marks false few is = tt
+may_leave written entries marks true few is =
+    (few, nil_from_length marks (eqb-true (length marks) 0 (sym is)))
 
 -- ---- what is freed in two parts
 

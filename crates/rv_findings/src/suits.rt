@@ -1,25 +1,10 @@
 //! Whether a call may have a reply at all.
-ghost use Rattle.std.specs.Prelude.{◌≡◌, ◌≤◌, ◌↔◌, ◌⊎◌, ℕ, List, IsTrue, length};
-ghost use Rattle.rv_resume.specs.Suiting.{EndsUnmet, SuitsCall, TellsReceipt};
-ghost use Rattle.rv_text.specs.declared.answer.Reply.{Reply};
-ghost use Rattle.rv_text.specs.declared.answer.Reply.TheVariants.{Cancelled, Drained, TimedOut};
-ghost use Rattle.rv_text.specs.declared.version.Version.TheVariants.{One, Two};
+ghost use Rattle.std.specs.Prelude.{◌≡◌, ◌↔◌, IsTrue};
+ghost use Rattle.rv_text.specs.declared.answer.Reply.TheVariants.{Cancelled};
 ghost use Rattle.rv_findings.specs.Findings.{MayBeTold};
 
-use rv_text::{Call, Reply, Wait};
-
-// Whether a transfer that was met is told this, in a session of either version.
-fn is_receipt(reply: &Reply) -> bool
-    ensures { IsTrue result ↔ TellsReceipt One reply.now ⊎ TellsReceipt Two reply.now }
-{
-    matches!(reply, Reply::Received | Reply::ReceivedBy(_))
-}
-
-fn is_timed_out(reply: &Reply) -> bool
-    ensures { IsTrue result ↔ (reply.now ≡ TimedOut) }
-{
-    matches!(reply, Reply::TimedOut)
-}
+use rv_resume::suits_call;
+use rv_text::{Call, Reply, Version};
 
 fn is_cancelled(reply: &Reply) -> bool
     ensures { IsTrue result ↔ (reply.now ≡ Cancelled) }
@@ -27,54 +12,11 @@ fn is_cancelled(reply: &Reply) -> bool
     matches!(reply, Reply::Cancelled)
 }
 
-// Whether a request that met nobody is told this, by its wait and by whether it is what it is told at once.
-fn ends_unmet(wait: Wait, at_once: bool, reply: &Reply) -> bool
-    ensures { (its : Reply) → (IsTrue at_once ↔ (reply.now ≡ its))
-        → IsTrue result ↔ EndsUnmet wait its reply.now }
-{
-    match wait {
-        Wait::Now => at_once,
-        Wait::Millis(0) => is_timed_out(reply),
-        Wait::Millis(_) => is_timed_out(reply) || is_cancelled(reply),
-        Wait::Forever => is_cancelled(reply),
-    }
-}
-
-// Whether the reply is that so many items at most were drained.
-fn is_drained(max: u64, reply: &Reply) -> bool
-    ensures { IsTrue result ↔ ((items : List (List ℕ)) × (reply.now ≡ Drained items) × (length items ≤ max)) }
-{
-    match reply {
-        Reply::Drained(items) => items.as_slice().len() as u64 <= max,
-        _ => false,
-    }
-}
-
-// Whether a request with this call may be told this in a session of either version.
-fn suits(call: &Call, reply: &Reply) -> bool
-    ensures { IsTrue result ↔ SuitsCall One call.now reply.now ⊎ SuitsCall Two call.now reply.now }
-{
-    match call {
-        Call::Put { .. } => matches!(reply, Reply::Done),
-        Call::Transfer { wait, .. } => {
-            is_receipt(reply) || ends_unmet(*wait, matches!(reply, Reply::Nobody), reply)
-        }
-        Call::Take { wait, .. } => {
-            matches!(reply, Reply::Item(_))
-                || ends_unmet(*wait, matches!(reply, Reply::Empty), reply)
-        }
-        Call::Swap { wait, .. } => {
-            matches!(reply, Reply::Swapped(_)) || ends_unmet(*wait, is_timed_out(reply), reply)
-        }
-        Call::Count { .. } => matches!(reply, Reply::Counted { .. }),
-        Call::Peek { .. } => matches!(reply, Reply::Peeked(_) | Reply::Empty),
-        Call::Drain { max, .. } => is_drained(*max, reply),
-    }
-}
-
 /// Whether a request with this call may be told this, also where it was cancelled before it came.
 pub(crate) fn may_tell(call: &Call, reply: &Reply) -> bool
     ensures { IsTrue result ↔ MayBeTold call.now reply.now }
 {
-    is_cancelled(reply) || suits(call, reply)
+    is_cancelled(reply)
+        || suits_call(Version::One, call, reply)
+        || suits_call(Version::Two, call, reply)
 }

@@ -1,8 +1,4 @@
--- What a reader must agree with: all that the public contracts and the laws cite.
-pub mod Ruling
+-- What a reader must agree with: all that the public contracts cite.
 pub mod Outcomes
-pub mod Laws
 -- What only private clauses and proofs cite.
 pub mod Told
-pub mod Walking
-pub mod Rooming

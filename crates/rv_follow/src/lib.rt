@@ -4,10 +4,6 @@
 
 mod following;
 pub mod laws;
-mod line;
-mod moments;
-mod numbers;
-mod partners;
 mod room;
 mod ruling;
 

@@ -13,12 +13,11 @@ ghost use Rattle.rv_resume.specs.Resuming.{CanResume, StaysInRoom};
 ghost use Rattle.rv_state.specs.After.{following, met_by, state_after, stays_open};
 ghost use Rattle.rv_state.specs.Follows.{FollowsState};
 ghost use Rattle.rv_state.specs.State.{client_at, place_list};
-ghost use Rattle.rv_follow.specs.Rooming.{AwaitsNothing, HasAwaiting, HasSpace, IsWaitedFor, IsUnawaited};
-ghost use Rattle.rv_follow.specs.Walking.{HoldsOfAll};
+ghost use Rattle.rv_asked.specs.Rooming.{AwaitsNothing, HasAwaiting, HasSpace, IsWaitedFor, IsUnawaited};
+ghost use Rattle.rv_asked.specs.Walking.{HoldsOfAll};
 
-use crate::numbers::is_waiting;
-use crate::partners::opposite;
 use rv_account::{Act, Entry, Place, lasts, need_of};
+use rv_asked::{is_waiting, opposite};
 use rv_machine::Machine;
 use rv_text::{Call, Key};
 

@@ -7,15 +7,11 @@ ghost use Rattle.rv_breaking.specs.declared.rule.Rule.TheVariants.{P2};
 ghost use Rattle.rv_machine.specs.Machines.{state_in};
 ghost use Rattle.rv_resume.specs.Resuming.{CanResume};
 ghost use Rattle.rv_state.specs.Kept.{NamesOpen};
-ghost use Rattle.rv_follow.specs.Ruling.{IsFirstBroken, KeepsUpTo, KeepsRule};
+ghost use Rattle.rv_asked.specs.Ruling.{IsFirstBroken, KeepsUpTo, KeepsRule};
 ghost use Rattle.rv_follow.specs.Told.{IsRulingOf};
 
-use crate::moments::{keeps_limits, keeps_time, ticks_rightly};
-use crate::numbers::{hello_rises, in_session, in_turn};
-use crate::partners::{
-    names_open, names_well, pairs_all, pairs_oldest, pairs_opposites, swaps_all, swaps_opposites,
-};
 use rv_account::Entry;
+use rv_asked::{keeps, names_open};
 use rv_audit::Rule;
 use rv_machine::Machine;
 
@@ -28,29 +24,6 @@ pub(crate) enum Ruling {
     Breaks(Rule),
     /// It names well, but a place that is open nowhere.
     NotOpen,
-}
-
-// Whether the entry keeps the rule, if it keeps those before it.
-fn keeps(machine: &Machine, rule: Rule, entry: &Entry) -> bool
-    requires resumes { CanResume (state_in machine.now) }
-    requires fits { FitsEntry entry.now }
-    requires before { KeepsUpTo (rank_of rule) (state_in machine.now) entry.now }
-    ensures { IsTrue result ↔ KeepsRule rule (state_in machine.now) entry.now }
-{
-    match rule {
-        Rule::M1 => keeps_time(machine, entry),
-        Rule::M2 => keeps_limits(machine, entry),
-        Rule::M3 => ticks_rightly(machine, entry),
-        Rule::N1 => hello_rises(machine, &entry.act),
-        Rule::N2 => in_session(machine, &entry.act),
-        Rule::N3 => in_turn(machine, &entry.act),
-        Rule::P1 => names_well(machine, entry),
-        Rule::P2 => pairs_opposites(machine, entry),
-        Rule::P3 => pairs_oldest(machine, entry),
-        Rule::P4 => pairs_all(machine, entry),
-        Rule::S1 => swaps_opposites(machine, entry),
-        Rule::S2 => swaps_all(machine, entry),
-    }
 }
 
 // The first rule up to P1 that the entry breaks.

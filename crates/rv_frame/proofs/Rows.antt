@@ -4,12 +4,13 @@ use Rattle.std.proofs.Common.{Some, None, IfSome, refl, sym, ap, subst, arith, l
 use Rattle.std.proofs.Common.{false, get_or, is_some, true, length-append, length-drop, zero, suc}
 use Rattle.std.specs.List.{All}
 use Rattle.std.proofs.Math.Seq.{drop-append_seam, take-add, take-append_seam}
-use Rattle.std.proofs.lemmas.List.{drop-drop, drop-take, length-take-le, take-append-drop, take-take}
+use Rattle.std.proofs.lemmas.List.{drop-append-le, drop-drop, drop-take, length-take-le, take-append-drop}
+use Rattle.std.proofs.lemmas.List.{take-append-le, take-take}
 use Rattle.std.proofs.lemmas.List.Elements.{All-append, All-cons, All-head, All-nil, All-tail}
 use Rattle.rv_frame.specs.Cut.{BeginsBad, Cut, End, FitsLength, IsFrameBody, IsUnfinished, frame_bytes}
 use Rattle.rv_frame.specs.Cut.{length_bytes, row_bytes}
 use Rattle.rv_frame.specs.Held.{BeginsFrame, CutAt, FrontIsRow, bodies_in, end_of}
-use Rattle.rv_frame.specs.Stream.{Grows}
+use Rattle.rv_frame.specs.Stream.{FeedsAt, Grows, Stream}
 use Rattle.rv_frame.proofs.Cuts.{frame_once, length_once, row_append}
 
 -- ---- the bodies of a row
@@ -47,6 +48,21 @@ front_bodies bytes whole front =
     (omega (arith, rows_long front.bodies, ap length front.row))
 
 -- ---- fronts that grow
+
+-- what a piece behind the bytes adds to their frames it adds to the stream
+pub feeds_on : (bytes piece both : List ℕ) (whole : ℕ) (bad : Option ℕ) (end : End) (new : Stream)
+    → bad ≡ None → whole ≤ length bytes → both ≡ bytes ++ piece
+    → Grows (record { frames = bodies_in whole (take whole both); end = end }) (drop whole both) new
+    → FeedsAt (end_of bad (drop whole bytes))
+    (record { frames = bodies_in whole (take whole bytes); end = end_of bad (drop whole bytes) }) piece new
+feeds_on bytes piece both whole None end new unmet within same grows = record {
+  more = grows.more;
+  cut = subst (λ (l : List ℕ). Cut l grows.more new.end)
+      (ap (drop whole) same ∙ drop-append-le whole bytes piece within) grows.cut;
+  frames = grows.frames ∙ ap (λ l. bodies_in whole l ++ grows.more)
+      (ap (take whole) same ∙ take-append-le whole bytes piece within);
+}
+feeds_on bytes piece both whole (Some n) end new unmet within same grows = absurd (cc)
 
 pub fronts_join : (bytes : List ℕ) (whole more : ℕ) → FrontIsRow bytes whole
     → FrontIsRow (drop whole bytes) more → FrontIsRow bytes (whole + more)

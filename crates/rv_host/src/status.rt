@@ -9,7 +9,6 @@ use rv_hub::Hub;
 use rv_options::HostOptions;
 use rv_status::{FaultCounts, HostStatus, StatusNumbers, StatusPages, StatusSample, take_sample};
 use rv_survey::{list_queues, renew, unheard_row, waiting_row};
-use rv_visitors::Visitors;
 use std::alloc::{AllocError, Global};
 use std::hash::RandomState;
 
@@ -39,7 +38,7 @@ pub(crate) struct StatusDesk {
     alloc: Global,
     pub(crate) door: Door,
     reserve: Reserve,
-    visitors: Visitors<TcpStream>,
+    visitors: rv_status::Visitors<TcpStream>,
     status: HostStatus,
     // How far the clients are looked at, and how many more are to be.
     after: Option<u64>,
@@ -92,7 +91,7 @@ impl StatusDesk {
     ) -> Result<StatusDesk, HostEnd> {
         let alloc = rt.alloc();
         let keys = RandomState::new(rt)?;
-        let visitors = Visitors::new(alloc, keys)?;
+        let visitors = rv_status::Visitors::new(alloc, keys)?;
         let status = with_room(alloc, first_numbers(options, fault_counts(report, 0)))?;
         Ok(StatusDesk {
             alloc,

@@ -14,38 +14,10 @@ use Rattle.rv_session.specs.declared.kept.Kept as kept
 use Rattle.rv_account.specs.declared.entry.Entry.{Entry}
 use Rattle.rv_account.specs.declared.entry.Act.{Act}
 use Rattle.rv_account.specs.declared.entry.Act.TheVariants.{Hello, Arrive, Cancel, Tick}
-use Rattle.rv_account.specs.Account.{item_at, key_at, partners_items}
 use Rattle.rv_state.specs.State.{State, line, place_list}
 use Rattle.rv_state.specs.Moves.{told_again}
-
--- ---- from what is kept to the reply
-
--- the reply that is kept; none where no item, or no request, arrived at its place
-abbrev pub reply_of : List Entry → Kept → Option Reply
-reply_of entries kept.TheVariants.Done = Some reply.TheVariants.Done
-reply_of entries (kept.TheVariants.Item place) = option_map reply.TheVariants.Item (item_at entries place)
-reply_of entries kept.TheVariants.Empty = Some reply.TheVariants.Empty
-reply_of entries (kept.TheVariants.Swapped place) =
-    option_map reply.TheVariants.Swapped (item_at entries place)
-reply_of entries kept.TheVariants.Received = Some reply.TheVariants.Received
-reply_of entries (kept.TheVariants.ReceivedBy place) =
-    option_map reply.TheVariants.ReceivedBy (key_at entries place)
-reply_of entries kept.TheVariants.Nobody = Some reply.TheVariants.Nobody
-reply_of entries kept.TheVariants.Cancelled = Some reply.TheVariants.Cancelled
-reply_of entries kept.TheVariants.TimedOut = Some reply.TheVariants.TimedOut
-reply_of entries (kept.TheVariants.Counted items consumers) =
-    Some (reply.TheVariants.Counted items consumers)
-reply_of entries (kept.TheVariants.Peeked place) = option_map reply.TheVariants.Peeked (item_at entries place)
-reply_of entries (kept.TheVariants.Drained place) =
-    option_map reply.TheVariants.Drained (partners_items entries place)
-
--- the reply carries items' texts, or a list for them
-abbrev pub ReplyHasText : Reply → Type 0
-ReplyHasText (reply.TheVariants.Item text) = Unit {0}
-ReplyHasText (reply.TheVariants.Swapped text) = Unit {0}
-ReplyHasText (reply.TheVariants.Peeked text) = Unit {0}
-ReplyHasText (reply.TheVariants.Drained texts) = Unit {0}
-ReplyHasText _ = ⊥
+-- Handed on from below: from what is kept to the reply.
+pub use Rattle.rv_recall.specs.Recalling.{ReplyHasText, reply_of}
 
 -- ---- from the reply to what is kept
 

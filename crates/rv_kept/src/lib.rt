@@ -2,9 +2,6 @@
 #![tactic(auto)]
 
 mod naming;
-mod table;
-mod texts;
 
 pub use naming::{kept_again, source};
-pub use table::KeptReplies;
-pub use texts::reply;
+pub use rv_recall::{KeptReplies, reply};

@@ -12,14 +12,6 @@ parts_cut : (line epoch opened : List ℕ) → line ≡ codes "epoch " ++ epoch 
 parts_cut line epoch opened is = is ∙ append_assoc (codes "epoch " ++ epoch) (codes " opened ") opened
     ∙ append_assoc (codes "epoch ") epoch (codes " opened " ++ opened)
 
-pub parts_joined : (line behind epoch rest opened : List ℕ) → line ≡ codes "epoch " ++ behind
-    → behind ≡ epoch ++ 32 ∷ rest → rest ≡ codes "opened " ++ opened
-    → line ≡ codes "epoch " ++ epoch ++ codes " opened " ++ opened
-parts_joined line behind epoch rest opened is is' is'' =
-    is ∙ ap (λ b. codes "epoch " ++ b) (is' ∙ ap (λ r. epoch ++ 32 ∷ r) is'')
-    ∙ sym (append_assoc (codes "epoch ") epoch (codes " opened " ++ opened))
-    ∙ sym (append_assoc (codes "epoch " ++ epoch) (codes " opened ") opened)
-
 module _ {line : List ℕ} {epoch opened : ℕ} (has : ReadsHead line epoch opened) where
   pub cut_line : line ≡ codes "epoch " ++ (has.epoch_field ++ 32 ∷ (codes "opened " ++ has.opened_field))
   cut_line = parts_cut line has.epoch_field has.opened_field has.parts

@@ -12,4 +12,3 @@ pub mod Booked
 pub mod OneLine
 pub mod ReadBack
 pub mod Turns
-pub mod Texts

@@ -1,5 +1,5 @@
 -- Bodies, and what is written for an account, have no LF within a line.
-use Rattle.std.proofs.Common.{◌≡◌, ◌≢◌, ◌≤◌, ◌<◌, ◌^◌, ◌+◌, ◌/◌, ◌%◌, ◌++◌, ◌||◌, ◌==◌, ℕ, Bool, suc, true}
+use Rattle.std.proofs.Common.{◌≡◌, ◌≢◌, ◌<◌, ◌^◌, ◌+◌, ◌/◌, ◌%◌, ◌++◌, ◌||◌, ◌==◌, ℕ, Bool, true}
 use Rattle.std.proofs.Common.{false, cond, List, [], ◌∷◌, Option, Some, None, IfSome, inl, inr, map, refl}
 use Rattle.std.proofs.Common.{sym, subst, arith, codes}
 use Rattle.std.specs.Prelude.{nat_lt}
@@ -25,11 +25,9 @@ use Rattle.rv_text.proofs.ByKind.{row_is_flat}
 use Rattle.rv_text.proofs.Objects.{AllMembers, AllMembers-with_fields}
 use Rattle.rv_text.proofs.Sizes.{IsFlat, IsFlatMember}
 use Rattle.rv_text.proofs.Sound.{answer_sound, answer_within, message_sound, message_within}
-use Rattle.rv_account.specs.declared.entry.Act.{Act}
-use Rattle.rv_account.specs.declared.entry.Act.TheVariants as act
 use Rattle.rv_account.specs.declared.entry.Entry.{Entry}
-use Rattle.rv_book.specs.Limits.{FitsAct, FitsEntry}
-use Rattle.rv_account.specs.Account.{Among}
+use Rattle.rv_book.specs.Limits.{FitsEntry}
+use Rattle.rv_written.proofs.Texts.{AllUpTo, message_fits, up_to_behind}
 use Rattle.rv_lines.specs.Written.{FitPlaces, entry_text, head_text, max_partner, message_in, partners_text}
 use Rattle.rv_lines.specs.Written.{places_text, said_text}
 use Rattle.rv_lines.proofs.Cutting.{Lacks}
@@ -173,13 +171,6 @@ answer_in_one_line a fits =
 
 -- ---- lines of an account
 
--- each of the places is at most this
-abbrev pub AllUpTo : ℕ → List ℕ → Type 0
-AllUpTo most places = (p : ℕ) → Among places p → p ≤ most
-
-pub up_to_behind : (most place : ℕ) (more : List ℕ) → AllUpTo most (place ∷ more) → AllUpTo most more
-up_to_behind most place more small p among = small p (suc among.0, among.1)
-
 -- digits, commas and a minus are above these bytes
 module _ (byte : ℕ) (low : byte < 44) where
   decimal_lacks : (n : ℕ) → n < 2 ^ 64 → Lacks byte (decimal n)
@@ -206,12 +197,6 @@ module _ (byte : ℕ) (low : byte < 44) where
 said_in_line : (said : Option Message) → IfSome said FitsMessage → Lacks 10 (said_text said)
 said_in_line None fits = word_in_line (codes "tick") refl
 said_in_line (Some m) fits = message_in_one_line m fits
-
-pub message_fits : (act : Act) → FitsAct act → IfSome (message_in act) FitsMessage
-message_fits (act.Hello client incarnation version) fits = fits
-message_fits (act.Arrive key call) fits = fits
-message_fits (act.Cancel key) fits = fits
-message_fits act.Tick fits = tt
 
 pub entry_in_one_line : (e : Entry) → FitsEntry e → FitPlaces e → Lacks 10 (entry_text e)
 entry_in_one_line e fits small =

@@ -11,6 +11,7 @@ use Rattle.rv_text.proofs.Written.{written_body}
 use Rattle.rv_account.specs.declared.entry.Entry.{Entry}
 use Rattle.rv_book.specs.Limits.{FitsEntry}
 use Rattle.rv_book.specs.Steps.{max_moment}
+use Rattle.rv_written.proofs.Texts.{AllUpTo, message_fits, up_to_behind}
 use Rattle.rv_lines.specs.Laws.{WrittenLines}
 use Rattle.rv_lines.specs.Lines.{lines, printed_lines}
 use Rattle.rv_lines.specs.Number.{WritesUpTo}
@@ -18,8 +19,7 @@ use Rattle.rv_lines.specs.Reading.{ReadsEntryUpTo, SaysMessage, SaysPartnersUpTo
 use Rattle.rv_lines.specs.Written.{FitPlaces, account_lines, entry_text, head_text, max_partner, message_in}
 use Rattle.rv_lines.specs.Written.{partners_text, places_text, said_text}
 use Rattle.rv_lines.proofs.Cutting.{Lacks, lines_cut}
-use Rattle.rv_lines.proofs.OneLine.{AllUpTo, entry_in_one_line, head_in_one_line, message_fits, partners_lack}
-use Rattle.rv_lines.proofs.OneLine.{up_to_behind}
+use Rattle.rv_lines.proofs.OneLine.{entry_in_one_line, head_in_one_line, partners_lack}
 use Rattle.rv_lines.proofs.Plain.{decimal_is_plain}
 
 -- ---- one line

@@ -1,6 +1,8 @@
 -- The lines of an input, and texts printed as lines.
-use Rattle.std.specs.Prelude.{ℕ, List, [], ◌∷◌, ◌++◌, ◌==◌, ◌≡◌, ◌≢◌, ◌<◌, ◌⊎◌, if◌then◌else◌, length}
+use Rattle.std.specs.Prelude.{ℕ, List, [], ◌∷◌, ◌++◌, ◌==◌, ◌≡◌, ◌≢◌, ◌⊎◌, if◌then◌else◌}
 use Rattle.std.specs.List.{All, onto_first}
+-- Handed on from below: the text is short.
+pub use Rattle.rv_written.specs.Written.{IsShort}
 
 -- the bytes before each LF (10), and those after the last LF if there are any
 abbrev pub lines : List ℕ → List (List ℕ)
@@ -16,7 +18,3 @@ pub record BeginsWithLine (bytes line rest : List ℕ) : Type 0 where
 abbrev pub printed_lines : List (List ℕ) → List ℕ
 printed_lines [] = []
 printed_lines (text ∷ texts) = text ++ 10 ∷ printed_lines texts
-
--- the text is short: a body and the words before it, as they stand in a printed line, fit it
-abbrev pub IsShort : List ℕ → Type 0
-IsShort text = length text < 65727

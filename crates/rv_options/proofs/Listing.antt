@@ -8,11 +8,11 @@ use Rattle.clap.specs.declared.builder.command.Command.{Command}
 use Rattle.clap.specs.declared.builder.command.Command.TheViews.{out-Command}
 use Rattle.rv_options.specs.Listed.{listed_rule}
 use Rattle.rv_options.specs.Words.{with_rules}
-use Rattle.rv_options.specs.declared.words.ValueOption.{ValueOption}
+use Rattle.rv_options.specs.declared.words.ListedOption.{ListedOption}
 
 -- with the first of the options that are left, the others bring the same command
-pub one_added : (command next : Command) (arg : Arg) (whole : App) (options : List ValueOption) (i : ℕ)
-    (d : ValueOption) → i < length options → AddsArg command arg next
+pub one_added : (command next : Command) (arg : Arg) (whole : App) (options : List ListedOption) (i : ℕ)
+    (d : ListedOption) → i < length options → AddsArg command arg next
     → rule_of arg ≡ listed_rule (slice_index_or options i d) → arg.global ≡ false
     → with_rules (app_of command) (map listed_rule (drop i options)) ≡ whole
     → with_rules (app_of next) (map listed_rule (drop (i + 1) options)) ≡ whole

@@ -12,4 +12,4 @@ pub use epoch::EpochRule;
 pub use fault::HostFault;
 pub use number::HostNumber;
 pub use options::{HostOptions, read_host};
-pub use words::host_words;
+pub use words::{ListedOption, host_words, with_options};

@@ -2,7 +2,7 @@
 ghost use Rattle.std.specs.Prelude.{◌≡◌, false, IfOk, map};
 ghost use Rattle.clap.specs.Words.{app_of, rule_of, shape_of};
 ghost use Rattle.clap.specs.declared.Command.TheViews.{out-Command};
-ghost use Rattle.rv_options.specs.Words.{flag_rule, host_app, with_rules};
+ghost use Rattle.rv_options.specs.Words.{host_app, with_rules};
 ghost use Rattle.rv_options.specs.Listed.{listed_rule};
 
 use clap::{Arg, ArgAction, Command};
@@ -17,14 +17,14 @@ pub fn host_words<'a>(alloc: Global) -> Result<Command<'a>, AllocError>
     let command = Command::new(alloc, "host")
         .about("Serve a book, in memory, until the server is killed")
         .bin_name("rv host")?;
-    with_options(alloc, command, OPTIONS)?.arg(quiet(alloc))
+    with_options(alloc, command, OPTIONS)
 }
 
-// The command with these options too.
-fn with_options<'a>(
+/// The command with these options too, if there was memory for them.
+pub fn with_options<'a>(
     alloc: Global,
     command: Command<'a>,
-    options: &[ValueOption],
+    options: &[ListedOption],
 ) -> Result<Command<'a>, AllocError>
     requires { (out-Command command).has_globals ≡ false }
     ensures app { IfOk result (λ c.
@@ -33,126 +33,136 @@ fn with_options<'a>(
 {
     let mut command = command;
     for option in options {
-        command = command.arg(value_option(alloc, option))?;
+        command = command.arg(listed_option(alloc, option))?;
     }
     Ok(command)
 }
 
-// An option `--NAME VALUE`.
-fn value_option<'a>(alloc: Global, option: &ValueOption) -> Arg<'a>
+// An option as it is listed.
+fn listed_option<'a>(alloc: Global, option: &ListedOption) -> Arg<'a>
     ensures rule { rule_of result ≡ listed_rule option.now }
     ensures local { result.global ≡ false }
 {
-    let arg = Arg::new(alloc, option.name)
+    Arg::new(alloc, option.name)
         .long(option.name)
-        .value_name(option.value)
+        .value_names(option.values)
         .required(option.required)
-        .action(ArgAction::Set)
-        .help(option.help);
-    match option.usual {
-        Some(usual) => arg.default_value(usual),
-        None => arg,
-    }
+        .action(option.action)
+        .default_values(option.usual)
+        .help(option.help)
 }
 
-// The option `--quiet`.
-fn quiet<'a>(alloc: Global) -> Arg<'a>
-    ensures rule { rule_of result ≡ flag_rule }
-    ensures local { result.global ≡ false }
-{
-    Arg::new(alloc, "quiet")
-        .long("quiet")
-        .help("Print nothing but what ends it")
-        .action(ArgAction::SetTrue)
+/// An option, or a flag.
+pub struct ListedOption {
+    /// Its name, which stands behind two dashes.
+    pub name: &'static str,
+    /// What help calls its value, if that is other than its name; nothing of a flag.
+    pub values: &'static [&'static str],
+    /// Whether it has to be given.
+    pub required: bool,
+    /// What is done where it is met.
+    pub action: ArgAction,
+    /// Its value where it isn't given, if it has one then.
+    pub usual: &'static [&'static str],
+    /// What help says of it.
+    pub help: &'static str,
 }
 
-// An option that has a value.
-struct ValueOption {
-    name: &'static str,
-    // What help calls its value.
-    value: &'static str,
-    required: bool,
-    // Its value where it isn't given.
-    usual: Option<&'static str>,
-    help: &'static str,
-}
-
-const OPTIONS: &[ValueOption] = &[
-    ValueOption {
+const OPTIONS: &[ListedOption] = &[
+    ListedOption {
         name: "listen",
-        value: "ADDR",
+        values: &["ADDR"],
         required: true,
-        usual: None,
+        action: ArgAction::Set,
+        usual: &[],
         help: "Where it listens",
     },
-    ValueOption {
+    ListedOption {
         name: "account",
-        value: "FILE",
+        values: &["FILE"],
         required: false,
-        usual: None,
+        action: ArgAction::Set,
+        usual: &[],
         help: "A new file, to which each entry is written before it is answered",
     },
-    ValueOption {
+    ListedOption {
         name: "status",
-        value: "ADDR",
+        values: &["ADDR"],
         required: false,
-        usual: None,
+        action: ArgAction::Set,
+        usual: &[],
         help: "Where it tells over HTTP how it is",
     },
-    ValueOption {
+    ListedOption {
         name: "epoch",
-        value: "N",
+        values: &["N"],
         required: false,
-        usual: None,
+        action: ArgAction::Set,
+        usual: &[],
         help: "The epoch [default: the clock's milliseconds]",
     },
-    ValueOption {
+    ListedOption {
         name: "epoch-above",
-        value: "N",
+        values: &["N"],
         required: false,
-        usual: None,
+        action: ArgAction::Set,
+        usual: &[],
         help: "The clock's milliseconds, but above this, for a clock that may go back",
     },
-    ValueOption {
+    ListedOption {
         name: "clients",
-        value: "N",
+        values: &["N"],
         required: false,
-        usual: Some("65536"),
+        action: ArgAction::Set,
+        usual: &["65536"],
         help: "How many clients it takes",
     },
-    ValueOption {
+    ListedOption {
         name: "open",
-        value: "N",
+        values: &["N"],
         required: false,
-        usual: Some("100000"),
+        action: ArgAction::Set,
+        usual: &["100000"],
         help: "How many items and requests may be open",
     },
-    ValueOption {
+    ListedOption {
         name: "connections",
-        value: "N",
+        values: &["N"],
         required: false,
-        usual: Some("10000"),
+        action: ArgAction::Set,
+        usual: &["10000"],
         help: "How many connections are open at once; others wait",
     },
-    ValueOption {
+    ListedOption {
         name: "memory",
-        value: "N",
+        values: &["N"],
         required: false,
-        usual: Some("256"),
+        action: ArgAction::Set,
+        usual: &["256"],
         help: "MiB for the bytes of all connections; who holds most is closed first",
     },
-    ValueOption {
+    ListedOption {
         name: "idle",
-        value: "N",
+        values: &["N"],
         required: false,
-        usual: Some("3600"),
+        action: ArgAction::Set,
+        usual: &["3600"],
         help: "Seconds until a connection ends that says nothing and waits for nothing",
     },
-    ValueOption {
+    ListedOption {
         name: "stall",
-        value: "N",
+        values: &["N"],
         required: false,
-        usual: Some("30"),
+        action: ArgAction::Set,
+        usual: &["30"],
         help: "Seconds until one ends in the middle of a frame, or whose peer takes no answer",
+    },
+    ListedOption {
+        name: "quiet",
+        values: &[],
+        required: false,
+        action: ArgAction::SetTrue,
+        usual: &[],
+        help: "Print nothing but what ends it",
     },
 ];

@@ -9,13 +9,13 @@ use Rattle.rv_text.specs.declared.answer.Reply.{Reply}
 use Rattle.rv_text.specs.declared.message.Key.{Key}
 use Rattle.rv_client.specs.Process.{Process, Outcome, Welcomed, TurnedAway, Settled, EpochEnded, Replaced}
 use Rattle.rv_client.specs.Process.{Ignored}
-use Rattle.rv_world.specs.declared.event.Event.{Event}
-use Rattle.rv_world.specs.declared.event.Event.TheVariants as event
-use Rattle.rv_world.specs.declared.packet.Packet.{Packet}
-use Rattle.rv_world.specs.declared.seen.Seen.{Seen}
-use Rattle.rv_world.specs.declared.seen.Seen.TheVariants as sees
-use Rattle.rv_world.specs.Events.{ComesTo, Steps, Takes, WorldBecomes}
-use Rattle.rv_world.specs.World.{World}
+use Rattle.rv_parts.specs.declared.event.Event.{Event}
+use Rattle.rv_parts.specs.declared.event.Event.TheVariants as event
+use Rattle.rv_parts.specs.declared.packet.Packet.{Packet}
+use Rattle.rv_parts.specs.declared.seen.Seen.{Seen}
+use Rattle.rv_parts.specs.declared.seen.Seen.TheVariants as sees
+use Rattle.rv_parts.specs.Events.{ComesTo, Steps, Takes, WorldBecomes}
+use Rattle.rv_parts.specs.World.{World}
 use Rattle.rv_play.specs.Told.{CanTell, WasSent}
 
 last_there : {X : Type 0} (xs : List X) (x : X) → slice_get (xs ++ x ∷ []) (length xs) ≡ Some x

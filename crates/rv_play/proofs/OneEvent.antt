@@ -7,8 +7,8 @@ use Rattle.rv_text.specs.declared.version.Version.TheVariants.{One, Two}
 use Rattle.rv_text.specs.Bodies.{IsCallBody}
 use Rattle.rv_text.specs.Laws.{OneCall}
 use Rattle.rv_lines.specs.Number.{WritesNumber, value_of_digits}
-use Rattle.rv_world.specs.declared.event.Event.{Event}
-use Rattle.rv_world.specs.declared.event.Event.TheVariants as event
+use Rattle.rv_parts.specs.declared.event.Event.{Event}
+use Rattle.rv_parts.specs.declared.event.Event.TheVariants as event
 use Rattle.rv_lines.proofs.Cutting.{Lacks, cut_once}
 use Rattle.rv_play.specs.Reading.{SayRest, SayTwo, SaysEvent, SaysSession, word_of}
 use Rattle.rv_play.proofs.Saying.{identifier_lacks, not_two, number_lacks, word_lacks_space}

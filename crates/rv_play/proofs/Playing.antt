@@ -10,7 +10,7 @@ use Rattle.rv_lines.specs.Lines.{lines, printed_lines}
 use Rattle.rv_run.specs.declared.output.Output.{Output}
 use Rattle.rv_run.specs.Output.{IsShort, StopsAfter, gathered_bytes, sent_before}
 use Rattle.rv_run.proofs.Printing.{Appends-nothing, all_out, part_out, printed_append}
-use Rattle.rv_world.specs.World.{World, first_world}
+use Rattle.rv_parts.specs.World.{World, first_world}
 use Rattle.rv_play.specs.Plays.{PlaysFirst, PrintsFront, PrintsSome}
 use Rattle.rv_play.specs.Turns.{LineTurn, Plays, TakesTurn, lines_of, turn_texts}
 

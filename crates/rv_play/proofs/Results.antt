@@ -13,12 +13,12 @@ use Rattle.rv_text.specs.declared.message.Key.{Key}
 use Rattle.rv_text.specs.Bodies.{HasBodyLength, answer_text}
 use Rattle.rv_text.specs.Limits.{FitsAnswer}
 use Rattle.rv_lines.proofs.OneLine.{answer_in_one_line, decimal_in_line, line_append, line_cons, word_in_line}
-use Rattle.rv_world.specs.declared.packet.Packet.{Packet}
-use Rattle.rv_world.specs.World.{World}
-use Rattle.rv_world.specs.declared.event.Event.{Event}
-use Rattle.rv_world.specs.declared.seen.Seen.{Seen}
-use Rattle.rv_world.specs.declared.seen.Seen.TheVariants as sees
-use Rattle.rv_world.specs.declared.seen.WorldRefusal.{WorldRefusal}
+use Rattle.rv_parts.specs.declared.packet.Packet.{Packet}
+use Rattle.rv_parts.specs.World.{World}
+use Rattle.rv_parts.specs.declared.event.Event.{Event}
+use Rattle.rv_parts.specs.declared.seen.Seen.{Seen}
+use Rattle.rv_parts.specs.declared.seen.Seen.TheVariants as sees
+use Rattle.rv_parts.specs.declared.seen.WorldRefusal.{WorldRefusal}
 use Rattle.rv_play.specs.Reading.{SaysEvent, SaysNoEvent}
 use Rattle.rv_play.specs.Told.{FitsLine, HoldsAnswer, IsBodyOf, IsResult, PlaysEvent, PlaysLine}
 use Rattle.rv_play.specs.Turns.{Given, NoEvent, TellsResult}

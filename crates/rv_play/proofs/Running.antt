@@ -5,15 +5,15 @@ use Rattle.std.proofs.lemmas.Option.{none-some, slice_get_within}
 use Rattle.rv_rules.proofs.Places.{get-append_within}
 use Rattle.rv_lines.specs.Lines.{printed_lines}
 use Rattle.rv_lines.proofs.Cutting.{lines_cut}
-use Rattle.rv_world.specs.declared.event.Event.{Event}
-use Rattle.rv_world.specs.declared.seen.Seen.{Seen}
-use Rattle.rv_world.specs.declared.packet.Packet.{Packet}
-use Rattle.rv_world.specs.declared.seen.Seen.TheVariants as sees
-use Rattle.rv_world.specs.Headline.{OnlyGrows}
-use Rattle.rv_world.specs.Laws.{RunsOnlyGrow}
-use Rattle.rv_world.specs.Runs.{Runs}
-use Rattle.rv_world.proofs.Listing.{still_contains}
-use Rattle.rv_world.specs.World.{World}
+use Rattle.rv_parts.specs.declared.event.Event.{Event}
+use Rattle.rv_parts.specs.declared.seen.Seen.{Seen}
+use Rattle.rv_parts.specs.declared.packet.Packet.{Packet}
+use Rattle.rv_parts.specs.declared.seen.Seen.TheVariants as sees
+use Rattle.rv_parts.specs.Headline.{OnlyGrows}
+use Rattle.rv_parts.specs.Laws.{RunsOnlyGrow}
+use Rattle.rv_parts.specs.Runs.{Runs}
+use Rattle.rv_parts.proofs.Listing.{still_contains}
+use Rattle.rv_parts.specs.World.{World}
 use Rattle.rv_play.specs.Laws.{OneLineEach, PlayIsRun, events_of, taken_events}
 use Rattle.rv_play.specs.Turns.{Given, LeadsTo, LineOutcome, LineTurn, NoEvent, Plays, TellsLineOutcome}
 use Rattle.rv_play.specs.Turns.{TellsSeen, turn_texts}

@@ -13,9 +13,9 @@ use Rattle.rv_text.specs.Limits.{FitsIdentifier}
 use Rattle.rv_lines.specs.Faults.{line_fault}
 use Rattle.rv_lines.specs.declared.fault.LineFault.TheVariants as line
 use Rattle.rv_lines.specs.Number.{WritesIdentifier, WritesNumber}
-use Rattle.rv_world.specs.declared.event.Event.{Event}
-use Rattle.rv_world.specs.declared.event.Event.TheVariants as event
-use Rattle.rv_world.specs.Limits.{FitsEvent}
+use Rattle.rv_parts.specs.declared.event.Event.{Event}
+use Rattle.rv_parts.specs.declared.event.Event.TheVariants as event
+use Rattle.rv_parts.specs.Limits.{FitsEvent}
 use Rattle.rv_lines.proofs.Cutting.{Lacks, cut_once, digits_lack_space, not_lacking}
 use Rattle.rv_lines.proofs.OneLine.{greater_lack}
 use Rattle.rv_play.specs.Parts.{SaysAtMostBegin, SaysParts}

@@ -2,10 +2,10 @@
 use Rattle.std.specs.Prelude.{ℕ, List, Ok, Err, [], ◌∷◌, ◌++◌, ◌≡◌}
 use Rattle.std.specs.List.{Contains}
 use Rattle.rv_lines.specs.Lines.{lines, printed_lines}
-use Rattle.rv_world.specs.declared.event.Event.{Event}
-use Rattle.rv_world.specs.Headline.{Headline}
-use Rattle.rv_world.specs.Runs.{Runs}
-use Rattle.rv_world.specs.World.{World, first_world}
+use Rattle.rv_parts.specs.declared.event.Event.{Event}
+use Rattle.rv_parts.specs.Headline.{Headline}
+use Rattle.rv_parts.specs.Runs.{Runs}
+use Rattle.rv_parts.specs.World.{World, first_world}
 use Rattle.rv_play.specs.Reading.{SaysEvent}
 use Rattle.rv_play.specs.Turns.{Given, LineOutcome, LineTurn, NoEvent, Plays, TellsLineOutcome, turn_texts}
 

@@ -1,6 +1,6 @@
 -- For private clauses: a line of a play by its word and its fields.
 use Rattle.std.specs.Prelude.{ℕ, List, codes, ◌≡◌}
-use Rattle.rv_world.specs.declared.event.Event.{Event}
+use Rattle.rv_parts.specs.declared.event.Event.{Event}
 use Rattle.rv_play.specs.Reading.{SayRest, word_of}
 
 -- the word and the fields say the event

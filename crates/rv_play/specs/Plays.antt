@@ -9,7 +9,7 @@ use Rattle.rv_lines.specs.Lines.{lines, printed_lines}
 use Rattle.rv_run.specs.Input.{ReadsAll}
 use Rattle.rv_run.specs.declared.fault.RunFault.{RunFault}
 use Rattle.rv_run.specs.declared.fault.RunFault.TheVariants.{NoMemory, ReadFault, TooLong, WriteFault}
-use Rattle.rv_world.specs.World.{World, first_world}
+use Rattle.rv_parts.specs.World.{World, first_world}
 use Rattle.rv_play.specs.Turns.{LineTurn, Plays, lines_of, turn_texts}
 
 -- the turns play the first lines of the input, from a world that begins in epoch 1, and these lines are left

@@ -4,8 +4,8 @@ use Rattle.rv_text.specs.declared.version.Version.{Version}
 use Rattle.rv_text.specs.declared.version.Version.TheVariants.{One, Two}
 use Rattle.rv_text.specs.Bodies.{IsCallBody}
 use Rattle.rv_lines.specs.Number.{WritesIdentifier, WritesNumber}
-use Rattle.rv_world.specs.declared.event.Event.{Event}
-use Rattle.rv_world.specs.declared.event.Event.TheVariants as event
+use Rattle.rv_parts.specs.declared.event.Event.{Event}
+use Rattle.rv_parts.specs.declared.event.Event.TheVariants as event
 
 -- the word that the line of an event begins with
 abbrev pub word_of : Event → List ℕ

@@ -7,14 +7,14 @@ use Rattle.rv_text.specs.declared.answer.Reply.{Reply}
 use Rattle.rv_text.specs.declared.message.Key.{Key}
 use Rattle.rv_text.specs.Bodies.{HasBodyLength, answer_text}
 use Rattle.rv_run.specs.Output.{IsShort}
-use Rattle.rv_world.specs.declared.event.Event.{Event}
-use Rattle.rv_world.specs.declared.event.Event.TheVariants as event
-use Rattle.rv_world.specs.declared.packet.Packet.{Packet}
-use Rattle.rv_world.specs.declared.seen.Seen.{Seen}
-use Rattle.rv_world.specs.declared.seen.Seen.TheVariants as sees
-use Rattle.rv_world.specs.declared.seen.WorldRefusal.{WorldRefusal}
-use Rattle.rv_world.specs.Events.{EventComesTo}
-use Rattle.rv_world.specs.World.{World, IsHeld}
+use Rattle.rv_parts.specs.declared.event.Event.{Event}
+use Rattle.rv_parts.specs.declared.event.Event.TheVariants as event
+use Rattle.rv_parts.specs.declared.packet.Packet.{Packet}
+use Rattle.rv_parts.specs.declared.seen.Seen.{Seen}
+use Rattle.rv_parts.specs.declared.seen.Seen.TheVariants as sees
+use Rattle.rv_parts.specs.declared.seen.WorldRefusal.{WorldRefusal}
+use Rattle.rv_parts.specs.Events.{EventComesTo}
+use Rattle.rv_parts.specs.World.{World, IsHeld}
 use Rattle.rv_play.specs.Turns.{LineOutcome, TakesTurn, TellsResult}
 
 -- ---- what can be told

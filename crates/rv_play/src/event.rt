@@ -2,7 +2,7 @@
 ghost use Rattle.std.specs.Prelude.{◌≡◌, ◌↔◌, ℕ, Err, None, IfOk, IfSome, IsTrue, codes};
 ghost use Rattle.rv_lines.specs.Number.{WritesNumber};
 ghost use Rattle.rv_text.specs.declared.call.Call as calls;
-ghost use Rattle.rv_world.specs.declared.event.Event.TheVariants as event;
+ghost use Rattle.rv_parts.specs.declared.event.Event.TheVariants as event;
 ghost use Rattle.rv_play.specs.Parts.{SaysAtMostBegin, SaysParts};
 ghost use Rattle.rv_play.specs.Reading.{SayRest, SaysEvent, SaysNoEvent, SaysSession};
 ghost use Rattle.rv_text.specs.declared.version.Version.{Version};

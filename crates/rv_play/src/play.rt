@@ -2,7 +2,7 @@
 ghost use Rattle.std.specs.Prelude.{◌≡◌, ◌≤◌, [], length, Err, IfErr, OnOk};
 ghost use Rattle.rv_run.specs.Input.{FailedReading, FoundTooLong, max_input};
 ghost use Rattle.rv_run.specs.Output.{gathered_bytes, taken_in};
-ghost use Rattle.rv_world.specs.World.{first_world};
+ghost use Rattle.rv_parts.specs.World.{first_world};
 ghost use Rattle.rv_play.specs.Plays.{Played, PrintsAll, StoppedForMemory, StoppedPrinting, StopsPlaying};
 
 use crate::told::play_line;

@@ -1,8 +1,8 @@
 //! The result that a play prints for one line of its input.
 ghost use Rattle.std.specs.Prelude.{◌≡◌, IfOk, Ok};
 ghost use Rattle.rv_text.specs.declared.message.Key as keys;
-ghost use Rattle.rv_world.specs.declared.seen.Seen.TheVariants as sees;
-ghost use Rattle.rv_world.specs.Limits.{FitsEvent};
+ghost use Rattle.rv_parts.specs.declared.seen.Seen.TheVariants as sees;
+ghost use Rattle.rv_parts.specs.Limits.{FitsEvent};
 ghost use Rattle.rv_play.specs.Told.{CanTell, IsBodyOf, IsResult, PlaysEvent, PlaysLine, SettlesBy};
 ghost use Rattle.rv_play.specs.Told.{SettlesOne, WasSent};
 ghost use Rattle.rv_play.specs.Turns.{refusal_number};

@@ -1,19 +1,17 @@
 -- What is asked of the parts of a state one by one: each open place with its client's session, each client
 -- with
 -- its open place.
-use Rattle.std.specs.Prelude.{◌≡◌, ◌≢◌, ◌<◌, ◌≤◌, ◌+◌, ℕ, List, Option, Some, None, IsSome, filter, is_some}
+use Rattle.std.specs.Prelude.{◌≡◌, ◌≢◌, ◌<◌, ◌≤◌, ◌+◌, ℕ, List, Option, Some, None, filter, is_some}
 use Rattle.std.specs.Prelude.{length}
 use Rattle.std.specs.Prelude.{slice_get}
 use Rattle.rv_text.specs.declared.call.Side.{Side}
 use Rattle.rv_text.specs.declared.call.Side.TheVariants.{Exchanges, Gives, Takes}
 use Rattle.rv_text.specs.declared.call.Call.{Call}
-use Rattle.rv_text.specs.Calls.{item_of, side_of, wait_of}
 use Rattle.rv_session.specs.Entries.{map_of}
 pub use Rattle.rv_session.specs.ClientOrder.{ClientsRise}
 use Rattle.rv_session.specs.declared.client.LastRequest.TheVariants.{Waits}
-use Rattle.rv_account.specs.Calls.{Lasts, limit_of}
-use Rattle.rv_state.specs.Agreement.{last_key_of}
 use Rattle.rv_state.specs.State.{ClientState, OpenPlace, State, Waiter, same_side}
+pub use Rattle.rv_standing.specs.Standing.{IsLastOf, StandsFor}
 use Rattle.rv_resume.specs.Resuming.{FitsSession, LiesOpen, most_resumed_clients}
 use Rattle.std.specs.List.{All}
 use Rattle.std.specs.Prelude.{refl}
@@ -41,21 +39,6 @@ state_by epoch moment length opens clients =
       open_places = opens;
       clients = map_of clients;
     }
-
--- a request that waits since a moment with this call stands at the place
-pub record StandsFor (there : OpenPlace) (since : ℕ) (call : Call) : Type 0 where
-  pub side : there.side ≡ side_of call
-  pub item : there.item ≡ item_of call
-  pub limit : there.limit ≡ limit_of since call
-  pub may_wait : IsSome (wait_of call)
-  pub lasts : Lasts (wait_of call)
-
--- it is the last request of this session of its client
-pub record IsLastOf (epoch : ℕ) (there : OpenPlace) (w : Waiter) (session : ClientState) : Type 0 where
-  pub key_is : w.key ≡ last_key_of epoch w.key.client session
-  pub call : Call
-  pub waits : session.request ≡ Waits there.place call
-  pub stands : StandsFor there w.since call
 
 -- that client is known, with such a session
 pub record IsLastAmong (epoch : ℕ) (clients : List (ℕ × ClientState)) (there : OpenPlace) (w : Waiter) :

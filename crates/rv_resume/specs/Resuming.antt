@@ -1,12 +1,11 @@
 -- Which states a machine can resume from: what the states of legal accounts within the limits have, and a
 -- machine's tables rest on.
-use Rattle.std.specs.Prelude.{◌≡◌, ◌≢◌, ◌<◌, ◌≤◌, ◌+◌, ℕ, List, Some, None, IsSome, length, slice_get}
+use Rattle.std.specs.Prelude.{◌≡◌, ◌≢◌, ◌<◌, ◌≤◌, ◌+◌, ℕ, Some, None, IsSome, length, slice_get}
 use Rattle.std.specs.FinMap.{len}
 use Rattle.rv_text.specs.declared.call.Call.{Call}
-use Rattle.rv_text.specs.declared.call.Side.TheVariants.{Gives}
 use Rattle.rv_text.specs.declared.version.Version.{Version}
 use Rattle.rv_text.specs.Calls.{item_of, side_of, wait_of}
-use Rattle.rv_text.specs.Limits.{FitsCall, FitsIdentifier, FitsItem, FitsLast, FitsQueue, FitsReply}
+use Rattle.rv_text.specs.Limits.{FitsCall, FitsIdentifier, FitsLast, FitsReply}
 use Rattle.rv_text.specs.Limits.{IsOfEpoch}
 use Rattle.rv_text.specs.Members.{max_identifier}
 use Rattle.rv_session.specs.declared.client.LastRequest.TheVariants.{Fresh, Waits, RepliedTo, CancelledUnseen}
@@ -14,6 +13,7 @@ use Rattle.rv_account.specs.Calls.{Lasts, limit_of, opposite}
 use Rattle.rv_account.specs.Limits.{max_moment}
 use Rattle.rv_rules.specs.StepLimits.{most_open_places}
 use Rattle.rv_state.specs.Agreement.{last_key_of}
+pub use Rattle.rv_standing.specs.Standing.{LiesOpen}
 use Rattle.rv_resume.specs.Suiting.{SuitsCall}
 use Rattle.rv_state.specs.State.{ClientState, LastRequest, OpenPlace, State, Waiter, client_at, waiting_count}
 
@@ -50,16 +50,6 @@ pub record IsLastAt (s : State) (there : OpenPlace) (w : Waiter) : Type 0 where
   pub limit : there.limit ≡ limit_of w.since call
   pub may_wait : IsSome (wait_of call)
   pub lasts : Lasts (wait_of call)
-
--- an item lies at the open place, which a put gave to a queue
-pub record LiesOpen (there : OpenPlace) : Type 0 where
-  pub queue : ℕ
-  pub side : there.side ≡ Gives queue
-  pub queue_fits : FitsQueue queue
-  pub item : List ℕ
-  pub has : there.item ≡ Some item
-  pub item_fits : FitsItem item
-  pub unlimited : there.limit ≡ None
 
 -- the place is open, and a request of the client waits there
 pub record IsAwaitedBy (s : State) (client place : ℕ) : Type 0 where

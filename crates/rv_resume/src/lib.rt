@@ -5,9 +5,9 @@ mod clients;
 mod finding;
 pub mod laws;
 mod parts;
-mod places;
 mod sides;
 mod snapshot;
 mod suits;
 
 pub use snapshot::Snapshot;
+pub use suits::suits_call;

@@ -7,9 +7,9 @@ ghost use Rattle.rv_resume.specs.Checking.{IsSettledIn, OpensRise, StandsWell};
 
 use crate::clients::fits_session;
 use crate::finding::{client_index, open_index};
-use crate::places::{is_last_of, lies_open};
 use crate::sides::count_waiters;
 use rv_session::{ClientState, LastRequest, OpenPlace, Place, Waiter};
+use rv_standing::{is_last_of, lies_open};
 use rv_text::MAX_IDENTIFIER;
 
 // The greatest moment, in milliseconds: 2^62.

@@ -44,8 +44,8 @@ fn ends_unmet(wait: Wait, at_once: bool, reply: &Reply) -> bool
     }
 }
 
-// Whether a request with this call may be told this in a session of this version.
-pub(crate) fn suits_call(version: Version, call: &Call, reply: &Reply) -> bool
+/// Whether a request with this call may be told this in a session of this version.
+pub fn suits_call(version: Version, call: &Call, reply: &Reply) -> bool
     ensures { IsTrue result ↔ SuitsCall version call.now reply.now }
 {
     match call {

@@ -4,3 +4,4 @@ pub mod Rows
 pub mod Samples
 pub mod Texts
 pub mod Values
+pub mod Visits

@@ -1,4 +1,5 @@
-//! What a server tells of itself over HTTP: a page for people, the same as JSON, metrics, and that it turns.
+//! What a server tells of itself over HTTP: a page for people, the same as JSON, metrics, and that it turns;
+//! and the connections that ask for it, few and not for long.
 #![tactic(auto)]
 
 mod members;
@@ -8,6 +9,8 @@ mod page;
 mod pages;
 mod samples;
 mod status;
+mod visitor;
+mod visitors;
 
 pub use members::status_json;
 pub use metrics::metrics_of;
@@ -15,3 +18,5 @@ pub use numbers::{FaultCounts, StatusNumbers};
 pub use pages::StatusPages;
 pub use samples::take_sample;
 pub use status::{CallKind, HostStatus, QueueRow, StatusSample, WaitingRow};
+pub use visitor::Visitor;
+pub use visitors::Visitors;

@@ -49,8 +49,8 @@ pub fn book_run<R: Read, W: Write>(
         LackedMemory source.new sink.old sink.new }
 {
     let input = read_input(alloc, source)?;
-    let mut book = Book::open(alloc, epoch, 0)?;
     let mut output = Output::new(alloc)?;
+    let mut book = Book::open(alloc, epoch, 0)?;
     Ok(answer_lines(alloc, &mut book, &input, &mut output, sink)?)
 }
 

@@ -19,7 +19,7 @@ use Rattle.rv_resume.specs.Resuming.{StaysInRoom}
 use Rattle.rv_machine.specs.Machines.{keys_settled, state_in}
 use Rattle.rv_machine.specs.declared.machine.Machine.{Machine}
 use Rattle.rv_follow.specs.Outcomes.{HasFollowed}
-use Rattle.rv_follow.proofs.RuleLaws.{follows_legally}
+use Rattle.rv_asked.proofs.RuleLaws.{follows_legally}
 use Rattle.rv_lines.specs.Reading.{SaysAct}
 use Rattle.rv_lines.proofs.Turns.{account_more}
 use Rattle.rv_replies.specs.Known.{HasPassedBy}

@@ -11,8 +11,8 @@ use Rattle.rv_resume.specs.Laws.{HadRoom}
 use Rattle.rv_resume.specs.Resuming.{StaysInRoom}
 use Rattle.rv_machine.specs.Machines.{state_in}
 use Rattle.rv_breaking.specs.declared.rule.Rule.{Rule}
-use Rattle.rv_follow.specs.Ruling.{IsFirstBroken, IsOnNamed, NamesClosed}
-use Rattle.rv_follow.proofs.RuleLaws.{closed_breaks, follows_legally, rules_break}
+use Rattle.rv_asked.specs.Ruling.{IsFirstBroken, IsOnNamed, NamesClosed}
+use Rattle.rv_asked.proofs.RuleLaws.{closed_breaks, follows_legally, rules_break}
 use Rattle.rv_verify.specs.Standing.{HasRead, StandsAt, StopsBehind}
 use Rattle.rv_verify.specs.Verdicts.{AuditTells, IsVerdictOn, ReadsLong, TellsFaultOf}
 use Rattle.rv_findings.specs.declared.verdict.AccountVerdict.{AccountVerdict}

@@ -13,7 +13,7 @@ use Rattle.rv_resume.specs.Resuming.{CanResume}
 use Rattle.rv_machine.specs.Machines.{IsWhole, state_in}
 use Rattle.rv_machine.specs.declared.machine.Machine.{Machine}
 use Rattle.rv_follow.specs.Outcomes.{PassesRoom}
-use Rattle.rv_follow.specs.Ruling.{IsFirstBroken, NamesClosed}
+use Rattle.rv_asked.specs.Ruling.{IsFirstBroken, NamesClosed}
 use Rattle.rv_verify.specs.Verdicts.{ReadsLong}
 use Rattle.rv_verify.specs.declared.verifier.StopReason.{StopReason}
 use Rattle.rv_verify.specs.declared.verifier.StopReason.TheVariants as stop

@@ -15,7 +15,7 @@ use Rattle.rv_audit.specs.Faults.{IsToldOf}
 use Rattle.rv_audit.specs.declared.outcome.Audit.{Audit}
 use Rattle.rv_audit.specs.declared.outcome.Audit.TheVariants as tells
 use Rattle.rv_breaking.specs.declared.rule.Rule.{Rule}
-use Rattle.rv_follow.specs.Ruling.{IsOnNamed, NamesClosed}
+use Rattle.rv_asked.specs.Ruling.{IsOnNamed, NamesClosed}
 use Rattle.rv_lines.specs.Reading.{FirstBadLineUnder, LineLimits, ReadsAccountUnder, ReadsEntryUpTo}
 use Rattle.rv_findings.specs.declared.verdict.AccountVerdict.{AccountVerdict}
 use Rattle.rv_findings.specs.declared.verdict.AccountVerdict.TheVariants as verdict

@@ -7,13 +7,14 @@ ghost use Rattle.clap.specs.Walk.{texts};
 ghost use Rattle.clap.specs.declared.Command.TheViews.{out-Command};
 ghost use Rattle.rv_words.specs.Verifying.{BeginOtherwise, ClapSays, NamesNoVerify, NamesVerify};
 ghost use Rattle.rv_words.specs.Verifying.{SaysVerify};
-ghost use Rattle.rv_words.specs.Verifying.{file_rule, files_app, follow_rule, replies_rule, verify_app};
+ghost use Rattle.rv_words.specs.Verifying.{file_rule, verify_app};
 
 use crate::fault::CommandFault;
 use crate::program::named;
 use crate::reading::{taken, text_of};
 use crate::words::words_of_verify;
 use clap::{Arg, ArgAction, ArgMatches};
+use rv_options::{ListedOption, with_options};
 use std::alloc::{AllocError, Global};
 
 /// What the words call standard input.
@@ -106,18 +107,29 @@ pub(crate) fn command<'a>(alloc: Global) -> Result<clap::Command<'a>, AllocError
     ensures shape { IfOk result (λ c. shape_of c ≡ verify_app.top) }
     ensures local { IfOk result (λ c. (out-Command c).has_globals ≡ false) }
 {
-    named_files(alloc)?.arg(follow_flag(alloc))
+    let command = named(alloc, "verify").arg(file_word(alloc))?;
+    with_options(alloc, command, OPTIONS)
 }
 
-// Those of its words that name files.
-fn named_files<'a>(alloc: Global) -> Result<clap::Command<'a>, AllocError>
-    ensures app { IfOk result (λ c. app_of c ≡ files_app) }
-    ensures local { IfOk result (λ c. (out-Command c).has_globals ≡ false) }
-{
-    named(alloc, "verify")
-        .arg(file_word(alloc))?
-        .arg(replies_option(alloc))
-}
+// Its options.
+const OPTIONS: &[ListedOption] = &[
+    ListedOption {
+        name: "replies",
+        values: &[],
+        required: false,
+        action: ArgAction::Set,
+        usual: &[],
+        help: "A file of recorded replies, each of which the account has to keep",
+    },
+    ListedOption {
+        name: "follow",
+        values: &[],
+        required: false,
+        action: ArgAction::SetTrue,
+        usual: &[],
+        help: "Go on as the file grows",
+    },
+];
 
 // A value that has to be given, with no option before it.
 fn file_word<'a>(alloc: Global) -> Arg<'a>
@@ -128,26 +140,4 @@ fn file_word<'a>(alloc: Global) -> Arg<'a>
         .required(true)
         .action(ArgAction::Set)
         .help("The account's file, or - for standard input")
-}
-
-// An option `--replies FILE`, which may lack.
-fn replies_option<'a>(alloc: Global) -> Arg<'a>
-    ensures rule { rule_of result ≡ replies_rule }
-    ensures local { result.global ≡ false }
-{
-    Arg::new(alloc, "replies")
-        .long("replies")
-        .action(ArgAction::Set)
-        .help("A file of recorded replies, each of which the account has to keep")
-}
-
-// A flag `--follow`.
-fn follow_flag<'a>(alloc: Global) -> Arg<'a>
-    ensures rule { rule_of result ≡ follow_rule }
-    ensures local { result.global ≡ false }
-{
-    Arg::new(alloc, "follow")
-        .long("follow")
-        .action(ArgAction::SetTrue)
-        .help("Go on as the file grows")
 }

@@ -1,13 +1,13 @@
 //! The world: every server, client and packet, and one event at a time.
 ghost use Rattle.std.specs.Prelude.{◌≡◌, IfOk, IfSome, IfNone, option_map, slice_get, ℕ};
 ghost use Rattle.rv_text.specs.Limits.{FitsAnswer, FitsIdentifier};
-ghost use Rattle.rv_world.specs.World.{IsAccountOf, first_world};
-ghost use Rattle.rv_world.specs.Parts.{IsBookOf};
+ghost use Rattle.rv_parts.specs.World.{IsAccountOf, first_world};
+ghost use Rattle.rv_parts.specs.Limits.{FitsEvent};
+ghost use Rattle.rv_parts.specs.Events.{EventComesTo};
+ghost use Rattle.rv_parts.specs.Parts.{IsBookOf, IsSoundState, KnowsNewest, world_of};
 
-use crate::event::Event;
-use crate::seen::{Seen, WorldRefusal};
-use crate::state::WorldState;
 use rv_book::{Account, Book};
+use rv_parts::{Event, Saying, Seen, WorldRefusal, WorldState};
 use rv_text::{Answer, Call, Key, NoMemory, Reply};
 use std::alloc::Global;
 use std::marker::Model;
@@ -34,9 +34,31 @@ fn index_of(books: &[Book], epoch: u64) -> Option<usize>
         .position(|book| book.account().epoch() == epoch)
 }
 
+// Takes one event.
+fn take(state: &mut WorldState, event: &Event) -> Result<Seen, WorldRefusal>
+    requires sound { IsSoundState state.old }
+    requires fits { FitsEvent event.now }
+    ensures comes { EventComesTo (world_of state.old) event.now (world_of state.new) result }
+    ensures newest { KnowsNewest state.new }
+{
+    let alloc = *state.asked.allocator();
+    match event {
+        Event::Start(client, incarnation, version) => {
+            state.start(*client, *incarnation, *version)
+        }
+        Event::Begin(client, call) => state.begin(alloc, *client, call),
+        Event::Resend(client) => state.say(alloc, *client, Saying::Request),
+        Event::CancelSent(client) => state.say(alloc, *client, Saying::Cancel),
+        Event::Crash(client) => state.crash(*client),
+        Event::ToServer(packet, moment) => state.deliver_message(alloc, *packet, *moment),
+        Event::ToClient(packet) => state.deliver_answer(alloc, *packet),
+        Event::NewEpoch(epoch) => state.new_epoch(alloc, *epoch),
+    }
+}
+
 impl Model for World {
-    ghost use Rattle.rv_world.specs.World.{World};
-    ghost use Rattle.rv_world.specs.Parts.{IsSoundState, world_of};
+    ghost use Rattle.rv_parts.specs.World.{World};
+    ghost use Rattle.rv_parts.specs.Parts.{IsSoundState, world_of};
 
     ghost Value = { World };
 
@@ -46,9 +68,7 @@ impl Model for World {
 }
 
 impl World {
-    ghost use Rattle.rv_world.specs.Limits.{FitsEvent};
-    ghost use Rattle.rv_world.specs.Events.{EventComesTo};
-    ghost use Rattle.rv_world.specs.Headline.{Headline, OnlyGrows};
+    ghost use Rattle.rv_parts.specs.Headline.{Headline, OnlyGrows};
 
     /// The world that begins in an epoch, from 1 to 2^53 - 1: a server with an empty account, opened at
     /// moment 0, and nothing else. Fails only if memory was refused.
@@ -70,7 +90,7 @@ impl World {
         ensures headline { Headline self.new }
         ensures only_growth { OnlyGrows self.old self.new }
     {
-        self.state.step(event)
+        take(&mut self.state, event)
     }
 
     /// The replies that clients took as final, with their keys.

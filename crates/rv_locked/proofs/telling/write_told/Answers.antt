@@ -1,6 +1,7 @@
 -- Each arm writes one body, for one item.
-use Rattle.std.proofs.Common.{subst, sym}
-use Rattle.rv_locked.specs.Writing.{IsAnswer}
+use Rattle.std.proofs.Common.{subst, sym, ◌∙◌}
+use Rattle.rv_text.specs.Bodies.{HasBodyLength}
+use Rattle.rv_locked.specs.Writing.{FitsTold, IsAnswer}
 use Rattle.rv_locked.specs.declared.asking.FrameAnswer.{FrameAnswer}
 use Rattle.rv_locked.specs.declared.item.Item.TheVariants as item
 use Rattle.rv_locked.proofs.Told.{part_written, whole_written}
@@ -45,4 +46,24 @@ returns-in-Err-clause-part g c =
     let wrote = c.write_item-in-Err in
     part_written g.W.Write.contents _ _ c.args.told.now item.NoMemory _ wrote.result
     c.no_memory_body-in-Err.ensures.text c.no_memory_body-in-Err.ensures.length
+    wrote.ensures.sent wrote.ensures.part wrote.ensures.failed
+
+pub returns-in-Ok-clause-whole : goal.returns-in-Ok-clause-whole
+returns-in-Ok-clause-whole g c =
+    let wrote = c.write_item-in-Ok in
+    whole_written g.W.Write.contents _ _ c.args.told.now item.Said _ wrote.result
+    (subst (λ (t : FrameAnswer). IsAnswer t item.Said c.as_bytes.result.now) (sym c.in-Said.is)
+    (c.as_bytes.ensures.value ∙ c.in-Ok.ensures.text))
+    (subst HasBodyLength (sym c.as_bytes.ensures.value)
+    (c.in-Ok.ensures.short (subst FitsTold c.in-Said.is c.requires)))
+    wrote.ensures.item wrote.ensures.frame
+
+pub returns-in-Ok-clause-part : goal.returns-in-Ok-clause-part
+returns-in-Ok-clause-part g c =
+    let wrote = c.write_item-in-Ok in
+    part_written g.W.Write.contents _ _ c.args.told.now item.Said _ wrote.result
+    (subst (λ (t : FrameAnswer). IsAnswer t item.Said c.as_bytes.result.now) (sym c.in-Said.is)
+    (c.as_bytes.ensures.value ∙ c.in-Ok.ensures.text))
+    (subst HasBodyLength (sym c.as_bytes.ensures.value)
+    (c.in-Ok.ensures.short (subst FitsTold c.in-Said.is c.requires)))
     wrote.ensures.sent wrote.ensures.part wrote.ensures.failed

@@ -5,9 +5,9 @@ use Rattle.rv_options.proofs.words.with_options.Goals as goal
 pub loop-option-preserved : goal.loop-option-preserved
 loop-option-preserved c =
     let adds = c.in_ok-command.ensures in
-    let local = c.value_option.ensures.local in
+    let local = c.listed_option.ensures.local in
     record {
-      app = one_added _ _ _ _ _ _ _ c.loop-option-test.true adds c.value_option.ensures.rule local
+      app = one_added _ _ _ _ _ _ _ c.loop-option-test.true adds c.listed_option.ensures.rule local
           c.loop-option.invariant.app;
       local = still_local _ _ _ adds local c.loop-option.invariant.local;
     }

@@ -1,5 +1,5 @@
 -- By the run of the events that were taken.
-use Rattle.rv_world.specs.World.{first_world}
+use Rattle.rv_parts.specs.World.{first_world}
 use Rattle.rv_play.specs.Laws.{events_of}
 use Rattle.rv_play.proofs.Running.{play_runs}
 use Rattle.rv_play.proofs.laws.headline_of_plays.Goals as goal

@@ -1,5 +1,5 @@
 -- By the turns behind it, which only add.
-use Rattle.rv_world.proofs.Listing.{place_of}
+use Rattle.rv_parts.proofs.Listing.{place_of}
 use Rattle.rv_play.proofs.Running.{text_stays}
 use Rattle.rv_play.proofs.laws.texts_stay.Goals as goal
 

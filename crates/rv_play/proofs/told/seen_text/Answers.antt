@@ -2,7 +2,7 @@
 use Rattle.std.proofs.Common.{◌++◌, IfOk, Ok, ap, codes, lit≤, refl, rules, subst, sym, ◌∙◌}
 use Rattle.std.specs.Fmt.{decimal}
 use Rattle.std.proofs.lemmas.Result.{IfOk-weaker}
-use Rattle.rv_world.specs.declared.seen.Seen.TheVariants as sees
+use Rattle.rv_parts.specs.declared.seen.Seen.TheVariants as sees
 use Rattle.rv_play.specs.Told.{IsResult}
 use Rattle.rv_play.proofs.Results.{number_result}
 use Rattle.rv_play.proofs.told.seen_text.Goals as goal

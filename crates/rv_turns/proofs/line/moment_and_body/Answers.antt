@@ -17,3 +17,10 @@ returns-in_err-read_number-clause-none c none digits body moment same writes =
     let one = cut_once 32 digits body c.in_ok-digits.digits.now c.in_ok-digits.body.now
     (digits_lack_space digits writes.0.are_digits) lacks (sym same ∙ parts) in
     absurd (false≢true (c.in_err-read_number.ensures.some.1 (subst IsDigits one.0 writes.0)))
+
+pub returns-clause-some : goal.returns-clause-some
+returns-clause-some c = (
+  c.in_ok-digits.digits.now,
+  c.in_ok-digits.ensures.parts,
+  (c.in_ok-read_number.ensures.some.0 refl, c.in_ok-read_number.ensures.value),
+)

@@ -1,0 +1,14 @@
+pub mod Rules
+pub mod RuleLaws
+pub mod DueNow
+pub mod OfSession
+pub mod Asked
+pub mod Naming
+pub mod Facing
+pub mod Prefixes
+pub mod Lines
+pub mod AllKept
+pub mod Closed
+pub mod Calm
+pub mod Hellos
+pub mod Comers

@@ -1,0 +1,13 @@
+//! The rules of an audit, each asked of the state that a machine holds: whether an entry keeps it.
+#![tactic(auto)]
+
+mod keeping;
+pub mod laws;
+mod line;
+mod moments;
+mod numbers;
+mod partners;
+
+pub use keeping::keeps;
+pub use numbers::is_waiting;
+pub use partners::{names_open, opposite};

@@ -1,0 +1,2 @@
+-- What a reader must agree with: all that the public contracts cite.
+pub mod Standing

@@ -1,0 +1,89 @@
+//! All connections to an HTTP address, in a line.
+ghost use Rattle.std.specs.Prelude.{◌≡◌, ◌<◌, ◌≤◌, ◌↔◌, [], IfOk, IsTrue, length};
+ghost use Rattle.std.specs.VecDeque.{deque_capacity, deque_len};
+ghost use Rattle.rv_status.specs.Visits.{Admits, StaysUnlessLeaving, Visits};
+
+use crate::visitor::Visitor;
+use http_server::Service;
+use std::alloc::{AllocError, Global};
+use std::collections::VecDeque;
+use std::hash::RandomState;
+use std::io::{Read, Write};
+
+// So many stand in line at most.
+const MOST: usize = 32;
+
+/// Connections in a line, the first of which is visited next, in room that was made at the start.
+#[derive(Drop)]
+pub struct Visitors<S> {
+    alloc: Global,
+    keys: RandomState,
+    pub(crate) line: VecDeque<Visitor<S>>,
+    ghost few: { deque_len line ≤ 32 },
+    ghost roomy: { 32 ≤ deque_capacity line },
+}
+
+impl<S: Drop> Visitors<S> {
+    /// Nobody, and room for 32. The maps of headers take these keys.
+    pub fn new(alloc: Global, keys: RandomState) -> Result<Visitors<S>, AllocError>
+        ensures { IfOk result (λ v. v.line.items ≡ []) }
+    {
+        Ok(Visitors {
+            alloc,
+            keys,
+            line: VecDeque::with_capacity(alloc, MOST)?,
+        })
+    }
+
+    /// How many there are.
+    pub fn len(&self) -> usize
+        ensures { result ≡ length self.now.line.items }
+    {
+        self.line.len()
+    }
+
+    /// Whether nobody is there.
+    pub fn is_empty(&self) -> bool
+        ensures { IsTrue result ↔ (self.now.line.items ≡ []) }
+    {
+        self.line.is_empty()
+    }
+
+    /// Takes a connection in behind all others, at a moment in milliseconds. Where 32 are there the last
+    /// makes way, which was visited last.
+    pub fn admit(&mut self, now: u64, stream: S)
+        ensures { Admits now stream self.old.line.items self.new.line.items }
+    {
+        let visitor = Visitor::new(self.alloc, self.keys, stream, now);
+        self.line.truncate(MOST - 1);
+        self.line.push_back_reserved(visitor);
+    }
+
+    // Takes one who was visited in again, behind all others, or lets go who is over.
+    fn take_back(&mut self, now: u64, visitor: Visitor<S>)
+        requires { deque_len self.old.line < 32 }
+        ensures { StaysUnlessLeaving now visitor self.old.line.items self.new.line.items }
+    {
+        if visitor.is_over(now) {
+            return drop(visitor);
+        }
+        self.line.push_back_reserved(visitor);
+    }
+}
+
+impl<S: Read + Write + Drop> Visitors<S> {
+    /// Reads the first once, answers it by the pages, and writes once to it. It then stands behind all
+    /// others, or is let go: if its socket failed, if all is said, or ten seconds after it came. True where
+    /// there was something to be sent: an answer was made, or an earlier one isn't gone yet.
+    pub fn visit<P: Service>(&mut self, now: u64, pages: &mut P) -> bool
+        ensures { Visits S.remaining S.contents P.answers now self.old.line.items self.new.line.items
+            pages.old pages.new result }
+    {
+        let Some(mut visitor) = self.line.pop_front() else {
+            return false;
+        };
+        let answers = visitor.turn(pages);
+        self.take_back(now, visitor);
+        answers
+    }
+}
