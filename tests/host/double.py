@@ -299,9 +299,9 @@ class DoubleHost:
 
 
 def verify(path: str) -> int:
-    """What an account alone is: legal or not, and torn or not; the status."""
+    """What an account alone is: legal or not, and torn or not; the status. Its last line may lack its line feed."""
     whole, torn = parted(pathlib.Path(path).read_bytes())
-    legal = table_audit(read_account(whole)) is None
+    legal = table_audit(read_account(whole.removesuffix(b"\n") + b"\n")) is None
     print("legal" if legal else "fault", *["torn end"] * torn, sep="\n")
     return 3 if torn else int(not legal)
 

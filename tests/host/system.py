@@ -94,11 +94,12 @@ def more_than_its_connections(program: str) -> None:
 def a_disk_that_fills(program: str) -> str:
     """The disk takes so many bytes of the account, and then no more: the host ends by a line that says so, with status 1; all
     that was answered stands in whole lines, and `rv verify` tells a torn end."""
-    torn = 0
     rooms = [HEAD, HEAD + 1, HEAD + 40, *range(500, 3_500, 250)]
-    for room in rooms:
-        torn += filled(program, room)
+    texts = [filled(program, room) for room in rooms]
+    torn = sum(ends_torn(program, text) for text in texts)
     demand(0 < torn < len(rooms), f"{torn} of {len(rooms)} accounts end torn")
+    # where a cut falls in a line hangs on its moment, so that one before a line feed is made
+    demand(not ends_torn(program, texts[-1][: texts[-1].rfind(b"\n")]), "a line without its line feed is torn")
     return f"{len(rooms)} disks, {torn} torn ends"
 
 
@@ -139,8 +140,8 @@ def ask_one(peer, number: int, asked: dict, told: list) -> None:
     told.append((key, reply))
 
 
-def filled(program: str, room: int) -> bool:
-    """A host whose disk takes so many bytes; whether its account ends torn."""
+def filled(program: str, room: int) -> bytes:
+    """A host whose disk takes so many bytes; what is written there."""
     system = System()
     system.be(disk=1 + room)
     with HostileHost(program, system) as host:
@@ -155,11 +156,19 @@ def filled(program: str, room: int) -> bool:
         stands = [pair for pair in told if b'"number":%d,' % pair[0].number in whole]
         demand(stands == told, f"with room for {room} bytes {len(told)} replies were told, and {len(stands)} stand")
         front_agrees(whole, asked, told)
-        ran = subprocess.run([program, "verify", str(host.account)], capture_output=True, timeout=PATIENCE)
-        torn = parted(text)[1]
-        wanted = (b"legal\n" + b"torn end\n" * torn, TORN * torn)
-        demand((ran.stdout, ran.returncode) == wanted, f"rv verify says {ran.stdout!r} with {ran.returncode} of {text[-200:]!r}")
-        return torn
+        return text
+
+
+def ends_torn(program: str, text: bytes) -> bool:
+    """Whether the end of an account is torn, as `rv verify` must say of it."""
+    torn = parted(text)[1]
+    with tempfile.TemporaryDirectory(prefix="rv-filled-") as folder:
+        account = pathlib.Path(folder, "account")
+        account.write_bytes(text)
+        ran = subprocess.run([program, "verify", str(account)], capture_output=True, timeout=PATIENCE)
+    wanted = (b"legal\n" + b"torn end\n" * torn, TORN * torn)
+    demand((ran.stdout, ran.returncode) == wanted, f"rv verify says {ran.stdout!r} with {ran.returncode} of {text[-200:]!r}: {ran.stderr!r}")
+    return torn
 
 
 def no_room_to_start(program: str) -> None:
