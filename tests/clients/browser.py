@@ -29,10 +29,15 @@ def words_of(text):
     return [html.unescape(each) for each in TEXT.findall(text)]
 
 
+def headless():
+    """The words that start it with no window, also where shared memory is small."""
+    return [found(), "--headless", "--no-sandbox", "--disable-gpu", "--disable-dev-shm-usage"]
+
+
 def shown(page):
     """The page as the browser holds it, and what it said of it on its console."""
-    with tempfile.TemporaryDirectory(prefix="rv-browser-") as profile:
-        words = [found(), "--headless", "--no-sandbox", "--disable-gpu", "--enable-logging=stderr",
+    with tempfile.TemporaryDirectory(prefix="rv-browser-", ignore_cleanup_errors=True) as profile:
+        words = [*headless(), "--enable-logging=stderr",
                  f"--user-data-dir={profile}", "--dump-dom", page.as_uri()]
         ran = subprocess.run(words, capture_output=True, text=True, timeout=600)
     demand(ran.returncode == 0, f"{page.name}: the browser ended by {ran.returncode}: {ran.stderr}")
@@ -41,8 +46,8 @@ def shown(page):
 
 def opened(url, *more):
     """The page at an address as the browser holds it some seconds later; further words of the browser's may keep a picture."""
-    with tempfile.TemporaryDirectory(prefix="rv-browser-") as profile:
-        words = [found(), "--headless", "--no-sandbox", "--disable-gpu", "--hide-scrollbars", f"--user-data-dir={profile}",
+    with tempfile.TemporaryDirectory(prefix="rv-browser-", ignore_cleanup_errors=True) as profile:
+        words = [*headless(), "--hide-scrollbars", f"--user-data-dir={profile}",
                  "--window-size=1200,1500", "--virtual-time-budget=5000", *more, url]
         return subprocess.run(words, capture_output=True, text=True, timeout=120, check=True).stdout
 

@@ -14,7 +14,7 @@ import sys
 import tempfile
 import time
 
-from record_lines import lines_of
+from record_lines import read
 from tests.clients.interrupted_judged import LIMIT, Book, calls_of, faults_of, the_judge_finds_lies
 from tests.model.account import Request, reply
 from tests.model.tables import table_audit
@@ -30,8 +30,8 @@ HOLD_EACH, HELD = 3.0, 1.4
 LOOK_EACH = 0.25
 # Calls of an epoch: more than it has room for. Connections that a crowd may make at all events, and for each call.
 CALLS, FEW_CALLS, AT_ALL_EVENTS, EACH_CALL = 100_000, 4_000, 6_000, 0.8
-# The record that the sessions of all processes keep.
-KEPT = "kept"
+# The record that the sessions of all processes keep, and how each of its lines begins.
+KEPT, BEGINS = "kept", b'{"asked":{'
 # So many keys of an account are looked at by the plain model too, and a count or a peek where so few entries stand before:
 # there the model looks at each pair of them.
 SAMPLE, FEW = 20, 1_000
@@ -178,6 +178,13 @@ def use_up(server):
     return len(made)
 
 
+def lines_kept(path):
+    """The lines of the record that all sessions keep. A process that is killed in a write may leave the front of a line, to which the
+    next one is joined: nobody was told the reply of that front."""
+    lines = path.read_bytes().split(b"\n")[:-1] if path.exists() else []
+    return [read(line[line.rindex(BEGINS):]) for line in lines]
+
+
 def an_epoch(program, chance, epoch, calls, sums):
     """A server and its crowd; the record must be true by the account, which must be legal."""
     connections = AT_ALL_EVENTS + int(EACH_CALL * calls)
@@ -189,7 +196,7 @@ def an_epoch(program, chance, epoch, calls, sums):
         finally:
             crowd.end()
         sums["connections"] += connections - use_up(server)
-        account, record, kept = server.ended(), crowd.record(), lines_of(pathlib.Path(folder, KEPT))
+        account, record, kept = server.ended(), crowd.record(), lines_kept(pathlib.Path(folder, KEPT))
         server.audited()
     fault = table_audit(account)
     demand(not fault, f"place {fault} of the account")

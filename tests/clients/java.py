@@ -1,6 +1,7 @@
 """The Java client: how it is built for tests, its machine on the table of cases, and its calls over a
 scripted server."""
 import contextlib
+import fcntl
 import functools
 import itertools
 import json
@@ -10,6 +11,7 @@ import shutil
 import socket
 import subprocess
 import tempfile
+import termios
 import threading
 import time
 
@@ -426,6 +428,8 @@ def a_closed_connection_is_made_anew(java):
         server.open[0].shutdown(socket.SHUT_RDWR)
         java.expect("put b", "result done")
         server.open[1].sendall(frame(b"{}"))
+        # it has come where the system of its peer has acknowledged it
+        until("the frame has come", lambda: not any(fcntl.ioctl(server.open[1], termios.TIOCOUTQ, bytes(4))))
         java.expect("put c", "result done")
         demand([number for _, number, _ in asked(server)] == [None, 1, 2, 3], f"{asked(server)}")
         demand(server.connections == 3, f"{server.connections} connections came")

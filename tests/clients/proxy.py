@@ -24,6 +24,7 @@ class Proxy(Listening):
 
     def close(self):
         """Behind the end no connection to the server is made, and each late copy has come there."""
+        self.calm = True
         super().close()
         for copy in list(self.copies):
             copy.join(PATIENCE)

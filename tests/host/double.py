@@ -144,7 +144,10 @@ class DoubleHost:
         if self.account is None:
             self.unwritten.clear()
             return
-        if WRONG == "writes its account late" and len(self.unwritten) < 50:
+        if WRONG == "writes its account late":
+            # the last 50 are never written, so that whenever it is killed some that were told are not there
+            lines, self.unwritten = self.unwritten[:-50], self.unwritten[-50:]
+            self.write_account(lines)
             self.tell(Written(self.hub.state.length))
             return
         lines, self.unwritten = self.unwritten, []

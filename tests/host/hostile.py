@@ -11,8 +11,7 @@ from tests.model.account import Key
 from tests.sockets.driver import Ledger
 from tests.sockets.hostile import Good
 from tests.sockets.hosts import Host
-from tests.sockets.plain import in_its_own_frame
-from tests.sockets.wire import Peer, demand, frame, give, hello, replied, request, take, together, until, welcome
+from tests.sockets.wire import Peer, demand, frame, give, hello, replied, request, take, together, until, waits, welcome
 
 # Connections of a flood, and the threads that make them.
 FLOOD, THREADS = 4_000, 4
@@ -84,14 +83,20 @@ def one_that_waits(host: Host) -> Peer:
             peer.close()
 
 
-def still_waits(host: Host, waiting: Peer) -> None:
-    """Who waits gets an item, from one who comes again where it was ended as idle."""
+def still_waits(host: Host, waiting: Peer, idle_ends: bool = False) -> None:
+    """Who waits gets an item, from one who comes again where it was ended as idle. Behind ten seconds it is told that it waits;
+    where who is idle is ended it may then be, before it asks again."""
     gift, is_given = Key(1, GIVES, 1, 1), False
     while not is_given:
         with contextlib.suppress(ConnectionError), host.greeted(GIVES) as giver:
             giver.expect(request(gift, give("transfer", "a", "now", queue=9)), replied(gift, reply="received"))
             is_given = True
-    in_its_own_frame(waiting, WISH, TAKE, reply="item", item="a")
+    got = waiting.hear()
+    if got == waits(WISH):
+        with contextlib.suppress(*[ConnectionError] * idle_ends):
+            waiting.expect(request(WISH, TAKE), replied(WISH, reply="item", item="a"))
+    else:
+        demand(got == replied(WISH, reply="item", item="a"), f"who waited was told {got!r}")
 
 
 def half_frames(program: str) -> None:
@@ -113,7 +118,7 @@ def idle_connections(program: str) -> None:
         with closing(connected(host.port, IDLES)) as peers:
             for peer in peers:
                 peer.expect_end()
-        still_waits(host, waiting)
+        still_waits(host, waiting, idle_ends=True)
         host.ended()
 
 
@@ -130,6 +135,7 @@ def deaf_peers(program: str) -> None:
     with beside_a_good_client(program, "--stall", str(STALL)) as host:
         peers = [host.connect(receive=KEPT) for _ in range(3)]
         with closing(peers):
+            until("all are accepted", lambda: host.accepted() == 1 + len(peers))
             together(*(lambda peer=peer, client=client: ask_and_never_read(peer, client)
                        for client, peer in enumerate(peers, 1_000)))
             until("each deaf peer is ended", lambda: host.accepted() <= 1)

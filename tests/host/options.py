@@ -22,7 +22,7 @@ NUMBERS = {
 }
 # Texts that are no number within any of these limits.
 NO_NUMBERS = ["0", "", "x", "-1", "1.0", " 1", "1 ", "0x1", "1" + "0" * 19, "1" + "0" * 30, "１"]
-FLAGS = ["--listen", "--account", *(f"--{name}" for name in NUMBERS), "--quiet"]
+FLAGS = ["--listen", "--account", *(f"--{name}" for name in NUMBERS), "--status", "--quiet"]
 COMMANDS = ["book", "play", "serve", "call", "record", "audit", "verify", "host"]
 
 
@@ -61,10 +61,16 @@ def limits_are_taken(program: str) -> None:
     """The least and the greatest that each number may be are taken: a host serves by them."""
     for name, limits in NUMBERS.items():
         for given in limits.replace(",", "").split(" to "):
-            with Host(program, epoch=None, options=(f"--{name}={given}",)) as host, host.connect() as peer:
-                peer.send(frame(hello(1)))
-                got = peer.hear()
-                demand(b'"kind":"welcome"' in (got or b""), f"by --{name}={given} a hello was answered {got!r}")
+            with Host(program, epoch=None, options=(f"--{name}={given}",)) as host:
+                until(f"by --{name}={given} a hello is welcome", lambda host=host: b'"kind":"welcome"' in answer_of(host))
+
+
+def answer_of(host: Host) -> bytes:
+    """What a hello is answered; nothing where its connection was ended as idle before it was sent."""
+    with contextlib.suppress(ConnectionError), host.connect() as peer:
+        peer.send(frame(hello(1)))
+        return peer.hear() or b""
+    return b""
 
 
 def misspelt(program: str) -> None:

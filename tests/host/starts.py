@@ -45,8 +45,8 @@ def in_time(program: str, many: int) -> str:
 
 
 def holders_are_closed(program: str) -> str:
-    """Peers send a part of a frame, in all more than --memory: so many of them are closed that the rest fits, and not more than
-    twice as many; who holds nothing is served on."""
+    """Peers send a part of a frame, in all more than --memory: so many of them are closed that the rest fits, and not more than would
+    fit; who holds nothing is served on."""
     with Host(program, options=("--memory", str(MEBIBYTES), "--stall", "3600")) as host, host.greeted(1) as peer:
         part = frame(b"x" * HELD)[:-1]
         fits = (MEBIBYTES << 20) // len(part)
@@ -58,7 +58,7 @@ def holders_are_closed(program: str) -> str:
             until("those that hold most are closed", lambda: host.accepted() <= 1 + fits)
             time.sleep(SETTLES)
             left = host.accepted() - 1
-            demand(left >= HOLDERS - 2 * (HOLDERS - fits), f"of {HOLDERS} only {left} are left, and {fits} fit")
+            demand(left >= HOLDERS - fits, f"of {HOLDERS} only {left} are left, and {fits} fit")
             peer.expect(hello(1), welcome(1))
         host.ended()
     return f"{left} of {HOLDERS} are left, and {fits} fit"

@@ -59,7 +59,7 @@ def few_descriptors(program: str) -> None:
         open_now = len(os.listdir(f"/proc/{host.process.pid}/fd"))
         resource.prlimit(host.process.pid, resource.RLIMIT_NOFILE, (open_now + 2, open_now + 2))
         second, third = host.greeted(2), host.greeted(3)
-        with closing(connected(host.port, 3)) as late:
+        with closing([connected(host.port, 1)[0] for _ in range(3)]) as late:
             for client, peer in enumerate(late, 4):
                 peer.send(frame(hello(client)))
             before, own = processor(host), spin(WATCHED)
@@ -79,7 +79,7 @@ def more_than_its_connections(program: str) -> None:
     """Who comes beyond --connections is served when another one goes."""
     with Host(program, options=("--connections", "3")) as host:
         peers = [host.greeted(client) for client in (1, 2, 3)]
-        with closing(connected(host.port, 3)) as late:
+        with closing([connected(host.port, 1)[0] for _ in range(3)]) as late:
             for client, (peer, old) in enumerate(zip(late, peers), 4):
                 peer.send(frame(hello(client)))
                 until("the host rests", host.rests)
@@ -167,7 +167,8 @@ def ends_torn(program: str, text: bytes) -> bool:
         account.write_bytes(text)
         ran = subprocess.run([program, "verify", str(account)], capture_output=True, timeout=PATIENCE)
     wanted = (b"legal\n" + b"torn end\n" * torn, TORN * torn)
-    demand((ran.stdout, ran.returncode) == wanted, f"rv verify says {ran.stdout!r} with {ran.returncode} of {text[-200:]!r}: {ran.stderr!r}")
+    demand((ran.stdout, ran.returncode) == wanted,
+           f"rv verify says {ran.stdout!r} with {ran.returncode} of {text[-200:]!r}: {ran.stderr!r}")
     return torn
 
 
@@ -262,8 +263,7 @@ def nobody_reads_what_it_says(program: str) -> None:
     """Its standard error is a pipe that is full: it starts and serves all the same."""
     read, write = os.pipe()
     try:
-        fcntl.fcntl(write, fcntl.F_SETPIPE_SZ, 4_096)
-        os.write(write, b"x" * 4_096)
+        os.write(write, b"x" * fcntl.fcntl(write, fcntl.F_SETPIPE_SZ, 4_096))
         with Host(program, stderr=write) as host:
             with host.greeted(1) as peer, host.greeted(2) as other:
                 asked, told = a_talk(peer, 1, TALK)

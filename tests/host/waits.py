@@ -56,8 +56,9 @@ def told_that_it_waits(program: str) -> None:
         def waiting(client: int, ends: bool) -> None:
             key = Key(1, client, 1, 1)
             asked[key] = take("forever", queue=client)
+            # the moment of the host's turn may be as early as that at which its welcome left
+            began = time.monotonic()
             with host.greeted(client) as peer:
-                began = time.monotonic()
                 peer.send(frame(request(key, asked[key])))
                 if ends:
                     peer.end()
@@ -97,7 +98,8 @@ def frames_behind_one_that_waits(program: str) -> None:
             taker.send(b"".join(frame(request(key, asked[key])) for key in (wish, *puts)))
             looker.sees(consumers=1)
             giver.expect(request(gift, asked[gift]), replied(gift, reply="done"))
-            answered(taker, replied(wish, reply="item", item="a"))
+            got = taker.hear()
+            demand(got in (waits(wish), replied(wish, reply="item", item="a")), f"the take is answered {got!r}")
             for key in puts:
                 answered(taker, replied(key, reply="done"))
         host.judged(asked | looker.asked, [(wish, {"reply": "item", "item": "a"})])

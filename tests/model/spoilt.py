@@ -399,7 +399,7 @@ class SpoiltLines:
         """Another body: the same message with white space and escapes, something that is no message, or a tick."""
         at = self.place() if self.lines else None
         fields = self.lines[at].split(b" ", 2) if at else []
-        if len(fields) < 3:
+        if len(fields) < 3 or not fields[2]:
             return
         body = fields[2]
         if body == b"tick":

@@ -178,8 +178,12 @@ class Client:
         self.link().send(frame(body))
         with self.server.connect() as other:
             time.sleep(self.chance.choice([0, 0.005, 0.03]))
-            self.take_in(key, other.told(cancel(key)))
-        self.heed(key)
+            answer = other.told(cancel(key))
+        # that it waits may have been told before the cancel came
+        try:
+            self.heed(key)
+        finally:
+            self.take_in(key, answer)
 
     def hear(self, key, body):
         """Sends a body of the key and takes in the answer."""

@@ -1,4 +1,5 @@
 """The program's processes: a server on a port of this machine, and a caller. None is left running."""
+import collections
 import contextlib
 import os
 import pathlib
@@ -14,6 +15,8 @@ from tests.sockets.accounts import account_fault, read_account
 from tests.sockets.wire import PATIENCE, Peer, Wrong, demand, hello, members_of, record_line, until, welcome
 
 PORTS = range(20_000, 32_000)
+# The last that were given, which nobody may listen at yet.
+GIVEN = collections.deque(maxlen=100)
 # How often another free port is tried, where somebody takes the one that was free.
 TRIES = 5
 # Whoever does nothing for so many seconds, and is not kept from it, rests.
@@ -24,11 +27,14 @@ def free_port():
     """A port that nobody listens at. Below those that the machine gives to clients, so that no client gets it."""
     while True:
         port = random.choice(PORTS)
+        if port in GIVEN:
+            continue
         with socket.socket() as probe:
             try:
                 probe.bind(("127.0.0.1", port))
             except OSError:
                 continue
+        GIVEN.append(port)
         return port
 
 

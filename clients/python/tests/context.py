@@ -4,6 +4,7 @@ import faulthandler
 import functools
 import os
 import pathlib
+import socket
 import sys
 import tempfile
 import time
@@ -89,6 +90,15 @@ class Case(unittest.TestCase):
         began = time.monotonic()
         yield
         self.assertLess(time.monotonic() - began, seconds)
+
+
+@contextlib.contextmanager
+def nobody():
+    """An address at which nobody listens, nor can until the end of the block: a port that is bound. One that was only closed may be
+    the next server's, of another test too."""
+    with socket.socket() as holder:
+        holder.bind(("127.0.0.1", 0))
+        yield holder.getsockname()
 
 
 def session(server, **more):

@@ -659,6 +659,7 @@ class Loops(Case):
 class BesideAProducer(Case):
     """Takes whose tasks are cancelled at any time, beside a thread that hands items over."""
 
+    @unhurried()
     def test_nothing_is_lost_or_doubled(self):
         """`asyncio.wait_for` of a take, again and again, with times about as long as a take takes."""
         client, times, given = next(CLIENTS), 400, []

@@ -4,17 +4,11 @@ import threading
 import unittest
 from unittest import mock
 
-from context import PATIENCE, Case, asked, impatient, in_time, key, rv, session, unhurried, until
+from context import PATIENCE, Case, asked, impatient, in_time, key, nobody, rv, session, unhurried, until
 from rendezvous import link
-from scripted import HANG_UP, SILENCE, Listening, Scripted, frame, bytes_of, hang_up, refused, reply, waiting, welcome
+from scripted import HANG_UP, SILENCE, Scripted, frame, bytes_of, hang_up, refused, reply, waiting, welcome
 
 ASK = socket.getaddrinfo
-
-
-def unused():
-    """The address of a port at which nobody listens."""
-    with Listening() as server:
-        return ("127.0.0.1", server.port)
 
 
 class Made(Case):
@@ -22,9 +16,9 @@ class Made(Case):
 
     def test_each_way_is_tried(self):
         """Where an address names more than one way, the next is tried, and all of them for each connection."""
-        with Scripted(welcome, HANG_UP) as server:
+        with Scripted(welcome, HANG_UP) as server, nobody() as first, nobody() as second:
             server.otherwise = reply("item", item="a")
-            where = (unused(), unused(), ("127.0.0.1", server.port))
+            where = (first, second, ("127.0.0.1", server.port))
             ways = [(socket.AF_INET, socket.SOCK_STREAM, 6, "", each) for each in where]
             with mock.patch.object(link.socket, "getaddrinfo", lambda *_, **__: list(ways)), session(server) as one:
                 self.assertEqual((one.take(3), one.take(3), server.connections), ("a", "a", 2))
@@ -32,10 +26,11 @@ class Made(Case):
     @impatient()
     def test_the_last_way_is_told(self):
         """Where none leads anywhere, the address and the system's reason are told."""
-        ways = [(socket.AF_INET, socket.SOCK_STREAM, 6, "", unused())] * 3
-        with mock.patch.object(link.socket, "getaddrinfo", lambda *_, **__: list(ways)):
-            with self.raises(rv.NotAsked, key=None) as told:
-                rv.Session("nowhere:7411", 1, 1, patience=PATIENCE).connect()
+        with nobody() as address:
+            ways = [(socket.AF_INET, socket.SOCK_STREAM, 6, "", address)] * 3
+            with mock.patch.object(link.socket, "getaddrinfo", lambda *_, **__: list(ways)):
+                with self.raises(rv.NotAsked, key=None) as told:
+                    rv.Session("nowhere:7411", 1, 1, patience=PATIENCE).connect()
         self.assertIn("nowhere:7411: connection refused", str(told.raised))
 
     @impatient()

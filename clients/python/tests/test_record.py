@@ -375,6 +375,7 @@ class Tasks(Recorded):
             self.assertEqual([each.item for each in left], wanted)
             self.assertEqual([number for number, _ in self.told()], [1, 2])
 
+    @unhurried()
     def test_where_it_has_none(self):
         """The next call raises that, once, with the item, which then stands nowhere else; so do `again` and `close`."""
         async def asks(server, call):
@@ -399,6 +400,7 @@ class Tasks(Recorded):
         except Exception as fault:
             return fault
 
+    @unhurried()
     def test_a_block_that_ends_otherwise(self):
         """That is raised in place of what could not be recorded, whose item stands in `unclaimed()`."""
         left = []

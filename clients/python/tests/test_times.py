@@ -2,7 +2,7 @@
 import threading
 import unittest
 
-from context import Case, asked, behind, in_time, key, raised_by, rv, session, unhurried, until
+from context import Case, asked, behind, in_time, key, nobody, raised_by, rv, session, unhurried, until
 from scripted import HANG_UP, SILENCE, Listening, Scripted, refused, reply, running_first, waiting, welcome
 
 # The limit of what hangs, in seconds, far above what a call with a short time of its own takes.
@@ -77,9 +77,9 @@ class OwnTimes(Case):
         with Deaf() as server, self.within(SOON):
             with self.raises(rv.NotAsked, key=None):
                 session(server, patience=None).poll(3, timeout=0.1)
-        with self.within(SOON), self.raises(rv.NotAsked, key=None) as told:
-            session(server, patience=60.0).poll(3, timeout=0.1)
-        self.assertIn(f"{server.address}: connection refused", str(told.raised))
+        with nobody() as address, self.within(SOON), self.raises(rv.NotAsked, key=None) as told:
+            rv.Session(address, 1, 1, patience=60.0).poll(3, timeout=0.1)
+        self.assertIn("%s:%d: connection refused" % address, str(told.raised))
 
     @in_time
     def test_a_put_with_a_time(self):
@@ -155,14 +155,13 @@ class Patience(Case):
     @in_time
     def test_nobody_listens(self):
         """No server: nothing was asked, and the reason is told; a later call is another try."""
-        with Scripted(welcome) as server:
-            address = server.address
-        one = rv.Session(address, 1, 1, patience=0.3)
-        for call in (one.connect, lambda: one.put(3, "a")):
-            with self.raises(rv.NotAsked, key=None) as told:
-                call()
-            self.assertIn(f"{address}: connection refused", str(told.raised))
-        one.close()
+        with nobody() as address:
+            one = rv.Session(address, 1, 1, patience=0.3)
+            for call in (one.connect, lambda: one.put(3, "a")):
+                with self.raises(rv.NotAsked, key=None) as told:
+                    call()
+                self.assertIn("%s:%d: connection refused" % address, str(told.raised))
+            one.close()
 
     def test_for_ever(self):
         """Without patience a call goes on until it is cancelled."""

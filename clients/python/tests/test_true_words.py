@@ -1,6 +1,7 @@
 """What a session must never say though it is not so, and where it must not hang: interrupts, cancels, refusals, signals."""
 import os
 import signal
+import socket
 import sys
 import threading
 import unittest
@@ -87,10 +88,17 @@ class Interrupts(Case):
     def test_an_interrupt_while_the_server_is_away(self):
         """It ends soon, though patience is long; what is known is told."""
         for accepts in (True, False):
-            with Scripted(welcome) as server, session(server) as one:
-                leave = behind(server, 2, lambda: (server.__exit__() if not accepts else None, interrupt()))
+            with Scripted(welcome) as server, session(server) as one, socket.socket() as holder:
+                holder.setsockopt(socket.SOL_SOCKET, socket.SO_REUSEADDR, 1)
+
+                def leaves():
+                    if not accepts:
+                        server.__exit__()
+                        # so that no other test's server listens there meanwhile
+                        holder.bind(("127.0.0.1", server.port))
+                    interrupt()
                 with self.within(SOON), self.raises(rv.Interrupted, key=key(1), outcome=None) as told:
-                    with on_line(*WAITING, leave):
+                    with on_line(*WAITING, behind(server, 2, leaves)):
                         one.take(3)
                 self.assertIs(type(told.raised.fault), rv.Unsettled)
                 self.assertEqual(told.raised.fault.key, key(1))

@@ -60,6 +60,8 @@ final class LetIn {
     private RvSession session(long client) {
         session = new RvSession(woken -> new Watched(new SocketLink("127.0.0.1", book.port(), woken)), client, 1,
             Duration.ofMinutes(1), Duration.ofMinutes(1), 2);
+        // what a slow machine has time for
+        session.grace(Answering.LONG);
         return session;
     }
 
