@@ -81,7 +81,7 @@ impl fmt::Display for HostFault<'_> {
     }
 }
 
-// WritesWithin a number with a comma before each three digits.
+// Writes a number with a comma before each three digits.
 fn write_grouped<W: fmt::Write>(f: &mut fmt::Formatter<W>, number: u64) -> fmt::Result {
     if number < 1000 {
         return write!(f, "{number}");

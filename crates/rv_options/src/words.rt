@@ -1,4 +1,4 @@
-//! The command `host`, as clap reads it.
+//! Options that a table lists, and the command `host`, as clap reads them.
 ghost use Rattle.std.specs.Prelude.{◌≡◌, false, IfOk, map};
 ghost use Rattle.clap.specs.Words.{app_of, rule_of, shape_of};
 ghost use Rattle.clap.specs.declared.Command.TheViews.{out-Command};

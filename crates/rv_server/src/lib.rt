@@ -1,4 +1,4 @@
-//! One desk behind a lock, and the workers that answer frames with it.
+//! The workers that answer frames by a desk behind its lock, and the sockets that they serve.
 #![tactic(auto)]
 
 mod asking;

@@ -61,7 +61,7 @@ pub fn is_last_of(epoch: u64, there: &OpenPlace, waiter: Waiter, session: &Clien
     }
 }
 
-/// Whether a put's item lies at the place.
+/// Whether the place has an item that was given to a queue, with no limit: where nobody waits, that of a put.
 pub fn lies_open(there: &OpenPlace) -> bool
     ensures { IsTrue result ↔ LiesOpen there.now }
 {
