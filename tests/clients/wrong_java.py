@@ -17,6 +17,9 @@ IN_JAVA = [
         Edit(MACHINE, '        draft.flying = Flying.NOTHING;\n        return draft.made();',
              '        draft.flying = Flying.NOTHING;\n        draft.key = key == null ? null : key.next();\n'
              '        return draft.made();')]),
+    WrongClient("knows a request by what it sent alone, where it is given up before that", "java, whatever is let in", [
+        Edit(SESSION, 'machine.flying() == Machine.Flying.REQUEST && step.send() != null',
+             'event instanceof Plain && machine.flying() == Machine.Flying.REQUEST && step.send() != null')]),
     WrongClient(OTHER_EPOCH, "java, the java process", [
         Edit(MACHINE, 'case 2 -> above(refusal, "current", key.epoch())',
              'case 2 -> Bodies.number(refusal, "current") != key.epoch()')]),

@@ -38,8 +38,8 @@ public final class RvSession implements AutoCloseable {
     private volatile Runnable whenLeft = () -> { };
     private volatile long grace = Running.GRACE;
     private volatile Optional<RecordFile> record = Optional.empty();
-    /** The bodies of the request that was sent last, and of what was heard last. */
-    private byte[] asked;
+    /** The request that was said last, or was to be said when its cancel was, and the body of what was heard last. */
+    private JsonObject asked;
     private byte[] heard;
     private Running running;
 
@@ -292,7 +292,7 @@ public final class RvSession implements AutoCloseable {
     /** Records what was heard last, if a record is kept, and then tells that this is the outcome. */
     private Outcome recorded(Outcome outcome) {
         RecordFile file = record.orElse(null);
-        byte[] line = file == null ? null : RecordFile.line(asked, heard);
+        byte[] line = file == null ? null : RecordFile.line(Bodies.written(asked), heard);
         try {
             if (file != null) {
                 file.append(line);
@@ -368,11 +368,7 @@ public final class RvSession implements AutoCloseable {
             connect();
         }
         JsonObject message = next == null ? take(Plain.SPEAK).send() : next;
-        byte[] said = Bodies.written(message);
-        if (machine.flying() == Machine.Flying.REQUEST) {
-            asked = said;
-        }
-        link.send(said, running.left(answerTime));
+        link.send(Bodies.written(message), running.left(answerTime));
         heard = link.hear(running.left(answerTime));
         JsonObject answer = Bodies.readAnswer(heard);
         Step step = take(new Event.Hear(answer));
@@ -403,6 +399,9 @@ public final class RvSession implements AutoCloseable {
     private Step take(Event event) {
         Step step = machine.step(event);
         machine = step.machine();
+        if (machine.flying() == Machine.Flying.REQUEST && step.send() != null) {
+            asked = step.send();
+        }
         if (step.drop()) {
             hangUp();
         }

@@ -1,14 +1,20 @@
 package rendezvous;
 
+import com.google.gson.JsonObject;
+import com.google.gson.JsonParser;
 import java.io.IOException;
+import java.nio.file.Files;
+import java.nio.file.Path;
 import java.time.Duration;
 import java.util.List;
+import java.util.Optional;
 import java.util.concurrent.Callable;
 import java.util.concurrent.TimeUnit;
 
 /**
  * A script of calls over real links, again and again: at each call of a link, and behind it, once an interrupt, once a
- * close, once a lost link and once an error is let in. Behind each, what the session says must be what the book has.
+ * close, once a lost link and once an error is let in. Behind each, what the session says must be what the book has, and
+ * so must be what the record has.
  * Prints how many runs there were.
  */
 final class LetIn {
@@ -19,24 +25,26 @@ final class LetIn {
     private final What what;
     private final int at;
     private final boolean behind;
+    private final Path kept;
     private int calls;
     private int open;
     private boolean done;
     private RvSession session;
 
-    private LetIn(Book book, What what, int at, boolean behind) {
+    private LetIn(Book book, What what, int at, boolean behind, Path kept) {
         this.book = book;
         this.what = what;
         this.at = at;
         this.behind = behind;
+        this.kept = kept;
     }
 
     public static void main(String[] words) throws Exception {
-        int count = new LetIn(null, What.NOTHING, -1, false).runs();
+        int count = runs(What.NOTHING, -1, false);
         int runs = 0;
         for (What what : List.of(What.INTERRUPT, What.CLOSE, What.LOSS, What.FAULT)) {
             for (int at = 0; at < 2 * count; at++) {
-                new LetIn(null, what, at / 2, at % 2 == 1).runs();
+                runs(what, at / 2, at % 2 == 1);
                 runs++;
             }
         }
@@ -44,9 +52,10 @@ final class LetIn {
     }
 
     /** Runs the script; how many calls of its links it had. */
-    private int runs() throws Exception {
+    private static int runs(What what, int at, boolean behind) throws Exception {
+        Path kept = Files.createTempFile("rv-let-in-", ".record");
         try (Book own = new Book()) {
-            LetIn run = new LetIn(own, what, at, behind);
+            LetIn run = new LetIn(own, what, at, behind, kept);
             try (RvClients clients = new RvClients(1, 1, run::session)) {
                 run.plays(new RvTransferQueue(clients, 3));
             } catch (Exception | AssertionError fault) {
@@ -54,6 +63,8 @@ final class LetIn {
             }
             demand(run.open == 0, run.open + " links are open");
             return run.calls;
+        } finally {
+            Files.delete(kept);
         }
     }
 
@@ -62,6 +73,7 @@ final class LetIn {
             Duration.ofMinutes(1), Duration.ofMinutes(1), 2);
         // what a slow machine has time for
         session.grace(Answering.LONG);
+        session.record(Optional.of(new RecordFile(kept)));
         return session;
     }
 
@@ -122,12 +134,27 @@ final class LetIn {
     }
 
     /** The last outcome is the book's, and the next key is that of the first number without a reply. */
-    private void stands() {
+    private void stands() throws IOException {
         session.last().ifPresent(outcome -> demand(Answers.of(outcome).equals(book.reply(outcome.key().number())),
             outcome + " is told, and " + book.reply(outcome.key().number()) + " stands"));
         if (what != What.CLOSE && session.key() != null) {
             demand(session.key().number() == book.count() + 1, "the next key is " + session.key());
             demand(!session.isUnsettled(), "it is unsettled");
+            recorded(book.count());
+        }
+    }
+
+    /** The record has each request that was settled, one behind another, with the book's reply. */
+    private void recorded(int count) throws IOException {
+        List<String> lines = Files.readAllLines(kept);
+        demand(lines.size() == count, lines.size() + " lines are kept of " + count + " replies");
+        for (int number = 1; number <= count; number++) {
+            JsonObject line = JsonParser.parseString(lines.get(number - 1)).getAsJsonObject();
+            JsonObject asked = line.getAsJsonObject("asked");
+            demand(Bodies.word(asked, "kind").equals("request") && asked.has("call") && Bodies.number(asked, "number") == number,
+                "request " + number + " is kept as " + asked);
+            demand(Answers.of(Replies.outcomeOf(line.getAsJsonObject("told"))).equals(book.reply(number)),
+                "the reply of " + number + " is kept as " + line);
         }
     }
 
