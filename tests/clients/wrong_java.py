@@ -89,7 +89,8 @@ IN_JAVA = [
     WrongClient(NOTHING_GIVEN, "crowds, at the double", [
         Edit(QUEUE, 'return outcome instanceof Outcome.Item taken ? taken.item() : null;', 'return null;')]),
     WrongClient(CANCEL_RECORDED, "java_record, an interrupt", [
-        Edit(SESSION, 'if (machine.flying() == Machine.Flying.REQUEST) {', 'if (machine.key() != null) {')]),
+        Edit(SESSION, 'if (machine.flying() == Machine.Flying.REQUEST && step.send() != null) {',
+             'if (machine.key() != null && step.send() != null) {')]),
     WrongClient(NEW_RECORD, "java_record, it goes on", [
         Edit(RECORD, 'StandardOpenOption.APPEND)', 'StandardOpenOption.TRUNCATE_EXISTING)')]),
     WrongClient(DROPS_REPLY, "java_record, where it can not be written", [
