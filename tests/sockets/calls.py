@@ -1,4 +1,5 @@
 """`rv call` at a server, and at a listener that answers by a script."""
+import itertools
 import pathlib
 import socket
 import tempfile
@@ -7,11 +8,11 @@ import time
 
 from tests.model.account import Key
 from tests.model.texts import written
-from tests.sockets.plain import EXCHANGES, Looker, none_waits
+from tests.sockets.plain import EXCHANGES, Looker, is_late, none_waits
 from tests.sockets.hosts import serving
 from tests.sockets.programs import Caller
 from tests.sockets.wire import (
-    BAD_TEXT, PATIENCE, Peer, Wrong, demand, frame, give, hello, refused, replied, request, take, until, waits, welcome)
+    BAD_TEXT, PATIENCE, Packets, Peer, Wrong, demand, frame, give, hello, refused, replied, request, take, until, waits, welcome)
 
 ONE = Key(1, 2, 1, 1)
 WISH = take("forever")
@@ -168,11 +169,11 @@ def started_while_it_waits(program):
 
 class Scripted:
     """A listener that serves one connection: for each frame that it hears it sends the next bytes, and then it ends. It
-    acknowledges late what comes, or else every second frame at once, the first behind the hello among them."""
+    acknowledges late what comes, and counts the packets of each frame whose size it is told."""
 
-    def __init__(self, steps, slowly=False, in_turn=False):
-        self.steps, self.slowly, self.in_turn = steps, slowly, in_turn
-        self.heard, self.took, self.fault = [], [], None
+    def __init__(self, steps, slowly=False, sizes=()):
+        self.steps, self.slowly, self.sizes = steps, slowly, sizes
+        self.heard, self.came, self.fault = [], [], None
         self.socket = socket.create_server(("127.0.0.1", 0))
         self.socket.settimeout(PATIENCE)
         self.port = self.socket.getsockname()[1]
@@ -189,14 +190,16 @@ class Scripted:
     def run(self):
         try:
             with Peer(self.socket.accept()[0]) as peer:
-                for at, step in enumerate(self.steps):
-                    peer.acknowledge(late=not self.in_turn or at % 2 == 0)
-                    began = time.monotonic()
+                before = Packets(0, 0, 0)
+                for step, size in itertools.zip_longest(self.steps, self.sizes):
+                    peer.acknowledge(late=True)
+                    if size:
+                        self.came.append(peer.came(before, size))
                     body = peer.hear()
-                    self.took.append(time.monotonic() - began)
                     if body is None:
                         return
                     self.heard.append(body)
+                    before = peer.counted()
                     for piece in ([step[at : at + 1] for at in range(len(step))] if self.slowly else [step]):
                         peer.send(piece)
                         time.sleep(0.002 * self.slowly)
@@ -280,14 +283,14 @@ SECOND_SCRIPTS = [
 ]
 
 
-def at_a_script(program, steps, text, tries, printed, status, heard, slowly=False, speak=1, in_turn=False):
-    """A caller at a listener that answers by a script must end so. Gives how long each frame was waited for, in seconds."""
-    with Scripted(steps, slowly, in_turn) as listener:
+def at_a_script(program, steps, text, tries, printed, status, heard, slowly=False, speak=1, sizes=()):
+    """A caller at a listener that answers by a script must end so. Gives what came for each frame whose size is told."""
+    with Scripted(steps, slowly, sizes) as listener:
         with Caller(program, listener.port, 2, text, tries=tries, speak=speak) as caller:
             caller.judge(printed, status)
     demand(listener.heard == heard and not listener.fault,
            f"{steps}: the listener heard {listener.heard} and met {listener.fault}, not {heard}")
-    return listener.took
+    return listener.came
 
 
 def strange_servers(program):
@@ -319,16 +322,12 @@ def lines_of_calls(program):
 
 def no_packet_waits(program):
     """A request leaves in one piece, or else no part of it waits until the one before it was acknowledged."""
-    keys = [Key(1, 2, 1, number) for number in range(1, 2 * EXCHANGES + 1)]
-    bodies = [request(key, PUTS[0]) for key in keys]
+    keys = [Key(1, 2, 1, number) for number in range(1, EXCHANGES + 1)]
+    heard = [HELLO, *(request(key, PUTS[0]) for key in keys)]
     done = [replied(key, reply="done") for key in keys]
-
-    def pairs():
-        took = at_a_script(program, [WELCOME, *map(frame, done)], lines(*PUTS[:1] * len(keys)), 3,
-                           b"".join(line + b"\n" for line in done), 0, [HELLO, *bodies], in_turn=True)
-        return list(zip(took[2::2], took[1::2], strict=True))
-
-    none_waits(pairs)
+    came = at_a_script(program, [WELCOME, *map(frame, done)], lines(*PUTS[:1] * len(keys)), 3,
+                       b"".join(line + b"\n" for line in done), 0, heard, sizes=[len(frame(body)) for body in heard])
+    none_waits(map(is_late, came[1:]))
 
 
 CASES = [two_callers, two_recorders, a_line_as_soon_as_it_is_settled, settled_in_turn, started_again, started_in_another_version,

@@ -3,7 +3,6 @@ import contextlib
 import itertools
 import os
 import socket
-import statistics
 import subprocess
 import threading
 import time
@@ -17,10 +16,8 @@ from tests.sockets.wire import (
 
 GREATEST = 2**53 - 1
 FRAMES = 65_536
-# Requests in a row, and how long a system waits before it acknowledges a packet with none of its own, in seconds.
-EXCHANGES, DELAY = 300, 0.04
-# So often they are asked where the machine was too slow to tell.
-ROUNDS = 5
+# Requests in a row, of which most must not wait.
+EXCHANGES = 300
 # How many wait at once. One after another, each would be told so only behind the time that one takes alone.
 WAITING = 40
 # The pauses of a worker for a request that waits, and the seconds of each.
@@ -445,31 +442,33 @@ def no_packet_waits(program):
     """A request costs one exchange of packets: none of an answer waits until the one before it was acknowledged."""
     with serving(program, workers=1, connections=1) as server:
         with server.greeted(1) as peer:
-            numbers = itertools.count(1)
-
-            def seconds(late):
-                key, began = Key(1, 1, 1, next(numbers)), time.monotonic()
-                peer.send(frame(request(key, give("put", "a"))))
-                peer.acknowledge(late)
-                got = peer.hear()
-                demand(got == replied(key, reply="done"), f"a put was answered {got!r}")
-                return time.monotonic() - began
-
-            none_waits(lambda: [(seconds(late=True), seconds(late=False)) for _ in range(EXCHANGES)])
+            none_waits(has_waited(peer, Key(1, 1, 1, number)) for number in range(1, 1 + EXCHANGES))
         server.ended()
 
 
-def none_waits(round_of_pairs):
-    """Ends the test where in each round most exchanges that are acknowledged late took as much longer than those
-    acknowledged at once as a packet that waits for that. `round_of_pairs` gives what both of each pair took. A slow
-    machine delays both alike."""
-    longer = []
-    for _ in range(ROUNDS):
-        late, at_once = zip(*round_of_pairs())
-        longer.append(statistics.median(late) - statistics.median(at_once))
-        if longer[-1] < DELAY / 2:
-            return
-    demand(False, f"acknowledged late, most requests took {min(longer):.3f} seconds longer, or more")
+def has_waited(peer, key):
+    """Whether a packet of the answer to a put waited."""
+    done, before = replied(key, reply="done"), peer.counted()
+    peer.acknowledge(late=True)
+    peer.send(frame(request(key, give("put", "a"))))
+    came = peer.came(before, len(frame(done)))
+    got = peer.hear()
+    demand(got == done, f"a put was answered {got!r}")
+    return is_late(came)
+
+
+def is_late(came):
+    """Whether one of these packets may have waited until another was acknowledged: there are more than one, and an
+    acknowledgement was sent. Who sends them together needs none; only a slow machine sends one then, as it looks too late."""
+    return came.packets > 1 and came.acknowledgements > 0
+
+
+def none_waits(exchanges):
+    """Ends the test where in most of these exchanges a packet waited."""
+    late = 0
+    for is_one_late in exchanges:
+        late += is_one_late
+        demand(late <= EXCHANGES / 2, f"in {late} of {EXCHANGES} exchanges a packet waited until another was acknowledged")
 
 
 def its_connections(program):

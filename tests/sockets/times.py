@@ -3,12 +3,12 @@ wrong at any speed, and what comes late is asked again where one quick answer is
 import time
 
 from tests.model.account import Key, Request
-from tests.sockets.plain import DELAY, in_its_own_frame, told_that_it_waits
+from tests.sockets.plain import in_its_own_frame, told_that_it_waits
 from tests.sockets.hosts import serving
 from tests.sockets.wire import demand, frame, give, hello, replied, request, take, together, until, welcome
 
-# So often an item is waited for, until one comes before a packet that waits would, in seconds.
-ITEMS, SOON = 500, DELAY * 7 / 8
+# So often an item is waited for, until one comes before anything was acknowledged.
+ITEMS = 500
 # The pauses of a request that waits, each of so many seconds. So often one waits alone, until one takes not more than so many
 # times as long as they do here.
 PAUSES, PAUSE = 200, 0.005
@@ -23,28 +23,30 @@ OFFERED = 5
 
 def an_item_behind_an_answer(program):
     """A count and a take that waits come in one piece: the take's item leaves though the count's answer was not
-    acknowledged. The client acknowledges late each time, so that no item comes early where packets wait for that."""
+    acknowledged. The client acknowledges late each time; only a slow machine does so before it looks."""
     with serving(program, workers=2, connections=2) as server:
         asked = {}
         with server.greeted(1) as taker, server.greeted(2) as giver:
-            took = (seconds_to_item(taker, giver, number, asked) for number in range(ITEMS))
-            demand(any(seconds < SOON for seconds in took), f"in {ITEMS} tries no item came within {SOON} seconds")
+            needed = (acknowledgements(taker, giver, number, asked) for number in range(ITEMS))
+            demand(0 in needed, f"in {ITEMS} tries no item came before the answer in front of it was acknowledged")
         server.judged(asked, [])
 
 
-def seconds_to_item(taker, giver, number, asked):
-    """The seconds from a count and a take in one piece to the take's item, which is put behind the count's answer."""
+def acknowledgements(taker, giver, number, asked):
+    """How many the taker sends from a count and a take in one piece on, until something of the take's item is there, which is
+    put behind the count's answer."""
     count, wish, gift = Key(1, 1, 1, 2 * number + 1), Key(1, 1, 1, 2 * number + 2), Key(1, 2, 1, number + 1)
     calls = {count: {"call": "count", "queue": 3}, wish: take("forever"), gift: give("put", "a")}
     asked.update(calls)
+    counted, before = replied(count, reply="counted", items=0, consumers=0), taker.counted()
     taker.acknowledge(late=True)
-    began = time.monotonic()
     taker.send(frame(request(count, calls[count])) + frame(request(wish, calls[wish])))
     got = taker.hear()
-    demand(got == replied(count, reply="counted", items=0, consumers=0), f"the count was answered {got!r}")
+    demand(got == counted, f"the count was answered {got!r}")
     giver.expect(request(gift, calls[gift]), replied(gift, reply="done"))
+    came = taker.came(before, len(frame(counted)) + 1)
     in_its_own_frame(taker, wish, calls[wish], reply="item", item="a")
-    return time.monotonic() - began
+    return came.acknowledgements
 
 
 def a_wait_ends(program):

@@ -2,11 +2,13 @@
 import errno
 import os
 import queue
+import select
 import socket
 import struct
 import sys
 import threading
 import time
+from typing import NamedTuple
 
 from tests.model.account import Key
 from tests.model.texts import KEY, members_of_version, read_json, written
@@ -19,6 +21,8 @@ PATIENCE = int(os.environ.get("RV_PATIENCE", "120"))
 FIRST_FAULT_ENDS = os.environ.get("RV_FIRST_FAULT") == "ends"
 MAX_FRAME = 65_535
 BAD_TEXT = b'{"code":1,"kind":"refused"}'
+# Of what Linux tells of a connection: the bytes that came; the packets that went, those with data that came, and those that went.
+TCP_INFO = struct.Struct("=128xQI12xII")
 
 
 class Wrong(Exception):
@@ -108,6 +112,14 @@ def reply_of(answer):
     return {name: value for name, value in answer.items() if name not in ("kind", *KEY)}
 
 
+class Packets(NamedTuple):
+    """What came to an end of a connection, in bytes and in packets, and how many acknowledgements it sent that had no data."""
+
+    bytes: int
+    packets: int
+    acknowledgements: int
+
+
 class Peer:
     """A client's end of a connection."""
 
@@ -145,6 +157,27 @@ class Peer:
         """What comes next is acknowledged late, with what is sent behind it or after a while, or else at once: a packet that
         waits for its like is then kept back for so long, or for no time."""
         self.socket.setsockopt(socket.IPPROTO_TCP, socket.TCP_QUICKACK, int(not late))
+
+    def counted(self):
+        """What came so far, as the system counts it."""
+        size, out, packets, out_with_data = TCP_INFO.unpack(
+            self.socket.getsockopt(socket.IPPROTO_TCP, socket.TCP_INFO, TCP_INFO.size))
+        return Packets(size, packets, out - out_with_data)
+
+    def came(self, before, size):
+        """What has come since `before` at the first look that finds so many bytes of it. Nothing is read: that may acknowledge."""
+        now = before
+
+        def is_whole():
+            nonlocal now
+            now = self.counted()
+            return now.bytes - before.bytes >= size
+
+        readable = select.poll()
+        readable.register(self.socket, select.POLLIN)
+        readable.poll(1000 * PATIENCE)
+        until(f"{size} bytes come", is_whole)
+        return Packets(*(one - other for one, other in zip(now, before)))
 
     def send(self, data):
         self.socket.sendall(data)
