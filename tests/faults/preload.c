@@ -11,19 +11,23 @@
 
    The system. Growths are refused, what is read from and written to sockets is cut short or fails, connections can't be
    accepted, threads can't be started, the clock can't be read, a sleep ends at once, the time-outs of sockets are
-   shorter, the disk is full, and the wall clock shows another time. How often stands in the file FAULT_PAGE, a row of 32-bit numbers that may be changed at any time from outside.
+   shorter, the disk is full, the wall clock shows another time, and the steady clock stands still. How often stands in the file FAULT_PAGE, a row of 32-bit numbers that may be changed at any time from outside.
    Of the odds, 0 is never, and n is once in n at random, with the seed FAULT_SEED; so 1 is always. A read and a write fail
-   once in so many bytes. Behind them stand how many times each of these was done, and how many reads and writes of sockets
-   were asked for. */
+   once in so many bytes. Behind them stand how many times each of these was done, how many reads and writes of sockets
+   were asked for, how often epoll was asked to wait and how often it had nothing to tell while the steady clock stood, and the
+   options of the socket that was read last. */
 #define _GNU_SOURCE
 #include <dlfcn.h>
 #include <errno.h>
 #include <fcntl.h>
 #include <limits.h>
+#include <netinet/in.h>
+#include <netinet/tcp.h>
 #include <pthread.h>
 #include <stdint.h>
 #include <stdlib.h>
 #include <string.h>
+#include <sys/epoll.h>
 #include <sys/mman.h>
 #include <sys/socket.h>
 #include <sys/stat.h>
@@ -54,15 +58,18 @@ static void *mapped(const char *switch_name, int flags, size_t size) {
 
 enum { GROWTH, CUT_READ, FAILED_READ, CUT_WRITE, FAILED_WRITE, ACCEPT, THREAD, CLOCK, SLEEP, ODDS };
 enum { READS, WRITES, WAYS };
+enum { POLLS, RESTS, KEEPS_ALIVE, USER_TIME_OUT, NO_DELAY, SEEN };
 
 /* `most` bytes are read at a time, or written, where it is not 0. `growth_at` and `read_at` count down to the growth that
    is refused and the read that fails, and `room` is one more than the bytes that may be written before a write fails;
    with 0 none is. The odds of growths hold behind the first `calm` ones. `thread_at` counts down to the thread that can't
    be started. Time-outs are `haste` times as short, where it is not 0, and of what is written to a connection that was
    accepted the system keeps `kept` bytes, about. Files take `disk` - 1 bytes more, and then there is no space; with 0 there
-   always is. The wall clock is so many seconds ahead by `wall`, a number with a sign. */
+   always is. The wall clock is so many seconds ahead by `wall`, a number with a sign. The steady clock stands at `stopped`
+   milliseconds, where that is not 0, and waits of epoll end by it. */
 struct page {
-    uint32_t odds[ODDS], most, growth_at, read_at, room, calm, thread_at, haste, kept, disk, wall, made[ODDS], asked[WAYS];
+    uint32_t odds[ODDS], most, growth_at, read_at, room, calm, thread_at, haste, kept, disk, wall, stopped;
+    uint32_t made[ODDS], asked[WAYS], seen[SEEN];
 };
 
 static volatile struct page *page;
@@ -253,7 +260,22 @@ static size_t passes(int way, int cut, int failed, size_t count) {
     return count > 1 && happens(cut) ? 1 + chance() % least(count, 9) : count;
 }
 
-static size_t readable(size_t count) {
+/* A number that is an option of a socket. */
+static uint32_t option_of(int device, int level, int name) {
+    int value = 0;
+    socklen_t size = sizeof value;
+    syscall(SYS_getsockopt, device, level, name, &value, &size);
+    return value;
+}
+
+static void look_at(int device) {
+    page->seen[KEEPS_ALIVE] = option_of(device, SOL_SOCKET, SO_KEEPALIVE);
+    page->seen[USER_TIME_OUT] = option_of(device, IPPROTO_TCP, TCP_USER_TIMEOUT);
+    page->seen[NO_DELAY] = option_of(device, IPPROTO_TCP, TCP_NODELAY);
+}
+
+static size_t readable(int device, size_t count) {
+    look_at(device);
     if (counted_down(&page->read_at) == 1)
         return 0;
     return passes(READS, CUT_READ, FAILED_READ, count);
@@ -277,13 +299,13 @@ static ssize_t went(int way, ssize_t count) {
 ssize_t read(int device, void *bytes, size_t count) {
     if (device == STDIN_FILENO)
         return read_input(bytes, count);
-    if (count && is_socket(device) && !(count = readable(count)))
+    if (count && is_socket(device) && !(count = readable(device, count)))
         return no_read(device);
     return went(READS, syscall(SYS_read, device, bytes, count));
 }
 
 ssize_t recv(int device, void *bytes, size_t count, int flags) {
-    if (count && page && !(count = readable(count)))
+    if (count && page && !(count = readable(device, count)))
         return no_read(device);
     return went(READS, syscall(SYS_recvfrom, device, bytes, count, flags, NULL, NULL));
 }
@@ -344,6 +366,9 @@ int pthread_create(pthread_t *thread, const pthread_attr_t *how, void *(*run)(vo
     return happens(THREAD) ? EAGAIN : next(thread, how, run, with);
 }
 
+/* What the steady clock showed last, where it stands. */
+static __thread uint32_t shown;
+
 int clock_gettime(clockid_t clock, struct timespec *now) {
     static const int errors[] = {EINVAL, EPERM};
     if (happens(CLOCK))
@@ -351,7 +376,30 @@ int clock_gettime(clockid_t clock, struct timespec *now) {
     int read = syscall(SYS_clock_gettime, clock, now);
     if (read == 0 && page && clock == CLOCK_REALTIME)
         now->tv_sec += (int32_t)page->wall;
+    uint32_t stopped = page && clock == CLOCK_MONOTONIC ? page->stopped : 0;
+    if (read == 0 && stopped) {
+        *now = (struct timespec){stopped / 1000, stopped % 1000 * 1000000};
+        shown = stopped;
+    }
     return read;
+}
+
+static int polled(int poll, struct epoll_event *events, int most_events, int time_out) {
+    return syscall(SYS_epoll_pwait, poll, events, most_events, time_out, NULL, 8);
+}
+
+/* Where the steady clock stands a wait lasts until that was set so far ahead of what it showed last. */
+int epoll_wait(int poll, struct epoll_event *events, int most_events, int time_out) {
+    if (page)
+        __sync_fetch_and_add(&page->seen[POLLS], 1);
+    if (!page || !page->stopped || time_out <= 0)
+        return polled(poll, events, most_events, time_out);
+    for (;;) {
+        int came = polled(poll, events, most_events, 1);
+        if (came || page->stopped - shown >= (uint32_t)time_out)
+            return came;
+        __sync_fetch_and_add(&page->seen[RESTS], 1);
+    }
 }
 
 int nanosleep(const struct timespec *wanted, struct timespec *rest) {

@@ -10,12 +10,15 @@ from tests.sockets.hosts import Host, HostProgram
 from tests.sockets.programs import Server
 from tests.sockets.wire import Peer
 
-# What happens by odds, and the other numbers, in the order of the page; then how often each of the odds happened, and how
-# many reads and writes of sockets were asked for.
+# What happens by odds, and the other numbers, in the order of the page; then how often each of the odds happened, how many
+# reads and writes of sockets were asked for, how often epoll was asked to wait and how often it had nothing to tell while the
+# steady clock stood, and the options of the socket that was read last.
 ODDS = ("growth", "cut_read", "failed_read", "cut_write", "failed_write", "accept", "thread", "clock", "sleep")
-NUMBERS = (*ODDS, "most", "growth_at", "read_at", "room", "calm", "thread_at", "haste", "kept", "disk", "wall")
+NUMBERS = (*ODDS, "most", "growth_at", "read_at", "room", "calm", "thread_at", "haste", "kept", "disk", "wall",
+           "stopped")
 WAYS = ("reads", "writes")
-PAGE = struct.Struct(f"={len(NUMBERS) + len(ODDS) + len(WAYS)}I")
+SEEN = ("polls", "rests", "keeps_alive", "user_time_out", "no_delay")
+PAGE = struct.Struct(f"={len(NUMBERS) + len(ODDS) + len(WAYS) + len(SEEN)}I")
 # Connections that a server may be asked for: it ends when so many could not be accepted.
 CONNECTIONS = 100_000
 
@@ -48,7 +51,11 @@ class System:
 
     def asked(self):
         """How many reads and how many writes of sockets were asked for so far."""
-        return PAGE.unpack(self.page)[len(NUMBERS) + len(ODDS) :]
+        return PAGE.unpack(self.page)[len(NUMBERS) + len(ODDS) :][: len(WAYS)]
+
+    def seen(self, name):
+        """What was seen of epoll, or of the socket that was read last."""
+        return PAGE.unpack(self.page)[-len(SEEN) :][SEEN.index(name)]
 
 
 @contextlib.contextmanager

@@ -122,12 +122,12 @@ def idle_connections(program: str) -> None:
         host.ended()
 
 
-def ask_and_never_read(peer: Peer, client: int) -> None:
-    """Asks for long answers for as long as they can be sent."""
+def ask_and_never_read(peer: Peer, client: int, questions: int = DEAF_QUESTIONS) -> None:
+    """Asks for so many long answers, or for as long as that can be sent."""
     put, peek = Key(1, client, 1, 1), Key(1, client, 1, 2)
     asked = frame(request(peek, {"call": "peek", "queue": 7}))
     with contextlib.suppress(OSError):
-        peer.send(frame(hello(client)) + frame(request(put, give("put", DEAF_ITEM, queue=7))) + asked * DEAF_QUESTIONS)
+        peer.send(frame(hello(client)) + frame(request(put, give("put", DEAF_ITEM, queue=7))) + asked * questions)
 
 
 def deaf_peers(program: str) -> None:

@@ -14,6 +14,7 @@ use libc::{RLIMIT_NOFILE, getrlimit};
 use mio::net::TcpListener;
 use os::errno;
 use rv_engine::Engine;
+use rv_hub::DEFAULT_PATIENCE;
 use rv_log::{StartSaid, call_text, start_text};
 use rv_machine::Machine;
 use rv_options::HostOptions;
@@ -23,9 +24,6 @@ use std::io;
 use std::io::IsTerminal;
 use std::net::ToSocketAddrs;
 use std::time::Clock;
-
-// A request that waits is told so every 10 seconds.
-const PATIENCE: u32 = 10_000;
 
 // The descriptors that a server needs beside its connections, and those of its status address.
 const SPARE: u64 = 16;
@@ -222,7 +220,7 @@ fn engine_of(
         rt.alloc(),
         machine,
         limits,
-        PATIENCE,
+        DEFAULT_PATIENCE,
         options.account.is_some(),
         connections,
     )?)

@@ -1,0 +1,174 @@
+"""A host whose steady clock the test sets: each wait, and what else is to be by time, ends at its moment, to the millisecond.
+Nothing is waited for, so that no machine is too slow for it."""
+from __future__ import annotations
+
+import contextlib
+import json
+import re
+import select
+from typing import Any
+
+from tests.faults.system import HostileHost, System
+from tests.host.hostile import KEPT, ask_and_never_read
+from tests.host.many import closing, connected
+from tests.model.account import Key
+from tests.sockets.programs import free_port
+from tests.sockets.wire import Peer, demand, frame, give, hello, replied, request, swap, take, until, waits, welcome
+
+# What the clock shows at the start, in milliseconds, and how far it goes between two looks of a host at its connections.
+START, LOOK_OVER = 1_000_000, 1_000
+# The moment at which requests come: behind a look.
+ASKED = LOOK_OVER
+# Milliseconds behind which a request is told that it waits, accepting is tried again, a sample is taken, and a page is served on.
+TOLD, AGAIN, SAMPLE, VISIT = 10_000, 100, 10_000, 20
+# The seconds behind which a host that is told so ends who stalls, and who is idle.
+STALL, IDLE = 4, 6
+# So often a page may be looked for, and so many times more than it is to.
+LOOKS = 5_000
+# Questions whose answers are more than a host and all systems on the way keep of one connection.
+QUESTIONS = 200
+# So many looks of a system that find nothing, each of a millisecond, are a rest.
+RESTS = 20
+
+
+class Stopped(HostileHost):
+    """A host whose steady clock stands until the test sets it; what it waits for ends by that clock too. Its system keeps little of
+    what is not read."""
+
+    def __init__(self, program: str, **more: Any):
+        system = System()
+        system.be(stopped=START, kept=KEPT)
+        super().__init__(program, system, **more)
+
+    def set(self, moment: int, **numbers: int) -> None:
+        """The clock shows so many milliseconds since the start."""
+        self.system.be(stopped=START + moment, kept=KEPT, **numbers)
+
+    def at(self, moment: int, **numbers: int) -> None:
+        """The same, and the host has done all that is to be done then."""
+        self.set(moment, **numbers)
+        until("the host rests", self.rests)
+
+    def rests(self) -> bool:
+        """Whether it waits, and some looks of the system's find that nothing comes for it: it does nothing until the clock is set or
+        something comes."""
+        polls, rests = self.system.seen("polls"), self.system.seen("rests")
+        until("the host waits", lambda: self.system.seen("rests") >= rests + RESTS or self.system.seen("polls") != polls)
+        return bool(self.system.seen("polls") == polls)
+
+    def ticks(self) -> list[int]:
+        """The moments at which waits ended so far."""
+        return [int(moment) for moment in re.findall(rb"^(\d+) - tick$", self.written(), re.M)]
+
+
+def waits_end_at_their_moment(program: str) -> None:
+    """A take, a transfer and a swap wait each as long as it asked for: a millisecond before it isn't told so, and then it is, with
+    nothing that wakes the host."""
+    with Stopped(program) as host:
+        asked = {Key(1, 1, 1, 1): take(300), Key(1, 2, 1, 1): give("transfer", "a", 500, queue=4), Key(1, 3, 1, 1): swap("b", 700)}
+        with closing([host.greeted(key.client) for key in asked]) as peers:
+            host.at(ASKED)
+            for peer, key in zip(peers, asked):
+                peer.send(frame(request(key, asked[key])))
+            until("all have asked", lambda: host.written().count(b"request") == len(asked))
+            for peer, (key, call) in zip(peers, asked.items()):
+                host.at(ASKED + call["wait"] - 1)
+                demand(is_silent(peer), f"a wait of {call['wait']} milliseconds ended early")
+                host.set(ASKED + call["wait"])
+                demand(peer.hear() == replied(key, reply="timedout"), "who waited is told something else")
+        demand(host.ticks() == [ASKED + call["wait"] for call in asked.values()], f"waits ended at {host.ticks()}")
+        host.judged(asked, [(key, {"reply": "timedout"}) for key in asked])
+
+
+def told_that_it_waits_at_ten_seconds(program: str) -> None:
+    """Who waits is told so ten seconds behind its frame, neither before nor later, and so again each time that it asks."""
+    with Stopped(program) as host, host.greeted(1) as peer:
+        key, call = Key(1, 1, 1, 1), take("forever")
+        host.at(ASKED)
+        for told in range(ASKED + TOLD, ASKED + 4 * TOLD, TOLD):
+            peer.send(frame(request(key, call)))
+            until("the host rests", host.rests)
+            host.at(told - 1)
+            demand(is_silent(peer), f"it was told before {TOLD} milliseconds that its request waits")
+            host.set(told)
+            demand(peer.hear() == waits(key), "who waits is told something else")
+        host.judged({key: call}, [])
+
+
+def is_silent(peer: Peer) -> bool:
+    """Whether nothing came for a peer, no end either."""
+    return not select.select([peer.socket], [], [], 0)[0]
+
+
+def stalled_and_idle_ends(program: str) -> None:
+    """With --stall who sent half a frame is ended, and who takes no answers, and with --idle who says nothing: not before, and at
+    the next look then. Who waits is not."""
+    options = ("--stall", str(STALL), "--idle", str(IDLE))
+    with Stopped(program, options=options) as host:
+        with closing([host.greeted(client) for client in (1, 2, 3)]) as (half, idle, waiting), host.connect(receive=KEPT) as deaf:
+            host.at(ASKED)
+            wish = Key(1, 3, 1, 1)
+            waiting.send(frame(request(wish, take("forever", queue=9))))
+            half.send(frame(hello(1))[:-1])
+            idle.expect(hello(2), welcome(2))
+            ask_and_never_read(deaf, 4, QUESTIONS)
+            until("the host rests", host.rests)
+            for limit, before, behind in ((STALL, 4, 2), (IDLE, 2, 1)):
+                host.at(ASKED + limit * 1_000 - 1)
+                demand(host.accepted() == before, f"before {limit} seconds {host.accepted()} of {before} connections are left")
+                host.at(ASKED + limit * 1_000 - 1 + LOOK_OVER)
+                demand(host.accepted() == behind, f"behind {limit} seconds {host.accepted()} connections are left, not {behind}")
+            demand(is_silent(waiting), "who waits was told something, or ended")
+        host.ended()
+
+
+def accepting_is_tried_again(program: str) -> None:
+    """Where accepting fails for want of something it is tried again a tenth of a second later, with nothing that wakes the host."""
+    with Stopped(program) as host:
+        host.at(ASKED, accept=1)
+        with closing(connected(host.port, 1)) as (peer,):
+            until("accepting fails", lambda: host.system.made("accept") > 0)
+            until("the host rests", host.rests)
+            peer.send(frame(hello(1)))
+            host.at(ASKED + AGAIN - 1)
+            demand(host.accepted() == 0, "accepting was tried again before a tenth of a second was over")
+            host.set(ASKED + AGAIN)
+            demand(peer.hear() == welcome(1), "who was not accepted at first is not welcome")
+        host.ended()
+
+
+def samples_of_the_status(program: str) -> None:
+    """A sample has the seconds since the start, the entries, the places that are open, and the bytes of the account, at the start
+    and ten seconds later."""
+    port = free_port()
+    with Stopped(program, options=("--status", f"127.0.0.1:{port}")) as host:
+        until("the host rests", host.rests)
+        head, calls = len(host.written()), [give("put", "a"), give("put", "b"), take("now")]
+        with host.greeted(1) as peer:
+            for number, call in enumerate(calls, 1):
+                peer.ask(request(Key(1, 1, 1, number), call))
+        host.set(SAMPLE)
+        wanted = [[0, 0, 0, head], [SAMPLE // 1_000, 1 + len(calls), 1, len(host.written())]]
+        history = json.loads(told_at(host, port, SAMPLE))["history"]
+        demand(history[:2] == wanted, f"the samples are {history}, not {wanted}")
+        host.ended()
+
+
+def told_at(host: Stopped, port: int, moment: int) -> bytes:
+    """The status at a moment, from which on the clock goes on as pages want it."""
+    with closing(connected(port, 1)) as (visitor,):
+        visitor.send(b"GET /status.json HTTP/1.1\r\nhost: a\r\nconnection: close\r\n\r\n")
+        visitor.socket.settimeout(VISIT / 1_000)
+        for look in range(LOOKS):
+            with contextlib.suppress(TimeoutError, ConnectionError):
+                if not visitor.more():
+                    break
+            host.set(moment + look * VISIT)
+        demand(b"\r\n\r\n" in visitor.got, f"the status is {visitor.got!r}")
+        return visitor.got.partition(b"\r\n\r\n")[2]
+
+
+CASES = [
+    waits_end_at_their_moment, told_that_it_waits_at_ten_seconds, stalled_and_idle_ends, accepting_is_tried_again,
+    samples_of_the_status,
+]
