@@ -9,7 +9,7 @@ from tests.sockets.wire import demand, together
 def session(server, number, incarnation=1, **more):
     """A session of a client. It waits long for each answer, so that a slow machine does not have it connect anew: the
     server ends after as many connections as there are sessions."""
-    return rv.Session(("127.0.0.1", server.port), number, incarnation, patience=120, answer=60, **more)
+    return rv.Session(("127.0.0.1", server.port), number, incarnation, patience=120, answer=60, connect_timeout=None, **more)
 
 
 def judged(server):

@@ -91,6 +91,18 @@ IN_PYTHON = [
     WrongClient("asks on in a forked process", "test_processes.Forks.test_a_child_asks_nothing", [
         Edit(SESSION, "        if os.getpid() != self._process:\n            raise",
              "        if False:\n            raise")]),
+    WrongClient("waits for its first welcome as long as its patience", "test_words.FirstHello.test_behind_the_welcome", [
+        Edit(COURSE, "else min(job.patience, self.connect_timeout))", "else job.patience)")]),
+    WrongClient("ends all its calls by the time of its first hello", "test_words.FirstHello.test_behind_the_welcome", [
+        Edit(COURSE, "job.patience if self._welcomed else min(", "min(")]),
+    WrongClient("logs nothing of a refused connection", "test_words.Logged.test_a_refused_connection", [
+        Edit(COURSE, '            LOG.warning("%s", job.fault)\n', "")]),
+    WrongClient("logs each try", "test_words.Logged.test_a_refused_connection", [
+        Edit(COURSE, "        if lasts and job.fault != self._logged:\n", "        if lasts:\n")]),
+    WrongClient("finds out by its first reply that it can't record", "test_record.Before.test_a_folder", [
+        Edit(RECORD, "    record.check()\n", "")]),
+    WrongClient("takes a wrong time for a right one", "test_words.Arguments.test_of_a_call", [
+        Edit(CALLS, "if isinstance(seconds, bool) or not", "if not")]),
     WrongClient("has exceptions without pickles", "test_processes.Pickles.test_exceptions", [
         Edit(ERRORS, "super().__init__(key, number, current, why)", "super().__init__(key)")]),
     WrongClient("counts a copy over a link that its peer had closed",

@@ -103,7 +103,7 @@ def nobody():
 
 def session(server, **more):
     """A session of client 1, incarnation 1. It waits long, so that a slow machine does not have it ask once more."""
-    return rv.Session(server.address, 1, 1, **{"patience": PATIENCE, "answer": PATIENCE / 2, **more})
+    return rv.Session(server.address, 1, 1, **{"patience": PATIENCE, "answer": PATIENCE / 2, "connect_timeout": None, **more})
 
 
 @contextlib.contextmanager

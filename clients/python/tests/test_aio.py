@@ -42,7 +42,7 @@ CALLS = [
 
 def made(server, **more):
     """A session of client 1, incarnation 1, for asyncio."""
-    return aio.Session(server.address, 1, 1, **{"patience": PATIENCE, "answer": PATIENCE / 2, **more})
+    return aio.Session(server.address, 1, 1, **{"patience": PATIENCE, "answer": PATIENCE / 2, "connect_timeout": None, **more})
 
 
 def run(deed):

@@ -195,7 +195,6 @@ class Refusals(Case):
             (lambda s: s.drain(64, 1), "queue"), (lambda s: s.drain(3, 0), "drain"), (lambda s: s.drain(3, 17), "drain"),
             (lambda s: s.drain(3, True), "drain"), (lambda s: s.drain(3, 2.0), "drain"),
             (lambda s: s.poll(3, 86_400.001), "a day"), (lambda s: s.poll(3, float("nan")), "a day"),
-            (lambda s: s.poll(3, float("inf")), "a day"),
         ]
         with Scripted(welcome) as server, session(server) as one:
             for call, word in wrong:

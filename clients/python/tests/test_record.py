@@ -1,5 +1,6 @@
 """The record of what a session was told: its lines, who may share it, and what is raised where it can't be written."""
 import asyncio
+import contextlib
 import errno
 import json
 import os
@@ -12,10 +13,10 @@ import threading
 import unittest
 from unittest import mock
 
-from context import GENEROUS, Case, behind, impatient, key, raised_by, rv, session, unhurried
+from context import GENEROUS, Case, behind, impatient, key, leasing, raised_by, rv, session, unhurried
 from let_in import handled
 from record_lines import ending_of, lines_of
-from rendezvous import record
+from rendezvous import aio, record
 from scripted import HANG_UP, SILENCE, Scripted, frame, received_by, refused, reply, running_first, waiting, welcome
 from test_aio import CALLS, cancelled, made, run
 
@@ -53,6 +54,14 @@ class Recorded(Case):
         self.addCleanup(folder.cleanup)
         self.folder = pathlib.Path(folder.name)
         self.path = self.folder / "record"
+
+    def turning(self, kind, server):
+        """A session of this kind whose record turns bad once it is made: a folder is in its place."""
+        if self.path.exists():
+            self.path.rmdir()
+        one = kind(server, record=self.path)
+        self.path.mkdir()
+        return one
 
     def told(self):
         """The replies that stand in the record, by the numbers of their requests."""
@@ -224,6 +233,89 @@ class Places(Recorded):
         self.assertEqual((len(lines), keys), (2 * SHARED, {(c, n) for c in (1, 2) for n in range(1, SHARED + 1)}))
 
 
+@contextlib.contextmanager
+def nobody_special():
+    """In the block, files' permissions count: the system's administrator is another user."""
+    user = os.geteuid()
+    if user == 0:
+        os.seteuid(65_534)
+    try:
+        yield
+    finally:
+        if user == 0:
+            os.seteuid(0)
+
+
+class Before(Recorded):
+    """A record that can't be written is found where the session is made: nothing is leased, asked or left behind."""
+
+    def refused(self, path, number):
+        """Each session says so, by the file's name, and the system's word."""
+        with Scripted(welcome) as server:
+            for kind in (rv.Session, aio.Session):
+                with self.subTest(path=path, kind=kind.__module__), leasing() as leases:
+                    before = sorted(self.folder.rglob("*"))
+                    fault = raised_by(lambda: kind(server.address, record=path))
+                    self.assertIsInstance(fault, OSError)
+                    self.assertNotIsInstance(fault, rv.RendezvousError)
+                    self.assertEqual((fault.errno, fault.filename), (number, str(path)))
+                    self.assertEqual((sorted(self.folder.rglob("*")), leases.exists()), (before, False))
+            self.assertEqual(server.heard, [])
+
+    def test_a_folder(self):
+        """Where the file is to be; none where its folder is to be; and a file there."""
+        self.refused(self.folder, errno.EISDIR)
+        self.refused(self.folder / "none" / "record", errno.ENOENT)
+        self.path.write_bytes(b"")
+        self.refused(self.path / "record", errno.ENOTDIR)
+        self.refused(self.folder / ("x" * 300), errno.ENAMETOOLONG)
+
+    def test_without_permission(self):
+        """A file that may not be written, and a folder where none may be made."""
+        self.folder.chmod(0o755)
+        locked = self.folder / "locked"
+        locked.mkdir(mode=0o755)
+        self.path.write_bytes(b"")
+        self.path.chmod(0o444)
+        if os.geteuid() != 0:
+            locked.chmod(0o555)
+        with nobody_special():
+            self.refused(self.path, errno.EACCES)
+            self.refused(locked / "record", errno.EACCES)
+
+    def test_a_full_disk(self):
+        """As far as it shows: a device, and a disk that has no room for a new file."""
+        if not os.path.exists(FULL):
+            return
+        self.refused(FULL, errno.ENOSPC)
+        with mock.patch.object(record.tempfile, "TemporaryFile", lambda **_: open(FULL, "wb", buffering=0)):
+            self.refused(self.path, errno.ENOSPC)
+
+    def test_by_the_environment(self):
+        """So is one that the environment names."""
+        with mock.patch.dict(os.environ, {"RV_RECORD": str(self.folder)}), Scripted(welcome) as server:
+            for kind in (session, made):
+                self.assertEqual(raised_by(lambda: kind(server)).filename, str(self.folder))
+            self.assertEqual(server.heard, [])
+
+    def test_what_is_left(self):
+        """Of a record that can be written: what was there, or no file."""
+        for text in (None, b"", b"before\n"):
+            if text is not None:
+                self.path.write_bytes(text)
+            for kind in (session, made):
+                with Scripted(welcome) as server:
+                    one = kind(server, record=self.path)
+                    self.assertEqual(self.path.read_bytes() if self.path.exists() else None, text)
+                    self.assertEqual([path for path in self.folder.iterdir() if path != self.path], [])
+                    run(one.close()) if kind is made else one.close()
+
+    def test_a_pipe_that_nobody_reads(self):
+        """It is told, and not waited for."""
+        os.mkfifo(self.path)
+        self.refused(self.path, errno.ENXIO)
+
+
 class NotWritten(Recorded):
     """A reply that can't be recorded is in the exception, and the session goes on."""
 
@@ -236,10 +328,12 @@ class NotWritten(Recorded):
         self.assertEqual((told["number"], told["kind"]), (outcome.key.number, "reply"))
 
     def test_whatever_is_in_the_way(self):
-        """A folder, one that is not there, or a full device."""
+        """A folder, one that is not there, or a full device, once the session is made."""
         ways = [(self.folder, errno.EISDIR), (self.folder / "none" / "record", errno.ENOENT)]
         for path, number in [*ways, *([(FULL, errno.ENOSPC)] if os.path.exists(FULL) else [])]:
-            with self.subTest(path=path), Scripted(welcome) as server, session(server, record=path) as one:
+            self.path.unlink(missing_ok=True)
+            with self.subTest(path=path), Scripted(welcome) as server, session(server, record=self.path) as one:
+                self.path.symlink_to(path)
                 server.otherwise = reply("item", item="a")
                 for each in (1, 2):
                     self.not_recorded(raised_by(lambda: one.take(3)), rv.replies.Item(key(each), "a"), number)
@@ -247,8 +341,7 @@ class NotWritten(Recorded):
 
     def test_it_goes_on(self):
         """Once the file can be written, with the replies from then on."""
-        self.path.mkdir()
-        with Scripted(welcome, received_by(7, 8, 9), reply("done")) as server, session(server, record=self.path) as one:
+        with Scripted(welcome, received_by(7, 8, 9), reply("done")) as server, self.turning(session, server) as one:
             fault = raised_by(lambda: one.transfer(3, "a"))
             self.not_recorded(fault, rv.Receipt(key(1), rv.Key(1, 7, 8, 9)), errno.EISDIR)
             self.path.rmdir()
@@ -270,7 +363,7 @@ class NotWritten(Recorded):
     def test_whatever_the_reply(self):
         """It is raised in place of what the reply would give or raise, in both sessions."""
         for number, (call, deed) in enumerate(calls()):
-            with self.subTest(call=number), Scripted(welcome, deed) as server, session(server, record=self.folder) as one:
+            with self.subTest(call=number), Scripted(welcome, deed) as server, self.turning(session, server) as one:
                 fault = raised_by(lambda: call(one))
                 self.not_recorded(fault, one.last, errno.EISDIR)
             with self.subTest(call=number, awaited=True), Scripted(welcome, deed) as server:
@@ -278,7 +371,7 @@ class NotWritten(Recorded):
 
     async def raised(self, server, call):
         """What a call raises in asyncio."""
-        async with made(server, record=self.folder) as one:
+        async with self.turning(made, server) as one:
             try:
                 return await call(one)
             except rv.RendezvousError as fault:
@@ -302,7 +395,7 @@ class NotWritten(Recorded):
     @impatient()
     def test_asked_again(self):
         """So does `again` raise it, and then nothing is unsettled."""
-        with Scripted(welcome, HANG_UP) as server, session(server, record=self.folder) as one:
+        with Scripted(welcome, HANG_UP) as server, self.turning(session, server) as one:
             with self.raises(rv.Unsettled):
                 one.take(3)
             server.otherwise = lambda came: (welcome if came["kind"] == "hello" else reply("item", item="a"))(came)
@@ -312,7 +405,7 @@ class NotWritten(Recorded):
     @unhurried()
     def test_an_interrupt(self):
         """It has both: the outcome, and that it isn't recorded."""
-        with Scripted(welcome) as server, session(server, record=self.folder) as one:
+        with Scripted(welcome) as server, self.turning(session, server) as one:
             server.otherwise = at_cancel(reply("cancelled"))
             press = behind(server, 2, lambda: os.kill(os.getpid(), signal.SIGINT))
             with handled(signal.SIGINT, signal.default_int_handler):
@@ -335,7 +428,7 @@ class NotWritten(Recorded):
 
     def test_what_a_handler_hides(self):
         """The next call raises it, once, and asks nothing; then the item stands in `unclaimed()` no more."""
-        with Scripted(welcome) as server, session(server, record=self.folder) as one:
+        with Scripted(welcome) as server, self.turning(session, server) as one:
             self.hidden_behind(server, one)
             before = len(server.heard)
             self.not_recorded(raised_by(lambda: one.put(3, "b")), rv.replies.Item(key(1), "a"), errno.EISDIR)
@@ -346,12 +439,12 @@ class NotWritten(Recorded):
     def test_a_close_behind_it(self):
         """So does `close`, but where its block ends by another exception."""
         with Scripted(welcome) as server:
-            one = session(server, record=self.folder)
+            one = self.turning(session, server)
             self.hidden_behind(server, one)
             self.not_recorded(raised_by(one.close), rv.replies.Item(key(1), "a"), errno.EISDIR)
             one.close()
         with Scripted(welcome) as server, self.raises(KeyError):
-            with session(server, record=self.folder) as one:
+            with self.turning(session, server) as one:
                 self.hidden_behind(server, one)
                 raise KeyError
         self.assertEqual([each.item for each in one.unclaimed()], ["a"])
@@ -379,7 +472,7 @@ class Tasks(Recorded):
     def test_where_it_has_none(self):
         """The next call raises that, once, with the item, which then stands nowhere else; so do `again` and `close`."""
         async def asks(server, call):
-            async with made(server, record=self.folder) as one:
+            async with self.turning(made, server) as one:
                 await cancelled(one, lambda one: one.take(3), server, 2)
                 fault = await self.raised(call(one))
                 return fault, one.unclaimed(), await self.raised(one.again()) if call is not closes else None
@@ -406,7 +499,7 @@ class Tasks(Recorded):
         left = []
 
         async def ends(server):
-            async with made(server, record=self.folder) as one:
+            async with self.turning(made, server) as one:
                 left.append(one)
                 await cancelled(one, lambda one: one.take(3), server, 2)
                 raise KeyError

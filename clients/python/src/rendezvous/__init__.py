@@ -33,6 +33,8 @@ from .replies import Counted, Key, Outcome, Receipt
 from .session import Items, Session
 from .unclaimed import Unclaimed
 
+__version__ = "3.3.0"
+
 __all__ = [
     "AllLeased", "Cancelled", "Counted", "EpochEnded", "Full", "Interrupted", "Items", "Key", "Misused", "NotAsked",
     "NotRecorded", "Outcome", "Receipt", "Refused", "RendezvousError", "Replaced", "Running", "Session", "TimedOut", "Unclaimed",

@@ -22,7 +22,7 @@ from typing import AsyncIterator, Callable, List, Optional, Type, cast
 
 from . import errors, machine as m
 from .bodies import GREATEST_VERSION, Members, is_whole
-from .calls import Wait, checked, made
+from .calls import Wait, checked, made, times_of
 from .course import Job, Running
 from .endings import (
     Result, counts_of, ending, item_if_any, item_of, items_of, itself, known_of, nothing, receipt_if_any, receipt_of)
@@ -30,6 +30,7 @@ from .leases import name_of
 from .link import Address, address_of
 from .record import Path, record_of
 from .replies import Counted, Outcome, Receipt
+from .shown import shown
 from .stream import StreamCourse, UnderWay, let_go
 from .unclaimed import Shelf, Unclaimed
 
@@ -51,12 +52,13 @@ class Session:
 
     def __init__(self, address: Address, client: Optional[int] = None, incarnation: Optional[int] = None, *,
                  clients: Optional[range] = None, version: int = GREATEST_VERSION, patience: Optional[float] = 60.0,
-                 answer: float = 30.0, record: Optional[Path] = None) -> None:
+                 answer: float = 30.0, record: Optional[Path] = None, connect_timeout: Optional[float] = 5.0) -> None:
+        self.address, self.patience = address_of(address), patience
+        awaits, connects = times_of(patience, answer, connect_timeout)
         checked(is_whole(version, 1, GREATEST_VERSION), f"the version is 1 to {GREATEST_VERSION}: {version!r}")
         kept = record_of(record)
-        self.address, self.patience = address_of(address), patience
         self._process = os.getpid()
-        self._course = StreamCourse(self.address, name_of(client, incarnation, clients), version, answer, kept)
+        self._course = StreamCourse(self.address, name_of(client, incarnation, clients), version, awaits, kept, connects)
         self._event_loop: Optional[asyncio.AbstractEventLoop] = None
         self._closed = False
         # the call whose task waits, and the one whose task was cancelled, with the task that settles it
@@ -66,6 +68,10 @@ class Session:
         self._shelf = Shelf()
         self._loop: "Callable[[], Optional[Items]]" = no_loop
         weakref.finalize(self, let_go, self._course)
+
+    def __repr__(self) -> str:
+        """Its address, client and epoch, and what runs."""
+        return shown("aio.Session", vars(self).get("_course"), vars(self).get("_closed", False), vars(self).get("_job"))
 
     async def __aenter__(self) -> "Session":
         try:

@@ -4,7 +4,7 @@ from __future__ import annotations
 import enum
 import math
 from functools import partial
-from typing import Any, Callable, Mapping, NamedTuple, Tuple, Union
+from typing import Any, Callable, Mapping, NamedTuple, Optional, Tuple, Union
 
 from .bodies import GREATEST_DRAIN, GREATEST_ITEM, Members, is_item, is_whole
 
@@ -78,19 +78,57 @@ def text_of(item: str) -> str:
 
 def most_of(most: int) -> int:
     """How many items are taken at most."""
-    checked(is_whole(most, 1, GREATEST_DRAIN), f"a drain takes 1 to {GREATEST_DRAIN} items at most: {most!r}")
+    checked(is_whole(most, 1, GREATEST_DRAIN), f"a drain's max is 1 to {GREATEST_DRAIN} items: {most!r}")
     return most
+
+
+def number_of(name: str, seconds: object) -> float:
+    """A time in seconds, which may be `inf`."""
+    if isinstance(seconds, bool) or not isinstance(seconds, (int, float)):
+        raise TypeError(f"{name} is a number of seconds: {seconds!r}")
+    try:
+        number = float(seconds)
+    except OverflowError:
+        number = math.nan
+    most = ", at most a day or inf" if name == "timeout" else ""
+    checked(not math.isnan(number), f"{name} is a number of seconds{most}: {str(seconds)[:20]}")
+    return number
+
+
+def seconds_of(timeout: Optional[float]) -> float:
+    """A call's own time: for ever where it has none, and no time where it is below zero."""
+    return math.inf if timeout is None else max(0.0, number_of("timeout", timeout))
+
+
+def time_of(name: str, seconds: Optional[float], may_be_none: bool = True) -> float:
+    """A time of a session's, which is not below zero; None is for ever, where it may be that."""
+    if seconds is None and may_be_none:
+        return math.inf
+    number = number_of(name, seconds)
+    checked(number >= 0, f"{name} is not below zero: {seconds!r}")
+    return number
+
+
+def times_of(patience: Optional[float], answer: float, connect_timeout: Optional[float]) -> Tuple[float, float]:
+    """Two times of a session's: how long it awaits an answer, and its first welcome. The patience is one too, which may change
+    later."""
+    time_of("patience", patience)
+    checked(time_of("answer", answer, may_be_none=False) > 0, f"answer is above zero: {answer!r}")
+    return answer, time_of("connect_timeout", connect_timeout)
 
 
 def milliseconds(seconds: float) -> int:
     """A wait in whole milliseconds, rounded up; a time below zero is not waited for."""
-    checked(not math.isnan(seconds) and seconds * 1000 <= GREATEST_WAIT, f"a timeout is at most a day: {seconds!r}")
-    return max(0, math.ceil(seconds * 1000))
+    checked(seconds * 1000 <= GREATEST_WAIT, f"timeout is at most a day, or inf: {seconds!r}")
+    return math.ceil(seconds * 1000)
 
 
 def wait_of(wait: Union[Wait, float]) -> Union[str, int]:
-    """A wait, or one of so many seconds."""
-    return wait.value if isinstance(wait, Wait) else milliseconds(wait)
+    """A wait, or one of so many seconds, of which `inf` is for ever."""
+    if isinstance(wait, Wait):
+        return wait.value
+    seconds = seconds_of(wait)
+    return Wait.FOREVER.value if seconds == math.inf else milliseconds(seconds)
 
 
 # What is written as a member, by what is given for it.

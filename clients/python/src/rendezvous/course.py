@@ -5,14 +5,17 @@ can wait for that alike.
 """
 from __future__ import annotations
 
+import logging
 import random
 import time
-from typing import Callable, Generator, Optional, Protocol
+from typing import Callable, Generator, Optional, Protocol, Tuple
 
 from . import machine as m
 from .bodies import Members, NoAnswer, body_of, read_answer
-from .errors import Misused, NotRecorded
+from .calls import seconds_of, time_of
+from .errors import REFUSALS, Misused, NotRecorded
 from .leases import Name
+from .link import named
 from .record import Record, line_of
 from .replies import Outcome
 
@@ -22,6 +25,8 @@ CANCEL_BEHIND, TELL_BEHIND = 0.5, 1.0
 # Pauses before a next try, in seconds: any up to this bound, which doubles each time.
 LEAST_PAUSE, GREATEST_PAUSE = 0.01, 5.0
 FOREVER = float("inf")
+LOG = logging.getLogger("rendezvous")
+LOWER_EPOCH = "the server is of the lower epoch"
 
 # It yields the moment until which it waits, and is sent whether the connection is ready.
 Steps = Generator[float, bool, None]
@@ -60,7 +65,7 @@ class Job:
     def __init__(self, call: Optional[Members], own: Optional[float], patience: Optional[float], resumes: bool = False) -> None:
         self.call, self.resumes = call, resumes
         self.asked = call
-        self.patience = FOREVER if patience is None else patience
+        self.patience = time_of("patience", patience)
         self.cancel_at = self.tell_at = FOREVER
         self.limit(own)
         self.given_up = False
@@ -85,9 +90,8 @@ class Job:
 
     def limit(self, own: Optional[float]) -> None:
         """From now on it has so many seconds of its own, where it had not fewer."""
-        if own is not None:
-            ends = time.monotonic() + max(0.0, own)
-            self.cancel_at, self.tell_at = min(self.cancel_at, ends + CANCEL_BEHIND), min(self.tell_at, ends + TELL_BEHIND)
+        ends = time.monotonic() + seconds_of(own)
+        self.cancel_at, self.tell_at = min(self.cancel_at, ends + CANCEL_BEHIND), min(self.tell_at, ends + TELL_BEHIND)
 
     def give_up(self, at_most: float) -> None:
         """Its caller goes, and waits so many seconds for what is known."""
@@ -114,10 +118,15 @@ class Running:
 class Course:
     """What one session does. `machine` is replaced by one assignment a step, here alone. `last` is the outcome of the last
     request that was settled. `closing`: what is known is to be told, and nothing more is to be asked. `record`, where there is
-    one, has each reply before anybody is told it."""
+    one, has each reply before anybody is told it. `connect_timeout` is how long a call lasts before the session's first welcome."""
 
-    def __init__(self, name: Name, version: int, answer: float, record: Optional[Record]) -> None:
-        self.name, self.answer, self.record = name, answer, record
+    def __init__(self, address: Tuple[str, int], name: Name, version: int, answer: float, record: Optional[Record],
+                 connect_timeout: float) -> None:
+        self.address, self.name, self.answer, self.record = address, name, answer, record
+        self.connect_timeout = connect_timeout
+        self._welcomed = False
+        # what was logged, until something is heard that leads on
+        self._logged = ""
         self.machine = m.Machine(name.client, name.incarnation, version)
         self.last: Optional[Outcome] = None
         self.closing = False
@@ -180,8 +189,8 @@ class Course:
         """Looks at orders and times, and gives the request up, or tells what is known, where it is time to."""
         self._take_orders()
         now = time.monotonic()
-        if self.closing or now >= job.tell_at or now >= self._heard_at + job.patience:
-            job.fault = "the session was closed" if self.closing else job.fault or "no answer in time"
+        if self.closing or now >= job.tell_at or now >= self._silent_until(job):
+            job.fault = "the session was closed" if self.closing else job.fault or f"{named(self.address)}: no answer in time"
             return self._step(m.Expire())
         if (job.given_up or now >= job.cancel_at) and not self.machine.giving_up:
             told = self._step(m.GiveUp())
@@ -196,7 +205,7 @@ class Course:
         try:
             return (yield from self._linked(job))
         except (OSError, NoAnswer) as fault:
-            job.fault = str(fault.args[1] if isinstance(fault, OSError) and len(fault.args) > 1 else fault)
+            self._note(job, str(fault.args[1] if isinstance(fault, OSError) and len(fault.args) > 1 else fault))
             self._failed()
             return None
 
@@ -248,20 +257,29 @@ class Course:
 
     def _hear(self, job: Job, body: bytes) -> Optional[m.Told]:
         """Takes in an answer."""
-        made = m.step(self.machine, m.Hear(read_answer(body)))
+        answer = read_answer(body)
+        made = m.step(self.machine, m.Hear(answer))
         if isinstance(made.tell, m.Settled):
             job.unrecorded = self._recorded(made.tell.outcome, body)
             self.last = made.tell.outcome
         if made.send is not None:
             self._heard_at, self._bound = time.monotonic(), LEAST_PAUSE
+            self._welcome()
             self._send(made, self._heard_at)
             return made.tell
         self.machine = made.machine
+        if made.tell is None:
+            self._note(job, unfit(self.machine, answer))
+            self._pause()
+        elif not made.drop:
+            self._welcome()
         if made.drop:
             self._hang_up()
-        if made.tell is None:
-            self._pause()
         return made.tell
+
+    def _welcome(self) -> None:
+        """The server is there: what is logged of it from now on is something new."""
+        self._welcomed, self._logged = True, ""
 
     def _recorded(self, outcome: Outcome, told: bytes) -> Optional[NotRecorded]:
         """Writes the reply to the request into the record, if there is one; the exception where it can't be written."""
@@ -304,4 +322,27 @@ class Course:
     def _until(self, job: Job, moment: float) -> float:
         """The next moment at which something is to be done for a job."""
         cancels = FOREVER if self.machine.giving_up else job.cancel_at
-        return min(moment, job.tell_at, cancels, self._heard_at + job.patience)
+        return min(moment, job.tell_at, cancels, self._silent_until(job))
+
+    def _silent_until(self, job: Job) -> float:
+        """When a job ends of which nothing more is heard."""
+        return self._heard_at + (job.patience if self._welcomed else min(job.patience, self.connect_timeout))
+
+    def _note(self, job: Job, fault: str) -> None:
+        """What failed last is told where the job ends by it, with the address. That no connection can be made, or that the server is
+        of a lower epoch, is logged at once, unless that was the last that was."""
+        where = f"{named(self.address)}: "
+        job.fault = fault if fault.startswith(where) else where + fault
+        lasts = self._link is None or not self._link.connected or fault.startswith(LOWER_EPOCH)
+        if lasts and job.fault != self._logged:
+            self._logged = job.fault
+            LOG.warning("%s", job.fault)
+
+
+def unfit(machine: m.Machine, answer: Members) -> str:
+    """What an answer is that leads nowhere."""
+    if answer["kind"] != "refused":
+        return "an answer came that this request has not"
+    if answer["code"] == 2 and machine.key is not None and answer["current"] < machine.key.epoch:
+        return f"{LOWER_EPOCH} {answer['current']}, and the session of {machine.key.epoch}"
+    return f"refused {answer['code']}, {REFUSALS[answer['code']]}"

@@ -54,9 +54,10 @@ class Job(course.Job):
 class Driver(Course):
     """The thread of one session. The session's name is given back once nothing is done in that name any more."""
 
-    def __init__(self, address: Tuple[str, int], name: Name, version: int, answer: float, record: Optional[Record]) -> None:
-        super().__init__(name, version, answer, record)
-        self.address, self.gone = address, False
+    def __init__(self, address: Tuple[str, int], name: Name, version: int, answer: float, record: Optional[Record],
+                 connect_timeout: float) -> None:
+        super().__init__(address, name, version, answer, record, connect_timeout)
+        self.gone = False
         self._process = os.getpid()
         self.ended = threading.Lock()
         self.ended.acquire()

@@ -3,6 +3,7 @@ from __future__ import annotations
 
 import errno
 import os
+import re
 import socket
 import struct
 from typing import Any, List, Optional, Tuple, Union
@@ -13,16 +14,27 @@ Address = Union[str, Tuple[str, int]]
 # What a connect that is under way answers.
 UNDER_WAY = (errno.EINPROGRESS, errno.EWOULDBLOCK, errno.EALREADY, errno.EINTR)
 AT_ONCE = 65_536
+# A host, in brackets or not, and a port, as an address is written; and what no host has.
+WRITTEN = re.compile(r"(?:\[([^\[\]]+)\]|([^\[\]]+)):([0-9]{1,5})")
+NO_HOST = re.compile(r"[\s\0/@]")
 
 
 def address_of(address: Address) -> Tuple[str, int]:
     """The host and port of an address, which may be a text `host:port`."""
     if isinstance(address, str):
-        host, colon, port = address.rpartition(":")
-        if not colon or not port.isdigit() or not 0 < int(port) < 65_536:
-            raise ValueError(f"an address is host:port: {address!r}")
-        return host.strip("[]"), int(port)
-    return address
+        written = WRITTEN.fullmatch(address)
+        host, port = (written[1] or written[2], int(written[3])) if written else ("", 0)
+    elif isinstance(address, (tuple, list)):
+        if len(address) != 2:
+            raise ValueError(f"an address is a pair of a host and a port: {address!r}")
+        host, port = address
+        if not isinstance(host, str) or type(port) is not int:
+            raise TypeError(f"an address is a pair of a text and a whole number: {address!r}")
+    else:
+        raise TypeError(f"an address is a text host:port, or a pair of both: {address!r}")
+    if not host or NO_HOST.search(host) or not 0 < port < 65_536:
+        raise ValueError(f"an address is host:port, with a port from 1 to 65535: {address!r:.100}")
+    return host, port
 
 
 def named(address: Tuple[str, int]) -> str:

@@ -9,7 +9,7 @@ from typing import Callable, Iterator, List, NoReturn, Optional, Tuple, Type, ca
 
 from . import errors
 from .bodies import GREATEST_VERSION, Members, is_whole
-from .calls import Wait, checked, made
+from .calls import Wait, checked, made, times_of
 from .course import Running
 from .driver import Driver, Job
 from .endings import (
@@ -18,6 +18,7 @@ from .leases import Name, name_of
 from .link import Address, address_of
 from .record import Path, Record, record_of
 from .replies import Cancelled, Counted, Outcome, Receipt
+from .shown import shown
 from .unclaimed import Shelf, Unclaimed
 
 # How many seconds an interrupt leaves for the cancel of its call.
@@ -35,25 +36,31 @@ class Session:
 
     `version` is what the session speaks: in version 2 a receipt names the consumer, in version 1, which
     each server knows, it does not. `patience` is for how many seconds a call goes on while nothing at all is
-    heard; None is for ever. `answer` is for how many seconds it waits for one answer before it throws the
-    connection away.
+    heard; None is for ever. Before the session's first welcome it goes on for `connect_timeout` seconds at most, so that a wrong
+    address is told soon; None is as long as the patience. `answer` is for how many seconds it waits for one answer before it throws
+    the connection away.
 
-    A call with a time of its own ends within that and a second, also where the server is silent or away.
+    A call with a time of its own ends within that and a second, also where the server is silent or away. `inf` is for ever.
+
+    While no connection can be made, or the server is of a lower epoch, calls go on: the logger `rendezvous` has a warning the first
+    time, and when the reason changes. The exception that ends the call names the address and the reason.
 
     `record` is a file that gets a line for each reply, with the request, before anybody is told the reply; it is opened for each,
     and made where there is none. Left out, it is what the environment says in RV_RECORD; an empty one is no record. A line is
     appended by one write, so any number of sessions and processes may share a local file. It is handed to the system, which
-    keeps it whatever becomes of the process, and is not forced to the disk. `NotRecorded` where it can't be written.
+    keeps it whatever becomes of the process, and is not forced to the disk. An OSError, before anything is leased or asked, where it
+    can't be written; `NotRecorded` where it can't be later.
     """
 
     def __init__(self, address: Address, client: Optional[int] = None, incarnation: Optional[int] = None, *,
                  clients: Optional[range] = None, version: int = GREATEST_VERSION, patience: Optional[float] = 60.0,
-                 answer: float = 30.0, record: Optional[Path] = None) -> None:
+                 answer: float = 30.0, record: Optional[Path] = None, connect_timeout: Optional[float] = 5.0) -> None:
+        self.address, self.patience = address_of(address), patience
+        times = times_of(patience, answer, connect_timeout)
         checked(is_whole(version, 1, GREATEST_VERSION), f"the version is 1 to {GREATEST_VERSION}: {version!r}")
         kept = record_of(record)
-        self.address, self.patience = address_of(address), patience
         self._process = os.getpid()
-        self._driver = driver_of(self.address, name_of(client, incarnation, clients), version, answer, kept)
+        self._driver = driver_of(self.address, name_of(client, incarnation, clients), version, times, kept)
         # The job that runs, or that its caller left: setdefault and pop are single steps.
         self._jobs: "dict[str, Job]" = {}
         # what was not recorded, and a handler's exception hid
@@ -61,6 +68,11 @@ class Session:
         self._shelf = Shelf()
         self._loop: "Callable[[], Optional[Items]]" = no_loop
         self._closes = weakref.finalize(self, self._driver.close)
+
+    def __repr__(self) -> str:
+        """Its address, client and epoch, and what runs; any thread may ask, at any time."""
+        driver = vars(self).get("_driver")
+        return shown("Session", driver, driver is not None and driver.closing, vars(self).get("_jobs", {}).get("job"))
 
     def __enter__(self) -> "Session":
         try:
@@ -326,10 +338,10 @@ def no_loop() -> Optional[Items]:
     return None
 
 
-def driver_of(address: Tuple[str, int], name: Name, version: int, answer: float, record: Optional[Record]) -> Driver:
-    """The driver of a new session, which gives its name back at its end."""
+def driver_of(address: Tuple[str, int], name: Name, version: int, times: Tuple[float, float], record: Optional[Record]) -> Driver:
+    """The driver of a new session, which gives its name back at its end. `times`: how long an answer is awaited, and a welcome."""
     try:
-        return Driver(address, name, version, answer, record)
+        return Driver(address, name, version, times[0], record, times[1])
     except BaseException:
         name.close()
         raise

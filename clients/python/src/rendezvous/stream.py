@@ -94,9 +94,9 @@ class Connection(asyncio.Protocol):
 class StreamCourse(Course):
     """A course that waits in an event loop."""
 
-    def __init__(self, address: Tuple[str, int], name: Name, version: int, answer: float, record: Optional[Record]) -> None:
-        super().__init__(name, version, answer, record)
-        self.address = address
+    def __init__(self, address: Tuple[str, int], name: Name, version: int, answer: float, record: Optional[Record],
+                 connect_timeout: float) -> None:
+        super().__init__(address, name, version, answer, record, connect_timeout)
         self._ordered = False
         self._waker: "Optional[asyncio.Future[None]]" = None
 
