@@ -16,7 +16,7 @@ import threading
 import time
 
 from scripted import (
-    BY, HANG_UP, SILENCE, Scripted, old_server, received_by, refused, reply, waiting, welcome)
+    BY, HANG_UP, SILENCE, Scripted, body_from, bytes_of, old_server, received_by, refused, reply, waiting, welcome)
 from tests import ROOT
 from tests.sockets.wire import Wrong, demand, frame, until
 
@@ -444,6 +444,103 @@ def nobody_listens(java):
     java.expect("poll 1000", "threw NotAsked null")
 
 
+@in_time
+def a_first_hello(java):
+    """A call before the first welcome ends within the time for that, long before its patience, and names the server and the
+    reason; the log has it once, however often it was tried."""
+    java.expect("connects 700", "result a time")
+    java.tell("logged")
+    java.expect(f"open 1 1 {LONG}", "result open")
+    for logged in ("WARNING 127.0.0.1:1: connection refused", ""):
+        began = time.monotonic()
+        java.expect("put a", "threw NotAsked null")
+        demand(time.monotonic() - began < LONG / 2_000, "it ended by its patience")
+        java.expect("words", "result nothing was sent: 127.0.0.1:1: connection refused")
+        java.expect("logged", f"result [{logged}]")
+    for deed in (SILENCE, b"SSH-2.0-OpenSSH_9.2\r\n"):
+        with Scripted() as server:
+            server.otherwise = deed
+            java.expect(f"open {server.port} 1 {LONG}", "result open")
+            java.expect("take", "threw NotAsked null")
+            told = java.tell("words")
+            demand(told.startswith(f"result nothing was sent: {server.address}: "), f"it says {told}")
+
+
+def behind_the_welcome(java):
+    """There the time for that counts no more; before it, none that is longer."""
+    with opened(java, reply("done"), waiting, reply("item", item="a")):
+        java.expect("put a", "result done")
+        java.expect("kept", "result a session")
+        java.expect("connects-no-more", "result a time")
+        java.expect("take", "result a")
+    with opened(java) as server:
+        java.expect("kept", "result a session")
+        java.expect("connects-no-more", "result a time")
+        java.expect("take", "threw NotAsked null")
+        demand(not server.heard, f"{asked(server)}")
+
+
+def a_server_that_starts_meanwhile(java):
+    """It is asked: a call goes on while the connection is refused."""
+    with socket.socket() as holder:
+        holder.bind(("127.0.0.1", 0))
+        port = holder.getsockname()[1]
+        java.expect(f"open {port} 1 {LONG}", "result open")
+        java.expect("take-async", "result begun")
+        until("a refused connection", lambda: f"127.0.0.1:{port}: connection refused" in java.tell("logged"))
+        holder.listen()
+        with contextlib.closing(holder.accept()[0]) as connection:
+            for deed in (welcome, reply("item", item="a")):
+                connection.sendall(bytes_of(deed(json.loads(body_from(connection)))))
+            java.expect("join-async", "result a")
+
+
+@in_time
+def a_lower_epoch(java):
+    """A server whose epoch is below the session's is named at once in the log, and in the exception; the session goes on."""
+    java.tell("logged")
+    with opened(java, patience=SHORT, hello=lambda one: welcome(one, 9)) as server:
+        server.otherwise = refused(2, current=5)
+        java.expect("put a", "threw Unsettled 9/1/1/1")
+        words = f"{server.address}: the server is of the lower epoch 5, and the session of 9"
+        told = java.tell("words")
+        demand(words in told, f"it says {told}")
+        java.expect("logged", f"result [WARNING {words}]")
+        server.otherwise = reply("done")
+        java.expect("again", "result Done[key=9/1/1/1]")
+        server.deeds = [refused(2, current=5), reply("done")]
+        java.expect("put a", "result done")
+        java.expect("logged", f"result [WARNING {words}]")
+
+
+@in_time
+def shown(java):
+    """What a session, its clients and a queue are shown as, whatever they do."""
+    with opened(java, patience=SHORT, hello=lambda one: welcome(one, 9)) as server:
+        begins = f"result RvSession[{server.address} client 1"
+        java.expect("kept", "result a session")
+        java.expect("shown", f"{begins} before its welcome]")
+        server.otherwise = reply("done")
+        java.expect("put a", "result done")
+        java.expect("shown", f"{begins} epoch 9 idle]")
+        clients = f"RvClients[{server.address}, 1 sessions, 0 running, 0 unsettled]"
+        names = [f"RvTransferQueue 3 of {clients}", f"RvExchanger 5 of {clients}", f"RvConsumer of RvTransferQueue 3 of {clients}"]
+        java.expect("shown all", f"result {', '.join(names)}")
+        server.otherwise = SILENCE
+        java.expect("take-async", "result begun")
+        until("a take", lambda: len(server.heard) > 2)
+        java.expect("shown", f"{begins} epoch 9 running take(3)]")
+        java.expect("join-async", "threw Unsettled 9/1/1/2")
+        java.expect("shown", f"{begins} epoch 9 unsettled take(3)]")
+        server.otherwise = refused(3)
+        java.expect("again kept", "threw EpochEnded 9/1/1/2 9")
+        java.expect("shown", f"{begins} ended]")
+        java.expect("close", "result closed")
+        java.expect("shown", f"{begins} closed]")
+        told = ", ".join(names).replace("1 sessions, 0 running, 0 unsettled", "0 sessions, 0 running, 0 unsettled, closed")
+        java.expect("shown all", f"result {told}")
+
+
 def interrupting(path, deed):
     """A deed: the driver's thread is interrupted while it waits for the answer, and then it is met so."""
     def meets(one):
@@ -561,5 +658,6 @@ def whatever_is_let_in(_java):
 CASES = [each_call, receipts, an_unsettled_receipt, what_is_no_receipt, versions, other_versions, drains_by_steps,
          a_drain_is_asked_under_one_key, a_step_that_fails, a_step_without_room, an_unsettled_step,
          what_is_not_taken_in, repeats_until_it_is_told, an_unsettled_request, an_unsettled_request_that_is_given_up,
-         no_room, a_copy_under_way, no_room_for_a_client, a_closed_connection_is_made_anew, nobody_listens, interrupts,
+         no_room, a_copy_under_way, no_room_for_a_client, a_closed_connection_is_made_anew, nobody_listens,
+         a_first_hello, behind_the_welcome, a_server_that_starts_meanwhile, a_lower_epoch, shown, interrupts,
          a_timeout_is_kept, a_wait_is_no_silence, refusals, refused_hellos, what_is_left_out, whatever_is_let_in]

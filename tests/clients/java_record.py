@@ -89,14 +89,38 @@ def where_it_can_not_be_written(_program):
     """What is thrown has the reply, whatever it is, and the system's word; the session goes on."""
     with tempfile.TemporaryDirectory(prefix="rv-record-") as folder:
         ways = {folder: errno.EISDIR, f"{folder}/none/record": None, **({FULL: errno.ENOSPC} if os.path.exists(FULL) else {})}
-        for path, number in ways.items():
+        for target, number in ways.items():
+            path = pathlib.Path(folder, "record")
+            path.unlink(missing_ok=True)
             with recording(path) as (driver, _), opened(driver, reply("done"), reply("item", item="a")):
+                path.symlink_to(target)
                 driver.expect("put a", "threw NotRecorded 1/1/1/1 Done[key=1/1/1/1]")
                 said = driver.tell("words")
-                demand(path in said and (number is None or os.strerror(number) in said), f"it says {said}")
+                demand(str(path) in said and (number is None or os.strerror(number) in said), f"it says {said}")
                 driver.expect("last", "result Optional[Done[key=1/1/1/1]]")
                 driver.expect("take", "threw NotRecorded 1/1/1/2 Item[key=1/1/1/2, item=a]")
                 driver.expect("unclaimed", "result []")
+
+
+def found_before_anything(_program):
+    """A record that can't be written is told where clients are made, by its name: nothing is asked, and nothing stays behind."""
+    with tempfile.TemporaryDirectory(prefix="rv-record-") as name, java.driver(**NOWHERE) as driver, Scripted() as server:
+        folder = pathlib.Path(name)
+        file, pipe, dangling = folder / "file", folder / "pipe", folder / "dangling"
+        file.write_bytes(b"before\n")
+        os.mkfifo(pipe, 0o600)
+        dangling.symlink_to(folder / "none" / "record")
+        before = sorted(folder.iterdir())
+        for path in (folder, folder / "none" / "record", file / "record", folder / ("x" * 300), dangling):
+            driver.expect(f"record {path}", "result chosen")
+            driver.expect(f"open {server.port} 1 1000", "threw UncheckedIOException")
+            said = driver.tell("words")
+            demand(f"no record can be kept in {path}: " in said, f"it says {said}")
+        for path in (file, pipe, folder / "new"):
+            driver.expect(f"record {path}", "result chosen")
+            driver.expect(f"open {server.port} 1 1000", "result open")
+        demand(sorted(folder.iterdir()) == before and file.read_bytes() == b"before\n", f"{sorted(folder.iterdir())} is there")
+        demand(not server.heard, f"{server.heard} was asked")
 
 
 def it_goes_on(_program):
@@ -183,5 +207,6 @@ def beside_another_language(_program):
     demand(len(lines) == 2 * SHARED and keys == wanted, f"{len(lines)} lines of {len(keys)} keys")
 
 
-CASES = [each_reply, byte_by_byte, what_is_no_reply, where_it_can_not_be_written, it_goes_on, an_interrupt, futures,
+CASES = [each_reply, byte_by_byte, what_is_no_reply, where_it_can_not_be_written, found_before_anything,
+         it_goes_on, an_interrupt, futures,
          the_environment, beside_another_language]

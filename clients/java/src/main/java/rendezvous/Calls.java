@@ -106,6 +106,7 @@ final class Calls {
      * asked as a wait for ever, which the call's own time ends.
      */
     static Job waiting(JsonObject call, long time, TimeUnit unit) {
+        Objects.requireNonNull(unit, "a time has a unit");
         long millis = unit.toMillis(Math.max(0, time));
         boolean rest = millis < Long.MAX_VALUE && time > unit.convert(millis, TimeUnit.MILLISECONDS);
         long wait = rest ? millis + 1 : millis;
@@ -128,6 +129,20 @@ final class Calls {
     static boolean isTimed(JsonObject call) {
         JsonElement wait = call.get("wait");
         return wait != null && wait.isJsonPrimitive() && wait.getAsJsonPrimitive().isNumber();
+    }
+
+    /** A call in short: its method and its place. */
+    static String shown(JsonObject call) {
+        boolean waits = call.has("wait") && waits(call) && !isTimed(call);
+        String word = Bodies.word(call, "call");
+        String method = switch (word) {
+            case "take" -> waits ? "take" : "poll";
+            case "transfer" -> waits ? "transfer" : "tryTransfer";
+            case "drain" -> "drainTo";
+            case "swap" -> "exchange";
+            default -> word;
+        };
+        return method + "(" + call.get(call.has("queue") ? "queue" : "exchanger") + ")";
     }
 
     /** Whether a call waits at all. */

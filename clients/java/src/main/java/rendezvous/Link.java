@@ -13,7 +13,16 @@ interface Link extends AutoCloseable {
         private static final long serialVersionUID = 1;
     }
 
-    /** What makes links, none of which is connected yet. */
+    /** No connection could be made: what says why names the server. */
+    final class NotConnected extends IOException {
+        private static final long serialVersionUID = 1;
+
+        NotConnected(String words, IOException cause) {
+            super(words, cause);
+        }
+    }
+
+    /** What makes links, none of which is connected yet. As a text it is the server's name. */
     interface Maker {
         /** A new link. Whoever waits there is woken where {@code isWoken} says so. */
         Link make(BooleanSupplier isWoken) throws IOException;

@@ -1,9 +1,10 @@
 package rendezvous;
 
+import java.io.Serializable;
 import java.util.List;
 
 /** What settled a request: one record for each kind of reply, with the key of the request that it is of. */
-public sealed interface Outcome permits Receipt, Outcome.Done, Outcome.Nobody, Outcome.Item, Outcome.Empty,
+public sealed interface Outcome extends Serializable permits Receipt, Outcome.Done, Outcome.Nobody, Outcome.Item, Outcome.Empty,
         Outcome.Swapped, Outcome.TimedOut, Outcome.Cancelled, Outcome.Counted, Outcome.Peeked, Outcome.Drained {
     /** The key of the request that was settled so. */
     Key key();

@@ -76,6 +76,19 @@ final class Pool {
         this.idle = idle;
     }
 
+    /** How many sessions there are, run and are unsettled. */
+    @Override
+    public String toString() {
+        lock.lock();
+        try {
+            long running = seats.stream().filter(Seat::isRunning).count();
+            long unsettled = seats.stream().filter(seat -> seat.session.isUnsettled()).count();
+            return seats.size() + " sessions, " + running + " running, " + unsettled + " unsettled" + (closed ? ", closed" : "");
+        } finally {
+            lock.unlock();
+        }
+    }
+
     /** The session that the next call of the thread that asks borrows, if no other thread does before. */
     RvSession session() {
         lock.lock();

@@ -1,5 +1,6 @@
 package rendezvous;
 
+import java.io.Serializable;
 import java.util.Optional;
 
 /**
@@ -8,4 +9,15 @@ import java.util.Optional;
  * @param key the key of the transfer
  * @param by the key of the consumer's request; a session of version 1 is not told it
  */
-public record Receipt(Key key, Optional<Key> by) implements Outcome {}
+public record Receipt(Key key, Optional<Key> by) implements Outcome {
+    /** What is serialized for a receipt: its second key is null where there is none. */
+    private record Form(Key key, Key by) implements Serializable {
+        private Object readResolve() {
+            return new Receipt(key, Optional.ofNullable(by));
+        }
+    }
+
+    private Object writeReplace() {
+        return new Form(key, by.orElse(null));
+    }
+}

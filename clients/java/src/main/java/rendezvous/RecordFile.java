@@ -2,11 +2,15 @@ package rendezvous;
 
 import java.io.IOException;
 import java.io.OutputStream;
+import java.io.UncheckedIOException;
 import java.nio.ByteBuffer;
 import java.nio.charset.StandardCharsets;
+import java.nio.file.AccessDeniedException;
 import java.nio.file.Files;
+import java.nio.file.NoSuchFileException;
 import java.nio.file.Path;
 import java.nio.file.StandardOpenOption;
+import java.nio.file.attribute.BasicFileAttributes;
 import java.util.Map;
 import java.util.Optional;
 
@@ -14,6 +18,8 @@ import java.util.Optional;
 final class RecordFile {
     /** The variable that names the file. */
     static final String VARIABLE = "RV_RECORD";
+    /** How many bytes are tried where a file can be made. */
+    private static final int ROOM = 4_096;
     private static final byte[] ASKED = "{\"asked\":".getBytes(StandardCharsets.UTF_8);
     private static final byte[] TOLD = ",\"told\":".getBytes(StandardCharsets.UTF_8);
     private static final byte[] END = "}\n".getBytes(StandardCharsets.UTF_8);
@@ -43,6 +49,46 @@ final class RecordFile {
     @Override
     public String toString() {
         return file.toString();
+    }
+
+    /**
+     * Finds what is in the way of a line, as far as nothing has to be written for that, and leaves what there is as it is: there
+     * need be no file, but one can be made.
+     *
+     * @throws UncheckedIOException that names the file, where no line can be written
+     */
+    void check() {
+        try {
+            if (!isThere()) {
+                tryBeside(Files.isSymbolicLink(file) ? file.resolveSibling(Files.readSymbolicLink(file)) : file);
+            } else if (Files.isRegularFile(file) || Files.isDirectory(file)) {
+                Files.newOutputStream(file, StandardOpenOption.APPEND, StandardOpenOption.WRITE).close();
+            } else if (!Files.isWritable(file)) {
+                throw new AccessDeniedException(file.toString());
+            }
+        } catch (IOException fault) {
+            throw new UncheckedIOException("no record can be kept in " + file + ": " + fault, fault);
+        }
+    }
+
+    /** Whether there is a file; what hides that is thrown. */
+    private boolean isThere() throws IOException {
+        try {
+            Files.readAttributes(file, BasicFileAttributes.class);
+            return true;
+        } catch (NoSuchFileException none) {
+            return false;
+        }
+    }
+
+    /** Makes another file where this one would be, writes a line's length to it, and takes it away. */
+    private static void tryBeside(Path path) throws IOException {
+        Path other = Files.createTempFile(path.toAbsolutePath().getParent(), ".rv-record-", null);
+        try {
+            Files.write(other, new byte[ROOM]);
+        } finally {
+            Files.delete(other);
+        }
     }
 
     /** Appends a line by one write. The file is opened for it, and made where there is none. */

@@ -15,10 +15,10 @@ final class Running {
 
     private final long began = System.nanoTime();
     private final boolean interruptible;
-    private final long patience;
     private final long grace;
     private final Abort abort;
     private final long givesUp;
+    private long patience;
     private long expires;
     private long heard;
     private long pause = LEAST_PAUSE;
@@ -26,7 +26,7 @@ final class Running {
     private boolean aborted;
     private boolean due;
     private Order order = Order.NOBODY;
-    private String fault = "nothing was heard";
+    private String fault = "nothing was heard in time";
 
     /**
      * A call that begins now, with its own time and a patience, each {@link Calls#FOR_EVER} where it has none. Behind its
@@ -118,8 +118,9 @@ final class Running {
         return Math.min(most, next == Calls.FOR_EVER ? next : Math.max(0, next - now()));
     }
 
-    /** Something was heard that leads on. */
-    void heard() {
+    /** Something was heard that leads on; from now on this is the call's patience. */
+    void heard(long nanos) {
+        patience = nanos;
         heard = now();
         pause = LEAST_PAUSE;
     }

@@ -34,20 +34,25 @@ import java.util.function.LongFunction;
  * from which range. Hosts don't see each other's leases: those that share a server need ranges that have no number in common.
  */
 public final class RvClients implements AutoCloseable {
+    /** The version of this package, which is that of the client in Python too. */
+    public static final String VERSION = "3.3.0";
+
+    private final Link.Maker links;
     private final Pool pool;
     private final ThreadLocal<Outcome> last = new ThreadLocal<>();
     private final Executor chosen;
     private ExecutorService own;
     private boolean closed;
 
-    private RvClients(Pool pool, Executor chosen) {
+    private RvClients(Link.Maker links, Pool pool, Executor chosen) {
+        this.links = links;
         this.pool = pool;
         this.chosen = chosen;
     }
 
     /** So many clients from the first one on, whose sessions are made so, for tests. */
     RvClients(long first, int most, LongFunction<RvSession> maker) {
-        this(new Pool(new Numbers.Given(new ClientRange(first, first + most - 1), 1),
+        this(null, new Pool(new Numbers.Given(new ClientRange(first, first + most - 1), 1),
             (client, incarnation) -> maker.apply(client), RvSession.PATIENCE.toNanos(), Pool.IDLE), null);
         maker.apply(first);
     }
@@ -70,6 +75,7 @@ public final class RvClients implements AutoCloseable {
         private boolean leased = true;
         private OptionalLong incarnation = OptionalLong.empty();
         private Duration patience = RvSession.PATIENCE;
+        private long connectTime = RvSession.nanos("connectTimeout", RvSession.CONNECT);
         private int version = RvSession.VERSION;
         private Executor executor;
         private Path folder;
@@ -127,6 +133,17 @@ public final class RvClients implements AutoCloseable {
             return this;
         }
 
+        /**
+         * For how long a call goes on before the first welcome of its session, so that a wrong address is told soon; five seconds
+         * unless it is chosen here, and never longer than the patience. {@code ChronoUnit.FOREVER.getDuration()} is as long as
+         * that. While no connection can be made, calls are tried again: the logger {@code rendezvous} has a warning the first
+         * time, and when the reason changes, and the exception that ends the call names the server and the reason.
+         */
+        public Builder connectTimeout(Duration time) {
+            connectTime = RvSession.nanos("connectTimeout", Objects.requireNonNull(time, "a connectTimeout is a time"));
+            return this;
+        }
+
         /** What the sessions speak: 2, as long as nothing is chosen; 1 for a server that knows no other. */
         public Builder version(int number) {
             version = number;
@@ -139,7 +156,7 @@ public final class RvClients implements AutoCloseable {
          * {@code Executors.newVirtualThreadPerTaskExecutor()} is one that fits.
          */
         public Builder executor(Executor runs) {
-            executor = Objects.requireNonNull(runs);
+            executor = Objects.requireNonNull(runs, "an executor runs calls");
             return this;
         }
 
@@ -147,7 +164,8 @@ public final class RvClients implements AutoCloseable {
          * A file that gets a line for each reply, with the request, before any call gives or throws what it tells. It is opened
          * for each line, and made where there is none. A line is appended by one write, so any number of sessions, threads and
          * processes may share a local file. It is handed to the system, which keeps it whatever becomes of the process, and is
-         * not forced to the disk. A reply that cannot be written is {@link RvException.NotRecorded}. Unless it is chosen here,
+         * not forced to the disk. {@link #build} throws where it cannot be written, as far as that shows without a line; a reply
+         * that cannot be written later is {@link RvException.NotRecorded}. Unless it is chosen here,
          * the environment variable {@code RV_RECORD} names the file, and where that is empty or missing there is no record.
          */
         public Builder record(Path file) {
@@ -184,30 +202,34 @@ public final class RvClients implements AutoCloseable {
         /**
          * The clients. Nothing is leased and nothing is sent before the first call.
          *
-         * @throws IllegalArgumentException if the port, the version, the patience, {@code RV_CLIENTS} or {@code RV_RECORD} is
-         *     none
+         * @throws IllegalArgumentException if the host, the port, the version, the patience, {@code RV_CLIENTS} or
+         *     {@code RV_RECORD} is none
          * @throws IllegalStateException if the folder of leases is not this user's alone; or numbers are not leased, and
          *     none are chosen
-         * @throws java.io.UncheckedIOException if the folder of leases cannot be made
+         * @throws java.io.UncheckedIOException if the record cannot be written, or the folder of leases cannot be made
          */
         public RvClients build() {
+            Link.Maker links = new SocketLink.To(host, port);
+            Pool.Maker maker = maker(links);
             Numbers numbers = numbers();
-            Pool.Maker maker = maker();
             // one is made for what it does not allow
             maker.make(numbers.first(), 1);
-            return new RvClients(new Pool(numbers, maker, RvSession.nanos(patience), idle), executor);
+            return new RvClients(links, new Pool(numbers, maker, RvSession.nanos("patience", patience), idle), executor);
         }
 
         /** What makes sessions as they are chosen by now, whatever is chosen later. */
-        private Pool.Maker maker() {
+        private Pool.Maker maker(Link.Maker links) {
             Duration time = patience;
             int spoken = version;
             long nanos = grace;
+            long connects = connectTime;
             Optional<RecordFile> kept = recordIsChosen ? Optional.ofNullable(record).map(RecordFile::new)
                 : RecordFile.of(System.getenv());
+            kept.ifPresent(RecordFile::check);
             return (client, each) -> {
-                RvSession session = new RvSession(host, port, client, each, time, RvSession.ANSWER, spoken);
+                RvSession session = new RvSession(links, client, each, time, RvSession.ANSWER, spoken);
                 session.grace(nanos);
+                session.connectTime(connects);
                 session.record(kept);
                 return session;
             };
@@ -277,6 +299,12 @@ public final class RvClients implements AutoCloseable {
             last.set(seat.session().last().orElse(null));
             pool.giveBack(seat);
         }
+    }
+
+    /** The server, and how many sessions there are, run and are unsettled. */
+    @Override
+    public String toString() {
+        return "RvClients[" + (links == null ? "" : links + ", ") + pool + "]";
     }
 
     /** What runs the calls of futures. */

@@ -37,7 +37,7 @@ public final class RvConsumer implements AutoCloseable {
      * given to it. The consumer goes on where it is asked again.
      */
     public void forEach(Consumer<? super String> action) {
-        Objects.requireNonNull(action);
+        Objects.requireNonNull(action, "an action does something with an item");
         Abort abort = new Abort();
         takes.add(abort);
         try {
@@ -50,6 +50,12 @@ public final class RvConsumer implements AutoCloseable {
         } finally {
             takes.remove(abort);
         }
+    }
+
+    /** Its queue, and whether it is closed, which asks the server nothing. */
+    @Override
+    public String toString() {
+        return "RvConsumer of " + queue + (closed ? ", closed" : "");
     }
 
     private Optional<String> next(Abort abort) {

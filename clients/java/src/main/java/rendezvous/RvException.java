@@ -61,8 +61,8 @@ public abstract sealed class RvException extends RuntimeException {
      * recorded, as if nothing had been.
      */
     public static final class NotRecorded extends RvException {
-        private static final long serialVersionUID = 2;
-        private final transient Outcome outcome;
+        private static final long serialVersionUID = 3;
+        private final Outcome outcome;
         private final String line;
 
         NotRecorded(Outcome outcome, byte[] line, RecordFile file, Exception cause) {
@@ -72,7 +72,7 @@ public abstract sealed class RvException extends RuntimeException {
             initCause(cause);
         }
 
-        /** The reply; null in a copy that was serialized. */
+        /** The reply. */
         public Outcome outcome() {
             return outcome;
         }

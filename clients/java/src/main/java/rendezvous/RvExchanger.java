@@ -20,8 +20,14 @@ public final class RvExchanger {
 
     /** Exchanger 0 to 63 of a server, for the threads of these clients. */
     public RvExchanger(RvClients clients, int exchanger) {
-        this.clients = Objects.requireNonNull(clients);
+        this.clients = Objects.requireNonNull(clients, "an exchanger is asked by clients");
         this.exchanger = Calls.place(exchanger);
+    }
+
+    /** Its name and its clients, which asks the server nothing. */
+    @Override
+    public String toString() {
+        return "RvExchanger " + exchanger + " of " + clients;
     }
 
     private JsonObject swap(String item) {

@@ -3,7 +3,6 @@ package rendezvous;
 import com.google.gson.JsonObject;
 import java.io.IOException;
 import java.time.Duration;
-import java.util.Objects;
 import java.util.Optional;
 import java.util.concurrent.CancellationException;
 import java.util.concurrent.atomic.AtomicReference;
@@ -25,6 +24,9 @@ public final class RvSession implements AutoCloseable {
     static final Duration PATIENCE = Duration.ofSeconds(60);
     /** For how long one answer is awaited, where nothing else is chosen. */
     static final Duration ANSWER = Duration.ofSeconds(30);
+    /** For how long a call goes on before the first welcome, where nothing else is chosen. */
+    static final Duration CONNECT = Duration.ofSeconds(5);
+    private static final System.Logger LOG = System.getLogger("rendezvous");
 
     private final Link.Maker links;
     private final long patience;
@@ -37,11 +39,15 @@ public final class RvSession implements AutoCloseable {
     private volatile boolean closed;
     private volatile Runnable whenLeft = () -> { };
     private volatile long grace = Running.GRACE;
+    private volatile long connectTime = Calls.FOR_EVER;
     private volatile Optional<RecordFile> record = Optional.empty();
     /** The request that was said last, or was to be said when its cancel was, and the body of what was heard last. */
     private JsonObject asked;
     private byte[] heard;
     private Running running;
+    private boolean welcomed;
+    /** What was logged last, until something is heard that leads on. */
+    private String logged = "";
 
     /** A session of version 2 that says hello with its first call, and has a patience of a minute. */
     RvSession(String host, int port, long client, long incarnation) {
@@ -62,7 +68,7 @@ public final class RvSession implements AutoCloseable {
      */
     RvSession(String host, int port, long client, long incarnation, Duration patience, Duration answerTime,
             int version) {
-        this(linksTo(host, port), client, incarnation, patience, answerTime, version);
+        this(new SocketLink.To(host, port), client, incarnation, patience, answerTime, version);
     }
 
     /** The same, over links of one's own, for tests. */
@@ -74,27 +80,19 @@ public final class RvSession implements AutoCloseable {
             throw new IllegalArgumentException("a version is 1 to " + Bodies.GREATEST_VERSION);
         }
         this.links = links;
-        this.patience = nanos(patience);
-        this.answerTime = Math.min(nanos(answerTime), Duration.ofDays(1).toNanos());
+        this.patience = nanos("patience", patience);
+        this.answerTime = Math.min(nanos("answer time", answerTime), Duration.ofDays(1).toNanos());
         this.version = version;
         machine = Machine.started(client, incarnation, version);
     }
 
-    private static Link.Maker linksTo(String host, int port) {
-        Objects.requireNonNull(host, "a host is a text");
-        if (port < 1 || port > 65_535) {
-            throw new IllegalArgumentException("a port is 1 to 65535");
-        }
-        return isWoken -> new SocketLink(host, port, isWoken);
-    }
-
-    /** A time in nanoseconds; that of null is for ever. */
-    static long nanos(Duration time) {
+    /** A time of this name in nanoseconds; that of null is for ever. */
+    static long nanos(String name, Duration time) {
         if (time == null || time.compareTo(Duration.ofNanos(Calls.FOR_EVER)) > 0) {
             return Calls.FOR_EVER;
         }
         if (time.isNegative()) {
-            throw new IllegalArgumentException("times are not below zero");
+            throw new IllegalArgumentException("a time is not below zero: " + name + " " + time);
         }
         return time.toNanos();
     }
@@ -133,6 +131,11 @@ public final class RvSession implements AutoCloseable {
     /** Within so many nanoseconds a call ends that is to end, from the next one on: for tests. */
     void grace(long nanos) {
         grace = nanos;
+    }
+
+    /** Before the first welcome a call goes on for so many nanoseconds at most, from the next one on. */
+    void connectTime(long nanos) {
+        connectTime = nanos;
     }
 
     /** Keeps this record, from the next call on. */
@@ -248,7 +251,7 @@ public final class RvSession implements AutoCloseable {
             if (interruptible && Thread.interrupted()) {
                 throw new InterruptedException();
             }
-            running = new Running(interruptible, own, patience, grace, abort);
+            running = new Running(interruptible, own, welcomed ? patience : Math.min(patience, connectTime), grace, abort);
             abort.wakes(this::wake);
             enters = true;
         } finally {
@@ -307,7 +310,7 @@ public final class RvSession implements AutoCloseable {
 
     /** The exception of what ends a call without an outcome. */
     private Optional<RvException> ended(Told told) {
-        String words = closed ? "the session was closed" : running.fault();
+        String words = closed ? "the session was closed" : named(running.fault());
         if (told instanceof Told.Unsettled left) {
             return Optional.of(new RvException.Unsettled(left.key(), left.accepted(), words));
         }
@@ -345,6 +348,9 @@ public final class RvSession implements AutoCloseable {
                 lose();
             } catch (IOException fault) {
                 lose();
+                if (fault instanceof Link.NotConnected) {
+                    warn(fault.getMessage());
+                }
                 pause(fault.getMessage());
             }
         }
@@ -373,8 +379,17 @@ public final class RvSession implements AutoCloseable {
         JsonObject answer = Bodies.readAnswer(heard);
         Step step = take(new Event.Hear(answer));
         if (step.send() != null) {
-            running.heard();
-        } else if (step.tell() == null) {
+            running.heard(patience);
+        }
+        if (step.send() != null || step.tell() != null) {
+            welcomed |= machine.state() != Machine.State.NEW;
+            logged = "";
+        } else if (isOfALowerEpoch(answer)) {
+            String words = "the server is of the lower epoch " + Bodies.number(answer, "current") + ", and the session of "
+                + machine.key().epoch();
+            warn(words);
+            pause(words);
+        } else {
             pause(step.drop() ? "an answer came that this request has not" : refusal(answer));
         }
         return step;
@@ -382,6 +397,27 @@ public final class RvSession implements AutoCloseable {
 
     private static String refusal(JsonObject answer) {
         return RvException.Refused.words((int) Bodies.number(answer, "code"));
+    }
+
+    /** Whether an answer is the refusal of a server whose epoch is below the session's. */
+    private boolean isOfALowerEpoch(JsonObject answer) {
+        return Bodies.word(answer, "kind").equals("refused") && Bodies.number(answer, "code") == 2 && machine.key() != null
+            && Bodies.number(answer, "current") < machine.key().epoch();
+    }
+
+    /** What is wrong, with the server's name before it. */
+    private String named(String words) {
+        String server = links + ": ";
+        return words.startsWith(server) ? words : server + words;
+    }
+
+    /** Logs what is wrong, unless that was logged last. */
+    private void warn(String words) {
+        String line = named(words);
+        if (!line.equals(logged)) {
+            logged = line;
+            LOG.log(System.Logger.Level.WARNING, line);
+        }
     }
 
     /** Has a connection, a new one where there was none or the peer closed it. */
@@ -455,6 +491,29 @@ public final class RvSession implements AutoCloseable {
         closed = true;
         wake();
         rest();
+    }
+
+    /** The server, the client, its epoch, and what runs. Any thread may ask, at any time. */
+    @Override
+    public String toString() {
+        Machine now = machine;
+        String epoch = now.key() == null ? "" : " epoch " + now.key().epoch();
+        return "RvSession[" + links + " client " + now.client() + epoch + " " + state(now) + "]";
+    }
+
+    private String state(Machine now) {
+        if (closed) {
+            return "closed";
+        }
+        if (caller.get() != null) {
+            return now.call() == null ? "running" : "running " + Calls.shown(now.call());
+        }
+        return switch (now.state()) {
+            case NEW -> "before its welcome";
+            case IDLE -> "idle";
+            case OUTSTANDING -> "unsettled " + Calls.shown(now.call());
+            case ENDED -> "ended";
+        };
     }
 
     /** Has the call that runs, if one does, look what it is to do. */

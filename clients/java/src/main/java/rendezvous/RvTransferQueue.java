@@ -59,7 +59,7 @@ public final class RvTransferQueue extends AbstractQueue<String> implements Tran
 
     /** Queue 0 to 63 of a server, for the threads of these clients. */
     public RvTransferQueue(RvClients clients, int queue) {
-        this.clients = Objects.requireNonNull(clients);
+        this.clients = Objects.requireNonNull(clients, "a queue is asked by clients");
         this.queue = Calls.place(queue);
     }
 
@@ -178,9 +178,9 @@ public final class RvTransferQueue extends AbstractQueue<String> implements Tran
             throw new InterruptedException();
         }
         long began = System.nanoTime();
+        Calls.Job job = Calls.waiting(call("take"), timeout, unit);
         String kept = unclaimed.next();
-        Calls.Job job = Calls.waiting(call("take"), timeout, unit).later(System.nanoTime() - began);
-        return kept != null ? kept : itemOf(askInterruptibly(job));
+        return kept != null ? kept : itemOf(askInterruptibly(job.later(System.nanoTime() - began)));
     }
 
     /**
@@ -282,7 +282,7 @@ public final class RvTransferQueue extends AbstractQueue<String> implements Tran
      */
     @Override
     public int drainTo(Collection<? super String> into, int most) {
-        if (Objects.requireNonNull(into) == this) {
+        if (Objects.requireNonNull(into, "items are drained into a collection") == this) {
             throw new IllegalArgumentException("a queue is not drained into itself");
         }
         int drained = drainedUnclaimed(into, most);
@@ -442,10 +442,10 @@ public final class RvTransferQueue extends AbstractQueue<String> implements Tran
         throw leftOut("toArray");
     }
 
-    /** Its name, and how many items are unclaimed, which asks the server nothing. */
+    /** Its name and its clients, and how many items are unclaimed, which asks the server nothing. */
     @Override
     public String toString() {
         int kept = unclaimed.count();
-        return "RvTransferQueue " + queue + (kept > 0 ? ", " + kept + " unclaimed" : "");
+        return "RvTransferQueue " + queue + " of " + clients + (kept > 0 ? ", " + kept + " unclaimed" : "");
     }
 }

@@ -10,13 +10,48 @@ import java.nio.ByteBuffer;
 import java.nio.channels.SelectionKey;
 import java.nio.channels.Selector;
 import java.nio.channels.SocketChannel;
+import java.util.Objects;
 import java.util.concurrent.ExecutionException;
 import java.util.concurrent.FutureTask;
 import java.util.concurrent.TimeUnit;
 import java.util.function.BooleanSupplier;
+import java.util.regex.Pattern;
 
 /** A link over TCP. Its host is looked up anew with each. */
 final class SocketLink implements Link {
+    /**
+     * What makes such links to a server.
+     *
+     * @param host the server's host, a name or an address
+     * @param port the port there
+     */
+    record To(String host, int port) implements Maker {
+        /** A name, or an address of version 4; and one of version 6, which may stand in brackets. */
+        private static final Pattern NAME = Pattern.compile("[^\\s\\x00/@:\\[\\]]+");
+        private static final String SIX = "[0-9A-Fa-f]*:[0-9A-Fa-f]*:[0-9A-Fa-f:.]*(%[^\\s/\\]]+)?";
+        private static final Pattern ADDRESS = Pattern.compile(SIX + "|\\[" + SIX + "\\]");
+
+        To {
+            Objects.requireNonNull(host, "a host is a text");
+            if (!NAME.matcher(host).matches() && !ADDRESS.matcher(host).matches()) {
+                throw new IllegalArgumentException("a host is a name or an address, without a port: " + host);
+            }
+            if (port < 1 || port > 65_535) {
+                throw new IllegalArgumentException("a port is 1 to 65535: " + port);
+            }
+        }
+
+        @Override
+        public Link make(BooleanSupplier isWoken) throws IOException {
+            return new SocketLink(host, port, isWoken);
+        }
+
+        @Override
+        public String toString() {
+            return (host.indexOf(':') >= 0 && host.charAt(0) != '[' ? "[" + host + "]" : host) + ":" + port;
+        }
+    }
+
     private final String host;
     private final int port;
     private final BooleanSupplier isWoken;
@@ -56,14 +91,18 @@ final class SocketLink implements Link {
                 connected = channel.finishConnect();
             }
         } catch (UnknownHostException unknown) {
-            throw new IOException(host + ":" + port + ": the host is not known", unknown);
+            throw notConnected("the host is not known", unknown);
         } catch (Woken woken) {
             throw woken;
         } catch (SocketTimeoutException late) {
-            throw new IOException(host + ":" + port + ": no connection in time", late);
+            throw notConnected("no connection in time", late);
         } catch (IOException fault) {
-            throw new IOException(host + ":" + port + ": " + reason(fault), fault);
+            throw notConnected(reason(fault), fault);
         }
+    }
+
+    private NotConnected notConnected(String why, IOException cause) {
+        return new NotConnected(new To(host, port) + ": " + why, cause);
     }
 
     /** The system's reason, as part of a sentence. */

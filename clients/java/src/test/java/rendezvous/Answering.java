@@ -9,6 +9,7 @@ import java.net.InetAddress;
 import java.net.ServerSocket;
 import java.net.Socket;
 import java.nio.charset.StandardCharsets;
+import java.time.temporal.ChronoUnit;
 import java.util.ArrayList;
 import java.util.List;
 import java.util.concurrent.TimeUnit;
@@ -44,7 +45,7 @@ final class Answering implements AutoCloseable {
     /** Clients of this server, whose numbers nobody leases. */
     RvClients.Builder clients(long first, long last) {
         return RvClients.builder("127.0.0.1", port()).clients(first, last).unleased().incarnation(1)
-            .grace(LONG);
+            .grace(LONG).connectTimeout(ChronoUnit.FOREVER.getDuration());
     }
 
     /** What came but hellos. */

@@ -7,7 +7,9 @@ import java.nio.charset.StandardCharsets;
 import java.nio.file.Files;
 import java.nio.file.Path;
 import java.time.Duration;
+import java.time.temporal.ChronoUnit;
 import java.util.ArrayList;
+import java.util.Collections;
 import java.util.List;
 import java.util.Optional;
 import java.util.Set;
@@ -18,6 +20,9 @@ import java.util.concurrent.CompletionException;
 import java.util.concurrent.LinkedBlockingQueue;
 import java.util.concurrent.TimeUnit;
 import java.util.function.UnaryOperator;
+import java.util.logging.Handler;
+import java.util.logging.LogRecord;
+import java.util.logging.Logger;
 
 /**
  * Does what each line of standard input says, and prints one line for it: "result" or "threw", what came, and whether
@@ -26,6 +31,7 @@ import java.util.function.UnaryOperator;
 final class Driver {
     private RvClients clients;
     private RvTransferQueue queue;
+    private RvSession kept;
     private final List<String> drained = new ArrayList<>();
     /** What is chosen of a record, where a line says something of it. */
     private UnaryOperator<RvClients.Builder> record = UnaryOperator.identity();
@@ -34,12 +40,34 @@ final class Driver {
     private final BlockingQueue<Throwable> uncaught = new LinkedBlockingQueue<>();
     /** The grace of calls in nanoseconds: as good as no end, where a line does not say otherwise. */
     private long grace = Answering.LONG;
+    /** The time before the first welcome: no end of its own, where a line does not say otherwise. */
+    private Duration connects = ChronoUnit.FOREVER.getDuration();
+    /** What is kept, so that it is not thrown away; and what was logged by it. */
+    private static final Logger LOG = Logger.getLogger("rendezvous");
+    private static final List<String> LOGGED = Collections.synchronizedList(new ArrayList<>());
     /** What the last exception said. */
     private String words;
 
     private Driver() {}
 
     public static void main(String[] words) throws IOException {
+        LOG.setUseParentHandlers(false);
+        LOG.addHandler(new Handler() {
+            @Override
+            public void publish(LogRecord record) {
+                LOGGED.add(record.getLevel() + " " + record.getMessage());
+            }
+
+            @Override
+            public void flush() {
+                // nothing is held back
+            }
+
+            @Override
+            public void close() {
+                // nothing is held
+            }
+        });
         Driver driver = new Driver();
         Thread.setDefaultUncaughtExceptionHandler((thread, fault) -> driver.uncaught.add(fault));
         BufferedReader lines = new BufferedReader(new InputStreamReader(System.in, StandardCharsets.UTF_8));
@@ -84,7 +112,7 @@ final class Driver {
             case "open":
                 clients = record.apply(RvClients.builder("127.0.0.1", number(given, 0)))
                     .clients(number(given, 1), number(given, 1))
-                    .unleased().incarnation(1).grace(grace).patience(Duration.ofMillis(number(given, 2)))
+                    .unleased().incarnation(1).grace(grace).patience(Duration.ofMillis(number(given, 2))).connectTimeout(connects)
                     .version(given.size() > 3 ? number(given, 3) : RvSession.VERSION).build();
                 queue = new RvTransferQueue(clients, 3);
                 drained.clear();
@@ -92,11 +120,29 @@ final class Driver {
             case "grace":
                 grace = TimeUnit.MILLISECONDS.toNanos(number(given, 0));
                 return "a grace";
+            case "connects":
+                connects = Duration.ofMillis(number(given, 0));
+                return "a time";
+            case "logged":
+                List<String> lines = List.copyOf(LOGGED);
+                LOGGED.clear();
+                return lines;
+            case "kept":
+                kept = clients.session();
+                return "a session";
+            case "connects-no-more":
+                kept.connectTime(0);
+                return "a time";
+            case "shown":
+                return given.isEmpty() ? kept : queue + ", " + new RvExchanger(clients, 5) + ", " + queue.consumer();
+            case "close":
+                clients.close();
+                return "closed";
             case "interrupt":
                 interruptAt(Path.of(given.get(0)));
                 return "soon";
             case "again":
-                return clients.session().again();
+                return (given.isEmpty() ? clients.session() : kept).again();
             case "giveup":
                 return clients.session().giveUp();
             case "exchange":

@@ -9,6 +9,7 @@ import static org.junit.jupiter.api.Assertions.assertTrue;
 import com.google.gson.JsonObject;
 import com.google.gson.JsonParser;
 import java.io.IOException;
+import java.io.UncheckedIOException;
 import java.nio.file.Files;
 import java.nio.file.Path;
 import java.util.List;
@@ -22,6 +23,7 @@ import java.util.concurrent.LinkedBlockingQueue;
 import java.util.concurrent.TimeUnit;
 import java.util.stream.Collectors;
 import java.util.stream.IntStream;
+import java.util.stream.Stream;
 import org.junit.jupiter.api.Test;
 import org.junit.jupiter.api.Timeout;
 import org.junit.jupiter.api.io.TempDir;
@@ -92,9 +94,31 @@ final class RecordTest {
             lines.stream().map(line -> Bodies.keyOf(line.getAsJsonObject("told"))).collect(Collectors.toSet()).size());
     }
 
+    /** Clients whose record turns bad once they are made: a folder is in its place. */
+    private RvClients turning(RvClients.Builder builder) throws IOException {
+        Path file = folder.resolve("record");
+        RvClients clients = builder.record(file).build();
+        Files.createDirectory(file);
+        return clients;
+    }
+
+    @Test
+    void whatCanNotBeWrittenIsFoundBeforeAnythingIsAsked() throws Exception {
+        try (Answering server = new Answering(Answering::well)) {
+            for (Path path : List.of(folder, folder.resolve("none").resolve("record"))) {
+                UncheckedIOException fault = assertThrows(UncheckedIOException.class, () -> server.clients(1, 1).record(path).build());
+                assertTrue(fault.getMessage().contains(path.toString()), fault.getMessage());
+            }
+            assertEquals(0, server.connections());
+        }
+        try (Stream<Path> left = Files.list(folder)) {
+            assertEquals(0, left.count());
+        }
+    }
+
     @Test
     void whatCanNotBeWrittenIsInTheException() throws Exception {
-        try (Answering server = new Answering(Answering::well); RvClients clients = server.clients(1, 1).record(folder).build()) {
+        try (Answering server = new Answering(Answering::well); RvClients clients = turning(server.clients(1, 1))) {
             RvTransferQueue queue = new RvTransferQueue(clients, 3);
             for (int number = 1; number <= 2; number++) {
                 RvException.NotRecorded fault = assertThrows(RvException.NotRecorded.class, () -> queue.put("a"));
@@ -112,7 +136,7 @@ final class RecordTest {
     @Test
     void aFutureTellsIt() throws Exception {
         try (Answering server = new Answering(message -> Answering.reply(message, key -> new Outcome.Item(key, "a")));
-                RvClients clients = server.clients(1, 1).record(folder).build()) {
+                RvClients clients = turning(server.clients(1, 1))) {
             RvTransferQueue queue = new RvTransferQueue(clients, 3);
             Throwable told = assertThrows(CompletionException.class, queue.takeAsync()::join).getCause();
             RvException.NotRecorded fault = assertInstanceOf(RvException.NotRecorded.class, told);
@@ -130,7 +154,7 @@ final class RecordTest {
             return thread;
         });
         try (Answering server = silentTo("a");
-                RvClients clients = server.clients(1, 1).record(folder).executor(executor).build()) {
+                RvClients clients = turning(server.clients(1, 1).executor(executor))) {
             RvTransferQueue queue = new RvTransferQueue(clients, 3);
             CompletableFuture<String> taken = queue.takeAsync();
             server.awaitAsked(1);
