@@ -17,7 +17,7 @@ from tests.sockets.wire import demand
 
 SOURCES = ROOT / "clients/python"
 PATIENCE = 600
-VERSION = "3.2.0"
+VERSION = "3.3.0"
 # The interpreters whose packages are looked at: Debian's packages are of the first.
 INTERPRETERS = ["/usr/bin/python3", sys.executable]
 # What is imported to see that a tool is there.

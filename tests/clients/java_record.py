@@ -111,11 +111,13 @@ def found_before_anything(_program):
         os.mkfifo(pipe, 0o600)
         dangling.symlink_to(folder / "none" / "record")
         before = sorted(folder.iterdir())
-        for path in (folder, folder / "none" / "record", file / "record", folder / ("x" * 300), dangling):
+        ways = [(folder, "Is a directory"), (folder / "none" / "record", "there is no such folder"), (file / "record", "Not a directory"),
+                (folder / ("x" * 300), "File name too long"), (dangling, "there is no such folder")]
+        for path, why in ways:
             driver.expect(f"record {path}", "result chosen")
             driver.expect(f"open {server.port} 1 1000", "threw UncheckedIOException")
             said = driver.tell("words")
-            demand(f"no record can be kept in {path}: " in said, f"it says {said}")
+            demand(said == f"result no record can be kept in {path}: {why}", f"it says {said}")
         for path in (file, pipe, folder / "new"):
             driver.expect(f"record {path}", "result chosen")
             driver.expect(f"open {server.port} 1 1000", "result open")

@@ -102,6 +102,16 @@ IN_JAVA = [
         Edit(CLIENTS, 'recordIsChosen ? Optional', 'recordIsChosen && System.getenv("RV_RECORD") == null ? Optional')]),
     WrongClient("drops an item of a cancelled future that it can't record", "java_record, futures", [
         Edit(FUTURE, 'unrecorded) ? null : unrecorded.outcome();', 'unrecorded) ? null : null;')]),
+    WrongClient("waits for its first welcome as long as its patience", "java, a first hello", [
+        Edit(SESSION, "welcomed ? patience : Math.min(patience, connectTime)", "patience")]),
+    WrongClient("ends all its calls by the time of its first hello", "java, behind the welcome", [
+        Edit(SESSION, "welcomed ? patience : Math.min(patience, connectTime)", "Math.min(patience, connectTime)")]),
+    WrongClient("logs each try", "java, a first hello", [
+        Edit(SESSION, "if (!line.equals(logged)) {", "if (!line.isEmpty()) {")]),
+    WrongClient("logs nothing of a server of a lower epoch", "java, a lower epoch", [
+        Edit(SESSION, "            warn(words);\n            pause(words);\n", "            pause(words);\n")]),
+    WrongClient("finds out by its first reply that it can't record", "java_record, found before anything", [
+        Edit(CLIENTS, "            kept.ifPresent(RecordFile::check);\n", "")]),
     WrongClient("leaves descriptors behind", "java_scenes, no descriptors", [
         Edit(LINK, 'if (registered == null) {', 'if (registered == null && opened != null) {')]),
 ]

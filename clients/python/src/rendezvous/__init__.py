@@ -23,6 +23,8 @@ server part the numbers by RV_CLIENTS in their environments: 1-512 and 513-1024,
 `Session(address, record=FILE)`, or RV_RECORD in the environment, keeps a record of what the session was told: each reply has its
 line in that file before its call returns.
 
+The logger `rendezvous` has a warning where no connection can be made, the first time and when the reason changes.
+
 `rendezvous.aio` has the same session for asyncio. `rendezvous.replies` has the types of what a request came to.
 """
 from .errors import (

@@ -45,7 +45,8 @@ class Unsettled(RendezvousError):
 
 
 class NotAsked(RendezvousError):
-    """The request was never sent, so nothing happened: the server was not reached, or the time was over."""
+    """The request was never sent, so nothing happened: the server was not reached, or the time was over. `why` names the address
+    and what went wrong there last."""
 
     def __init__(self, key: Optional[Key] = None, why: str = "") -> None:
         super().__init__(key, why)

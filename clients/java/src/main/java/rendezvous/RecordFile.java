@@ -6,6 +6,7 @@ import java.io.UncheckedIOException;
 import java.nio.ByteBuffer;
 import java.nio.charset.StandardCharsets;
 import java.nio.file.AccessDeniedException;
+import java.nio.file.FileSystemException;
 import java.nio.file.Files;
 import java.nio.file.NoSuchFileException;
 import java.nio.file.Path;
@@ -67,8 +68,19 @@ final class RecordFile {
                 throw new AccessDeniedException(file.toString());
             }
         } catch (IOException fault) {
-            throw new UncheckedIOException("no record can be kept in " + file + ": " + fault, fault);
+            throw new UncheckedIOException("no record can be kept in " + file + ": " + why(fault), fault);
         }
+    }
+
+    /** The reason, without the name of a file that was tried. */
+    private static String why(IOException fault) {
+        if (fault instanceof NoSuchFileException) {
+            return "there is no such folder";
+        }
+        if (fault instanceof AccessDeniedException) {
+            return "permission denied";
+        }
+        return fault instanceof FileSystemException other && other.getReason() != null ? other.getReason() : fault.toString();
     }
 
     /** Whether there is a file; what hides that is thrown. */

@@ -28,6 +28,7 @@ import java.util.concurrent.Executors;
 import java.util.concurrent.FutureTask;
 import java.util.concurrent.TimeUnit;
 import java.util.concurrent.atomic.AtomicReference;
+import java.util.logging.Logger;
 import java.util.stream.Stream;
 
 /**
@@ -36,6 +37,8 @@ import java.util.stream.Stream;
  */
 final class Scenes {
     private static final String HOST = "127.0.0.1";
+    /** What the client logs, which is no word of a scene's; it is kept, so that it is not thrown away. */
+    private static final Logger LOG = Logger.getLogger("rendezvous");
     private static final BufferedReader LINES =
         new BufferedReader(new InputStreamReader(System.in, StandardCharsets.UTF_8));
 
@@ -66,6 +69,7 @@ final class Scenes {
     private Scenes() {}
 
     public static void main(String[] words) throws Exception {
+        LOG.setUseParentHandlers(false);
         SCENES.get(words[0]).play(Integer.parseInt(words[1]));
         // what still runs ends with the program
         System.exit(0);
