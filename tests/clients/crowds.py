@@ -40,8 +40,8 @@ class Client:
     """A Python client that asks random calls, and gives up some that wait."""
 
     def __init__(self, address, number, chance, ledger, record, incarnation=1):
-        self.session = rv.Session(address, number, incarnation, version=1 + number % 2, patience=PATIENCE, answer=2, record=record,
-                                  connect_timeout=None)
+        self.session = rv.Session(address, number, incarnation, version=1 + number % 2, patience=PATIENCE, answer=2,
+                                  connect_timeout=None, record=record)
         self.chance, self.ledger, self.number, self.items = chance, ledger, number, 0
         self.record = Reader(record, number)
 

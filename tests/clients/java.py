@@ -524,7 +524,7 @@ def shown(java):
         java.expect("put a", "result done")
         java.expect("shown", f"{begins} epoch 9 idle]")
         clients = f"RvClients[{server.address}, 1 sessions, 0 running, 0 unsettled]"
-        names = [f"RvTransferQueue 3 of {clients}", f"RvExchanger 5 of {clients}", f"RvConsumer of RvTransferQueue 3 of {clients}"]
+        names = [f"{each} of {clients}" for each in ("RvTransferQueue 3", "RvExchanger 5", "RvConsumer of RvTransferQueue 3")]
         java.expect("shown all", f"result {', '.join(names)}")
         server.otherwise = SILENCE
         java.expect("take-async", "result begun")

@@ -111,8 +111,8 @@ def found_before_anything(_program):
         os.mkfifo(pipe, 0o600)
         dangling.symlink_to(folder / "none" / "record")
         before = sorted(folder.iterdir())
-        ways = [(folder, "Is a directory"), (folder / "none" / "record", "there is no such folder"), (file / "record", "Not a directory"),
-                (folder / ("x" * 300), "File name too long"), (dangling, "there is no such folder")]
+        ways = [(folder, "Is a directory"), (folder / "none" / "record", "there is no such folder"), (dangling, "there is no such folder"),
+                (file / "record", "Not a directory"), (folder / ("x" * 300), "File name too long")]
         for path, why in ways:
             driver.expect(f"record {path}", "result chosen")
             driver.expect(f"open {server.port} 1 1000", "threw UncheckedIOException")

@@ -98,7 +98,7 @@ IN_PYTHON = [
     WrongClient("logs nothing of a refused connection", "test_words.Logged.test_a_refused_connection", [
         Edit(COURSE, '            LOG.warning("%s", job.fault)\n', "")]),
     WrongClient("logs each try", "test_words.Logged.test_a_refused_connection", [
-        Edit(COURSE, "        if lasts and job.fault != self._logged:\n", "        if lasts:\n")]),
+        Edit(COURSE, "if not_reached and job.fault != self._logged:", "if not_reached:")]),
     WrongClient("finds out by its first reply that it can't record", "test_record.Before.test_a_folder", [
         Edit(RECORD, "    record.check()\n", "")]),
     WrongClient("takes a wrong time for a right one", "test_words.Arguments.test_of_a_call", [

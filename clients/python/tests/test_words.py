@@ -223,10 +223,12 @@ ADDRESSES = [
     ("rv://a:7411", ValueError), ("a", ValueError), ("a:", ValueError), (":7411", ValueError), ("", ValueError),
     ("a:0", ValueError), ("a:65536", ValueError), ("a:-1", ValueError), ("a:x", ValueError), ("a:\u00b2", ValueError),
     ("a b:7411", ValueError), ("a/b:7411", ValueError), ("a\0:7411", ValueError), ("[::1:7411", ValueError),
-    ("user@a:7411", ValueError), ("a:" + "9" * 5000, ValueError), (7411, TypeError), (None, TypeError), (1.5, TypeError),
-    (b"a:7411", TypeError), (object(), TypeError), (("a", "7411"), TypeError), (("a", True), TypeError), (("a", 7411.0), TypeError),
-    ((7411, "a"), TypeError), (("a", None), TypeError), ((None, 7411), TypeError), (("a",), ValueError),
-    (("a", 7411, 0, 0), ValueError), (("a", 0), ValueError), (("a", 65536), ValueError), (("", 7411), ValueError), ((), ValueError),
+    ("user@a:7411", ValueError), ("a:7411:7411", ValueError), (("a:7411", 7411), ValueError), (("[::1]", 7411), ValueError),
+    ("a:" + "9" * 5000, ValueError), (7411, TypeError), (None, TypeError), (1.5, TypeError),
+    (b"a:7411", TypeError), (object(), TypeError), (("a", "7411"), TypeError), (("a", True), TypeError),
+    (("a", 7411.0), TypeError), ((7411, "a"), TypeError), (("a", None), TypeError), ((None, 7411), TypeError), (("a",), ValueError),
+    (("a", 7411, 0, 0), ValueError), (("a", 0), ValueError), (("a", 65536), ValueError), (("", 7411), ValueError),
+    ((), ValueError),
 ]
 TIMES = [(NAN, ValueError), ("1", TypeError), (True, TypeError), (False, TypeError), (b"1", TypeError), ([], TypeError),
          (decimal.Decimal(1), TypeError), (1j, TypeError), (10**400, ValueError)]
@@ -325,8 +327,9 @@ class Arguments(Case):
 
     def test_times_without_an_end(self):
         """`inf` waits for ever, as a call without a time does; a time below zero is not waited for."""
-        calls = [(lambda s, t: s.poll(3, t), reply("item", item="a"), "a"), (lambda s, t: s.exchange(3, "b", t),
-                 reply("swapped", item="a"), "a"), (lambda s, t: s.try_transfer(3, "b", t), reply("received"), rv.Receipt(key(1)))]
+        calls = [(lambda s, t: s.poll(3, t), reply("item", item="a"), "a"),
+                 (lambda s, t: s.exchange(3, "b", t), reply("swapped", item="a"), "a"),
+                 (lambda s, t: s.try_transfer(3, "b", t), reply("received"), rv.Receipt(key(1)))]
         for call, told, result in calls:
             for seconds, wait in ((INF, "forever"), (-1, 0), (-INF, 0), (1, 1000), (0.0001, 1)):
                 with Scripted(welcome, told) as server, session(server, version=1) as one, unhurried(cancels=False):
@@ -340,8 +343,8 @@ class Arguments(Case):
 
     def test_addresses(self):
         """What is one, and how it is written."""
-        for given, where in (("a:1", "a:1"), ("[::1]:65535", "[::1]:65535"), ("::1:7411", "[::1]:7411"), (("::1", 7411), "[::1]:7411"),
-                             ("fe80::1%eth0:7411", "[fe80::1%eth0]:7411"), ("a-b.c_d.:7411", "a-b.c_d.:7411")):
+        for given, where in (("a:1", "a:1"), ("[::1]:65535", "[::1]:65535"), ("::1:7411", "[::1]:7411"),
+                             (("::1", 7411), "[::1]:7411"), ("fe80::1%eth0:7411", "[fe80::1%eth0]:7411"), ("a-b.c_d.:7411", "a-b.c_d.:7411")):
             self.assertEqual(link.named(link.address_of(given)), where)
 
 
@@ -367,7 +370,8 @@ class Shown(Case):
             calls = [(lambda: one.take(3), "take(3)", reply("item", item="a")), (lambda: one.poll(3), "poll(3)", reply("empty")),
                      (lambda: one.exchange(5, "x"), "exchange(5)", reply("swapped", item="y")),
                      (lambda: one.try_transfer(3, "a", 60), "try_transfer(3)", reply("timedout")),
-                     (lambda: one.put(3, "a"), "put(3)", reply("done")), (lambda: one.drain(4, 2), "drain(4)", reply("drained", texts=[]))]
+                     (lambda: one.put(3, "a"), "put(3)", reply("done")),
+                     (lambda: one.drain(4, 2), "drain(4)", reply("drained", texts=[]))]
             for call, words, told in calls:
                 server.otherwise = running_first(lambda: shown.append(repr(one)), told)
                 call()

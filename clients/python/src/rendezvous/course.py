@@ -118,7 +118,7 @@ class Running:
 class Course:
     """What one session does. `machine` is replaced by one assignment a step, here alone. `last` is the outcome of the last
     request that was settled. `closing`: what is known is to be told, and nothing more is to be asked. `record`, where there is
-    one, has each reply before anybody is told it. `connect_timeout` is how long a call lasts before the session's first welcome."""
+    one, has each reply before anybody is told it. `connect_timeout` is how long a call lasts before the first welcome."""
 
     def __init__(self, address: Tuple[str, int], name: Name, version: int, answer: float, record: Optional[Record],
                  connect_timeout: float) -> None:
@@ -329,12 +329,12 @@ class Course:
         return self._heard_at + (job.patience if self._welcomed else min(job.patience, self.connect_timeout))
 
     def _note(self, job: Job, fault: str) -> None:
-        """What failed last is told where the job ends by it, with the address. That no connection can be made, or that the server is
-        of a lower epoch, is logged at once, unless that was the last that was."""
+        """What failed last is told where the job ends by it, with the address. That no connection can be made, or that the server
+        is of a lower epoch, is logged at once, unless that was the last that was."""
         where = f"{named(self.address)}: "
         job.fault = fault if fault.startswith(where) else where + fault
-        lasts = self._link is None or not self._link.connected or fault.startswith(LOWER_EPOCH)
-        if lasts and job.fault != self._logged:
+        not_reached = self._link is None or not self._link.connected or fault.startswith(LOWER_EPOCH)
+        if not_reached and job.fault != self._logged:
             self._logged = job.fault
             LOG.warning("%s", job.fault)
 

@@ -14,9 +14,9 @@ Address = Union[str, Tuple[str, int]]
 # What a connect that is under way answers.
 UNDER_WAY = (errno.EINPROGRESS, errno.EWOULDBLOCK, errno.EALREADY, errno.EINTR)
 AT_ONCE = 65_536
-# A host, in brackets or not, and a port, as an address is written; and what no host has.
+# A host, in brackets or not, and a port, as an address is written; and a host, which has colons in an address of version 6 alone.
 WRITTEN = re.compile(r"(?:\[([^\[\]]+)\]|([^\[\]]+)):([0-9]{1,5})")
-NO_HOST = re.compile(r"[\s\0/@]")
+HOST = re.compile(r"[^\s\0/@:\[\]]+|[0-9A-Fa-f]*:[0-9A-Fa-f]*:[0-9A-Fa-f:.]*(%[^\s\0/@:\[\]]+)?")
 
 
 def address_of(address: Address) -> Tuple[str, int]:
@@ -32,7 +32,7 @@ def address_of(address: Address) -> Tuple[str, int]:
             raise TypeError(f"an address is a pair of a text and a whole number: {address!r}")
     else:
         raise TypeError(f"an address is a text host:port, or a pair of both: {address!r}")
-    if not host or NO_HOST.search(host) or not 0 < port < 65_536:
+    if not HOST.fullmatch(host) or not 0 < port < 65_536:
         raise ValueError(f"an address is host:port, with a port from 1 to 65535: {address!r:.100}")
     return host, port
 

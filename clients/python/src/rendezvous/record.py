@@ -26,8 +26,8 @@ class Record:
         self.path = os.path.abspath(named)
 
     def check(self) -> None:
-        """An OSError, with its path, where no line can be written. It leaves what there is as it is: there need be no file, but one
-        can be made."""
+        """An OSError, with its path, where no line can be written. It leaves what there is as it is: there need be no file, but
+        one can be made."""
         try:
             self._try()
         except OSError as fault:

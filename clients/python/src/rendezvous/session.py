@@ -37,19 +37,19 @@ class Session:
     `version` is what the session speaks: in version 2 a receipt names the consumer, in version 1, which
     each server knows, it does not. `patience` is for how many seconds a call goes on while nothing at all is
     heard; None is for ever. Before the session's first welcome it goes on for `connect_timeout` seconds at most, so that a wrong
-    address is told soon; None is as long as the patience. `answer` is for how many seconds it waits for one answer before it throws
-    the connection away.
+    address is told soon; None is as long as the patience. `answer` is for how many seconds it waits for one answer before it
+    throws the connection away.
 
     A call with a time of its own ends within that and a second, also where the server is silent or away. `inf` is for ever.
 
-    While no connection can be made, or the server is of a lower epoch, calls go on: the logger `rendezvous` has a warning the first
-    time, and when the reason changes. The exception that ends the call names the address and the reason.
+    While no connection can be made, or the server is of a lower epoch, calls go on: the logger `rendezvous` has a warning the
+    first time, and when the reason changes. The exception that ends the call names the address and the reason.
 
     `record` is a file that gets a line for each reply, with the request, before anybody is told the reply; it is opened for each,
     and made where there is none. Left out, it is what the environment says in RV_RECORD; an empty one is no record. A line is
     appended by one write, so any number of sessions and processes may share a local file. It is handed to the system, which
-    keeps it whatever becomes of the process, and is not forced to the disk. An OSError, before anything is leased or asked, where it
-    can't be written; `NotRecorded` where it can't be later.
+    keeps it whatever becomes of the process, and is not forced to the disk. An OSError, before anything is leased or asked, where
+    it can't be written; `NotRecorded` where it can't be later.
     """
 
     def __init__(self, address: Address, client: Optional[int] = None, incarnation: Optional[int] = None, *,
@@ -339,7 +339,7 @@ def no_loop() -> Optional[Items]:
 
 
 def driver_of(address: Tuple[str, int], name: Name, version: int, times: Tuple[float, float], record: Optional[Record]) -> Driver:
-    """The driver of a new session, which gives its name back at its end. `times`: how long an answer is awaited, and a welcome."""
+    """The driver of a new session, which gives its name back at its end. `times`: how long an answer and a welcome may take."""
     try:
         return Driver(address, name, version, times[0], record, times[1])
     except BaseException:

@@ -106,7 +106,8 @@ final class RecordTest {
     void whatCanNotBeWrittenIsFoundBeforeAnythingIsAsked() throws Exception {
         try (Answering server = new Answering(Answering::well)) {
             for (Path path : List.of(folder, folder.resolve("none").resolve("record"))) {
-                UncheckedIOException fault = assertThrows(UncheckedIOException.class, () -> server.clients(1, 1).record(path).build());
+                RvClients.Builder builder = server.clients(1, 1).record(path);
+                UncheckedIOException fault = assertThrows(UncheckedIOException.class, builder::build);
                 assertTrue(fault.getMessage().contains(path.toString()), fault.getMessage());
             }
             assertEquals(0, server.connections());

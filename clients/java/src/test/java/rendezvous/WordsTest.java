@@ -68,7 +68,8 @@ final class WordsTest {
         rows.add(new Row(() -> builder.clients(1, 1L << 53), ILLEGAL, "clients"));
         rows.add(new Row(() -> builder.incarnation(0), ILLEGAL, "incarnation"));
         rows.add(new Row(() -> builder.patience(null), NULL, "patience"));
-        rows.add(new Row(() -> RvClients.builder("a", 1).folder(folder).patience(Duration.ofNanos(-1)).build(), ILLEGAL, "patience"));
+        RvClients.Builder impatient = RvClients.builder("a", 1).folder(folder).patience(Duration.ofNanos(-1));
+        rows.add(new Row(impatient::build, ILLEGAL, "patience"));
         rows.add(new Row(() -> builder.connectTimeout(null), NULL, "connectTimeout"));
         rows.add(new Row(() -> builder.connectTimeout(Duration.ofNanos(-1)), ILLEGAL, "connectTimeout"));
         rows.add(new Row(() -> builder.executor(null), NULL, "executor"));
@@ -148,8 +149,8 @@ final class WordsTest {
     }
 
     private static List<Outcome> outcomes() {
-        return List.of(new Receipt(KEY, Optional.empty()), new Receipt(KEY, Optional.of(new Key(9, 4, 5, 6))), new Outcome.Done(KEY),
-            new Outcome.Nobody(KEY), new Outcome.Item(KEY, "a"), new Outcome.Empty(KEY), new Outcome.Swapped(KEY, "a"),
+        return List.of(new Receipt(KEY, Optional.empty()), new Receipt(KEY, Optional.of(new Key(9, 4, 5, 6))),
+            new Outcome.Done(KEY), new Outcome.Nobody(KEY), new Outcome.Item(KEY, "a"), new Outcome.Empty(KEY), new Outcome.Swapped(KEY, "a"),
             new Outcome.TimedOut(KEY), new Outcome.Cancelled(KEY), new Outcome.Counted(KEY, 1, 2), new Outcome.Peeked(KEY, "a"),
             new Outcome.Drained(KEY, List.of()), new Outcome.Drained(KEY, List.of("a", "b")));
     }
