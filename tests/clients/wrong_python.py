@@ -5,10 +5,11 @@ from tests.clients.wrong import (
     ANY_REPLY, LAST_OUTCOME, ANY_CALL, TELLS_WRONG, NOTHING_GIVEN, CANCEL_RECORDED, NEW_RECORD, DROPS_REPLY, Edit, WrongClient)
 
 PACKAGE, TESTS = "clients/python/src/rendezvous", "clients/python/tests"
-MACHINE, SESSION, BODIES, CALLS, REPLIES, LINK, DRIVER, ERRORS, COURSE, ENDINGS, LEASES, UNCLAIMED, AIO, STREAM, RECORD = (
+(MACHINE, SESSION, BODIES, CALLS, REPLIES, LINK, DRIVER, ERRORS, COURSE, ENDINGS, LEASES, UNCLAIMED, AIO, STREAM, RECORD,
+ BELL) = (
     f"{PACKAGE}/{name}.py" for name in (
         "machine", "session", "bodies", "calls", "replies", "link", "driver", "errors", "course", "endings", "leases", "unclaimed",
-        "aio", "stream", "record"))
+        "aio", "stream", "record", "bell"))
 # Where a link was lost, and what goes on to another number there.
 LOST = "            self._failed()\n            return None\n"
 SKIP = ("            key = self.machine.key\n            if key and %s:\n"
@@ -111,20 +112,33 @@ IN_PYTHON = [
                          "        return False\n        try:\n            return"),
                     Edit(DRIVER, "            if self._wait(FOREVER):\n", "            if self._wait(FOREVER) and False:\n")]),
     WrongClient("leases a number that another program has", "test_leases.Programs.test_another_program", [
-        Edit(LEASES, "            fcntl.lockf(file, fcntl.LOCK_EX | fcntl.LOCK_NB)\n", "            pass\n")]),
-    WrongClient("opens the file of a number twice", "test_leases.Programs.test_a_lease_outlasts_others_of_its_process", [
-        Edit(LEASES, "LEASES.setdefault(lease.place, lease) is lease and lease", "lease")]),
-    WrongClient("keeps the files of its parent in a forked process",
+        Edit(BELL, "                return False\n", "                return True\n"),
+        Edit(BELL, "        held.connect(held.getsockname())\n", "")]),
+    WrongClient("shares its number with who allows that too", "test_leases.Programs.test_two_copies_of_the_package", [
+        Edit(BELL, "        try:\n            bind(", "        held.setsockopt(socket.SOL_SOCKET, socket.SO_REUSEPORT, 1)\n"
+                   "        try:\n            bind(")]),
+    WrongClient("leases apart in each environment", "test_leases.Programs.test_other_environments", [
+        Edit(LEASES, "place_of(user(), client)", "place_of(len(os.environ.get('XDG_RUNTIME_DIR', '')), client)")]),
+    WrongClient("keeps the sockets of its parent in a forked process",
                 "test_leases.Programs.test_a_number_that_outlives_its_parent", [
-                    Edit(LEASES, "    for lease in LEASES.values():\n        lease.drop()\n    LEASES", "    LEASES")]),
-    WrongClient("leases by the clock alone", "test_leases.Incarnations.test_a_clock_that_stands_or_goes_back", [
-        Edit(LEASES, "max(now(), 1 + greatest_leased(path, os.pread(file, 64, 0)))", "now()")]),
-    WrongClient("doesn't write its incarnation", "test_leases.Incarnations.test_it_is_written_before_it_is_used", [
-        Edit(LEASES, "        text = b\"%d\\n\" % self.incarnation\n", "        text = b\"\"\n")]),
-    WrongClient("gives no number back", "test_leases.Numbers.test_short_sessions_one_after_another", [
-        Edit(DRIVER, "            self.name.close()\n", "")]),
-    WrongClient("leases where others may write", "test_leases.Folders.test_folders_that_are_refused", [
-        Edit(LEASES, " or told.st_mode & (stat.S_IWGRP | stat.S_IWOTH):", ":")]),
+                    Edit(BELL, "    for bell in list(BELLS):\n", "    for bell in ():\n")]),
+    WrongClient("begins by the clock alone", "test_leases.Incarnations.test_a_clock_that_stands_or_goes_back", [
+        Edit(LEASES, "    return number\n\n\n# ---- from", "    return now()\n\n\n# ---- from")]),
+    WrongClient("gives no number back", "test_leases.Numbers.test_the_least_free_number", [
+        Edit(BELL, '        self._open.pop("socket", None)\n', "        pass\n")]),
+    WrongClient("closes the descriptor of who rings", "test_leases.Places.test_who_rings_as_it_is_closed", [
+        Edit(BELL, '        self._open.pop("socket", None)\n', '        held = self._open.pop("socket", None)\n'
+                   "        if held is not None:\n            held.close()\n")]),
+    WrongClient("keeps what strangers send", "test_leases.Places.test_what_others_send", [
+        Edit(BELL, "held.connect(held.getsockname())", "self.ring = lambda: held.sendto(b'', held.getsockname())")]),
+    WrongClient("is replaced where its clock was set back", "test_leases.TheServersWord.test_a_clock_that_was_set_back", [
+        Edit(LEASES, "        if self._renewed or current >= GREATEST:\n", "        if True:\n")]),
+    WrongClient("begins anew where it is replaced", "test_leases.TheServersWord.test_behind_a_welcome", [
+        Edit(COURSE, "if self.machine.state is m.State.NEW and isinstance(made", "if isinstance(made")]),
+    WrongClient("begins anew again and again", "test_leases.TheServersWord.test_once", [
+        Edit(LEASES, "self._renewed, self.incarnation = True,", "self._renewed, self.incarnation = False,")]),
+    WrongClient("has a descriptor more than it needs", "test_leases.Descriptors.test_a_session", [
+        Edit(DRIVER, 'getattr(selectors, "PollSelector", selectors.SelectSelector)', "selectors.DefaultSelector")]),
     WrongClient("takes a wrong range for none", "test_leases.Ranges.test_wrong_variables", [
         Edit(LEASES, "return range_told(os.environ[VARIABLE]) if VARIABLE in os.environ else CLIENTS",
              "return range_told(os.environ[VARIABLE]) if os.environ.get(VARIABLE) else CLIENTS")]),

@@ -1,12 +1,13 @@
 """What all tests use: the package from this clone, sessions that wait long, and what a call raises."""
 import contextlib
+import errno
 import faulthandler
 import functools
+import itertools
 import os
 import pathlib
 import socket
 import sys
-import tempfile
 import time
 import types
 import unittest
@@ -106,14 +107,41 @@ def session(server, **more):
     return rv.Session(server.address, 1, 1, **{"patience": PATIENCE, "answer": PATIENCE / 2, "connect_timeout": None, **more})
 
 
+# Blocks of client numbers that this process has leased from.
+BLOCKS = itertools.count()
+# How many numbers a block has.
+BLOCK = 32
+
+
+def numbers():
+    """Client numbers that nobody else leases: each process has 4,096 of its own, by its number, and a block is some of them."""
+    first = 4_096 * os.getpid() + BLOCK * next(BLOCKS)
+    return range(first, first + BLOCK)
+
+
 @contextlib.contextmanager
-def leasing(**environment):
-    """In the block numbers are leased in a new folder, which it is given, and from the first 1,024 where the environment has no
-    other range."""
-    with tempfile.TemporaryDirectory(prefix="rv-leases-") as name, mock.patch.dict(os.environ):
-        os.environ.pop("RV_CLIENTS", None)
-        os.environ.update({"XDG_RUNTIME_DIR": name, **environment})
-        yield pathlib.Path(name, "rendezvous")
+def leasing():
+    """In the block numbers are leased from a new range, which it is given, and which the environment says."""
+    clients = numbers()
+    with mock.patch.dict(os.environ, RV_CLIENTS=f"{clients[0]}-{clients[-1]}"):
+        yield clients
+
+
+def place_of(client, user=os.geteuid()):
+    """The address and port that stand for a user's client number, as the formats say."""
+    block = (user + 2654435761 * (client // 4096)) % 2**22
+    return f"127.{64 + block // 65536}.{block // 256 % 256}.{block % 256}", 61000 + client % 4096
+
+
+def is_free(client):
+    """Whether nobody has leased a number."""
+    with socket.socket(socket.AF_INET, socket.SOCK_DGRAM) as other:
+        try:
+            other.bind(place_of(client))
+        except OSError as fault:
+            assert fault.errno == errno.EADDRINUSE, fault
+            return False
+    return True
 
 
 def key(number, epoch=1):

@@ -14,8 +14,8 @@ from unittest import mock
 import _thread
 from book import PLACE, Book, named, waits
 from context import (
-    GENEROUS, PATIENCE, Case, asked, impatient, in_time, key, leasing, raised_by, rv, session, unhurried, until)
-from rendezvous import aio, leases, stream
+    GENEROUS, PATIENCE, Case, asked, impatient, in_time, is_free, key, leasing, raised_by, rv, session, unhurried, until)
+from rendezvous import aio, stream
 from scripted import HANG_UP, SILENCE, Scripted, received_by, refused, reply, twice, waiting, welcome
 
 CLIENTS = itertools.count(1)
@@ -517,7 +517,7 @@ class Tasks(Case):
     def test_a_close_beside_a_silent_server(self):
         """It ends soon, also where its own task is cancelled, and the connection and the number are gone."""
         async def asks(cancels):
-            with leasing(), Scripted(welcome) as server:
+            with leasing() as clients, Scripted(welcome) as server:
                 one = aio.Session(server.address, patience=None, answer=100_000)
                 await cancelled(one, lambda one: one.take(3), server, 2)
                 await comes("its cancel", lambda: len(server.heard) == 3)
@@ -526,7 +526,7 @@ class Tasks(Case):
                 if cancels:
                     close.cancel()
                 self.assertEqual(type(await raised(close)), asyncio.CancelledError if cancels else type(None))
-                self.assertEqual((leases.LEASES, one.client), ({}, 1))
+                self.assertEqual((one.client, is_free(one.client)), (clients[0], True))
                 await comes("their ends", lambda: all(each.fileno() < 0 for each in server.open))
         run(asks(False))
         run(asks(True))
@@ -534,18 +534,18 @@ class Tasks(Case):
     def test_a_block_that_can_not_begin(self):
         """Its number is given back, whatever ends its hello."""
         async def begins():
-            with leasing(), Scripted(refused(9)) as server:
+            with leasing() as clients, Scripted(refused(9)) as server:
                 with self.raises(rv.Refused, number=9):
                     async with aio.Session(server.address):
                         pass
-                self.assertEqual(leases.LEASES, {})
+                self.assertTrue(is_free(clients[0]))
 
                 async def enters():
                     async with aio.Session(server.address):
                         pass
                 with contextlib.suppress(asyncio.TimeoutError):
                     await asyncio.wait_for(enters(), 0.01)
-                self.assertEqual(leases.LEASES, {})
+                self.assertTrue(is_free(clients[0]))
         run(begins())
 
     def test_an_event_loop_that_ends(self):
@@ -566,12 +566,13 @@ class Tasks(Case):
     def test_a_session_that_is_dropped(self):
         """Its number is free, and its connection is gone."""
         async def drops():
-            with leasing(), Scripted(welcome) as server:
+            with leasing() as clients, Scripted(welcome) as server:
                 one = aio.Session(server.address)
                 await one.connect()
+                self.assertFalse(is_free(clients[0]))
                 del one
                 gc.collect()
-                self.assertEqual(leases.LEASES, {})
+                self.assertTrue(is_free(clients[0]))
                 await comes("its end", lambda: server.open[0].fileno() < 0)
         run(drops())
 

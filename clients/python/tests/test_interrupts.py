@@ -16,7 +16,7 @@ from book import PLACE, Book, counted, named, place_of, waits
 from context import GENEROUS, Case, raised_by, rv
 from let_in import line_of
 from rendezvous.course import Running
-from rendezvous.driver import Job, let_go
+from rendezvous.driver import Job
 
 FOLDER = os.path.dirname(rv.__file__)
 KINDS = (KeyboardInterrupt, SystemExit, TimeoutError)
@@ -54,7 +54,7 @@ class Thrown:
 
 def is_of_a_finalizer(frame):
     """Whether a finalizer runs this: what it throws goes nowhere, and its moment is the runtime's."""
-    while frame is not None and frame.f_code is not let_go.__code__ and frame.f_code.co_filename != weakref.__file__:
+    while frame is not None and frame.f_code.co_filename != weakref.__file__:
         frame = frame.f_back
     return frame is not None
 

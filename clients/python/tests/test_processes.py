@@ -16,7 +16,7 @@ EXCEPTIONS = [
     rv.NotAsked(), rv.Full(key(2)), rv.Full(None), rv.Cancelled(key(3)), rv.Cancelled(None), rv.TimedOut(key(4)),
     rv.EpochEnded(key(5), 1), rv.EpochEnded(key(5), 7), rv.EpochEnded(None, 7), rv.Replaced(None, 2), rv.Replaced(key(1), 2),
     rv.Refused(key(6), 6, None, ": another process"), rv.Refused(None, 12, 1), rv.Misused("a call runs"),
-    rv.AllLeased(None, 1, 1024, "/run/user/1000/rendezvous"),
+    rv.AllLeased(None, 1, 1024),
     rv.NotRecorded(rv.replies.Item(key(1), "a"), '{"asked":{},"told":{}}', OSError(28, "No space left on device", "told.jsonl")),
 ]
 INTERRUPTS = [

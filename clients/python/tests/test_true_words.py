@@ -15,7 +15,7 @@ from scripted import HANG_UP, SILENCE, Scripted, hang_up, received_by, refused, 
 # Where a call looks whether it has to wait for what its request comes to, and where it was told.
 WAITING, TOLD = (Job.wait, "while self.told is None"), (rv.Session._told, "value, fault = ending")
 # Where the hello, or a call, is handed to the session's thread.
-HANDED = (Driver.order, "self._wakes.send")
+HANDED = (Driver.order, "self._bell.ring")
 SOON = 20
 
 

@@ -258,13 +258,14 @@ class Course:
     def _hear(self, job: Job, body: bytes) -> Optional[m.Told]:
         """Takes in an answer."""
         answer = read_answer(body)
-        made = m.step(self.machine, m.Hear(answer))
+        made = self._heard(m.step(self.machine, m.Hear(answer)))
         if isinstance(made.tell, m.Settled):
             job.unrecorded = self._recorded(made.tell.outcome, body)
             self.last = made.tell.outcome
         if made.send is not None:
             self._heard_at, self._bound = time.monotonic(), LEAST_PAUSE
-            self._welcome()
+            if made.machine.state is not m.State.NEW:
+                self._welcome()
             self._send(made, self._heard_at)
             return made.tell
         self.machine = made.machine
@@ -280,6 +281,14 @@ class Course:
     def _welcome(self) -> None:
         """The server is there: what is logged of it from now on is something new."""
         self._welcomed, self._logged = True, ""
+
+    def _heard(self, made: m.Step) -> m.Step:
+        """The step that an answer makes. Where the server has a greater incarnation of a client that was never welcome, and its
+        name takes one above that, this is the new one's hello."""
+        if self.machine.state is m.State.NEW and isinstance(made.tell, m.Replaced) and self.name.renewed(made.tell.current):
+            before = self.machine
+            return m.step(m.Machine(before.client, self.name.incarnation, before.version, call=before.call), m.Speak())
+        return made
 
     def _recorded(self, outcome: Outcome, told: bytes) -> Optional[NotRecorded]:
         """Writes the reply to the request into the record, if there is one; the exception where it can't be written."""

@@ -8,14 +8,13 @@ from __future__ import annotations
 import _thread
 import os
 import selectors
-import socket
 import threading
 import time
-import weakref
 from queue import Empty, SimpleQueue
 from typing import Optional, Tuple
 
 from . import course, machine as m
+from .bell import ANYWHERE, Bell
 from .bodies import Members
 from .course import FOREVER, Channel, Course
 from .leases import Name
@@ -23,6 +22,10 @@ from .link import Link
 from .record import Record
 
 CLOSED = "the session is closed"
+# What a thread waits by has no descriptor of its own.
+Selector = getattr(selectors, "PollSelector", selectors.SelectSelector)
+# So many seconds a thread waits at once, for no system waits for any time.
+AT_ONCE = 3_600.0
 
 
 class Job(course.Job):
@@ -62,12 +65,9 @@ class Driver(Course):
         self.ended = threading.Lock()
         self.ended.acquire()
         self._orders: "SimpleQueue[Optional[Job]]" = SimpleQueue()
-        self._woken, self._wakes = socket.socketpair()
-        self._woken.setblocking(False)
-        # behind the thread's end somebody may wake it still, so they are closed where nobody has the driver any more
-        weakref.finalize(self, let_go, self._woken, self._wakes)
-        self._selector = selectors.DefaultSelector()
-        self._selector.register(self._woken, selectors.EVENT_READ)
+        self._bell = bell_of(name)
+        self._selector: selectors.BaseSelector = Selector()
+        self._rung = self._selector.register(self._bell.fileno(), selectors.EVENT_READ).fileobj
         # in one step, where Thread.start waits for what an exception may leave
         _thread.start_new_thread(self._run, ())
 
@@ -77,7 +77,7 @@ class Driver(Course):
         """Hands a job over, or has the thread look at it again; None where the driver is to close. It may be done twice.
         Nothing is caught here: an OSError would be one that a signal's handler threw."""
         self._orders.put(job)
-        self._wakes.send(b"\0")
+        self._bell.ring()
 
     def close(self) -> None:
         """Ends the thread, and the call that runs. Behind a fork there is none, and behind its end nobody to wake."""
@@ -169,7 +169,7 @@ class Driver(Course):
         assert isinstance(link, Link)
         wanted = selectors.EVENT_WRITE if link.wants_to_write() else selectors.EVENT_READ
         for key in list(self._selector.get_map().values()):
-            if key.fileobj not in (self._woken, link.socket):
+            if key.fileobj not in (self._rung, link.socket):
                 self._selector.unregister(key.fileobj)
         if link.socket in self._selector.get_map():
             self._selector.modify(link.socket, wanted)
@@ -178,19 +178,18 @@ class Driver(Course):
 
     def _wait(self, moment: float) -> bool:
         """Waits until a moment, or until something comes; whether it is the connection's."""
-        seconds = None if moment == FOREVER else max(0.0, moment - time.monotonic())
+        seconds = None if moment == FOREVER else min(AT_ONCE, max(0.0, moment - time.monotonic()))
         ready = {key.fileobj for key, _ in self._selector.select(seconds)}
-        if self._woken in ready:
+        if self._rung in ready:
             # orders come first: a cancel that came before an answer is looked at before it
-            try:
-                self._woken.recv(4096)
-            except OSError:
-                pass
+            self._bell.heard()
             return False
         return isinstance(self._link, Link) and self._link.socket in ready
 
 
-def let_go(*sockets: socket.socket) -> None:
-    """Closes sockets that nobody uses any more."""
-    for each in sockets:
-        each.close()
+def bell_of(name: Name) -> Bell:
+    """What wakes the thread of a session of this name: its lease, or else a bell at any place. The name closes it."""
+    if name.bell is None:
+        name.bell = Bell()
+        name.bell.takes(ANYWHERE)
+    return name.bell

@@ -57,15 +57,15 @@ class NotAsked(RendezvousError):
 
 
 class AllLeased(RendezvousError):
-    """No client number was free: each from `first` to `last` is leased in `folder`, by sessions of this user that were not
-    closed yet. Nothing was asked."""
+    """No client number was free: each from `first` to `last` is leased, by sessions of this host that were not closed yet.
+    Nothing was asked."""
 
-    def __init__(self, key: Optional[Key], first: int, last: int, folder: str) -> None:
-        super().__init__(key, first, last, folder)
-        self.first, self.last, self.folder = first, last, folder
+    def __init__(self, key: Optional[Key], first: int, last: int) -> None:
+        super().__init__(key, first, last)
+        self.first, self.last = first, last
 
     def words(self) -> str:
-        return f"all client numbers {self.first} to {self.last} of {self.folder} are leased"
+        return f"all client numbers {self.first} to {self.last} are leased"
 
 
 class Full(RendezvousError):

@@ -1,163 +1,122 @@
-"""Names of clients: a number that is given, or one that is leased by the lock of a file, and an incarnation.
+"""Names of clients: a number that is given, or one that is leased by a bound socket, and an incarnation.
 
-The lock of a number is a POSIX record lock, which belongs to a process and ends where that closes any descriptor of the
-file. So a process opens the file of a number once, and keeps a register of those that it has.
+A leased number's socket is bound to a loopback address and a port that stand for the user and the number. The system keeps it:
+there is nothing to delete, it has no environment, and it ends with the process, however that ends.
 """
 from __future__ import annotations
 
-import errno
 import os
-import pathlib
 import re
-import stat
-import sys
-import tempfile
 import time
-from typing import Dict, Optional, Tuple
+from typing import Dict, Optional
 
+from .bell import Bell, Place
 from .bodies import GREATEST, is_whole
 from .calls import checked
 from .errors import AllLeased
 
 VARIABLE = "RV_CLIENTS"
 CLIENTS = range(1, 1025)
-# What the file of a number holds; one that was only made holds nothing.
-HELD = re.compile(rb"([1-9][0-9]{0,15})\n")
-
-# A number's place: its folder, by device and inode, and the number itself.
-Place = Tuple[int, int, int]
+# The ports of leases: so many from a first one on, above those that Linux gives out by itself.
+FIRST_PORT, PORTS = 61_000, 4_096
+# So many addresses, from 127.64.0.0 on; users and blocks of numbers are spread over them by an odd factor.
+ADDRESSES, FACTOR = 2**22, 2_654_435_761
 
 
 class Name:
-    """What a session is called: a client number and an incarnation."""
+    """What a session is called: a client number and an incarnation. `bell` is a lease's, or wakes the session's thread."""
 
-    def __init__(self, client: int, incarnation: int) -> None:
-        self.client, self.incarnation = client, incarnation
+    def __init__(self, client: int, incarnation: int, bell: Optional[Bell] = None) -> None:
+        self.client, self.incarnation, self.bell = client, incarnation, bell
+
+    def renewed(self, current: int) -> bool:
+        """Whether it takes an incarnation above this one, which the server has; a name that was given does not."""
+        return False
 
     def close(self) -> None:
         """The session has ended."""
+        if self.bell is not None:
+            self.bell.close()
 
 
 class Lease(Name):
-    """A number that no other program of this user has on this host until it is closed, or this process ends; and an
-    incarnation above each that the number was leased with."""
+    """A number that no other program of this user has on this host until it is closed, or this process ends. Where the clock was
+    set back, the server's word for a greater incarnation is taken, once."""
 
-    def __init__(self, client: int, place: Place) -> None:
-        super().__init__(client, 0)
-        self.place = place
-        # the file, while it is open: a thread and a signal's handler may close it at once, and pop is one step
-        self._open: Dict[str, int] = {}
+    _renewed = False
 
-    def locked(self, path: pathlib.Path) -> bool:
-        """Locks the number's file, and keeps there which incarnation is used; False where another process has it."""
-        import fcntl  # there is none where there are no such locks
-        file = self._open["file"] = os.open(path, os.O_RDWR | os.O_CREAT | os.O_NOFOLLOW | os.O_CLOEXEC, 0o600)
-        try:
-            fcntl.lockf(file, fcntl.LOCK_EX | fcntl.LOCK_NB)
-        except OSError as fault:
-            if fault.errno not in (errno.EACCES, errno.EAGAIN):
-                raise
+    def renewed(self, current: int) -> bool:
+        if self._renewed or current >= GREATEST:
             return False
-        self.incarnation = max(now(), 1 + greatest_leased(path, os.pread(file, 64, 0)))
-        text = b"%d\n" % self.incarnation
-        if os.pwrite(file, text, 0) != len(text):
-            raise OSError(errno.ENOSPC, "the incarnation was not written", str(path))
+        self._renewed, self.incarnation = True, current + 1
+        USED.setdefault(self.incarnation, None)
         return True
-
-    def close(self) -> None:
-        """Gives the number back."""
-        self.drop()
-        if LEASES.get(self.place) is self:
-            del LEASES[self.place]
-
-    def drop(self) -> None:
-        """Closes the file."""
-        file = self._open.pop("file", None)
-        if file is not None:
-            os.close(file)
-
-
-# The numbers that this process has, or is about to try: setdefault is one step, which no other thread and no signal's
-# handler splits.
-LEASES: Dict[Place, Lease] = {}
-
-
-def forget() -> None:
-    """A forked process has no lock of its parent's. It closes the files before it locks one of them itself."""
-    for lease in LEASES.values():
-        lease.drop()
-    LEASES.clear()
-
-
-if hasattr(os, "register_at_fork"):
-    os.register_at_fork(after_in_child=forget)
 
 
 def name_of(client: Optional[int], incarnation: Optional[int], clients: Optional[range]) -> Name:
-    """The name of a session: what is given, and for what is left out a leased number and this moment."""
+    """The name of a session: what is given, and for what is left out a leased number and a new incarnation."""
     if client is None:
         checked(incarnation is None, "an incarnation is given along with its client number")
         return leased(range_of(clients))
     checked(clients is None, "a client number is given, or a range to lease one from")
-    named = Name(client, now() if incarnation is None else incarnation)
-    for what, number in (("client", named.client), ("incarnation", named.incarnation)):
+    for what, number in (("client", client), ("incarnation", 1 if incarnation is None else incarnation)):
         checked(is_whole(number, 1, GREATEST), f"the {what} is 1 to {GREATEST}: {number!r}")
-    return named
+    return Name(client, new_incarnation() if incarnation is None else incarnation)
 
 
-def now() -> int:
-    """This moment as an incarnation: the milliseconds since 1970."""
-    return max(1, time.time_ns() // 1_000_000)
-
+# ---- numbers
 
 def leased(clients: range) -> Lease:
     """A lease of the least number of a range that is free. `AllLeased` where none is."""
-    if sys.platform == "win32":
-        raise NotImplementedError("client numbers are leased by POSIX locks, which are not here: give a client number")
-    folder = folder_of_leases()
-    told = folder.stat()
-    for client in clients:
-        lease = Lease(client, (told.st_dev, told.st_ino, client))
-        try:
-            if LEASES.setdefault(lease.place, lease) is lease and lease.locked(folder / f"client-{client}"):
-                return lease
-        except BaseException:
-            lease.close()
-            raise
-        lease.close()
-    raise AllLeased(None, clients[0], clients[-1], str(folder))
+    bell = Bell()
+    try:
+        for client in clients:
+            if bell.takes(place_of(user(), client)):
+                return Lease(client, new_incarnation(), bell)
+        raise AllLeased(None, clients[0], clients[-1])
+    except BaseException:
+        bell.close()
+        raise
 
 
-def greatest_leased(path: pathlib.Path, text: bytes) -> int:
-    """The incarnation that the file of a number holds: the greatest that it was leased with. 0 where it is new."""
-    held = HELD.fullmatch(text)
-    number = int(held[1]) if held else 0
-    checked(not text or 0 < number < GREATEST, f"{path} holds no incarnation that another may follow: {text!r}")
+def user() -> int:
+    """The user's number; 0 where the system has none."""
+    return os.geteuid() if hasattr(os, "geteuid") else 0
+
+
+def place_of(user_number: int, client: int) -> Place:
+    """The address and the port that stand for a user's client number. Where two fall together, one of them is not free."""
+    block, within = divmod(client, PORTS)
+    spread = (user_number + FACTOR * block) % ADDRESSES
+    return f"127.{64 + (spread >> 16)}.{spread >> 8 & 255}.{spread & 255}", FIRST_PORT + within
+
+
+# ---- incarnations
+
+# Those that this process used: the greatest stays. setdefault is one step, which no other thread and no signal's handler
+# splits.
+USED: Dict[int, Optional[object]] = {}
+
+
+def now() -> int:
+    """This moment as an incarnation: the microseconds since 1970."""
+    return max(1, time.time_ns() // 1_000)
+
+
+def new_incarnation() -> int:
+    """This moment, or the next number above each that this process used."""
+    mine = object()
+    while True:
+        number = max(now(), 1 + max(list(USED), default=0))
+        checked(number <= GREATEST, f"no incarnation is left above {number - 1}")
+        if USED.setdefault(number, mine) is mine and number == max(list(USED)):
+            break
+    for lesser in [each for each in list(USED) if each < number]:
+        USED.pop(lesser, None)
     return number
 
 
-# ---- where, and from which range
-
-def folder_of_leases() -> pathlib.Path:
-    """The folder of the locks: in the user's runtime folder, or else in the one for temporary files. An OSError where it
-    can't be used, or others may write there."""
-    runtime = os.environ.get("XDG_RUNTIME_DIR", "")
-    if runtime and os.path.isdir(runtime):
-        folder = pathlib.Path(runtime, "rendezvous")
-    else:
-        folder = pathlib.Path(tempfile.gettempdir(), f"rendezvous-{os.geteuid()}")
-    try:
-        folder.mkdir(mode=0o700)
-    except FileExistsError:
-        pass
-    told = folder.lstat()
-    if not stat.S_ISDIR(told.st_mode):
-        raise NotADirectoryError(errno.ENOTDIR, "client numbers are leased in a folder, and this is none", str(folder))
-    if told.st_uid != os.geteuid() or told.st_mode & (stat.S_IWGRP | stat.S_IWOTH):
-        raise PermissionError(errno.EPERM, "client numbers are leased in a folder of this user's, where nobody else may write",
-                              str(folder))
-    return folder
-
+# ---- from which range
 
 def range_of(clients: Optional[range]) -> range:
     """The range that numbers are leased from: what is given, or what the environment says, or the first 1,024."""
