@@ -10,6 +10,7 @@ import tempfile
 import xml.etree.ElementTree
 import zipfile
 
+from context import numbers
 from tests import ROOT
 from tests.clients import java
 from tests.sockets.programs import Server
@@ -73,10 +74,9 @@ def later_jdk():
 
 @contextlib.contextmanager
 def runtime(program):
-    """The environment of tests: client numbers are leased in a folder of their own, and the program is this one."""
-    with tempfile.TemporaryDirectory(prefix="rv-runtime-") as folder:
-        kept = {name: value for name, value in os.environ.items() if name != "RV_CLIENTS"}
-        yield {**kept, "XDG_RUNTIME_DIR": folder, "RV_PROGRAM": program, "MAVEN_OPTS": " ".join(java.QUICK)}
+    """The environment of tests: client numbers are leased from a range of their own, and the program is this one."""
+    clients = numbers()
+    yield {**os.environ, "RV_CLIENTS": f"{clients[0]}-{clients[-1]}", "RV_PROGRAM": program, "MAVEN_OPTS": " ".join(java.QUICK)}
 
 
 def maven_builds_it(program):

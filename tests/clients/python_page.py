@@ -4,8 +4,8 @@ import re
 import signal
 import subprocess
 import sys
-import tempfile
 
+from context import numbers
 from tests import ROOT
 from tests.sockets.hosts import serving
 from tests.sockets.wire import PATIENCE, demand
@@ -22,12 +22,11 @@ def programs():
 class Program:
     """A program of the page, which is ended at the end of its block."""
 
-    def __init__(self, text, server, folder):
+    def __init__(self, text, server, clients):
         address = f"127.0.0.1:{server.port}"
         demand(ADDRESS in text, f"it names another server: {text}")
-        environment = {**os.environ, "PYTHONPATH": str(ROOT / "clients/python/src"), "XDG_RUNTIME_DIR": folder,
-                       "PYTHONDONTWRITEBYTECODE": "1"}
-        environment.pop("RV_CLIENTS", None)
+        environment = {**os.environ, "PYTHONPATH": str(ROOT / "clients/python/src"), "PYTHONDONTWRITEBYTECODE": "1",
+                       "RV_CLIENTS": f"{clients[0]}-{clients[-1]}"}
         words = [sys.executable, "-u", "-c", text.replace(ADDRESS, address)]
         self.process = subprocess.Popen(words, env=environment, text=True, stdout=subprocess.PIPE, stderr=subprocess.PIPE)
 
@@ -50,12 +49,14 @@ def the_page_of_python(program):
     gives, *workers = programs()
     demand(len(workers) == 2, f"the page has {len(workers)} workers")
     for worker in workers:
-        with serving(program, 8, 1_000) as server, tempfile.TemporaryDirectory(prefix="rv-page-") as folder, \
-                Program(worker, server, folder) as works:
-            with Program(gives, server, folder) as giver:
+        clients = numbers()
+        with serving(program, 8, 1_000) as server, Program(worker, server, clients) as works:
+            with Program(gives, server, clients) as giver:
                 printed, said, status = giver.ends()
                 demand((said, status) == ("", 0), f"{status}: {said}")
-                demand(re.fullmatch(r"received by Key\(epoch=1, client=[12], incarnation=\d{13,}, number=1\)\n", printed), printed)
+                either = "|".join(map(str, clients[:2]))
+                wanted = rf"received by Key\(epoch=1, client=({either}), incarnation=\d{{16,}}, number=1\)\n"
+                demand(re.fullmatch(wanted, printed), printed)
             demand(works.process.stdout.readline() == "doing a\n", "the worker does something else")
             works.process.send_signal(signal.SIGTERM)
             printed, said, status = works.ends()

@@ -5,10 +5,11 @@ from tests.clients.wrong import (
     OLD_HELLO, OWN_NUMBER, PART_OF_A_KEY, OTHER_VERSION, TELLS_WRONG, NOTHING_GIVEN, CANCEL_RECORDED, NEW_RECORD, DROPS_REPLY,
     Edit, WrongClient)
 
-MACHINE, REPLIES, SESSION, RUNNING, POOL, LEASES, QUEUE, FUTURE, UNCLAIMED, CONSUMER, BODIES, LINK, CLIENTS, RECORD = (
+(MACHINE, REPLIES, SESSION, RUNNING, POOL, LEASES, QUEUE, FUTURE, UNCLAIMED, CONSUMER, BODIES, LINK, CLIENTS, RECORD,
+ INCARNATIONS) = (
     f"clients/java/src/main/java/rendezvous/{name}.java"
     for name in ("Machine", "Replies", "RvSession", "Running", "Pool", "Leases", "RvTransferQueue", "RequestFuture", "Unclaimed",
-                 "RvConsumer", "Bodies", "SocketLink", "RvClients", "RecordFile"))
+                 "RvConsumer", "Bodies", "SocketLink", "RvClients", "RecordFile", "Incarnations"))
 
 IN_JAVA = [
     WrongClient(ANOTHER_NUMBER, "java, the java process", [
@@ -68,13 +69,20 @@ IN_JAVA = [
         Edit(POOL, '                seat.session.rest();\n            }\n        }\n', '            }\n        }\n')]),
     WrongClient("has a session for each thread", "java_scenes, connections of dead threads", [
         Edit(POOL, 'Stream.concat(free().filter(Seat::isNobodys), free()).findFirst().or(this::made)', 'made()')]),
-    WrongClient("leases a number that another process holds", "java_leases, beside another language", [
-        Edit(LEASES, 'locked = file.getChannel().tryLock() != null;', 'locked = file.getChannel().isOpen();')]),
-    WrongClient("leases in an incarnation of a clock that went back", "java_leases, beside another language", [
-        Edit(LEASES, 'Math.max(System.currentTimeMillis(), before + 1)', 'System.currentTimeMillis()'),
-        Edit(LEASES, 'if (incarnation <= before || incarnation > Key.GREATEST) {', 'if (incarnation > Key.GREATEST) {')]),
-    WrongClient("keeps what it leased for itself alone", "java_leases, beside another language", [
-        Edit(LEASES, '        file.write(line);\n', '')]),
+    WrongClient("leases a number that another program has", "java_leases, beside another language", [
+        Edit(LEASES, '            return Optional.empty();\n        } finally', '            bound = true;\n'
+                     '            return Optional.of(channel);\n        } finally')]),
+    WrongClient("shares its number with who allows that too", "java_leases, between programs", [
+        Edit(LEASES, 'channel.bind(place);',
+             'channel.setOption(java.net.StandardSocketOptions.SO_REUSEPORT, true).bind(place);')]),
+    WrongClient("leases apart in each environment", "java_leases, environments", [
+        Edit(LEASES, 'long user = user();', 'long user = user() + String.valueOf(System.getenv("XDG_RUNTIME_DIR")).length();')]),
+    WrongClient("begins by the clock alone", "java_leases, a clock that stands or goes back", [
+        Edit(INCARNATIONS, 'Math.max(micros, before + 1)', 'micros')]),
+    WrongClient("is replaced where its clock was set back", "java_leases, a clock that was set back", [
+        Edit(SESSION, 'if (renews && machine', 'if (renews && closed && machine')]),
+    WrongClient("begins anew again and again", "java_leases, a clock that was set back", [
+        Edit(SESSION, '            renews = false;\n', '')]),
     WrongClient("drops an item that reached a cancelled future", "java_scenes, a cancelled take", [
         Edit(UNCLAIMED, 'if (outcome instanceof Outcome.Item taken) {', 'if (outcome instanceof Outcome.Item taken && !future.isDone()) {')]),
     WrongClient("takes no heed of a take that is being cancelled", "java_scenes, a cancelled take", [

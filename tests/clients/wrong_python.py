@@ -8,8 +8,8 @@ PACKAGE, TESTS = "clients/python/src/rendezvous", "clients/python/tests"
 (MACHINE, SESSION, BODIES, CALLS, REPLIES, LINK, DRIVER, ERRORS, COURSE, ENDINGS, LEASES, UNCLAIMED, AIO, STREAM, RECORD,
  BELL) = (
     f"{PACKAGE}/{name}.py" for name in (
-        "machine", "session", "bodies", "calls", "replies", "link", "driver", "errors", "course", "endings", "leases", "unclaimed",
-        "aio", "stream", "record", "bell"))
+        "machine", "session", "bodies", "calls", "replies", "link", "driver", "errors", "course", "endings", "leases",
+        "unclaimed", "aio", "stream", "record", "bell"))
 # Where a link was lost, and what goes on to another number there.
 LOST = "            self._failed()\n            return None\n"
 SKIP = ("            key = self.machine.key\n            if key and %s:\n"

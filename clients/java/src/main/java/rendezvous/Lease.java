@@ -4,7 +4,7 @@ package rendezvous;
  * A client number that nobody else has, until it is given back, and the incarnation that it is used in.
  *
  * @param client the number
- * @param incarnation the incarnation, above each that the number was used in
+ * @param incarnation the incarnation, above each that this process used
  * @param end what gives the number back
  */
 record Lease(long client, long incarnation, Runnable end) {

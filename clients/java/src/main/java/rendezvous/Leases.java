@@ -1,39 +1,35 @@
 package rendezvous;
 
+import com.sun.security.auth.module.UnixSystem;
 import java.io.IOException;
-import java.io.RandomAccessFile;
 import java.io.UncheckedIOException;
-import java.nio.channels.OverlappingFileLockException;
-import java.nio.charset.StandardCharsets;
-import java.nio.file.Path;
-import java.util.HashMap;
-import java.util.Map;
+import java.net.BindException;
+import java.net.InetAddress;
+import java.net.InetSocketAddress;
+import java.net.StandardProtocolFamily;
+import java.nio.channels.DatagramChannel;
 import java.util.Optional;
 import java.util.OptionalLong;
 
 /**
- * Client numbers that are leased, each by the lock of a file of its own, which holds the greatest incarnation that was
- * leased under that number. The locks are the system's, so that programs in other languages keep them too; they end with
- * the process.
+ * Client numbers that are leased, each by a datagram socket that is bound to a loopback address and a port, which stand for
+ * the user and the number. The system keeps the lease: so programs in other languages keep it too, nothing of it can be
+ * deleted, it has no environment, and it ends with the process.
  */
 final class Leases implements Numbers {
-    /**
-     * The files that are open in this process, by their real paths. The system ends a process's lock of a file as soon as
-     * the process closes any descriptor of it: so none is opened twice.
-     */
-    private static final Map<Path, RandomAccessFile> OPEN = new HashMap<>();
+    /** The ports of leases: so many from a first one on, above those that Linux gives out by itself. */
+    private static final int FIRST_PORT = 61_000;
+    private static final int PORTS = 4_096;
+    /** So many addresses, from 127.64.0.0 on; users and blocks of numbers are spread over them by an odd factor. */
+    private static final int ADDRESSES = 1 << 22;
+    private static final long FACTOR = 2_654_435_761L;
+    private static final byte[] ONE_ADDRESS = {127, 0, 0, 1};
 
-    private final Path folder;
     private final ClientRange range;
     private final OptionalLong chosen;
 
-    /** Leases of this range in a folder that is there, in incarnations of their own or in the one that the user chose. */
-    Leases(Path folder, ClientRange range, OptionalLong chosen) {
-        try {
-            this.folder = folder.toRealPath();
-        } catch (IOException fault) {
-            throw new UncheckedIOException("client numbers cannot be leased in " + folder + ": " + fault.getMessage(), fault);
-        }
+    /** Leases of this range, in incarnations of their own or in the one that the user chose. */
+    Leases(ClientRange range, OptionalLong chosen) {
         this.range = range;
         this.chosen = chosen;
     }
@@ -50,105 +46,95 @@ final class Leases implements Numbers {
 
     @Override
     public IllegalStateException none() {
-        return new NoClientNumber(
-            "all client numbers " + range.first() + " to " + range.last() + " of " + folder + " are leased");
+        return new NoClientNumber("all client numbers " + range.first() + " to " + range.last() + " are leased");
     }
 
     @Override
     public Optional<Lease> next() {
-        synchronized (OPEN) {
-            for (long client = range.first(); client <= range.last(); client++) {
-                Path file = folder.resolve("client-" + client);
-                if (!OPEN.containsKey(file) && isLocked(file)) {
-                    return Optional.of(leased(client, file));
-                }
+        long user = user();
+        for (long client = range.first(); client <= range.last(); client++) {
+            Optional<DatagramChannel> held = held(place(user, client));
+            if (held.isPresent()) {
+                return Optional.of(leased(client, held.get()));
             }
         }
         return Optional.empty();
     }
 
-    /** Locks a file, unless another process has; whether it did. It is open as long as it is locked. */
-    private static boolean isLocked(Path path) {
-        RandomAccessFile file = null;
-        boolean locked = false;
+    private Lease leased(long client, DatagramChannel held) {
+        boolean made = false;
         try {
-            file = new RandomAccessFile(path.toFile(), "rw");
-            locked = file.getChannel().tryLock() != null;
-        } catch (OverlappingFileLockException loadedTwice) {
-            // Another copy of this class has the lock in this process: a close would end it.
-            OPEN.put(path, file);
-            return false;
-        } catch (IOException fault) {
-            throw new UncheckedIOException("no lease by " + path + ": " + fault.getMessage(), fault);
+            Lease lease = new Lease(client, chosen.orElseGet(Incarnations::next), () -> close(held));
+            made = true;
+            return lease;
         } finally {
-            if (locked) {
-                OPEN.put(path, file);
-            } else if (file != null && !OPEN.containsKey(path)) {
-                close(path, file);
+            if (!made) {
+                close(held);
             }
         }
-        return locked;
     }
 
-    private Lease leased(long client, Path path) {
-        RandomAccessFile file = OPEN.get(path);
-        boolean written = false;
+    /** The user's number; 0 where the system has none. */
+    private static long user() {
+        return System.getProperty("os.name").startsWith("Windows") ? 0 : new UnixSystem().getUid();
+    }
+
+    /** The address and the port that stand for a user's client number. Where two fall together, one of them is not free. */
+    static InetSocketAddress place(long user, long client) {
+        long spread = user + FACTOR * (client / PORTS) & ADDRESSES - 1;
+        byte[] address = {127, (byte) (64 + (spread >> 16)), (byte) (spread >> 8), (byte) spread};
+        return new InetSocketAddress(address(address), FIRST_PORT + (int) (client % PORTS));
+    }
+
+    private static InetAddress address(byte[] bytes) {
         try {
-            long incarnation = renewed(path, file);
-            written = true;
-            return new Lease(client, incarnation, () -> giveBack(path, file));
+            return InetAddress.getByAddress(bytes);
+        } catch (IOException never) {
+            throw new UncheckedIOException(never);
+        }
+    }
+
+    /** What is bound to a place now, or to its port where the system has one loopback address; none where another has it. */
+    private static Optional<DatagramChannel> held(InetSocketAddress place) {
+        try {
+            Optional<DatagramChannel> held = bound(place);
+            return held.isPresent() || isThere(place.getAddress()) ? held
+                : bound(new InetSocketAddress(address(ONE_ADDRESS), place.getPort()));
         } catch (IOException fault) {
-            throw new UncheckedIOException("no lease by " + path + ": " + fault.getMessage(), fault);
+            throw new UncheckedIOException("no client number can be leased at " + place + ": " + fault.getMessage(), fault);
+        }
+    }
+
+    /** Whether the system has this address: some port of it can be bound. */
+    private static boolean isThere(InetAddress address) throws IOException {
+        Optional<DatagramChannel> any = bound(new InetSocketAddress(address, 0));
+        any.ifPresent(Leases::close);
+        return any.isPresent();
+    }
+
+    /** A socket that is bound to a place. The system throws away what others send to it. */
+    private static Optional<DatagramChannel> bound(InetSocketAddress place) throws IOException {
+        DatagramChannel channel = DatagramChannel.open(StandardProtocolFamily.INET);
+        boolean bound = false;
+        try {
+            channel.bind(place);
+            channel.connect(channel.getLocalAddress());
+            bound = true;
+            return Optional.of(channel);
+        } catch (BindException taken) {
+            return Optional.empty();
         } finally {
-            if (!written) {
-                giveBack(path, file);
+            if (!bound) {
+                channel.close();
             }
         }
     }
 
-    /** The incarnation of a new lease, which is written before it is used. */
-    private long renewed(Path path, RandomAccessFile file) throws IOException {
-        long before = written(path, file);
-        long incarnation = chosen.orElse(Math.max(System.currentTimeMillis(), before + 1));
-        if (incarnation <= before || incarnation > Key.GREATEST) {
-            throw new IllegalStateException(path + ": incarnation " + before + " was leased, and " + incarnation
-                + " is not above it, or above " + Key.GREATEST);
-        }
-        byte[] line = (incarnation + "\n").getBytes(StandardCharsets.US_ASCII);
-        file.seek(0);
-        file.write(line);
-        file.setLength(line.length);
-        return incarnation;
-    }
-
-    /** The incarnation that a file holds; 0 in a new one. */
-    private static long written(Path path, RandomAccessFile file) throws IOException {
-        byte[] bytes = new byte[(int) Math.min(file.length(), 32)];
-        file.readFully(bytes);
-        String line = new String(bytes, StandardCharsets.ISO_8859_1);
-        if (line.isEmpty()) {
-            return 0;
-        }
-        if (!line.matches("[0-9]{1,16}\n")) {
-            throw new IllegalStateException(path + " holds no incarnation: it is no lease of this program's");
-        }
-        return Long.parseLong(line.trim());
-    }
-
-    /** Ends the lease that this open file is; one of the same number that was made since goes on. */
-    private static void giveBack(Path path, RandomAccessFile file) {
-        synchronized (OPEN) {
-            if (OPEN.remove(path, file)) {
-                close(path, file);
-            }
-        }
-    }
-
-    private static void close(Path path, RandomAccessFile file) {
+    private static void close(DatagramChannel channel) {
         try {
-            file.close();
+            channel.close();
         } catch (IOException fault) {
-            throw new UncheckedIOException("no end of the lease by " + path + ": " + fault.getMessage(), fault);
+            throw new UncheckedIOException("no end of the lease of a client number: " + fault.getMessage(), fault);
         }
     }
 }

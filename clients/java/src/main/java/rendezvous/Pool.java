@@ -230,6 +230,9 @@ final class Pool {
         try {
             Seat seat = new Seat(maker.make(lease.client(), lease.incarnation()), lease);
             seat.session.whenLeft(() -> left(seat));
+            if (numbers.areUsedAgain()) {
+                seat.session.renews();
+            }
             made = true;
             return seat;
         } finally {

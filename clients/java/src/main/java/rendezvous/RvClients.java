@@ -27,11 +27,11 @@ import java.util.function.LongFunction;
  *
  * <p>They keep a {@linkplain Builder#record record} of what they were told, where a file is chosen for that.
  *
- * <p>Each session has a client number of its own, which is leased by the lock of a file, so that no two programs of a host
- * have the same; its incarnation is above each that was leased under that number. Numbers are leased as sessions are needed.
- * They are given back when the session has ended, when its thread ended and nobody used it for two seconds, and by
- * {@link #close}; at the latest they are free when the program has ended, however it ends. {@link Builder} tells where and
- * from which range. Hosts don't see each other's leases: those that share a server need ranges that have no number in common.
+ * <p>Each session has a client number of its own, which is leased by a socket that the system lets one program of the user
+ * bind, so that no two of them on a host have the same. Numbers are leased as sessions are needed. They are given back when
+ * the session has ended, when its thread ended and nobody used it for two seconds, and by {@link #close}; at the latest they
+ * are free when the program has ended, however it ends. {@link Builder} tells from which range. Hosts don't see each other's
+ * leases, nor do containers with a network of their own: those that share a server need ranges that have no number in common.
  */
 public final class RvClients implements AutoCloseable {
     /** The version of this package, which is that of the client in Python too. */
@@ -78,7 +78,6 @@ public final class RvClients implements AutoCloseable {
         private long connectTime = RvSession.nanos("connectTimeout", RvSession.CONNECT);
         private int version = RvSession.VERSION;
         private Executor executor;
-        private Path folder;
         private boolean recordIsChosen;
         private Path record;
         private long idle = Pool.IDLE;
@@ -110,8 +109,9 @@ public final class RvClients implements AutoCloseable {
 
         /**
          * The incarnation of all sessions, 1 to 2<sup>53</sup> - 1, above each that the numbers were used in. Each number
-         * is then used by one session of these clients. Unless it is chosen here, a leased number has one of its own, and
-         * one that is not leased has the milliseconds since 1970 at {@link #build}.
+         * is then used by one session of these clients. Unless it is chosen here, it is the microseconds since 1970, or
+         * above all that this process used: of each session with a leased number, which takes one above the server's where
+         * its first hello is refused for that; else at {@link #build}.
          */
         public Builder incarnation(long number) {
             if (number < 1 || number > Key.GREATEST) {
@@ -181,12 +181,6 @@ public final class RvClients implements AutoCloseable {
             return this;
         }
 
-        /** Leases in another folder than the environment tells, for tests. */
-        Builder folder(Path leases) {
-            folder = leases;
-            return this;
-        }
-
         /** For how many nanoseconds the session of a thread that ended keeps its connection, for tests. */
         Builder idle(long nanos) {
             idle = nanos;
@@ -204,9 +198,8 @@ public final class RvClients implements AutoCloseable {
          *
          * @throws IllegalArgumentException if the host, the port, the version, the patience, {@code RV_CLIENTS} or
          *     {@code RV_RECORD} is none
-         * @throws IllegalStateException if the folder of leases is not this user's alone; or numbers are not leased, and
-         *     none are chosen
-         * @throws java.io.UncheckedIOException if the record cannot be written, or the folder of leases cannot be made
+         * @throws IllegalStateException if numbers are not leased, and none are chosen
+         * @throws java.io.UncheckedIOException if the record cannot be written
          */
         public RvClients build() {
             Link.Maker links = new SocketLink.To(host, port);
@@ -238,12 +231,12 @@ public final class RvClients implements AutoCloseable {
         private Numbers numbers() {
             if (leased) {
                 ClientRange from = range == null ? ClientRange.of(System.getenv()) : range;
-                return new Leases(folder == null ? LeaseFolder.of(System.getenv()) : folder, from, incarnation);
+                return new Leases(from, incarnation);
             }
             if (range == null) {
                 throw new IllegalStateException("numbers that are not leased are to be chosen: clients(first, last)");
             }
-            return new Numbers.Given(range, incarnation.orElseGet(System::currentTimeMillis));
+            return new Numbers.Given(range, incarnation.orElseGet(Incarnations::next));
         }
     }
 

@@ -40,6 +40,7 @@ public final class RvSession implements AutoCloseable {
     private volatile Runnable whenLeft = () -> { };
     private volatile long grace = Running.GRACE;
     private volatile long connectTime = Calls.FOR_EVER;
+    private volatile boolean renews;
     private volatile Optional<RecordFile> record = Optional.empty();
     /** The request that was said last, or was to be said when its cancel was, and the body of what was heard last. */
     private JsonObject asked;
@@ -136,6 +137,11 @@ public final class RvSession implements AutoCloseable {
     /** Before the first welcome a call goes on for so many nanoseconds at most, from the next one on. */
     void connectTime(long nanos) {
         connectTime = nanos;
+    }
+
+    /** Begins anew, once, where the server has a greater incarnation before any welcome: its clock was set back. */
+    void renews() {
+        renews = true;
     }
 
     /** Keeps this record, from the next call on. */
@@ -377,7 +383,7 @@ public final class RvSession implements AutoCloseable {
         link.send(Bodies.written(message), running.left(answerTime));
         heard = link.hear(running.left(answerTime));
         JsonObject answer = Bodies.readAnswer(heard);
-        Step step = take(new Event.Hear(answer));
+        Step step = hear(answer);
         if (step.send() != null) {
             running.heard(patience);
         }
@@ -393,6 +399,24 @@ public final class RvSession implements AutoCloseable {
             pause(step.drop() ? "an answer came that this request has not" : refusal(answer));
         }
         return step;
+    }
+
+    /** Takes an answer in; or says the hello of a greater incarnation, where the server's word asks for one. */
+    private Step hear(JsonObject answer) {
+        Event event = new Event.Hear(answer);
+        if (renews && machine.state() == Machine.State.NEW && machine.step(event).tell() instanceof Told.Replaced other
+                && other.current() < Key.GREATEST) {
+            renews = false;
+            machine = anew(other.current() + 1);
+            return take(Plain.SPEAK);
+        }
+        return take(event);
+    }
+
+    /** The machine that begins in this incarnation, with the call that waits for the welcome. */
+    private Machine anew(long incarnation) {
+        Incarnations.used(incarnation);
+        return Machine.started(machine.client(), incarnation, version).step(new Event.Ask(machine.call())).machine();
     }
 
     private static String refusal(JsonObject answer) {

@@ -6,25 +6,28 @@ import static org.junit.jupiter.api.Assertions.assertThrows;
 import static org.junit.jupiter.api.Assertions.assertTrue;
 
 import com.sun.security.auth.module.UnixSystem;
-import java.io.IOException;
-import java.nio.file.Files;
-import java.nio.file.Path;
-import java.nio.file.attribute.PosixFilePermissions;
+import java.net.InetSocketAddress;
+import java.net.StandardProtocolFamily;
+import java.nio.channels.DatagramChannel;
+import java.time.Instant;
+import java.time.temporal.ChronoUnit;
+import java.util.ArrayList;
+import java.util.List;
 import java.util.Map;
 import java.util.Optional;
 import java.util.OptionalLong;
+import java.util.TreeSet;
 import org.junit.jupiter.api.Test;
-import org.junit.jupiter.api.io.TempDir;
 import org.junit.jupiter.params.ParameterizedTest;
+import org.junit.jupiter.params.provider.CsvSource;
 import org.junit.jupiter.params.provider.ValueSource;
 
-/** Client numbers that are leased by the locks of files, within one process. */
+/** Client numbers that are leased by sockets, within one process, and incarnations. */
 final class LeasesTest {
-    @TempDir
-    private Path folder;
+    private final long first = OwnNumbers.first();
 
-    private Leases of(long first, long last) {
-        return new Leases(folder, new ClientRange(first, last), OptionalLong.empty());
+    private Leases of(long least, long greatest) {
+        return new Leases(new ClientRange(first + least, first + greatest), OptionalLong.empty());
     }
 
     private static Lease next(Leases leases) {
@@ -36,149 +39,126 @@ final class LeasesTest {
         Leases leases = of(7, 9);
         Lease seventh = next(leases);
         Lease eighth = next(leases);
-        assertEquals(7, seventh.client());
-        assertEquals(8, eighth.client());
+        assertEquals(first + 7, seventh.client());
+        assertEquals(first + 8, eighth.client());
         seventh.giveBack();
         Lease again = next(leases);
-        assertEquals(7, again.client());
+        assertEquals(first + 7, again.client());
         assertTrue(again.incarnation() > seventh.incarnation());
-        assertEquals(9, next(leases).client());
+        Lease ninth = next(leases);
+        assertEquals(first + 9, ninth.client());
+        List.of(eighth, again, ninth).forEach(Lease::giveBack);
+    }
+
+    /** The same by the formats' own words, in another form. */
+    @ParameterizedTest
+    @CsvSource({"1000,1,127.64.3.232,61001", "0,1,127.64.0.0,61001", "0,4095,127.64.0.0,65095", "0,4096,127.119.121.177,61000",
+        "1000,9007199254740991,127.72.138.55,65095", "4294967294,1,127.127.255.254,61001"})
+    void aNumberStandsForAnAddressAndAPort(long user, long client, String host, int port) {
+        assertEquals(new InetSocketAddress(host, port), Leases.place(user, client));
     }
 
     @Test
-    void anIncarnationIsTheClocksWhereThatIsGreater() throws IOException {
-        long before = System.currentTimeMillis();
-        Lease lease = next(of(1, 1));
-        assertTrue(before <= lease.incarnation() && lease.incarnation() <= System.currentTimeMillis());
-        Path file = folder.resolve("client-1");
-        assertEquals(lease.incarnation() + "\n", Files.readString(file));
+    void whoeverHasBoundThePlaceOfANumberHasTheNumber() throws Exception {
+        try (DatagramChannel other = DatagramChannel.open(StandardProtocolFamily.INET)) {
+            other.bind(Leases.place(new UnixSystem().getUid(), first));
+            Lease lease = next(of(0, 1));
+            assertEquals(first + 1, lease.client());
+            lease.giveBack();
+        }
+        Lease lease = next(of(0, 1));
+        assertEquals(first, lease.client());
         lease.giveBack();
-        assertEquals(lease.incarnation() + "\n", Files.readString(file), "the file stays");
     }
 
     @Test
-    void anIncarnationIsAboveTheFilesAlsoWhereTheClockIsBehind() throws IOException {
-        Files.writeString(folder.resolve("client-1"), "9007199254740000\n");
-        Lease lease = next(of(1, 1));
-        assertEquals(9_007_199_254_740_001L, lease.incarnation());
-        lease.giveBack();
-        assertEquals(9_007_199_254_740_002L, next(of(1, 1)).incarnation());
-        assertEquals("9007199254740002\n", Files.readString(folder.resolve("client-1")));
-    }
-
-    @Test
-    void aFileThatHoldsMoreThanANumberNeedsIsCutToIt() throws IOException {
-        Files.writeString(folder.resolve("client-1"), "0000000000000005\n");
-        Lease lease = next(of(1, 1));
-        assertEquals(lease.incarnation() + "\n", Files.readString(folder.resolve("client-1")));
-    }
-
-    @Test
-    void anotherPoolOfThisProcessGetsAnotherNumber() throws IOException {
-        Path other = folder.resolveSibling(folder.getFileName() + "-link");
-        Files.createSymbolicLink(other, folder);
-        Lease first = next(of(1, 2));
-        Lease second = next(new Leases(other, new ClientRange(1, 2), OptionalLong.empty()));
-        assertEquals(2, second.client());
+    void anotherPoolOfThisProcessGetsAnotherNumber() {
+        Lease one = next(of(1, 2));
+        Lease other = next(of(1, 2));
+        assertEquals(first + 2, other.client());
         assertEquals(Optional.empty(), of(1, 2).next());
-        first.giveBack();
-        assertEquals(1, next(of(1, 2)).client());
-        Files.delete(other);
+        one.giveBack();
+        Lease again = next(of(1, 2));
+        assertEquals(first + 1, again.client());
+        List.of(other, again).forEach(Lease::giveBack);
     }
 
     @Test
-    void whereNoneIsFreeTheExceptionNamesTheRangeAndTheFolder() throws IOException {
-        next(of(5, 6));
-        next(of(5, 6));
+    void whereNoneIsFreeTheExceptionNamesTheRange() {
+        Lease one = next(of(5, 6));
+        Lease other = next(of(5, 6));
         NoClientNumber none = assertThrows(NoClientNumber.class, () -> next(of(5, 6)));
-        assertEquals("all client numbers 5 to 6 of " + folder.toRealPath() + " are leased", none.getMessage());
+        assertEquals("all client numbers " + (first + 5) + " to " + (first + 6) + " are leased", none.getMessage());
+        List.of(one, other).forEach(Lease::giveBack);
     }
 
     @Test
     void aLeaseThatIsGivenBackTwiceEndsNoLaterOne() {
-        Lease first = next(of(1, 1));
-        first.giveBack();
+        Lease one = next(of(1, 1));
+        one.giveBack();
         Lease second = next(of(1, 1));
-        first.giveBack();
+        one.giveBack();
         assertEquals(Optional.empty(), of(1, 1).next());
         second.giveBack();
-        assertEquals(1, next(of(1, 1)).client());
-    }
-
-    @ParameterizedTest
-    @ValueSource(strings = {"x\n", "12", "-1\n", "1 2\n", "12345678901234567\n", "\n", "9007199254740991\n"})
-    void aFileThatHoldsNoIncarnationIsNamed(String text) throws IOException {
-        Path file = folder.resolve("client-1");
-        Files.writeString(file, text);
-        for (int each = 0; each < 2; each++) {
-            IllegalStateException fault = assertThrows(IllegalStateException.class, () -> of(1, 1).next());
-            assertTrue(fault.getMessage().contains(file.getFileName().toString()), fault.getMessage());
-        }
-        assertEquals(text, Files.readString(file));
-        Files.writeString(file, "3\n");
-        assertEquals(1, next(of(1, 1)).client());
-    }
-
-    @Test
-    void anIncarnationThatTheUserChoseIsUsedOnlyAboveTheFiles() {
-        Leases chosen = new Leases(folder, new ClientRange(1, 1), OptionalLong.of(17));
-        Lease lease = next(chosen);
-        assertEquals(17, lease.incarnation());
-        assertFalse(chosen.areUsedAgain());
-        lease.giveBack();
-        IllegalStateException old = assertThrows(IllegalStateException.class, chosen::next);
-        assertTrue(old.getMessage().contains("incarnation 17 was leased, and 17 is not above it"), old.getMessage());
-        assertEquals(18, next(new Leases(folder, new ClientRange(1, 1), OptionalLong.of(18))).incarnation());
+        Lease third = next(of(1, 1));
+        assertEquals(first + 1, third.client());
+        third.giveBack();
     }
 
     @Test
     void anInterruptedThreadLeasesAndStaysInterrupted() {
         Thread.currentThread().interrupt();
         Lease lease = next(of(1, 1));
-        assertTrue(Thread.interrupted());
+        assertTrue(Thread.currentThread().isInterrupted());
         assertEquals(Optional.empty(), of(1, 1).next(), "the lease stands");
+        lease.giveBack();
+        assertTrue(Thread.interrupted());
+        Lease again = next(of(1, 1));
+        assertEquals(first + 1, again.client());
+        again.giveBack();
+    }
+
+    @Test
+    void anIncarnationThatTheUserChoseIsUsedAsItIs() {
+        Leases chosen = new Leases(new ClientRange(first, first), OptionalLong.of(17));
+        Lease lease = next(chosen);
+        assertEquals(17, lease.incarnation());
+        assertFalse(chosen.areUsedAgain());
         lease.giveBack();
     }
 
     @Test
-    void theFolderIsInTheUsersRuntimeFolder() throws IOException {
-        Path made = LeaseFolder.of(Map.of("XDG_RUNTIME_DIR", folder.toString()));
-        assertEquals(folder.resolve("rendezvous"), made);
-        assertEquals("rwx------", PosixFilePermissions.toString(Files.getPosixFilePermissions(made)));
-        assertEquals(made, LeaseFolder.of(Map.of("XDG_RUNTIME_DIR", folder.toString())));
+    void incarnationsAreTheClocksAndAboveAllBeforeThem() throws Exception {
+        long before = ChronoUnit.MICROS.between(Instant.EPOCH, Instant.now());
+        long one = Incarnations.next();
+        assertTrue(before <= one, before + " " + one);
+        assertEquals(one + 1, Incarnations.at(one));
+        assertEquals(one + 2, Incarnations.at(1));
+        List<Thread> threads = new ArrayList<>();
+        TreeSet<Long> all = new TreeSet<>();
+        for (int each = 0; each < 8; each++) {
+            threads.add(new Thread(() -> {
+                for (int turn = 0; turn < 1_000; turn++) {
+                    long made = Incarnations.at(1);
+                    synchronized (all) {
+                        assertTrue(all.add(made));
+                    }
+                }
+            }));
+        }
+        threads.forEach(Thread::start);
+        for (Thread each : threads) {
+            each.join();
+        }
+        assertEquals(8_000, all.size());
     }
 
     @Test
-    void theFolderIsInThatOfTemporaryFilesWhereThereIsNoRuntimeFolder() throws IOException {
-        Path wanted = folder.resolve("rendezvous-" + new UnixSystem().getUid());
-        String gone = folder.resolve("gone").toString();
-        assertEquals(wanted, LeaseFolder.of(Map.of("TMPDIR", folder.toString())));
-        assertEquals(wanted, LeaseFolder.of(Map.of("TMPDIR", folder.toString(), "XDG_RUNTIME_DIR", "")));
-        assertEquals(wanted, LeaseFolder.of(Map.of("TMPDIR", gone, "TMP", folder.toString(), "XDG_RUNTIME_DIR", gone)));
-        assertEquals("rwx------", PosixFilePermissions.toString(Files.getPosixFilePermissions(wanted)));
-    }
-
-    @ParameterizedTest
-    @ValueSource(strings = {"rwxrwx---", "rwx---rwx", "rwx-w--w-"})
-    void aFolderThatOthersMayWriteInIsRefused(String permissions) throws IOException {
-        Path made = Files.createDirectory(folder.resolve("rendezvous"));
-        Files.setPosixFilePermissions(made, PosixFilePermissions.fromString(permissions));
-        isRefused(made);
-    }
-
-    @Test
-    void whatIsNoFolderIsRefused() throws IOException {
-        Path made = Files.createFile(folder.resolve("rendezvous"));
-        isRefused(made);
-        Files.delete(made);
-        Files.createSymbolicLink(made, Files.createDirectory(folder.resolve("elsewhere")));
-        isRefused(made);
-    }
-
-    private void isRefused(Path made) {
-        Map<String, String> environment = Map.of("XDG_RUNTIME_DIR", folder.toString());
-        IllegalStateException fault = assertThrows(IllegalStateException.class, () -> LeaseFolder.of(environment));
-        assertTrue(fault.getMessage().contains(made + ": it is no folder of this user's"), fault.getMessage());
+    void noIncarnationIsAboveTheGreatest() {
+        long before = Incarnations.next();
+        IllegalStateException none = assertThrows(IllegalStateException.class, () -> Incarnations.at(1L << 53));
+        assertEquals("no incarnation is left above 9007199254740991", none.getMessage());
+        assertTrue(Incarnations.next() < Key.GREATEST && Incarnations.next() > before, "nothing of it is kept");
     }
 
     @Test

@@ -7,7 +7,6 @@ import static org.junit.jupiter.api.Assertions.assertThrows;
 import static org.junit.jupiter.api.Assertions.assertTrue;
 
 import com.google.gson.JsonObject;
-import java.nio.file.Path;
 import java.time.Duration;
 import java.util.ArrayList;
 import java.util.List;
@@ -23,7 +22,6 @@ import org.junit.jupiter.api.DynamicTest;
 import org.junit.jupiter.api.Test;
 import org.junit.jupiter.api.TestFactory;
 import org.junit.jupiter.api.Timeout;
-import org.junit.jupiter.api.io.TempDir;
 
 /** Sessions that the threads of a program share, and the numbers that they lease. */
 @Timeout(value = 2, unit = TimeUnit.MINUTES)
@@ -34,8 +32,7 @@ final class PoolTest {
     private static final long SOON = TimeUnit.MILLISECONDS.toNanos(100);
     private static final String USED_UP = "more threads than the 1 clients";
 
-    @TempDir
-    private Path folder;
+    private final long first = OwnNumbers.first();
 
     private static RvTransferQueue queue(RvClients clients) {
         return new RvTransferQueue(clients, 3);
@@ -248,14 +245,16 @@ final class PoolTest {
         }
     }
 
-    private boolean isFree(long client) {
-        Optional<Lease> lease = new Leases(folder, new ClientRange(client, client), OptionalLong.empty()).next();
+    /** Whether nobody leases this one of the numbers, which are counted from 1. */
+    private boolean isFree(long which) {
+        long client = first + which - 1;
+        Optional<Lease> lease = new Leases(new ClientRange(client, client), OptionalLong.empty()).next();
         lease.ifPresent(Lease::giveBack);
         return lease.isPresent();
     }
 
     private RvClients.Builder leasing(Answering server) {
-        return RvClients.builder("127.0.0.1", server.port()).clients(1, 9).folder(folder);
+        return RvClients.builder("127.0.0.1", server.port()).clients(first, first + 8);
     }
 
     @Test
@@ -263,7 +262,7 @@ final class PoolTest {
         CountDownLatch latch = new CountDownLatch(1);
         try (Answering server = holding(latch)) {
             RvClients clients = leasing(server).build();
-            assertEquals(0, folder.toFile().list().length);
+            assertTrue(isFree(1));
             Calling<String> held = putting(clients, "held");
             server.awaitAsked(1);
             assertFalse(isFree(1));
@@ -307,7 +306,7 @@ final class PoolTest {
             queue(clients).put("b");
             List<JsonObject> hellos = server.hellos();
             assertEquals(2, hellos.size());
-            assertEquals(List.of(1L, 1L), hellos.stream().map(hello -> Bodies.number(hello, "client")).toList());
+            assertEquals(List.of(first, first), hellos.stream().map(hello -> Bodies.number(hello, "client")).toList());
             assertTrue(Bodies.number(hellos.get(0), "incarnation") < Bodies.number(hellos.get(1), "incarnation"));
         }
     }
@@ -339,14 +338,14 @@ final class PoolTest {
             CompletableFuture<Void> both = CompletableFuture.allOf(CompletableFuture.runAsync(() -> queue(one).put("a")),
                 CompletableFuture.runAsync(() -> queue(other).put("b")));
             both.join();
-            assertEquals(List.of(1L, 2L),
+            assertEquals(List.of(first, first + 1),
                 server.hellos().stream().map(hello -> Bodies.number(hello, "client")).sorted().toList());
         }
     }
 
     @Test
     void whatABuilderCannotMakeIsRefused() {
-        RvClients.Builder builder = RvClients.builder("127.0.0.1", 7411).folder(folder);
+        RvClients.Builder builder = RvClients.builder("127.0.0.1", 7411);
         assertThrows(IllegalArgumentException.class, () -> builder.clients(0, 1));
         assertThrows(IllegalArgumentException.class, () -> builder.clients(2, 1));
         assertThrows(IllegalArgumentException.class, () -> builder.clients(1, 1L << 53));
@@ -355,10 +354,10 @@ final class PoolTest {
         assertThrows(NullPointerException.class, () -> builder.patience(null));
         assertThrows(NullPointerException.class, () -> builder.executor(null));
         assertThrows(NullPointerException.class, () -> RvClients.builder(null, 7411));
-        assertThrows(IllegalArgumentException.class, () -> RvClients.builder("a", 65_536).folder(folder).build());
-        assertThrows(IllegalArgumentException.class, () -> RvClients.builder("a", 1).folder(folder).version(3).build());
+        assertThrows(IllegalArgumentException.class, () -> RvClients.builder("a", 65_536).build());
+        assertThrows(IllegalArgumentException.class, () -> RvClients.builder("a", 1).version(3).build());
         assertThrows(IllegalArgumentException.class,
-            () -> RvClients.builder("a", 1).folder(folder).patience(Duration.ofMillis(-1)).build());
+            () -> RvClients.builder("a", 1).patience(Duration.ofMillis(-1)).build());
         assertThrows(IllegalStateException.class, () -> RvClients.builder("a", 1).unleased().build());
     }
 
