@@ -8,6 +8,7 @@ import subprocess
 import tempfile
 import xml.dom.minidom
 
+from context import numbers
 from tests import ROOT
 from tests.clients import java
 from tests.clients.table_cases import cases
@@ -62,8 +63,8 @@ def the_guide(program):
         path = f"{folder / 'bin'}:{os.environ['PATH']}"
         environment = {**os.environ, "PATH": path, "PYTHONPATH": f"{folder}/clients/python/src"}
         environment["PYTHONDONTWRITEBYTECODE"] = "1"
-        environment["TMPDIR"] = environment["XDG_RUNTIME_DIR"] = str(folder / "bin")
-        environment.pop("RV_CLIENTS", None)
+        environment["TMPDIR"], clients = str(folder / "bin"), numbers()
+        environment["RV_CLIENTS"] = f"{clients[0]}-{clients[-1]}"
         there = {path.name for path in folder.iterdir()}
         typed = [(text.replace(PORT, port), shown) for info, text, shown in blocks()
                  if "hand" not in info and not ("java" in info and lacking)]

@@ -29,10 +29,11 @@ class Session:
     """One client in one incarnation: it asks one request at a time, and is used by one thread at a time.
 
     `client` is a number that no other process has, and `incarnation` one above each that this client was started
-    with: left out, it is this moment, in milliseconds. Without a client number the least free one of `clients` is leased,
-    until the session is closed; a lease counts among the programs of one user on one host, so each host has a range of its
-    own. The range is `clients`, or what the environment says in RV_CLIENTS (as 1-512), or 1 to 1,024. `AllLeased` where
-    none is free.
+    with: left out, it is this moment, in microseconds, or above all that this process used. Without a client number the least
+    free one of `clients` is leased, until the session is closed; a lease counts among the programs of one user on one host, so
+    each host has a range of its own. The range is `clients`, or what the environment says in RV_CLIENTS (as 1-512), or 1 to
+    1,024. `AllLeased` where none is free. Where the server has a greater incarnation at the first hello of a leased number, for
+    the clock was set back, the session takes the next one above that.
 
     `version` is what the session speaks: in version 2 a receipt names the consumer, in version 1, which
     each server knows, it does not. `patience` is for how many seconds a call goes on while nothing at all is
@@ -111,7 +112,7 @@ class Session:
 
     @property
     def incarnation(self) -> int:
-        """The start of that client which this session is."""
+        """The start of that client which this session is; another one once a leased number's first hello was refused for it."""
         return self._driver.name.incarnation
 
     @property
