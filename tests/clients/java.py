@@ -605,7 +605,7 @@ def refusals(java):
         demand([number for _, number, _ in asked(server)] == [None, 1, 1], f"{asked(server)}")
     ends = [(refused(5, last=3), "Refused 1/1/1/2 5 old number"), (refused(6), "Refused 1/1/1/2 6 other call"),
             (refused(7, open=1), "Refused 1/1/1/2 7 busy"), (refused(8, last=0), "EpochEnded 1/1/1/2 1"),
-            (refused(3), "EpochEnded 1/1/1/2 1"), (refused(2, current=5), "EpochEnded 1/1/1/2 5"),
+            (refused(3), "EpochEnded 1/1/1/2 1"), (refused(2, current=5), "NotAsked 1/1/1/2 5"),
             (refused(4, current=2), "Replaced 1/1/1/2 2")]
     for deed, wanted in ends:
         with opened(java, reply("done"), deed) as server:

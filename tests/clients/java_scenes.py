@@ -134,11 +134,58 @@ def a_dead_threads_unsettled_request(_java):
 def an_ended_session(_java):
     """Nobody gets it, neither a new thread nor its own, as long as there are other numbers."""
     wanted = ["threw EpochEnded of 1/1/1/1", "gave done", "gave done"]
-    server = prints("dead-ended", wanted, welcome, refused(2, current=5))
-    demand([(one["client"], one.get("number")) for one in server.heard[2:]] == [(2, None), (2, 1), (2, 2)], "others")
-    deeds = [welcome, refused(2, current=5), welcome, reply("done"), refused(3)]
+    server = prints("dead-ended", wanted, welcome, HANG_UP, refused(2, current=5))
+    demand([(one["client"], one.get("number")) for one in server.heard[3:]] == [(2, None), (2, 1), (2, 2)], "others")
+    deeds = [welcome, HANG_UP, refused(2, current=5), welcome, reply("done"), refused(3)]
     ended = STATE + "the session has ended: start another"
     prints("ended", ["threw EpochEnded of 1/1/1/1", "gave done", "threw EpochEnded of 1/2/1/2", ended, USED_UP], *deeds)
+
+
+def anew(epoch):
+    """Deeds: the server was started anew in this epoch, and welcomes who comes."""
+    return [refused(2, current=epoch), lambda asked: welcome(asked, epoch)]
+
+
+# Each call of a scene, its answer and what it gives; the last ones only look.
+COUNTED = reply("counted", items=1, consumers=2)
+RESTARTED = [
+    ("put", reply("done"), "done"), ("transfer", received_by(2, 3, 4), "Optional[{epoch}/2/3/4]"),
+    ("tryTransfer", reply("nobody"), "false"), ("timed tryTransfer", reply("timedout"), "false"),
+    ("take", reply("item", item="b"), "b"), ("poll", reply("item", item="b"), "b"),
+    ("drainTo", reply("drained", texts=["b"]), "1"), ("exchange", reply("swapped", item="b"), "b"),
+    ("takeAsync", reply("item", item="b"), "b"), ("size", COUNTED, "1"), ("isEmpty", COUNTED, "false"),
+    ("getWaitingConsumerCount", COUNTED, "2"), ("hasWaitingConsumer", COUNTED, "true"), ("peek", reply("peeked", item="p"), "p")]
+LOOKS = RESTARTED[9:]
+
+
+def a_restart_before_each_call(_java):
+    """Nobody met it, so it is asked again in a new session, in the new epoch."""
+    epochs = range(2, 2 + len(RESTARTED))
+    deeds = [deed for epoch, (_, answer, _) in zip(epochs, RESTARTED) for deed in (reply("done"), *anew(epoch), answer)]
+    wanted = [f"{call} gave {gives.format(epoch=epoch)}" for epoch, (call, _, gives) in zip(epochs, RESTARTED)]
+    server = prints("restarts", wanted, welcome, *deeds)
+    requests = [(one["epoch"], one["number"]) for one in server.heard if one["kind"] == "request"]
+    # the second request of an epoch, that one in the next one, and the put behind it
+    told = [key for epoch in epochs for key in ((epoch - 1, 2 if epoch == 2 else 3), (epoch, 1), (epoch, 2))]
+    demand(requests == [(1, 1), *told[:-1]], f"{requests}")
+
+
+def a_restart_in_calls_that_look(_java):
+    """They don't fail for it, also where a copy was lost, and where the server took the same epoch again."""
+    for lost in (HANG_UP, refused(11)):
+        deeds = [deed for epoch, (_, answer, _) in enumerate(LOOKS, 2) for deed in (lost, *anew(epoch), answer)]
+        prints("restart-looks", [f"{call} gave {gives}" for call, _, gives in LOOKS], welcome, *deeds)
+    deeds = [deed for _, answer, _ in LOOKS for deed in (HANG_UP, refused(3), welcome, answer)]
+    prints("restart-looks", [f"{call} gave {gives}" for call, _, gives in LOOKS], welcome, *deeds)
+
+
+def an_interrupt_behind_a_restart(_java):
+    """Cancels the request of the new epoch."""
+    with scripted(welcome, *anew(5), SILENCE) as server, playing("restart-interrupted", server.port) as program:
+        until("a take in the new epoch", lambda: len(server.heard) == 4)
+        program.go()
+        program.expect("threw InterruptedException", "gave done", "ends")
+        demand([one["kind"] for one in server.heard[4:]] == ["cancel", "request"], f"{server.heard}")
 
 
 # What a session tells of its last outcome: at its begin, behind a take, and behind a put that ends so.
@@ -338,6 +385,8 @@ def exceptions_read_back(_java):
     prints("serialized", [
         "Unsettled of 1/2/3/4: accepted, and never answered: a (request 1/2/3/4)",
         "NotAsked of null: nothing was sent: a",
+        "NotAsked of 1/2/3/4: nothing was asked: the server was started anew before the request came, and is of epoch 9 "
+        "(request 1/2/3/4)",
         "Full of 1/2/3/4: the server has no room, and nothing is in the queue (request 1/2/3/4)",
         "EpochEnded of 1/2/3/4: the server was started anew in the same epoch 1 (request 1/2/3/4)",
         "Replaced of 1/2/3/4: replaced by incarnation 9 (request 1/2/3/4)",
@@ -439,7 +488,8 @@ def times(_java):
 
 
 CASES = [
-    a_dead_threads_unsettled_request, an_ended_session, the_last_outcome, no_outcome_where_there_is_no_room,
+    a_dead_threads_unsettled_request, an_ended_session, a_restart_before_each_call, a_restart_in_calls_that_look,
+    an_interrupt_behind_a_restart, the_last_outcome, no_outcome_where_there_is_no_room,
     close_in_a_call, close_in_a_pause, full_memory, two_threads, cancelled_though_nobody_asked,
     replies_that_a_call_cannot_have, for_ever, a_long_time, connections_of_dead_threads, a_pooled_thread,
     an_interrupt_in_the_hello, an_interrupt_while_the_server_is_away, an_interrupt_in_again, a_nested_answer,

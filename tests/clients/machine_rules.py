@@ -8,7 +8,7 @@ from tests.model.calls import KINDS
 from tests.model.texts import KEY, MAX_IDENTIFIER, TAKER
 
 # What is noted of one request, before anything is.
-FRESH = {"giving_up": False, "sent": False, "out": 0, "accepted": False, "full": False}
+FRESH = {"giving_up": False, "sent": False, "out": 0, "accepted": False, "full": False, "doubtful": False}
 
 
 # ---- when a rule applies
@@ -111,9 +111,19 @@ def misuse(_machine, _given):
     return {"misused": True}
 
 
+def without_link(machine):
+    """The machine, whose connection is gone: what became of a request that flew there is not known."""
+    return {**machine, "flying": "nothing", "doubtful": machine["doubtful"] or machine["flying"] == "request"}
+
+
+def loses(machine, _given):
+    """Its connection is gone, and what was sent stays counted."""
+    return came(without_link(machine))
+
+
 def fault(machine, _answer):
     """The answer is of no use: the connection goes, and what was sent stays counted."""
-    return came({**machine, "flying": "nothing"}, drops=True)
+    return came(without_link(machine), drops=True)
 
 
 def says_hello(machine, _given):
@@ -185,14 +195,18 @@ def settles(machine, answer):
 
 def waits(machine, answer):
     """Its request waits: it says it again at once, or its cancel."""
-    accepted = {**machine, "accepted": True, "full": False, "out": machine["out"] - 1, "flying": "nothing"}
+    accepted = {**machine, "accepted": True, "full": False, "doubtful": True, "out": machine["out"] - 1, "flying": "nothing"}
     return (says_cancel if machine["giving_up"] else says_request)(accepted, answer)
 
 
 def outlives_its_epoch(machine, answer):
-    """The server has a later epoch, or lost what it had in the same one."""
-    current = answer.get("current", epoch(machine))
-    return ended(machine, told("ended", key=machine["key"], current=current))
+    """The server has a later epoch. Nobody met its request where no copy of it may have come to a server of its own epoch."""
+    return ended(machine, told("ended", key=machine["key"], current=answer["current"], unmet=not machine["doubtful"]))
+
+
+def outlives_its_server(machine, _answer):
+    """The server lost what it had, in the same epoch."""
+    return ended(machine, told("ended", key=machine["key"], current=epoch(machine), unmet=False))
 
 
 def is_replaced(machine, answer):
@@ -214,14 +228,16 @@ def is_no_message(machine, answer):
 
 
 def finds_no_room(machine, answer):
-    """There is no room for this copy. Where it gives up and each other has its answer, its number is free."""
-    heard = {**machine, "out": machine["out"] - 1, "full": True, "flying": "nothing"}
+    """There is no room for this copy. Where each other has its answer, none of them is there; and where it gives up, its
+    number is free."""
+    out = machine["out"] - 1
+    heard = {**machine, "out": out, "full": True, "doubtful": machine["doubtful"] and out > 0, "flying": "nothing"}
     return had_no_room(heard, answer) if machine["giving_up"] and heard["out"] == 0 else came(heard)
 
 
 def finds_no_memory(machine, _answer):
     """There is no memory for this copy, or for its answer: it may have arrived."""
-    return came({**machine, "out": machine["out"] - 1, "full": False, "flying": "nothing"})
+    return came({**without_link(machine), "out": machine["out"] - 1, "full": False})
 
 
 # ---- the rules
@@ -231,7 +247,7 @@ NEW = [
     ("ask", where(), misuse),
     ("speak", where(flying="nothing"), says_hello),
     ("speak", where(), misuse),
-    ("lose", where(), changes(flying="nothing")),
+    ("lose", where(), loses),
     ("give up", where(), changes(told("not asked"), call=None)),
     ("expire", where(full=True), changes(told("full", key=None), call=None)),
     ("expire", where(), changes(told("not asked"), call=None)),
@@ -249,7 +265,7 @@ IDLE = [
     ("ask", where(), begins),
     ("speak", where(flying="nothing"), changes()),
     ("speak", where(), misuse),
-    ("lose", where(), changes(flying="nothing")),
+    ("lose", where(), loses),
     ("give up", where(), changes()),
     ("expire", where(), changes()),
     ("hear", where(), fault),
@@ -259,7 +275,7 @@ OUTSTANDING = [
     ("speak", where(flying="nothing", giving_up=True), says_cancel),
     ("speak", where(flying="nothing"), says_request),
     ("speak", where(), misuse),
-    ("lose", where(), changes(flying="nothing")),
+    ("lose", where(), loses),
     ("give up", where(sent=False), was_not_asked),
     ("give up", where(full=True, out=0), had_no_room),
     ("give up", where(), changes(giving_up=True)),
@@ -271,8 +287,8 @@ OUTSTANDING = [
     ("hear", is_its_wait, waits),
     ("hear", refused([2], lambda machine, answer: answer["current"] > epoch(machine)), outlives_its_epoch),
     ("hear", refused([4], lambda machine, answer: answer["current"] > machine["incarnation"]), is_replaced),
-    ("hear", refused([3]), outlives_its_epoch),
-    ("hear", refused([8], lambda machine, answer: answer["last"] < number(machine) - 1), outlives_its_epoch),
+    ("hear", refused([3]), outlives_its_server),
+    ("hear", refused([8], lambda machine, answer: answer["last"] < number(machine) - 1), outlives_its_server),
     ("hear", refused([5], lambda machine, answer: answer["last"] > number(machine)), is_not_alone),
     ("hear", refused([6], where(flying="request")), is_not_alone),
     ("hear", refused([7], lambda machine, answer: answer["open"] < number(machine)), is_not_alone),

@@ -31,7 +31,9 @@ def form_fault(members):
         "something flies": members["flying"] in words,
         "a copy that is not counted": state == "new" or members["flying"] == "nothing" or members["out"] > 0,
         "something was sent": members["sent"] or is_fresh or state == "new",
-        "it waits": not members["accepted"] or can_wait(members["call"]) and not members["full"],
+        "it waits": not members["accepted"] or can_wait(members["call"]) and not members["full"] and members["doubtful"],
+        "a copy that is lost": members["giving_up"] or members["doubtful"]
+                               or members["out"] <= (members["flying"] == "request"),
     }
     return next((name for name, holds in rules.items() if not holds), None)
 
@@ -41,7 +43,7 @@ class Walk:
 
     def __init__(self, chance, hand_on):
         self.chance, self.hand_on = chance, hand_on
-        self.account, self.moment = Account(1, 0), 0
+        self.account, self.moment, self.past = Account(1, 0), 0, []
         self.machines, self.said, self.late, self.told = [], {}, [], []
         self.full, self.short, self.lossy = (chance.choice([0, 0.1, 0.4]) for _ in range(3))
         self.is_lost = chance.random() < 0.2
@@ -72,6 +74,7 @@ class Walk:
             self.start(self.chance.randint(1, CLIENTS))
         if self.odds(0.01):
             later = self.chance.choice([0, 1]) if self.is_lost else 1
+            self.past.append(self.account)
             self.account = Account(self.account.epoch + later, 0)
         if self.late and self.odds(0.1):
             self.answer(self.late.pop(self.chance.randrange(len(self.late))))
@@ -160,7 +163,8 @@ class Walk:
         if word in ("full", "not asked"):
             return key is None or self.is_nowhere(key, before["key"])
         if word == "ended":
-            return current == self.account.epoch and (self.is_lost or current > key.epoch)
+            is_so = current == self.account.epoch and (self.is_lost or current > key.epoch)
+            return is_so and not (tells["unmet"] and self.may_be_met(key, before["key"]))
         if word == "replaced":
             return current == incarnation(self.account.entries, before["client"]) > before["incarnation"]
         return word in ("welcomed", "unsettled") or self.is_lost
@@ -178,6 +182,11 @@ class Walk:
         acts = [getattr(entry.act, "key", None) for entry in self.account.entries]
         on_their_way = [{name: message.get(name) for name in members} for message in self.late]
         return key not in acts and members not in on_their_way
+
+    def may_be_met(self, key, members):
+        """Whether a request of a key came to a server of any epoch, or is on its way."""
+        late = [message for message in self.late if message["kind"] == "request" and message.items() >= members.items()]
+        return bool(late) or any(arrival_of(account.entries, key) is not None for account in [*self.past, self.account])
 
     def finish(self, place):
         """Over a link that loses nothing a call that is given up ends."""

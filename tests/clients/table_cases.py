@@ -90,7 +90,7 @@ def told_of(tells):
         "welcomed": lambda: Welcomed(), "settled": lambda: Settled(outcome_of(tells["reply"])),
         "unsettled": lambda: Unsettled(key, tells["accepted"]), "not asked": lambda: NotAsked(),
         "full": lambda: Full(key), "refused": lambda: Refused(key, tells["code"], current),
-        "ended": lambda: EpochEnded(key, current), "replaced": lambda: Replaced(key, current),
+        "ended": lambda: EpochEnded(key, current, tells["unmet"]), "replaced": lambda: Replaced(key, current),
     }[tells["told"]]()
 
 
@@ -143,10 +143,10 @@ def machines_of(process, version):
     call, key = members_of_call(process.call), process.key
     whose = {"client": key.client, "incarnation": key.incarnation, "version": version, "key": vars(key)}
     asked = [machine("outstanding", **whose, call=call, sent=True, flying=flying, giving_up=giving_up,
-                     accepted=accepted, full=full, out=out)
-             for flying, giving_up, accepted, full, out in itertools.product(
-                 ["request", "cancel"], [False, True], [False, True], [False, True], [1, 2])]
-    return [one for one in asked if not (one["accepted"] and (one["full"] or not can_wait(call)))
+                     accepted=accepted, full=full, doubtful=doubtful, out=out)
+             for flying, giving_up, accepted, full, doubtful, out in itertools.product(
+                 ["request", "cancel"], [False, True], [False, True], [False, True], [False, True], [1, 2])]
+    return [one for one in asked if not (one["accepted"] and (one["full"] or not one["doubtful"] or not can_wait(call)))
             and (one["giving_up"] or one["flying"] == "request")]
 
 
@@ -169,7 +169,8 @@ def heard_fault(members, answer, seen, after):
         good = came.machine.key == key_of(following) if is_in else word != "welcomed"
         return None if good and is_in == (word == "welcomed") else f"{came}"
     told = {"ended": EpochEnded, "replaced": Replaced}.get(word)
-    wanted = (told(key_of(members["key"]), int(current)), State.ENDED, True) if told else None
+    unmet = [not members["doubtful"] and int(current) > members["key"]["epoch"]] if word == "ended" else []
+    wanted = (told(key_of(members["key"]), int(current), *unmet), State.ENDED, True) if told else None
     return None if wanted in (None, (came.tell, came.machine.state, came.drop)) else f"{came}"
 
 

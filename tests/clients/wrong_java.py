@@ -3,7 +3,7 @@ bodies, for the classes of the other files are not built anew."""
 from tests.clients.wrong import (
     ANOTHER_NUMBER, NEW_KEY, OTHER_EPOCH, NOBODY, NEWEST_FIRST, TOO_MANY, SHORT_FRAMES, OTHER_WELCOME,
     OLD_HELLO, OWN_NUMBER, PART_OF_A_KEY, OTHER_VERSION, TELLS_WRONG, NOTHING_GIVEN, CANCEL_RECORDED, NEW_RECORD, DROPS_REPLY,
-    Edit, WrongClient)
+    NEVER_UNMET, UNMET_THOUGH_HEARD, UNMET_THOUGH_LOST, Edit, WrongClient)
 
 (MACHINE, REPLIES, SESSION, RUNNING, POOL, LEASES, QUEUE, FUTURE, UNCLAIMED, CONSUMER, BODIES, LINK, CLIENTS, RECORD,
  INCARNATIONS) = (
@@ -24,6 +24,21 @@ IN_JAVA = [
     WrongClient(OTHER_EPOCH, "java, the java process", [
         Edit(MACHINE, 'case 2 -> above(refusal, "current", key.epoch())',
              'case 2 -> Bodies.number(refusal, "current") != key.epoch()')]),
+    WrongClient(UNMET_THOUGH_LOST, "java, the java process", [
+        Edit(MACHINE, '        draft.doubtful |= flying == Flying.REQUEST;\n        draft.flying = Flying.NOTHING;\n        return draft.made();',
+             '        draft.flying = Flying.NOTHING;\n        return draft.made();')]),
+    WrongClient(UNMET_THOUGH_HEARD, "java, the java process", [
+        Edit(MACHINE, '        draft.doubtful = true;\n', '')]),
+    WrongClient(UNMET_THOUGH_LOST + ", in its calls", "java_scenes, an ended session", [
+        Edit(MACHINE, 'Bodies.number(refusal, "current"), !doubtful)', 'Bodies.number(refusal, "current"), out == 1 || !accepted)')]),
+    WrongClient(NEVER_UNMET, "java_scenes, a restart before each call", [
+        Edit(MACHINE, 'Bodies.number(refusal, "current"), !doubtful)', 'Bodies.number(refusal, "current"), false)')]),
+    WrongClient("asks no call again behind a restart", "java_scenes, a restart before each call", [
+        Edit(CLIENTS, 'if (current <= epoch) {', 'if (current >= epoch) {')]),
+    WrongClient("fails for a restart where it only looks", "java_scenes, a restart in calls that look", [
+        Edit(CLIENTS, '&& Calls.looks(call) ? ended.current() : 0', '&& Calls.looks(call) ? 0 : 0')]),
+    WrongClient("asks a call again that may have been met", "java_scenes, an ended session", [
+        Edit(CLIENTS, '&& Calls.looks(call) ? ended.current() : 0', '&& Calls.looks(call) == Calls.looks(call) ? ended.current() : 0')]),
     WrongClient("is sure that nothing is there where a copy is under way", "java, a copy under way", [
         Edit(MACHINE, 'full && out == 0', 'full')]),
     WrongClient(NOBODY, "java, each call", [

@@ -2,7 +2,8 @@
 from tests.clients.wrong import (
     ANOTHER_NUMBER, NEW_KEY, OTHER_EPOCH, NOBODY, NEWEST_FIRST, TOO_MANY, SHORT_FRAMES, OUT_OF_STEP,
     OTHER_WELCOME, OLD_HELLO, OWN_NUMBER, PART_OF_A_KEY, OTHER_VERSION, FULL_TOO_EARLY, REPEATS_ANEW,
-    ANY_REPLY, LAST_OUTCOME, ANY_CALL, TELLS_WRONG, NOTHING_GIVEN, CANCEL_RECORDED, NEW_RECORD, DROPS_REPLY, Edit, WrongClient)
+    ANY_REPLY, LAST_OUTCOME, ANY_CALL, TELLS_WRONG, NOTHING_GIVEN, CANCEL_RECORDED, NEW_RECORD, DROPS_REPLY, NEVER_UNMET, UNMET_THOUGH_HEARD,
+    UNMET_THOUGH_LOST, Edit, WrongClient)
 
 PACKAGE, TESTS = "clients/python/src/rendezvous", "clients/python/tests"
 (MACHINE, SESSION, BODIES, CALLS, REPLIES, LINK, DRIVER, ERRORS, COURSE, ENDINGS, LEASES, UNCLAIMED, AIO, STREAM, RECORD,
@@ -25,6 +26,20 @@ IN_PYTHON = [
         Edit(COURSE, LOST, SKIP % CALL_IS + LOST)]),
     WrongClient(OTHER_EPOCH, "test_refusals.Repeats.test_refusals_that_are_not_its_own", [
         Edit(MACHINE, 'if refusal["current"] <= machine.key.epoch:', 'if refusal["current"] < machine.key.epoch:')]),
+    WrongClient(UNMET_THOUGH_LOST, "table_cases, the python machine", [
+        Edit(MACHINE, "doubtful=machine.doubtful or machine.flying is Flying.REQUEST)", "doubtful=machine.doubtful)")]),
+    WrongClient(UNMET_THOUGH_HEARD, "table_cases, the python machine", [
+        Edit(MACHINE, "accepted=True, full=False, doubtful=True)", "accepted=True, full=False)")]),
+    WrongClient(UNMET_THOUGH_LOST + ", in its calls", "test_restarts.SomebodyMayHaveMetIt.test_it_is_not_known", [
+        Edit(MACHINE, 'refusal["current"], not machine.doubtful))', 'refusal["current"], machine.out == 1))')]),
+    WrongClient(NEVER_UNMET, "test_restarts.NobodyMetIt.test_idle_over_a_restart", [
+        Edit(MACHINE, 'refusal["current"], not machine.doubtful))', 'refusal["current"]))')]),
+    WrongClient("asks a call anew that may have been met", "test_restarts.SomebodyMayHaveMetIt.test_it_is_not_known", [
+        Edit(COURSE, "not (told.unmet or looks(call))", "False")]),
+    WrongClient("renews itself for an old server again and again", "test_restarts.Renewed.test_more_restarts_than_one", [
+        Edit(COURSE, " or told.current <= self._renewed_for:", ":")]),
+    WrongClient("renews itself in the incarnation that it had", "test_restarts.Renewed.test_each_call_goes_on", [
+        Edit(LEASES, "self.incarnation = max(now(), self.incarnation + 1)", "pass")]),
     WrongClient(NOBODY, "test_calls.Calls.test_each_call", [
         Edit(ENDINGS, "return outcome if isinstance(outcome, Receipt) else None",
              "return outcome if isinstance(outcome, (Receipt, replies.TimedOut)) else None")]),

@@ -12,7 +12,7 @@ from context import PATIENCE, Case, asked, behind, key, raised_by, rv, session, 
 from let_in import handled, on_line
 from rendezvous.driver import Job
 from rendezvous.session import Items
-from scripted import SILENCE, Scripted, refused, reply, welcome
+from scripted import SILENCE, Scripted, refused, reply, waiting, welcome
 
 FOLDER = os.path.dirname(rv.__file__)
 WAITING = (Job.wait, "while self.told is None")
@@ -125,7 +125,7 @@ class Loops(Case):
 
     def test_other_ends(self):
         """What else ends a take is raised; the body's calls are its own."""
-        with Scripted(welcome, reply("item", item="a"), reply("done"), refused(2, current=5)) as server:
+        with Scripted(welcome, reply("item", item="a"), reply("done"), waiting, refused(2, current=5)) as server:
             with session(server) as one, self.raises(rv.EpochEnded, key=key(3)):
                 for item in one.items(3):
                     one.put(4, item)

@@ -13,7 +13,7 @@ from scripted import Scripted, reply, welcome
 
 EXCEPTIONS = [
     rv.Unsettled(key(1), True, "the session was closed"), rv.Unsettled(key(1)), rv.NotAsked(None, "no answer in time"),
-    rv.NotAsked(), rv.Full(key(2)), rv.Full(None), rv.Cancelled(key(3)), rv.Cancelled(None), rv.TimedOut(key(4)),
+    rv.NotAsked(), rv.NotAsked(key(1), "", 5), rv.Full(key(2)), rv.Full(None), rv.Cancelled(key(3)), rv.Cancelled(None), rv.TimedOut(key(4)),
     rv.EpochEnded(key(5), 1), rv.EpochEnded(key(5), 7), rv.EpochEnded(None, 7), rv.Replaced(None, 2), rv.Replaced(key(1), 2),
     rv.Refused(key(6), 6, None, ": another process"), rv.Refused(None, 12, 1), rv.Misused("a call runs"),
     rv.AllLeased(None, 1, 1024),

@@ -150,8 +150,8 @@ class Ends(Case):
                 one.put(3, "a")
 
     def test_the_epoch_ended(self):
-        """A later epoch ends the session, and so does a server that knows the session no more."""
-        with Scripted(welcome, refused(2, current=5)) as server, session(server) as one:
+        """A later epoch ends the session of a request that waited, and so does a server that knows the session no more."""
+        with Scripted(welcome, waiting, refused(2, current=5)) as server, session(server) as one:
             with self.raises(rv.EpochEnded, key=key(1), current=5) as told:
                 one.take(3)
             self.assertIn("the server is of epoch 5", str(told.raised))

@@ -21,14 +21,14 @@ from types import TracebackType
 from typing import AsyncIterator, Callable, List, Optional, Type, cast
 
 from . import errors, machine as m
-from .bodies import GREATEST_VERSION, Members, is_whole
-from .calls import Wait, checked, made, times_of
-from .course import Job, Running
+from .bodies import GREATEST_VERSION, Members
+from .calls import UNGIVEN, Wait, checked, made
+from .course import Job, Running, manner_of
 from .endings import (
     Result, counts_of, ending, item_if_any, item_of, items_of, itself, known_of, nothing, receipt_if_any, receipt_of)
 from .leases import name_of
 from .link import Address, address_of
-from .record import Path, record_of
+from .record import Path
 from .replies import Counted, Outcome, Receipt
 from .shown import shown
 from .stream import StreamCourse, UnderWay, let_go
@@ -41,8 +41,8 @@ FAREWELL = 1.0
 
 
 class Session:
-    """One client in one incarnation, in one event loop. Its numbers, its version, its times and its record are as those of
-    `rendezvous.Session`; the event loop writes the record, and waits for that.
+    """One client in one incarnation, in one event loop. Its numbers, its version, its times, its record and how it renews itself
+    are as those of `rendezvous.Session`; the event loop writes the record, and waits for that.
 
     It asks one request at a time: a second task that calls meanwhile gets `Misused` at once, for it might wait for ever behind a
     take. Tasks have a session each. Behind a call whose task was cancelled, the next call waits until it is known what that
@@ -52,13 +52,13 @@ class Session:
 
     def __init__(self, address: Address, client: Optional[int] = None, incarnation: Optional[int] = None, *,
                  clients: Optional[range] = None, version: int = GREATEST_VERSION, patience: Optional[float] = 60.0,
-                 answer: float = 30.0, record: Optional[Path] = None, connect_timeout: Optional[float] = 5.0) -> None:
+                 answer: float = 30.0, record: Optional[Path] = None, connect_timeout: Optional[float] = 5.0,
+                 renew: bool = False) -> None:
         self.address, self.patience = address_of(address), patience
-        awaits, connects = times_of(patience, answer, connect_timeout)
-        checked(is_whole(version, 1, GREATEST_VERSION), f"the version is 1 to {GREATEST_VERSION}: {version!r}")
-        kept = record_of(record)
+        checked(not renew or incarnation is None, UNGIVEN)
+        manner = manner_of(version, patience, answer, connect_timeout, record, renew)
         self._process = os.getpid()
-        self._course = StreamCourse(self.address, name_of(client, incarnation, clients), version, awaits, kept, connects)
+        self._course = StreamCourse(self.address, name_of(client, incarnation, clients), manner)
         self._event_loop: Optional[asyncio.AbstractEventLoop] = None
         self._closed = False
         # the call whose task waits, and the one whose task was cancelled, with the task that settles it

@@ -10,15 +10,17 @@ from .bodies import GREATEST_DRAIN, GREATEST_ITEM, Members, is_item, is_whole
 
 GREATEST_PLACE = 63
 GREATEST_WAIT = 86_400_000
+UNGIVEN = "a session that renews itself has no incarnation that is given: leave it out"
 
 
 class Call(NamedTuple):
     """What a call is: the members of its body beside its word, in the order in which `made` is given them; the words of the
-    replies that it may have; and of those that it may have only where it doesn't wait."""
+    replies that it may have; of those that it may have only where it doesn't wait; and whether it changes nothing."""
 
     members: Tuple[str, ...]
     replies: Tuple[str, ...]
     now: Tuple[str, ...] = ()
+    looks: bool = False
 
 
 CALLS: Mapping[str, Call] = {
@@ -27,8 +29,8 @@ CALLS: Mapping[str, Call] = {
     "take": Call(("queue", "wait"), ("item",), now=("empty",)),
     "drain": Call(("queue", "max"), ("drained",)),
     "swap": Call(("exchanger", "item", "wait"), ("swapped",)),
-    "count": Call(("queue",), ("counted",)),
-    "peek": Call(("queue",), ("peeked", "empty")),
+    "count": Call(("queue",), ("counted",), looks=True),
+    "peek": Call(("queue",), ("peeked", "empty"), looks=True),
 }
 
 
@@ -49,6 +51,11 @@ def replies_of(call: Members) -> Tuple[str, ...]:
     row, wait = CALLS[call["call"]], call.get("wait")
     unmet = row.now if wait == "now" else ("timedout",) if isinstance(wait, int) else ()
     return (*row.replies, *unmet, "cancelled")
+
+
+def looks(call: Members) -> bool:
+    """Whether a call changes nothing at the server: it only looks."""
+    return CALLS[call["call"]].looks
 
 
 # ---- members

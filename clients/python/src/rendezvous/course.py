@@ -8,15 +8,15 @@ from __future__ import annotations
 import logging
 import random
 import time
-from typing import Callable, Generator, Optional, Protocol, Tuple
+from typing import Callable, Generator, NamedTuple, Optional, Protocol, Tuple
 
 from . import machine as m
-from .bodies import Members, NoAnswer, body_of, read_answer
-from .calls import seconds_of, time_of
+from .bodies import GREATEST_VERSION, Members, NoAnswer, body_of, is_whole, read_answer
+from .calls import checked, looks, seconds_of, time_of, times_of
 from .errors import REFUSALS, Misused, NotRecorded
 from .leases import Name
 from .link import named
-from .record import Record, line_of
+from .record import Path, Record, line_of, record_of
 from .replies import Outcome
 
 # A request whose own time is over is cancelled behind so many seconds, in which the server's own word may still come,
@@ -115,19 +115,37 @@ class Running:
         return True
 
 
+class Manner(NamedTuple):
+    """How a session goes about its calls: the version that it speaks, for how many seconds it awaits one answer, and its first
+    welcome, the record that it keeps, and whether it begins anew where its epoch has ended."""
+
+    version: int
+    answer: float
+    connect_timeout: float
+    record: Optional[Record]
+    renew: bool
+
+
+def manner_of(version: int, patience: Optional[float], answer: float, connect_timeout: Optional[float], record: Optional[Path],
+              renew: bool) -> Manner:
+    """The manner of a session, by what it is given."""
+    awaits, connects = times_of(patience, answer, connect_timeout)
+    checked(is_whole(version, 1, GREATEST_VERSION), f"the version is 1 to {GREATEST_VERSION}: {version!r}")
+    return Manner(version, awaits, connects, record_of(record), renew)
+
+
 class Course:
     """What one session does. `machine` is replaced by one assignment a step, here alone. `last` is the outcome of the last
     request that was settled. `closing`: what is known is to be told, and nothing more is to be asked. `record`, where there is
-    one, has each reply before anybody is told it. `connect_timeout` is how long a call lasts before the first welcome."""
+    one, has each reply before anybody is told it."""
 
-    def __init__(self, address: Tuple[str, int], name: Name, version: int, answer: float, record: Optional[Record],
-                 connect_timeout: float) -> None:
-        self.address, self.name, self.answer, self.record = address, name, answer, record
-        self.connect_timeout = connect_timeout
+    def __init__(self, address: Tuple[str, int], name: Name, manner: Manner) -> None:
+        self.address, self.name, self.manner = address, name, manner
+        self.answer, self.record, self.renew = manner.answer, manner.record, manner.renew
         self._welcomed = False
         # what was logged, until something is heard that leads on
         self._logged = ""
-        self.machine = m.Machine(name.client, name.incarnation, version)
+        self.machine = m.Machine(name.client, name.incarnation, manner.version)
         self.last: Optional[Outcome] = None
         self.closing = False
         self._link: Optional[Channel] = None
@@ -135,6 +153,8 @@ class Course:
         self._asked = b""
         self._resume_at = self._answer_by = self._heard_at = 0.0
         self._bound = LEAST_PAUSE
+        # its epoch has ended, and it has not begun anew; and the last epoch in which a job had it begin anew
+        self._outlived, self._renewed_for = False, 0
 
     # ---- what each kind of course does in its own way
 
@@ -172,6 +192,9 @@ class Course:
         """Begins a job, and goes on until there is something to tell."""
         if job.resumes and self.machine.state is not m.State.OUTSTANDING:
             raise Misused("no request is unsettled")
+        self._renewed_for = 0
+        if self._outlived and self.renew and not job.resumes:
+            self._begin_anew(None)
         if job.call is not None:
             self._step(m.Ask(job.call))
         elif not job.resumes and self.machine.state is not m.State.NEW:
@@ -276,6 +299,8 @@ class Course:
             self._welcome()
         if made.drop:
             self._hang_up()
+        if isinstance(made.tell, m.EpochEnded):
+            return self._outlives(job, made.tell)
         return made.tell
 
     def _welcome(self) -> None:
@@ -285,10 +310,30 @@ class Course:
     def _heard(self, made: m.Step) -> m.Step:
         """The step that an answer makes. Where the server has a greater incarnation of a client that was never welcome, and its
         name takes one above that, this is the new one's hello."""
-        if self.machine.state is m.State.NEW and isinstance(made.tell, m.Replaced) and self.name.renewed(made.tell.current):
+        if self.machine.state is m.State.NEW and isinstance(made.tell, m.Replaced) and self.name.passes(made.tell.current):
             before = self.machine
             return m.step(m.Machine(before.client, self.name.incarnation, before.version, call=before.call), m.Speak())
         return made
+
+    def _outlives(self, job: Job, told: m.EpochEnded) -> Optional[m.Told]:
+        """The epoch has ended. That is told, unless the session begins anew, and the call goes on there: nobody met it, or it
+        changes nothing, and the server is of a greater epoch than when that was done last."""
+        self._outlived = True
+        if not self.renew or job.resumes or told.current <= self._renewed_for:
+            return told
+        call = job.call
+        if call is None or not (told.unmet or looks(call)):
+            return told
+        self._begin_anew(call)
+        self._renewed_for = told.current
+        return None
+
+    def _begin_anew(self, call: Optional[Members]) -> None:
+        """The session begins anew in a greater incarnation, with this call if there is one. What it was is over."""
+        self.name.begin_anew()
+        anew = m.Machine(self.name.client, self.name.incarnation, self.machine.version)
+        self.machine = anew if call is None else m.step(anew, m.Ask(call)).machine
+        self._outlived = False
 
     def _recorded(self, outcome: Outcome, told: bytes) -> Optional[NotRecorded]:
         """Writes the reply to the request into the record, if there is one; the exception where it can't be written."""
@@ -335,7 +380,7 @@ class Course:
 
     def _silent_until(self, job: Job) -> float:
         """When a job ends of which nothing more is heard."""
-        return self._heard_at + (job.patience if self._welcomed else min(job.patience, self.connect_timeout))
+        return self._heard_at + (job.patience if self._welcomed else min(job.patience, self.manner.connect_timeout))
 
     def _note(self, job: Job, fault: str) -> None:
         """What failed last is told where the job ends by it, with the address. That no connection can be made, or that the server

@@ -16,10 +16,9 @@ from typing import Optional, Tuple
 from . import course, machine as m
 from .bell import ANYWHERE, Bell
 from .bodies import Members
-from .course import FOREVER, Channel, Course
+from .course import FOREVER, Channel, Course, Manner
 from .leases import Name
 from .link import Link
-from .record import Record
 
 CLOSED = "the session is closed"
 # What a thread waits by has no descriptor of its own.
@@ -57,9 +56,8 @@ class Job(course.Job):
 class Driver(Course):
     """The thread of one session. The session's name is given back once nothing is done in that name any more."""
 
-    def __init__(self, address: Tuple[str, int], name: Name, version: int, answer: float, record: Optional[Record],
-                 connect_timeout: float) -> None:
-        super().__init__(address, name, version, answer, record, connect_timeout)
+    def __init__(self, address: Tuple[str, int], name: Name, manner: Manner) -> None:
+        super().__init__(address, name, manner)
         self.gone = False
         self._process = os.getpid()
         self.ended = threading.Lock()

@@ -46,7 +46,7 @@ def known_of(job: Job) -> Tuple[Optional[Outcome], Optional[errors.RendezvousErr
     if isinstance(told, m.Refused):
         return None, errors.Refused(told.key, told.code, told.current, meaning(told))
     if isinstance(told, m.EpochEnded):
-        return None, errors.EpochEnded(told.key, told.current)
+        return None, errors.NotAsked(told.key, "", told.current) if told.unmet else errors.EpochEnded(told.key, told.current)
     if isinstance(told, m.Replaced):
         return None, errors.Replaced(told.key, told.current)
     return None, None

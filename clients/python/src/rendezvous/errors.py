@@ -45,14 +45,18 @@ class Unsettled(RendezvousError):
 
 
 class NotAsked(RendezvousError):
-    """The request was never sent, so nothing happened: the server was not reached, or the time was over. `why` names the address
-    and what went wrong there last."""
+    """Nothing was asked that anybody met, nor will be. The request was never sent: the server was not reached, or the time was
+    over; then `current` is None, and `why` names the address and what went wrong there last. Or the server was started anew, in
+    the epoch `current`, before any copy of the request came to it, and refused each: then `key` names the request, and the
+    session has ended."""
 
-    def __init__(self, key: Optional[Key] = None, why: str = "") -> None:
-        super().__init__(key, why)
-        self.why = why
+    def __init__(self, key: Optional[Key] = None, why: str = "", current: Optional[int] = None) -> None:
+        super().__init__(key, why, current)
+        self.why, self.current = why, current
 
     def words(self) -> str:
+        if self.current is not None:
+            return f"nothing was asked: the server was started anew before the request came, and is of epoch {self.current}"
         return f"nothing was asked: {self.why}" if self.why else "nothing was asked"
 
 
@@ -92,7 +96,8 @@ class TimedOut(RendezvousError, TimeoutError):
 
 class EpochEnded(RendezvousError):
     """The server was started anew, in the epoch `current`, which is the key's own where it was started in the same epoch
-    again. Whether the request was met is not known. The session has ended."""
+    again. Whether the request was met is not known; where it is certain that it was not, this is `NotAsked`. The session has
+    ended, and one that renews itself does so at the next call."""
 
     def __init__(self, key: Optional[Key], current: int) -> None:
         super().__init__(key, current)

@@ -29,9 +29,13 @@ class Name:
     def __init__(self, client: int, incarnation: int, bell: Optional[Bell] = None) -> None:
         self.client, self.incarnation, self.bell = client, incarnation, bell
 
-    def renewed(self, current: int) -> bool:
+    def passes(self, current: int) -> bool:
         """Whether it takes an incarnation above this one, which the server has; a name that was given does not."""
         return False
+
+    def begin_anew(self) -> None:
+        """It goes on in a greater incarnation."""
+        self.incarnation = new_incarnation()
 
     def close(self) -> None:
         """The session has ended."""
@@ -43,12 +47,12 @@ class Lease(Name):
     """A number that no other program of this user has on this host until it is closed, or this process ends. Where the clock was
     set back, the server's word for a greater incarnation is taken, once."""
 
-    _renewed = False
+    _has_passed = False
 
-    def renewed(self, current: int) -> bool:
-        if self._renewed or current >= GREATEST:
+    def passes(self, current: int) -> bool:
+        if self._has_passed or current >= GREATEST:
             return False
-        self._renewed, self.incarnation = True, current + 1
+        self._has_passed, self.incarnation = True, current + 1
         USED.setdefault(self.incarnation, None)
         return True
 

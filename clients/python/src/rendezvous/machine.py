@@ -39,7 +39,8 @@ class Machine:
     is outstanding, with its `call`; a new one's `call` waits for the welcome. `giving_up`: the request is to be
     cancelled. `sent`: a copy of it was sent. `out` counts the copies of the request and of its cancel that were sent and
     have no answer, also on connections that are gone. `accepted`: the server said that it waits. `full`: the last answer
-    was that there is no room, by a refusal of a number that has not arrived."""
+    was that there is no room, by a refusal of a number that has not arrived. `doubtful`: a copy of the request may have come
+    to a server of its epoch, which took it. So it is where one was lost with its connection, waits, or found no memory."""
 
     client: int
     incarnation: int
@@ -52,6 +53,7 @@ class Machine:
     out: int = 0
     accepted: bool = False
     full: bool = False
+    doubtful: bool = False
     flying: Flying = Flying.NOTHING
 
 
@@ -139,10 +141,11 @@ class Refused:
 
 @dataclass(frozen=True)
 class EpochEnded:
-    """The server was started anew."""
+    """The server was started anew. `unmet`: no copy of the request can have come to a server of its epoch."""
 
     key: Optional[Key]
     current: int
+    unmet: bool = False
 
 
 @dataclass(frozen=True)
@@ -180,7 +183,7 @@ def step(machine: Machine, event: Event) -> Step:
         return _given_up(machine)
     if isinstance(event, Expire):
         return _expired(machine)
-    return Step(replace(machine, flying=Flying.NOTHING))
+    return Step(_lost(machine))
 
 
 def _asked(machine: Machine, call: Members) -> Machine:
@@ -243,9 +246,14 @@ def _idle(machine: Machine, key: Optional[Key]) -> Machine:
     return Machine(machine.client, machine.incarnation, machine.version, State.IDLE, key)
 
 
+def _lost(machine: Machine) -> Machine:
+    """The connection is gone: what became of a request that flew there is not known."""
+    return replace(machine, flying=Flying.NOTHING, doubtful=machine.doubtful or machine.flying is Flying.REQUEST)
+
+
 def _fault(machine: Machine) -> Step:
     """An answer that can't be had: the connection is out of step."""
-    return Step(replace(machine, flying=Flying.NOTHING), drop=True)
+    return Step(_lost(machine), drop=True)
 
 
 def _end(machine: Machine, told: Told) -> Step:
@@ -327,7 +335,7 @@ def _waits(machine: Machine, answer: Members) -> Step:
     may_wait = machine.call.get("wait", "now") not in ("now", 0)
     if key_of(answer) != machine.key or machine.flying is not Flying.REQUEST or not may_wait:
         return _fault(machine)
-    return _spoken(replace(_answered(machine), accepted=True, full=False))
+    return _spoken(replace(_answered(machine), accepted=True, full=False, doubtful=True))
 
 
 def _answered(machine: Machine) -> Machine:
@@ -345,11 +353,11 @@ def _bad_text(machine: Machine, refusal: Members) -> Step:
 
 
 def _other_epoch(machine: Machine, refusal: Members) -> Step:
-    """A greater epoch ends the client; a lower one is another server's."""
+    """A greater epoch ends the client; a lower one is another server's. The copy that flew came to no server of its own epoch."""
     assert machine.key is not None
     if refusal["current"] <= machine.key.epoch:
         return _fault(machine)
-    return _end(machine, EpochEnded(machine.key, refusal["current"]))
+    return _end(machine, EpochEnded(machine.key, refusal["current"], not machine.doubtful))
 
 
 def _no_session(machine: Machine, _: Members) -> Step:
@@ -384,13 +392,14 @@ def _no_room(machine: Machine, _: Members) -> Step:
     """The number has not arrived, and finds no room. So no copy that was answered before is in the book either."""
     if machine.accepted:
         return _fault(machine)
-    full = replace(_answered(machine), full=True)
+    answered = _answered(machine)
+    full = replace(answered, full=True, doubtful=machine.doubtful and answered.out > 0)
     return _expired(full) if full.giving_up and full.out == 0 and full.sent else Step(full)
 
 
 def _no_memory(machine: Machine, _: Members) -> Step:
     """Nothing is known: the request, or the answer's text, found no memory."""
-    return Step(replace(_answered(machine), full=False))
+    return Step(replace(_lost(machine), out=machine.out - 1, full=False))
 
 
 REFUSED: Dict[int, Callable[[Machine, Members], Step]] = {

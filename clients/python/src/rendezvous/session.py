@@ -8,15 +8,15 @@ from functools import partial
 from typing import Callable, Iterator, List, NoReturn, Optional, Tuple, Type, cast
 
 from . import errors
-from .bodies import GREATEST_VERSION, Members, is_whole
-from .calls import Wait, checked, made, times_of
-from .course import Running
+from .bodies import GREATEST_VERSION, Members
+from .calls import UNGIVEN, Wait, checked, made
+from .course import Manner, Running, manner_of
 from .driver import Driver, Job
 from .endings import (
     Result, counts_of, ending, item_if_any, item_of, items_of, itself, known_of, nothing, receipt_if_any, receipt_of)
 from .leases import Name, name_of
 from .link import Address, address_of
-from .record import Path, Record, record_of
+from .record import Path
 from .replies import Cancelled, Counted, Outcome, Receipt
 from .shown import shown
 from .unclaimed import Shelf, Unclaimed
@@ -51,17 +51,22 @@ class Session:
     appended by one write, so any number of sessions and processes may share a local file. It is handed to the system, which
     keeps it whatever becomes of the process, and is not forced to the disk. An OSError, before anything is leased or asked, where
     it can't be written; `NotRecorded` where it can't be later.
+
+    A server that is started anew ends the session. With `renew` it begins anew by itself, in the new epoch, under its client
+    number and a greater incarnation: a call that certainly nobody met, or that only looks (`count`, `peek`), goes on there.
+    One that may have been met is `EpochEnded`, and the next call begins anew. No incarnation is given then, and no other
+    process may have the client number: the session would take it back.
     """
 
     def __init__(self, address: Address, client: Optional[int] = None, incarnation: Optional[int] = None, *,
                  clients: Optional[range] = None, version: int = GREATEST_VERSION, patience: Optional[float] = 60.0,
-                 answer: float = 30.0, record: Optional[Path] = None, connect_timeout: Optional[float] = 5.0) -> None:
+                 answer: float = 30.0, record: Optional[Path] = None, connect_timeout: Optional[float] = 5.0,
+                 renew: bool = False) -> None:
         self.address, self.patience = address_of(address), patience
-        times = times_of(patience, answer, connect_timeout)
-        checked(is_whole(version, 1, GREATEST_VERSION), f"the version is 1 to {GREATEST_VERSION}: {version!r}")
-        kept = record_of(record)
+        checked(not renew or incarnation is None, UNGIVEN)
+        manner = manner_of(version, patience, answer, connect_timeout, record, renew)
         self._process = os.getpid()
-        self._driver = driver_of(self.address, name_of(client, incarnation, clients), version, times, kept)
+        self._driver = driver_of(self.address, name_of(client, incarnation, clients), manner)
         # The job that runs, or that its caller left: setdefault and pop are single steps.
         self._jobs: "dict[str, Job]" = {}
         # what was not recorded, and a handler's exception hid
@@ -339,10 +344,10 @@ def no_loop() -> Optional[Items]:
     return None
 
 
-def driver_of(address: Tuple[str, int], name: Name, version: int, times: Tuple[float, float], record: Optional[Record]) -> Driver:
-    """The driver of a new session, which gives its name back at its end. `times`: how long an answer and a welcome may take."""
+def driver_of(address: Tuple[str, int], name: Name, manner: Manner) -> Driver:
+    """The driver of a new session, which gives its name back at its end."""
     try:
-        return Driver(address, name, version, times[0], record, times[1])
+        return Driver(address, name, manner)
     except BaseException:
         name.close()
         raise

@@ -8,7 +8,7 @@ import time
 from typing import Optional, Tuple, cast
 
 from .bodies import NoAnswer
-from .course import FOREVER, Channel, Course, Job
+from .course import FOREVER, Channel, Course, Job, Manner
 from .leases import Name
 from .link import Inbox, frame_of, named
 from .record import Record
@@ -94,9 +94,8 @@ class Connection(asyncio.Protocol):
 class StreamCourse(Course):
     """A course that waits in an event loop."""
 
-    def __init__(self, address: Tuple[str, int], name: Name, version: int, answer: float, record: Optional[Record],
-                 connect_timeout: float) -> None:
-        super().__init__(address, name, version, answer, record, connect_timeout)
+    def __init__(self, address: Tuple[str, int], name: Name, manner: Manner) -> None:
+        super().__init__(address, name, manner)
         self._ordered = False
         self._waker: "Optional[asyncio.Future[None]]" = None
 

@@ -30,6 +30,7 @@ final class Calls {
         "swap", new Row("swapped"),
         "count", new Row("counted"),
         "peek", new Row("peeked", "empty"));
+    private static final Set<String> LOOKS = Set.of("count", "peek");
 
     /**
      * A call, and how long it may last.
@@ -123,6 +124,11 @@ final class Calls {
         Row row = CALLS.get(Bodies.word(call, "call"));
         return row.replies().contains(reply) || reply.equals("cancelled") || reply.equals("timedout") && isTimed(call)
             || row.now().contains(reply) && Bodies.word(call, "wait").equals("now");
+    }
+
+    /** Whether a call changes nothing at the server: it only looks. */
+    static boolean looks(JsonObject call) {
+        return LOOKS.contains(Bodies.word(call, "call"));
     }
 
     /** Whether a call waits for a time, which may be none. */

@@ -17,10 +17,12 @@ import rendezvous.Event.Plain;
  * @param out how many copies of the request and of its cancel were sent, and have no answer
  * @param accepted the server said that this request waits
  * @param full the last answer to the hello, the request or its cancel was that there is no room
+ * @param doubtful a copy of the request may have come to a server of its epoch, which took it: one was lost with its
+ *     connection, waits, or found no memory
  * @param flying what was said last on this connection, and has no answer yet
  */
 record Machine(long client, long incarnation, int version, State state, Key key, JsonObject call, boolean givingUp,
-        boolean sent, int out, boolean accepted, boolean full, Flying flying) {
+        boolean sent, int out, boolean accepted, boolean full, boolean doubtful, Flying flying) {
     /** What a client has. */
     enum State { NEW, IDLE, OUTSTANDING, ENDED }
 
@@ -29,7 +31,7 @@ record Machine(long client, long incarnation, int version, State state, Key key,
 
     /** A client that has said nothing yet. */
     static Machine started(long client, long incarnation, int version) {
-        return new Machine(client, incarnation, version, State.NEW, null, null, false, false, 0, false, false,
+        return new Machine(client, incarnation, version, State.NEW, null, null, false, false, 0, false, false, false,
             Flying.NOTHING);
     }
 
@@ -90,8 +92,10 @@ record Machine(long client, long incarnation, int version, State state, Key key,
         return new Step(made, draft.givingUp ? made.keyed("cancel") : made.request(), null, false);
     }
 
+    /** The connection is gone: what became of a request that flew there is not known. */
     private Machine lost() {
         Draft draft = new Draft(this);
+        draft.doubtful |= flying == Flying.REQUEST;
         draft.flying = Flying.NOTHING;
         return draft.made();
     }
@@ -217,6 +221,7 @@ record Machine(long client, long incarnation, int version, State state, Key key,
         Draft draft = new Draft(this);
         draft.accepted = true;
         draft.full = false;
+        draft.doubtful = true;
         draft.out--;
         return saying(draft);
     }
@@ -225,15 +230,15 @@ record Machine(long client, long incarnation, int version, State state, Key key,
         return switch ((int) Bodies.number(refusal, "code")) {
             case 1 -> flying == Flying.REQUEST && !accepted ? badText() : fault();
             case 2 -> above(refusal, "current", key.epoch())
-                ? ended(new Told.EpochEnded(key, Bodies.number(refusal, "current"))) : fault();
-            case 3 -> ended(new Told.EpochEnded(key, key.epoch()));
+                ? ended(new Told.EpochEnded(key, Bodies.number(refusal, "current"), !doubtful)) : fault();
+            case 3 -> ended(new Told.EpochEnded(key, key.epoch(), false));
             case 4 -> above(refusal, "current", incarnation)
                 ? ended(new Told.Replaced(key, Bodies.number(refusal, "current"))) : fault();
             case 5 -> above(refusal, "last", key.number()) ? usedByAnother(5) : fault();
             case 6 -> flying == Flying.REQUEST ? usedByAnother(6) : fault();
             case 7 -> Bodies.number(refusal, "open") < key.number() ? usedByAnother(7) : fault();
             case 8 -> Bodies.number(refusal, "last") < key.number() - 1
-                ? ended(new Told.EpochEnded(key, key.epoch())) : fault();
+                ? ended(new Told.EpochEnded(key, key.epoch(), false)) : fault();
             case 10 -> accepted ? fault() : noRoom();
             case 11 -> noMemory();
             default -> fault();
@@ -263,6 +268,7 @@ record Machine(long client, long incarnation, int version, State state, Key key,
         Draft draft = new Draft(this);
         draft.out--;
         draft.full = true;
+        draft.doubtful &= draft.out > 0;
         draft.flying = Flying.NOTHING;
         if (!givingUp || draft.out > 0) {
             return Step.silent(draft.made());
@@ -275,6 +281,7 @@ record Machine(long client, long incarnation, int version, State state, Key key,
         Draft draft = new Draft(this);
         draft.out--;
         draft.full = false;
+        draft.doubtful |= flying == Flying.REQUEST;
         draft.flying = Flying.NOTHING;
         return Step.silent(draft.made());
     }
@@ -327,6 +334,7 @@ record Machine(long client, long incarnation, int version, State state, Key key,
         private int out;
         private boolean accepted;
         private boolean full;
+        private boolean doubtful;
         private Flying flying;
 
         Draft(Machine before) {
@@ -339,6 +347,7 @@ record Machine(long client, long incarnation, int version, State state, Key key,
             out = before.out;
             accepted = before.accepted;
             full = before.full;
+            doubtful = before.doubtful;
             flying = before.flying;
         }
 
@@ -351,11 +360,12 @@ record Machine(long client, long incarnation, int version, State state, Key key,
             out = 0;
             accepted = false;
             full = false;
+            doubtful = false;
         }
 
         Machine made() {
             return new Machine(before.client, before.incarnation, before.version, state, key, call, givingUp, sent, out,
-                accepted, full, flying);
+                accepted, full, doubtful, flying);
         }
     }
 }

@@ -162,6 +162,17 @@ final class Pool {
         }
     }
 
+    /** Ends the free sessions of epochs before this one, in which the server was started anew. */
+    void endBefore(long epoch) {
+        lock.lock();
+        try {
+            free().filter(seat -> seat.session.isBefore(epoch)).toList().forEach(this::end);
+            changed.signalAll();
+        } finally {
+            lock.unlock();
+        }
+    }
+
     /** The sessions whose request is unsettled. */
     List<RvSession> unsettled() {
         lock.lock();

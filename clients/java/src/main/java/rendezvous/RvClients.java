@@ -1,11 +1,13 @@
 package rendezvous;
 
+import com.google.gson.JsonObject;
 import java.nio.file.Path;
 import java.time.Duration;
 import java.util.List;
 import java.util.Objects;
 import java.util.Optional;
 import java.util.OptionalLong;
+import java.util.concurrent.CancellationException;
 import java.util.concurrent.Executor;
 import java.util.concurrent.ExecutorService;
 import java.util.concurrent.Executors;
@@ -24,6 +26,10 @@ import java.util.function.LongFunction;
  * <p>A call borrows a session and gives it back when its request is settled, so that there are as many sessions as calls
  * run at a time, however many threads there are. A thread gets the session of its last call again, unless another thread
  * took it meanwhile. One whose request is unsettled is nobody's, and stands in {@link #unsettled} until it is settled.
+ *
+ * <p>A server that is started anew ends the sessions that it had. A call is then asked again, in a new session of the new epoch,
+ * where it is certain that nobody met its request, and where it only looks: sizes, waiting consumers, a peek. So these don't fail
+ * for a restart. Any other call is {@link RvException.EpochEnded}, and the thread's next one has a new session.
  *
  * <p>They keep a {@linkplain Builder#record record} of what they were told, where a file is chosen for that.
  *
@@ -283,7 +289,42 @@ public final class RvClients implements AutoCloseable {
         return ask(job, true);
     }
 
+    /** The outcome of a call. Where the server was started anew, it is asked again in another session, if that is right. */
     private Outcome ask(Calls.Job job, boolean interruptible) throws InterruptedException {
+        long began = System.nanoTime();
+        RvException restarted = null;
+        long epoch = 0;
+        while (true) {
+            try {
+                return askOnce(job.later(System.nanoTime() - began), interruptible);
+            } catch (RvException fault) {
+                long current = startedAnew(fault, job.call());
+                if (current <= epoch) {
+                    throw fault;
+                }
+                restarted = fault;
+                epoch = current;
+                pool.endBefore(current == fault.key().epoch() ? current + 1 : current);
+            } catch (IllegalStateException none) {
+                if (restarted == null || none instanceof CancellationException) {
+                    throw none;
+                }
+                // there is no other session: what is known of the first one's request is told
+                restarted.addSuppressed(none);
+                throw restarted;
+            }
+        }
+    }
+
+    /** The epoch of a new start of the server behind which a call is asked again: nobody met it, or it only looks. 0 else. */
+    private static long startedAnew(RvException fault, JsonObject call) {
+        if (fault instanceof RvException.NotAsked unmet) {
+            return unmet.current();
+        }
+        return fault instanceof RvException.EpochEnded ended && Calls.looks(call) ? ended.current() : 0;
+    }
+
+    private Outcome askOnce(Calls.Job job, boolean interruptible) throws InterruptedException {
         long began = System.nanoTime();
         Pool.Seat seat = pool.borrow(job, interruptible);
         try {

@@ -37,12 +37,28 @@ public abstract sealed class RvException extends RuntimeException {
         }
     }
 
-    /** The request was never sent. The session goes on. */
+    /**
+     * Nothing was asked that anybody met, nor will be. The request was never sent, and the session goes on: {@link #current()}
+     * is 0. Or the server was started anew before any copy of the request came to it, and refused each: {@link #current()} is
+     * its epoch, and the session has ended.
+     */
     public static final class NotAsked extends RvException {
-        private static final long serialVersionUID = 2;
+        private static final long serialVersionUID = 3;
+        private final long current;
 
         NotAsked(String words) {
             super(null, "nothing was sent: " + words);
+            current = 0;
+        }
+
+        NotAsked(Key key, long current) {
+            super(key, "nothing was asked: the server was started anew before the request came, and is of epoch " + current);
+            this.current = current;
+        }
+
+        /** The epoch in which the server was started anew; 0 where the request was never sent. */
+        public long current() {
+            return current;
         }
     }
 
@@ -83,7 +99,10 @@ public abstract sealed class RvException extends RuntimeException {
         }
     }
 
-    /** The server was started anew, or lost what it had. Whether the request was met is not known. The session has ended. */
+    /**
+     * The server was started anew, or lost what it had. Whether the request was met is not known; where it is certain that it
+     * was not, this is {@link NotAsked}. The session has ended.
+     */
     public static final class EpochEnded extends RvException {
         private static final long serialVersionUID = 2;
         private final long current;

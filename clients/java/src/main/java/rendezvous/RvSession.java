@@ -114,6 +114,12 @@ public final class RvSession implements AutoCloseable {
         return closed || now.state() == Machine.State.ENDED || now.state() == Machine.State.IDLE && now.key() == null;
     }
 
+    /** Whether its epoch is before this one; not so before the welcome and behind the end. */
+    boolean isBefore(long epoch) {
+        Key now = machine.key();
+        return now != null && now.epoch() < epoch;
+    }
+
     /** Whether nothing is asked and nothing is unsettled. */
     boolean isIdle() {
         return caller.get() == null && machine.call() == null && !isOver();
@@ -292,8 +298,8 @@ public final class RvSession implements AutoCloseable {
         if (told instanceof Told.Settled settled) {
             return recorded(settled.outcome());
         }
-        if (told instanceof Told.NotAsked) {
-            obeyed("nothing was sent");
+        if (told instanceof Told.NotAsked || told instanceof Told.EpochEnded ended && ended.unmet()) {
+            obeyed("nothing was asked");
         }
         throw ended(told).orElseThrow();
     }
@@ -330,7 +336,8 @@ public final class RvSession implements AutoCloseable {
             return Optional.of(new RvException.Refused(refused.key(), refused.code(), refused.current(), version));
         }
         if (told instanceof Told.EpochEnded ended) {
-            return Optional.of(new RvException.EpochEnded(ended.key(), ended.current()));
+            return Optional.of(ended.unmet() ? new RvException.NotAsked(ended.key(), ended.current())
+                : new RvException.EpochEnded(ended.key(), ended.current()));
         }
         return told instanceof Told.Replaced replaced
             ? Optional.of(new RvException.Replaced(replaced.key(), replaced.current())) : Optional.empty();

@@ -21,8 +21,8 @@ sealed interface Told permits Told.Welcomed, Told.Settled, Told.Unsettled, Told.
     /** A refusal that a repeat would not change; {@code current} is null where it has none. */
     record Refused(Key key, int code, Long current) implements Told {}
 
-    /** The server was started anew, and is of this epoch. */
-    record EpochEnded(Key key, long current) implements Told {}
+    /** The server was started anew, and is of this epoch; {@code unmet}: no copy of the request can have come to one of its own. */
+    record EpochEnded(Key key, long current, boolean unmet) implements Told {}
 
     /** A newer process has the client's number, in this incarnation. */
     record Replaced(Key key, long current) implements Told {}

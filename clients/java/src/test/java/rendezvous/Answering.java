@@ -25,6 +25,7 @@ final class Answering implements AutoCloseable {
     private final List<Socket> open = new ArrayList<>();
     private final List<JsonObject> heard = new ArrayList<>();
     private int connections;
+    private long epoch = 1;
 
     /** One that welcomes each hello, and answers all else so. */
     Answering(Function<JsonObject, JsonObject> answer) throws IOException {
@@ -117,17 +118,34 @@ final class Answering implements AutoCloseable {
     }
 
     private JsonObject answered(JsonObject message) {
-        synchronized (this) {
-            heard.add(message);
-            notifyAll();
+        long current = heard(message);
+        if (Bodies.word(message, "kind").equals("hello")) {
+            JsonObject welcome = message.deepCopy();
+            welcome.addProperty("kind", "welcome");
+            welcome.addProperty("epoch", current);
+            return welcome;
         }
-        if (!Bodies.word(message, "kind").equals("hello")) {
-            return answer.apply(message);
-        }
-        JsonObject welcome = message.deepCopy();
-        welcome.addProperty("kind", "welcome");
-        welcome.addProperty("epoch", 1);
-        return welcome;
+        return Bodies.number(message, "epoch") < current ? otherEpoch(current) : answer.apply(message);
+    }
+
+    /** Keeps what came, and gives the server's epoch. */
+    private synchronized long heard(JsonObject message) {
+        heard.add(message);
+        notifyAll();
+        return epoch;
+    }
+
+    private static JsonObject otherEpoch(long current) {
+        JsonObject refusal = new JsonObject();
+        refusal.addProperty("kind", "refused");
+        refusal.addProperty("code", 2);
+        refusal.addProperty("current", current);
+        return refusal;
+    }
+
+    /** It is started anew in the next epoch, and has lost what it had; connections stay. */
+    synchronized void startsAnew() {
+        epoch++;
     }
 
     /** Waits until so many messages came beside hellos. */

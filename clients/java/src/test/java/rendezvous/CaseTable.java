@@ -68,7 +68,7 @@ final class CaseTable {
             (int) Bodies.number(members, "version"), Machine.State.valueOf(name(members, "state")), key(members.get("key")),
             members.get("call").isJsonNull() ? null : members.getAsJsonObject("call").deepCopy(), holds(members, "giving_up"),
             holds(members, "sent"), (int) Bodies.number(members, "out"), holds(members, "accepted"), holds(members, "full"),
-            Machine.Flying.valueOf(name(members, "flying")));
+            holds(members, "doubtful"), Machine.Flying.valueOf(name(members, "flying")));
     }
 
     private static String name(JsonObject members, String name) {
@@ -96,6 +96,7 @@ final class CaseTable {
         made.addProperty("out", machine.out());
         made.addProperty("accepted", machine.accepted());
         made.addProperty("full", machine.full());
+        made.addProperty("doubtful", machine.doubtful());
         made.addProperty("flying", machine.flying().name().toLowerCase(Locale.ROOT));
         return made;
     }
@@ -121,7 +122,9 @@ final class CaseTable {
             return made;
         }
         if (told instanceof Told.EpochEnded ended) {
-            return withCurrent(says("ended", ended.key()), ended.current());
+            JsonObject made = withCurrent(says("ended", ended.key()), ended.current());
+            made.addProperty("unmet", ended.unmet());
+            return made;
         }
         if (told instanceof Told.Replaced replaced) {
             return withCurrent(says("replaced", replaced.key()), replaced.current());

@@ -98,6 +98,9 @@ final class Driver {
         if (fault instanceof RvException.EpochEnded ended) {
             return " " + ended.current();
         }
+        if (fault instanceof RvException.NotAsked unmet) {
+            return unmet.current() > 0 ? " " + unmet.current() : "";
+        }
         if (fault instanceof RvException.Unsettled left) {
             return left.accepted() ? " accepted" : "";
         }

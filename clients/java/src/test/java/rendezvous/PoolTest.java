@@ -12,8 +12,10 @@ import java.util.ArrayList;
 import java.util.List;
 import java.util.Optional;
 import java.util.OptionalLong;
+import java.util.concurrent.BrokenBarrierException;
 import java.util.concurrent.CompletableFuture;
 import java.util.concurrent.CountDownLatch;
+import java.util.concurrent.CyclicBarrier;
 import java.util.concurrent.Semaphore;
 import java.util.concurrent.TimeUnit;
 import java.util.concurrent.atomic.AtomicBoolean;
@@ -308,6 +310,74 @@ final class PoolTest {
             assertEquals(2, hellos.size());
             assertEquals(List.of(first, first), hellos.stream().map(hello -> Bodies.number(hello, "client")).toList());
             assertTrue(Bodies.number(hellos.get(0), "incarnation") < Bodies.number(hellos.get(1), "incarnation"));
+        }
+    }
+
+    /** So many puts at a time, at a server that meets them, each in a thread of its own. */
+    private static void putAtATime(RvClients clients, int count) throws Exception {
+        List<Calling<String>> all = new ArrayList<>();
+        for (int each = 0; each < count; each++) {
+            all.add(putting(clients, "held"));
+        }
+        for (Calling<String> each : all) {
+            assertEquals("done", each.end());
+        }
+    }
+
+    /** A server that answers puts of "held" once so many are there. */
+    private static Answering meeting(int count) throws Exception {
+        CyclicBarrier barrier = new CyclicBarrier(count);
+        return new Answering(message -> {
+            if (Bodies.word(message, "call").equals("count")) {
+                return Answering.reply(message, key -> new Outcome.Counted(key, 0, 0));
+            }
+            if (item(message).equals("held")) {
+                met(barrier);
+            }
+            return Answering.well(message);
+        });
+    }
+
+    private static void met(CyclicBarrier barrier) {
+        try {
+            barrier.await();
+        } catch (InterruptedException | BrokenBarrierException never) {
+            throw new IllegalStateException(never);
+        }
+    }
+
+    @Test
+    void behindARestartOneCallMeetsItForAllIdleSessions() throws Exception {
+        try (Answering server = meeting(4); RvClients clients = leasing(server).idle(NEVER).build()) {
+            putAtATime(clients, 4);
+            server.startsAnew();
+            assertEquals(0, queue(clients).size());
+            List<Long> epochs = server.asked().stream().map(message -> Bodies.number(message, "epoch")).toList();
+            assertEquals(List.of(1L, 1L, 1L, 1L, 1L, 2L), epochs);
+            assertEquals(5, server.hellos().size());
+            assertFalse(isFree(1));
+            assertTrue(isFree(2));
+            putAtATime(clients, 4);
+            server.startsAnew();
+            queue(clients).put("a");
+            assertEquals(List.of(2L, 3L), epochsOf(server, "a"));
+        }
+    }
+
+    private static List<Long> epochsOf(Answering server, String item) {
+        return server.asked().stream().filter(message -> item(message).equals(item))
+            .map(message -> Bodies.number(message, "epoch")).toList();
+    }
+
+    @Test
+    void whereNoNumberIsLeftForAnotherSessionItIsToldThatNobodyMetIt() throws Exception {
+        try (Answering server = new Answering(Answering::well); RvClients clients = server.clients(1, 1).build()) {
+            queue(clients).put("a");
+            server.startsAnew();
+            RvException.NotAsked unmet = assertThrows(RvException.NotAsked.class, () -> queue(clients).put("b"));
+            assertEquals(2, unmet.current());
+            assertEquals(new Key(1, 1, 1, 2), unmet.key());
+            assertInstanceOf(IllegalStateException.class, unmet.getSuppressed()[0]);
         }
     }
 

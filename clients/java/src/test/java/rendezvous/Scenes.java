@@ -16,6 +16,7 @@ import java.nio.file.LinkOption;
 import java.security.Security;
 import java.time.Duration;
 import java.util.ArrayList;
+import java.util.LinkedHashMap;
 import java.util.List;
 import java.util.Map;
 import java.util.concurrent.Callable;
@@ -56,6 +57,8 @@ final class Scenes {
         Map.entry("not-possible", Scenes::notPossible), Map.entry("for-ever", Scenes::forEver),
         Map.entry("long-time", Scenes::longTime), Map.entry("dead-threads", Scenes::deadThreads),
         Map.entry("pooled", Scenes::pooled), Map.entry("ended", Scenes::endedInOneThread),
+        Map.entry("restarts", Scenes::restarts), Map.entry("restart-looks", Scenes::restartLooks),
+        Map.entry("restart-interrupted", Scenes::restartInterrupted),
         Map.entry("interrupted-hello", Scenes::interruptedTake),
         Map.entry("interrupted-again", Scenes::interruptedAgain), Map.entry("nested", Scenes::nested),
         Map.entry("serialized", Scenes::serialized), Map.entry("unresolved", Scenes::unresolved),
@@ -194,6 +197,54 @@ final class Scenes {
             System.out.println(told(put(clients, item)));
         }
         System.out.println(inThread(put(clients, "e")));
+    }
+
+    /** Each call of a queue and an exchanger that a session asks, by its name; the last ones only look. */
+    private static Map<String, Callable<?>> calls(RvClients clients) {
+        RvTransferQueue queue = new RvTransferQueue(clients, 3);
+        Map<String, Callable<?>> calls = new LinkedHashMap<>();
+        calls.put("put", put(clients, "a"));
+        calls.put("transfer", () -> queue.transferReceipt("a").by());
+        calls.put("tryTransfer", () -> queue.tryTransfer("a"));
+        calls.put("timed tryTransfer", () -> queue.tryTransfer("a", 1, TimeUnit.HOURS));
+        calls.put("take", queue::take);
+        calls.put("poll", () -> queue.poll(1, TimeUnit.HOURS));
+        calls.put("drainTo", () -> queue.drainTo(new ArrayList<>(), 2));
+        calls.put("exchange", () -> new RvExchanger(clients, 5).exchange("a"));
+        calls.put("takeAsync", () -> queue.takeAsync().get());
+        calls.put("size", queue::size);
+        calls.put("isEmpty", queue::isEmpty);
+        calls.put("getWaitingConsumerCount", queue::getWaitingConsumerCount);
+        calls.put("hasWaitingConsumer", queue::hasWaitingConsumer);
+        calls.put("peek", queue::peek);
+        return calls;
+    }
+
+    /** Each call behind a put, which the server's next start comes after. */
+    private static void restarts(int port) throws Exception {
+        RvClients clients = clients(port, 1, 100, 60_000);
+        for (Map.Entry<String, Callable<?>> call : calls(clients).entrySet()) {
+            put(clients, "b").call();
+            System.out.println(call.getKey() + " " + told(call.getValue()));
+        }
+    }
+
+    /** Each call that only looks. */
+    private static void restartLooks(int port) throws Exception {
+        RvClients clients = clients(port, 1, 100, 60_000);
+        for (Map.Entry<String, Callable<?>> call : List.copyOf(calls(clients).entrySet()).subList(9, 14)) {
+            System.out.println(call.getKey() + " " + told(call.getValue()));
+        }
+    }
+
+    /** A take is interrupted that goes on in the new epoch. */
+    private static void restartInterrupted(int port) throws Exception {
+        RvClients clients = clients(port, 1, 2, 60_000);
+        Started taking = Started.of(new RvTransferQueue(clients, 3)::take);
+        LINES.readLine();
+        taking.thread().interrupt();
+        System.out.println(taking.end());
+        System.out.println(told(put(clients, "a")));
     }
 
     /** What a session tells of its last request, behind requests that were not settled. */
@@ -407,7 +458,7 @@ final class Scenes {
     /** Exceptions are written and read back. */
     private static void serialized(int port) throws Exception {
         Key key = new Key(1, 2, 3, 4);
-        for (RvException fault : List.of(new RvException.Unsettled(key, true, "a"), new RvException.NotAsked("a"),
+        for (RvException fault : List.of(new RvException.Unsettled(key, true, "a"), new RvException.NotAsked("a"), new RvException.NotAsked(key, 9),
                 new RvException.Full(key), new RvException.EpochEnded(key, 1), new RvException.Replaced(key, 9),
                 new RvException.Refused(key, 12, 2L, 1))) {
             ByteArrayOutputStream bytes = new ByteArrayOutputStream();
