@@ -11,7 +11,6 @@ from .bodies import NoAnswer
 from .course import FOREVER, Channel, Course, Job, Manner
 from .leases import Name
 from .link import Inbox, frame_of, named
-from .record import Record
 
 
 class Connection(asyncio.Protocol):

@@ -58,7 +58,7 @@ final class Scenes {
         Map.entry("long-time", Scenes::longTime), Map.entry("dead-threads", Scenes::deadThreads),
         Map.entry("pooled", Scenes::pooled), Map.entry("ended", Scenes::endedInOneThread),
         Map.entry("restarts", Scenes::restarts), Map.entry("restart-looks", Scenes::restartLooks),
-        Map.entry("restart-interrupted", Scenes::restartInterrupted),
+        Map.entry("restart-interrupted", Scenes::restartInterrupted), Map.entry("lines", Scenes::lines),
         Map.entry("interrupted-hello", Scenes::interruptedTake),
         Map.entry("interrupted-again", Scenes::interruptedAgain), Map.entry("nested", Scenes::nested),
         Map.entry("serialized", Scenes::serialized), Map.entry("unresolved", Scenes::unresolved),
@@ -234,6 +234,20 @@ final class Scenes {
         RvClients clients = clients(port, 1, 100, 60_000);
         for (Map.Entry<String, Callable<?>> call : List.copyOf(calls(clients).entrySet()).subList(9, 14)) {
             System.out.println(call.getKey() + " " + told(call.getValue()));
+        }
+    }
+
+    /** Each line is an item that is put, and its request's key is told; or it asks for the size. */
+    private static void lines(int port) throws Exception {
+        RvClients clients = clients(port, 1, 100, 120_000);
+        RvTransferQueue queue = new RvTransferQueue(clients, 3);
+        for (String line = LINES.readLine(); line != null; line = LINES.readLine()) {
+            if (line.equals("size")) {
+                System.out.println("size " + queue.size());
+            } else {
+                queue.put(line);
+                System.out.println("done " + clients.last().orElseThrow().key());
+            }
         }
     }
 
