@@ -158,7 +158,8 @@ IN_PYTHON = [
         Edit(LEASES, "return range_told(os.environ[VARIABLE]) if VARIABLE in os.environ else CLIENTS",
              "return range_told(os.environ[VARIABLE]) if os.environ.get(VARIABLE) else CLIENTS")]),
     WrongClient("drops the item of a call that a handler's exception ended", "test_items.Unclaimed", [
-        Edit(SESSION, "                self._shelf.keep(job)\n", "                pass\n")]),
+        Edit(SESSION, "                self._shelf.keep(job)\n", "                pass\n"),
+        Edit(SESSION, "        self._shelf.keep(job)\n        self._jobs.pop", "        self._jobs.pop")]),
     WrongClient("takes on behind a cancel that came late", "test_items.Loops.test_a_cancel_ends_its_take", [
         Edit(SESSION, "self._stopped = self._stopped or job.cancelled\n            return", "return")]),
     WrongClient("loses a cancel between two takes", "test_items.Loops.test_a_cancel_between_two_takes", [
@@ -168,25 +169,40 @@ IN_PYTHON = [
         Edit(SESSION, "        if job is not None and not job.over:\n            job.cancelled",
              "        if False:\n            job.cancelled")]),
     WrongClient("drops the item of a cancelled task", "test_aio.Cancels.test_the_next_take_gives_it", [
-        Edit(AIO, "        await left.to_its_end()\n        self._shelf.keep(left.job)\n", "        await left.to_its_end()\n"),
-        Edit(AIO, "        if self._left is not None:\n            self._shelf.keep(self._left.job)\n\n    def _has_room",
-             "    def _has_room")]),
+        Edit(AIO, "            self._shelf.keep(left.job)\n", "")]),
     WrongClient("gives an unclaimed item twice", "test_aio.Cancels.test_at_each_step_of_the_event_loop", [
-        Edit(UNCLAIMED, "            self._kept.pop(place, None)\n            return", "            return")]),
+        Edit(UNCLAIMED, "self._kept.pop(place, None) is not None:", "place in self._kept:")]),
+    WrongClient("has an item unclaimed again behind its claim", "test_aio.Once.test_calls_behind_a_take", [
+        Edit(UNCLAIMED, "[] if job.shelved else taken_by(job)", "taken_by(job)"),
+        Edit(AIO, "        self._left = None\n\n    def _has_room",
+             "        if self._left is not None:\n            self._shelf.keep(self._left.job)\n        self._left = None\n\n"
+             "    def _has_room")]),
+    WrongClient("tells an outcome whose item was claimed", "test_aio.Once.test_calls_behind_a_drain", [
+        Edit(AIO, " and not self._shelf.lacks(left.job):", ":")]),
     WrongClient("throws away an answer that has come with the cancel", "test_aio.Cancels.test_an_answer_that_is_here", [
-        Edit(AIO, "        if self._course.has_news():\n            under_way.go_on(True)\n", "")]),
+        Edit(AIO, "        if self._course.has_news():\n            self._go_on(under_way, True)\n", "")]),
     WrongClient("asks on before a cancelled request is settled", "test_aio.Cancels.test_the_next_call_waits_for_it", [
         Edit(AIO, "            await self._settled(job)\n", "")]),
     WrongClient("cancels nothing for a cancelled task", "test_aio.Cancels.test_it_goes_on_at_once", [
-        Edit(AIO, "            self._settling = self._event_loop.create_task(self._settle(under_way))\n", "            pass\n")]),
+        Edit(AIO, "            self._settling = self._event_loop.create_task(self._to_its_end(under_way))\n",
+             "            pass\n")]),
     WrongClient("gives a cancelled request up later than its task may ask on", "test_aio.Cancels.test_a_call_in_the_same_step", [
-        Edit(AIO, "        under_way.go_on(False)\n        self._left = under_way\n", "        self._left = under_way\n")]),
+        Edit(AIO, "        self._go_on(under_way, False)\n        if not", "        if not")]),
     WrongClient("keeps its number where its block can't begin", "test_aio.Tasks.test_a_block_that_can_not_begin", [
         Edit(AIO, "            self._closed = True\n            self._end()\n            raise\n", "            raise\n")]),
     WrongClient("has two tasks ask at once", "test_aio.Tasks.test_a_second_task", [
         Edit(AIO, "        if self._job is not None:\n            raise", "        if False:\n            raise")]),
     WrongClient("closes before a cancelled request is settled", "test_aio.Tasks.test_a_block_that_is_left_by_a_timeout", [
-        Edit(AIO, "                await self._left.to_its_end()\n", "                pass\n")]),
+        Edit(AIO, "        await self._to_its_end(self._left)\n", "")]),
+    WrongClient("closes before a task hears that it was cancelled", "test_closes.Tasks.test_each_moment", [
+        Edit(AIO, "            await asyncio.wait([self._idle], timeout=FAREWELL)\n", "")]),
+    WrongClient("leaves the request of a call that its close ended", "test_closes.Tasks.test_each_moment", [
+        Edit(AIO, "not (runs or machine.giving_up):", "not machine.giving_up:")]),
+    WrongClient("closes before an interrupted request is settled", "test_closes.Threads.test_behind_a_second_exception", [
+        Edit(SESSION, "            self._await(farewell)\n", "")]),
+    WrongClient("drops what a call took that two exceptions ended",
+                "test_interrupts.Interrupts.test_a_close_behind_two_exceptions", [
+                    Edit(SESSION, '        self._collect("job")\n', "")]),
     WrongClient(TELLS_WRONG, "crowds, at the double", [
         Edit(ENDINGS, "return outcome.item if", "return outcome.item[::-1] if")]),
     WrongClient(TELLS_WRONG + ", once", "test_record.Lines.test_each_reply", [
@@ -223,5 +239,5 @@ IN_PYTHON = [
     WrongClient("gives an item that its exception has told", "test_record.Tasks.test_where_it_has_none", [
         Edit(AIO, "            self._shelf.forget(fault.outcome.key)\n", "")]),
     WrongClient("waits in its close as long as for an answer", "test_aio.Tasks.test_a_close_beside_a_silent_server", [
-        Edit(AIO, "                self._left.job.give_up(FAREWELL)\n", "")]),
+        Edit(AIO, "        self._left.job.give_up(FAREWELL)\n", "")]),
 ]

@@ -390,6 +390,94 @@ class Cancels(Case):
         self.assertTrue(overs[-1])
 
 
+class Once(Case):
+    """However calls are mixed behind a task that was cancelled, each item is told once: by a call, an outcome, or at the end by
+    `unclaimed`."""
+
+    def test_calls_behind_a_take(self):
+        """Each order of two or three of them, behind a take that was met at its cancel; at once, or once that is known."""
+        self.each_order(lambda one: one.take(PLACE), named("item"), False, itertools.product(FEW, repeat=3))
+        self.each_order(lambda one: one.take(PLACE), named("item"), True, itertools.product(MIXED, repeat=2))
+
+    def test_calls_behind_a_drain(self):
+        """The same, where some of its items were given and some not."""
+        def met(came):
+            return {"reply": "drained", "texts": [f"{came['client']} {text}" for text in "abab"]}
+        self.each_order(lambda one: one.drain(PLACE, 9), met, True, itertools.product(FEW, repeat=3))
+        self.each_order(lambda one: one.drain(PLACE, 9), met, False, itertools.product(MIXED, repeat=2))
+
+    def test_calls_behind_an_exchange(self):
+        """Its object is no take's, and is told once as well."""
+        self.each_order(lambda one: one.exchange(PLACE, "b"), named("swapped"), True, itertools.product(MIXED, repeat=2))
+
+    def each_order(self, call, met, is_known, orders):
+        """Tries these orders of calls behind a call that is met by its cancel."""
+        async def each(book):
+            for names in orders:
+                with self.subTest(calls=names, is_known=is_known):
+                    await self.told_once(book, call, met, is_known, names)
+        with Book() as book:
+            run(each(book))
+
+    async def told_once(self, book, call, met, is_known, names):
+        """One order of calls: what they told, and what stands at the end, is what the server gave."""
+        client, told = next(CLIENTS), []
+        book.met[client] = lambda came: met_at_once(came) if came["number"] > 1 else None
+        book.at_cancel[client] = lambda came: met(came) if came["number"] == 1 else {"reply": "cancelled"}
+        one = aio.Session(book.address, client, 1)
+        task = asyncio.ensure_future(call(one))
+        await comes("its request", lambda: book.accounts[client].waits)
+        task.cancel()
+        await raised(task)
+        await comes("its outcome", lambda: one.last or not is_known)
+        for name in names:
+            told += await MIXED[name](one)
+            left = [each.item for each in one.unclaimed()]
+            self.assertLessEqual(len(told + left), len(given_to(book, client)), f"{told} and {left}")
+        await one.close()
+        left = [each.item for each in one.unclaimed()]
+        self.assertEqual(sorted(told + left), sorted(given_to(book, client)), f"{told} and {left}")
+
+
+def met_at_once(came):
+    """How calls are met that come behind the first: a take that waits by an item, and others by none."""
+    if came["call"] == "drain":
+        return {"reply": "drained", "texts": []}
+    return named("item")(came) if came["wait"] == "forever" else {"reply": "empty"}
+
+
+def given_to(book, client):
+    """All items that a server gave to a client."""
+    replies = book.accounts[client].replies.values()
+    return [text for each in replies for text in each.get("texts", [each["item"]] if "item" in each else [])]
+
+
+async def claims(one):
+    """Takes the oldest unclaimed item out."""
+    left = one.unclaimed()
+    return [one.claim(left[0])] if left else []
+
+
+async def gives(call):
+    """The items that a call gives; none where there is nothing to ask."""
+    try:
+        came = await call
+    except (rv.Misused, StopAsyncIteration):
+        return []
+    if isinstance(came, rv.replies.Outcome):
+        came = getattr(came, "items", getattr(came, "item", None))
+    return [] if came is None else [came] if isinstance(came, str) else list(came)
+
+
+# What is mixed behind a cancelled task: each gives the items that it told. A few of them, for longer orders.
+MIXED = {
+    "claim": claims, "poll": lambda one: gives(one.poll(PLACE)), "take": lambda one: gives(one.take(PLACE)),
+    "loop": lambda one: gives(one.items(PLACE).__anext__()), "drain": lambda one: gives(one.drain(PLACE, 1)),
+    "again": lambda one: gives(one.again()), "give_up": lambda one: gives(one.give_up()), "close": lambda one: gives(one.close()),
+}
+FEW = ["claim", "poll", "loop", "drain", "again", "close"]
+
+
 class Limits(Case):
     """How long what was left is waited for."""
 

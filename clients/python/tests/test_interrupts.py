@@ -5,6 +5,7 @@ A tiny honest server has the truth. Each script is run once for each of its plac
 and each kind of exception; a place that shows up in any run is tried as well, so nothing hangs on who is scheduled first.
 At the line that waits the exception comes both at once and when the server has the request.
 """
+import contextlib
 import gc
 import itertools
 import os
@@ -13,7 +14,7 @@ import unittest
 import weakref
 
 from book import PLACE, Book, counted, named, place_of, waits
-from context import GENEROUS, Case, raised_by, rv
+from context import GENEROUS, Case, raised_by, rv, unhurried
 from let_in import line_of
 from rendezvous.course import Running
 from rendezvous.driver import Job
@@ -22,6 +23,8 @@ FOLDER = os.path.dirname(rv.__file__)
 KINDS = (KeyboardInterrupt, SystemExit, TimeoutError)
 # The line at which a call waits.
 WAITS = ("driver.py", line_of(Job.wait, "_done.acquire"))
+# A place that no run comes by.
+NOWHERE = ("", 0, 0)
 CLIENTS = itertools.count(1)
 
 
@@ -38,6 +41,25 @@ class Thrown:
         if event == "line":
             self.came_by(frame)
         return self
+
+    @contextlib.contextmanager
+    def traces(self):
+        """In the block, this thread's calls are traced."""
+        sys.setprofile(self.goes_on)
+        sys.settrace(self)
+        try:
+            yield
+        finally:
+            sys.setprofile(None)
+            sys.settrace(None)
+
+    def goes_on(self, frame, *_):
+        """Traces on: what has thrown traces no more. The next call or return of this thread comes here."""
+        if sys.gettrace() is None and self.wanted:
+            sys.settrace(self)
+            while frame is not None:
+                frame.f_trace = self if frame.f_code.co_filename.startswith(FOLDER) else frame.f_trace
+                frame = frame.f_back
 
     def came_by(self, frame):
         """Counts a place, and throws where it is the next that is wanted."""
@@ -125,6 +147,11 @@ SCRIPTS = {
     "again": Script(lambda one: one.again(), waits, left=True, hears=cancels),
     "give_up": Script(lambda one: one.give_up(), waits, named("item"), left=True),
 }
+# Calls that wait until they are cancelled, and are met then.
+MET_AT_CANCEL = {
+    "take": Script(lambda one: one.take(3), waits, named("item")), "drain": Script(lambda one: one.drain(3, 5), waits, named("drained")),
+    "exchange": Script(lambda one: one.exchange(3, "a"), waits, named("swapped")),
+}
 # The types of outcomes, by the words of replies.
 TYPES = {"done": rv.replies.Done, "received": rv.Receipt, "nobody": rv.replies.Nobody, "item": rv.replies.Item,
          "swapped": rv.replies.Swapped, "timedout": rv.replies.TimedOut, "cancelled": rv.replies.Cancelled,
@@ -167,13 +194,11 @@ class Run:
         """Makes the call, with exceptions at these places; tells all places that it came by."""
         thrown = Thrown(kind, places, lambda: late and self.book.has_come(self.client, 2, GENEROUS))
         value = fault = None
-        sys.settrace(thrown)
         try:
-            value = self.script.call(self.session)
+            with thrown.traces():
+                value = self.script.call(self.session)
         except BaseException as raised:
             fault = raised
-        finally:
-            sys.settrace(None)
         if isinstance(fault, KINDS) and not isinstance(fault, rv.RendezvousError):
             self.test.assertTrue(len(thrown.wanted) < len(places) and isinstance(fault, kind), fault)
         self.judge(value, fault, len(places) > 1)
@@ -243,6 +268,27 @@ class Run:
         return reply["item"] if "item" in reply else outcome_of(reply)
 
 
+class Closed(Run):
+    """A run whose session is closed right behind the exceptions: what the server gave is told, or stands there, once."""
+
+    def judge(self, value, fault, twice):
+        self.session.close()
+        reply, told = self.account.own_reply(2), list(outcomes_in(fault))[:1]
+        took = reply.get("texts", [reply["item"]] if "item" in reply else []) if reply else []
+        gave = value if isinstance(value, list) else [value] if value else []
+        gave += [text for each in told for text in getattr(each, "items", [getattr(each, "item", None)]) if text]
+        self.test.assertEqual(gave + [one.item for one in self.session.unclaimed()], took, fault)
+        self.test.assertEqual((told, self.session.unsettled), ([outcome_of(reply)] * len(told) if reply else [], None))
+
+
+def outcomes_in(fault):
+    """The outcomes that an exception tells, or one in whose place it came."""
+    while fault is not None:
+        if outcome_in(fault)[0] is not None:
+            yield outcome_in(fault)[0]
+        fault = fault.__context__
+
+
 def outcome_in(fault):
     """The outcome that an exception tells, and the exception that tells what is known instead."""
     if isinstance(fault, rv.Interrupted):
@@ -290,9 +336,27 @@ class Interrupts(Untouched):
                     with self.subTest(script=name):
                         self.second(lambda: Run(self, book, SCRIPTS[name]), place)
 
+    @unhurried()
+    def test_a_close_behind_two_exceptions(self):
+        """The first comes where the call waits, at once and once the server has the request, and the second at each line behind it:
+        then the session is closed."""
+        with Book() as book:
+            each = [*itertools.product(["take"], KINDS, (False, True)), *((name, TimeoutError, False) for name in MET_AT_CANCEL)]
+            for name, kind, late in each:
+                with self.subTest(script=name, kind=kind.__name__, late=late):
+                    self.closed_behind(lambda: Closed(self, book, MET_AT_CANCEL[name]), kind, late)
+
+    def closed_behind(self, run, kind, late):
+        """A second exception at each place behind the first, and none."""
+        first = (*WAITS, 1)
+        came_by = run().throw(kind, (first, NOWHERE), late)
+        for each in came_by[came_by.index(first) + 1:]:
+            with self.subTest(second=each):
+                run().throw(kind, (first, each), late)
+
     def second(self, run, place):
         """A second exception at each place behind the first."""
-        came_by = run().throw(KINDS[0], (place,))
+        came_by = run().throw(KINDS[0], (place, NOWHERE))
         behind = came_by[came_by.index(place) + 1:] if place in came_by else []
         for each in behind:
             with self.subTest(places=(place, each)):

@@ -8,7 +8,7 @@
 A task may be cancelled while it waits in a call, as `asyncio.wait_for` does: CancelledError goes on at once, and the session
 cancels the request by itself. What comes of that is settled before the next request is sent. An item that was met before is
 never dropped: the next `take`, `poll`, `drain` or `items` of its queue gives it, and until then it stands in `unclaimed()`, also
-behind `close`.
+after `close`. Each item is given once.
 """
 from __future__ import annotations
 
@@ -29,7 +29,7 @@ from .endings import (
 from .leases import name_of
 from .link import Address, address_of
 from .record import Path
-from .replies import Counted, Outcome, Receipt
+from .replies import Counted, Key, Outcome, Receipt
 from .shown import shown
 from .stream import StreamCourse, UnderWay, let_go
 from .unclaimed import Shelf, Unclaimed
@@ -61,10 +61,13 @@ class Session:
         self._course = StreamCourse(self.address, name_of(client, incarnation, clients), manner)
         self._event_loop: Optional[asyncio.AbstractEventLoop] = None
         self._closed = False
-        # the call whose task waits, and the one whose task was cancelled, with the task that settles it
+        # the call whose task waits; what it asks, or what a call left whose task was cancelled, with the task that settles that
         self._job: Optional[Job] = None
         self._left: Optional[UnderWay] = None
         self._settling: "Optional[asyncio.Task[None]]" = None
+        # that no call runs any more, and that the session is closed, where somebody waits for that
+        self._idle: "Optional[asyncio.Future[None]]" = None
+        self._ended: "Optional[asyncio.Future[None]]" = None
         self._shelf = Shelf()
         self._loop: "Callable[[], Optional[Items]]" = no_loop
         weakref.finalize(self, let_go, self._course)
@@ -93,34 +96,53 @@ class Session:
         await self._call(None, nothing)
 
     async def close(self) -> None:
-        """Closes the connection, for good, ends the call that runs, and gives a leased number back. What a request comes to whose
-        task was cancelled is waited for, for up to a second. One that is unsettled goes on standing, until a greater
-        incarnation says hello, as the next session does that leases the number. `NotRecorded` where what was waited for could
-        not be recorded, unless the end of a block by an exception closes the session."""
+        """Closes the connection, for good, ends the call that runs by what is known, and gives a leased number back. The request
+        of that call, and one that was given up, is cancelled, and what it comes to is waited for, for up to a second: what
+        it took stands in `unclaimed()`. One that is unsettled then stands in `unsettled`, and goes on standing in the server,
+        until a greater incarnation says hello, as the next session does that leases the number. `NotRecorded` where what was
+        waited for could not be recorded, unless the end of a block by an exception closes the session."""
         await self._close()
         self._tell_left()
 
     async def _close(self) -> None:
-        """Closes, and tells nothing."""
-        if self._closed or os.getpid() != self._process:
+        """Closes, and tells nothing. Who closes it meanwhile waits for the same end."""
+        if os.getpid() != self._process:
             return
-        self._closed = True
+        if self._closed:
+            if self._ended is not None and not self._ended.done():
+                await asyncio.wait([self._ended])
+            return
+        self._closed, self._ended = True, asyncio.get_running_loop().create_future()
+        self._stop_settling()
         try:
-            if self._job is None and self._left is not None and not self._left.over:
-                self._stop_settling()
-                self._left.job.give_up(FAREWELL)
-                self._left.go_on(False)
-                await self._left.to_its_end()
+            await self._say_farewell(self._job is not None)
         finally:
             self._end()
+            self._ended.set_result(None)
+
+    async def _say_farewell(self, runs: bool) -> None:
+        """Ends the call that runs, and waits for what its request comes to, or one that was given up."""
+        if runs:
+            self._idle = asyncio.get_running_loop().create_future()
+            self._course.wake()
+            await asyncio.wait([self._idle], timeout=FAREWELL)
+        machine = self._course.machine
+        if machine.state is not m.State.OUTSTANDING or not (runs or machine.giving_up):
+            return
+        if self._left is None or self._left.over:
+            self._left = self._resuming()
+        self._left.job.give_up(FAREWELL)
+        self._go_on(self._left, False)
+        await self._to_its_end(self._left)
 
     def _end(self) -> None:
-        """Nothing is asked any more."""
+        """Nothing is asked any more. An answer that is here already comes first."""
         self._stop_settling()
+        if self._left is not None and self._course.has_news():
+            self._go_on(self._left, True)
         self._course.closing = True
         if self._left is not None:
-            self._left.go_on(False)
-            self._shelf.keep(self._left.job)
+            self._go_on(self._left, False)
         self._course.order()
         self._course.end()
 
@@ -144,6 +166,12 @@ class Session:
     def last(self) -> Optional[Outcome]:
         """What the last request that was settled came to, with its key: also one whose task was cancelled."""
         return self._course.last
+
+    @property
+    def unsettled(self) -> Optional[Key]:
+        """The key of a request that was sent and has no outcome yet: that of the call that runs, or one that was left; also
+        after `close`. None where there is none."""
+        return self._course.unsettled
 
     @property
     def running(self) -> Optional[Running]:
@@ -224,7 +252,11 @@ class Session:
         return self._shelf.listed()
 
     def claim(self, one: Unclaimed) -> str:
-        """Takes one of `unclaimed()` out, and gives its item. ValueError where it isn't there any more."""
+        """Takes one of `unclaimed()` out, and gives its item, which nothing else gives any more. ValueError where it isn't there
+        any more. `NotRecorded`, which has all that the request took, where that could not be recorded."""
+        fault = self._left.job.unrecorded if self._left is not None else None
+        if fault is not None and fault.outcome.key == one.key:
+            self._tell_left()
         return self._shelf.claim(one)
 
     def _kept(self, queue: int) -> Optional[str]:
@@ -250,11 +282,10 @@ class Session:
         self._begin(job)
         try:
             await self._settled(job)
-            self._left = None
             found = kept() if kept is not None else None
             return found if found is not None else await self._given(UnderWay(self._course, job), result)
         finally:
-            self._job = None
+            self._finish()
 
     def _begin(self, job: Job) -> None:
         """This call runs, if none does."""
@@ -269,13 +300,25 @@ class Session:
             raise errors.Misused("a session asks one request at a time: another call of it runs")
         self._event_loop, self._job = loop, job
 
+    def _finish(self) -> None:
+        """No call runs any more."""
+        self._job = None
+        if self._idle is not None and not self._idle.done():
+            self._idle.set_result(None)
+
     async def _given(self, under_way: UnderWay, result: Callable[[Outcome], Result]) -> Result:
-        """Goes on with a job to its end, and gives its result. Where the task is cancelled, so is the request."""
+        """Goes on with a job to its end, and gives its result. Where the task is cancelled, so is the request; where the session
+        is closed, the job ends by what is known."""
+        self._left = under_way
         try:
-            await under_way.to_its_end()
+            while not under_way.over:
+                under_way.go_on(await self._course.wait(under_way.moment))
+                if self._closed:
+                    under_way.end("the session was closed")
         except BaseException:
             self._leave(under_way)
             raise
+        self._left = None
         self._tell_unrecorded(under_way)
         value, fault = ending(under_way.job, result)
         if fault is not None:
@@ -297,40 +340,43 @@ class Session:
     async def _resumed(self, timeout: Optional[float], gives_up: bool) -> Outcome:
         """Goes on with what is unsettled: what a cancelled task left, or the machine's request."""
         left, job = self._left, Job(None, timeout, self.patience, resumes=True)
-        if left is not None and not isinstance(left.job.told, m.Unsettled):
+        if left is not None and not isinstance(left.job.told, m.Unsettled) and not self._shelf.lacks(left.job):
             job = left.job
-            job.limit(timeout)
         self._begin(job)
+        job.limit(timeout)
         try:
             self._stop_settling()
             if gives_up:
                 job.cancelled = job.given_up = True
-            self._left = None
+            # what it took is this call's again
+            self._shelf.give_back(job)
             under_way = left if left and left.job is job else UnderWay(self._course, job)
             under_way.go_on(False)
-            outcome = await self._given(under_way, itself)
-            self._shelf.forget(outcome.key)
-            return outcome
+            return await self._given(under_way, itself)
         finally:
-            self._job = None
+            self._finish()
 
     # ---- what a cancelled task left
 
     def _leave(self, under_way: UnderWay) -> None:
-        """Its task has gone, and another one settles it; an answer that is here already comes first."""
+        """Its task has gone, and another one settles it, or the close that waits; an answer that is here already comes first."""
         if self._course.has_news():
-            under_way.go_on(True)
+            self._go_on(under_way, True)
         under_way.job.given_up = True
-        under_way.go_on(False)
-        self._left = under_way
-        self._shelf.keep(under_way.job)
+        self._go_on(under_way, False)
         if not under_way.over and not self._closed and self._event_loop and not self._event_loop.is_closed():
-            self._settling = self._event_loop.create_task(self._settle(under_way))
+            self._settling = self._event_loop.create_task(self._to_its_end(under_way))
 
-    async def _settle(self, left: UnderWay) -> None:
-        """Goes on with what was left, and keeps what it took."""
-        await left.to_its_end()
-        self._shelf.keep(left.job)
+    def _go_on(self, left: UnderWay, ready: bool) -> None:
+        """Goes on with what was left. As it ends, what it took stands unclaimed: that happens here alone."""
+        if not left.over:
+            left.go_on(ready)
+            self._shelf.keep(left.job)
+
+    async def _to_its_end(self, left: UnderWay) -> None:
+        """Goes on with what was left until it has ended. It may be cancelled at any time, and gone on with elsewhere."""
+        while not left.over:
+            self._go_on(left, await self._course.wait(left.moment))
 
     def _stop_settling(self) -> None:
         """Whoever calls this goes on with what was left."""
@@ -353,9 +399,10 @@ class Session:
             except BaseException:
                 self._leave(left)
                 raise
-            left.go_on(ready)
-        if self._left is not None:
-            self._shelf.keep(self._left.job)
+            self._go_on(left, ready)
+        if self._closed:
+            raise errors.NotAsked(None, "the session was closed")
+        self._left = None
 
     def _has_room(self, left: UnderWay) -> bool:
         """Whether what was left leaves room for the next request. Where it ended the session, or could not be recorded, that is

@@ -17,7 +17,7 @@ from .errors import REFUSALS, Misused, NotRecorded
 from .leases import Name
 from .link import named
 from .record import Path, Record, line_of, record_of
-from .replies import Outcome
+from .replies import Key, Outcome
 
 # A request whose own time is over is cancelled behind so many seconds, in which the server's own word may still come,
 # and what is known is told behind so many.
@@ -60,7 +60,8 @@ class Channel(Protocol):
 class Job:
     """One call and what came of it. `call` is None where only the hello is to be said; `resumes` where it goes on with the
     unsettled request. `own` is the call's own time in seconds. `asked` has the members of the call that it is about.
-    `unrecorded` is there where its reply could not be written into the record."""
+    `unrecorded` is there where its reply could not be written into the record. `shelved`: what it took is unclaimed, and this
+    job gives it no more."""
 
     def __init__(self, call: Optional[Members], own: Optional[float], patience: Optional[float], resumes: bool = False) -> None:
         self.call, self.resumes = call, resumes
@@ -72,6 +73,7 @@ class Job:
         self.cancelled = False
         self.told: Optional[m.Told] = None
         self.unrecorded: Optional[NotRecorded] = None
+        self.shelved = False
         self.misused = ""
         self.fault = ""
 
@@ -155,6 +157,12 @@ class Course:
         self._bound = LEAST_PAUSE
         # its epoch has ended, and it has not begun anew; and the last epoch in which a job had it begin anew
         self._outlived, self._renewed_for = False, 0
+
+    @property
+    def unsettled(self) -> Optional[Key]:
+        """The key of the request that was sent and has no outcome yet."""
+        machine = self.machine
+        return machine.key if machine.state is m.State.OUTSTANDING and machine.sent else None
 
     # ---- what each kind of course does in its own way
 

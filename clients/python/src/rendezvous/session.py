@@ -3,11 +3,12 @@ from __future__ import annotations
 
 import os
 import threading
+import time
 import weakref
 from functools import partial
 from typing import Callable, Iterator, List, NoReturn, Optional, Tuple, Type, cast
 
-from . import errors
+from . import errors, machine as m
 from .bodies import GREATEST_VERSION, Members
 from .calls import UNGIVEN, Wait, checked, made
 from .course import Manner, Running, manner_of
@@ -17,12 +18,14 @@ from .endings import (
 from .leases import Name, name_of
 from .link import Address, address_of
 from .record import Path
-from .replies import Cancelled, Counted, Outcome, Receipt
+from .replies import Cancelled, Counted, Key, Outcome, Receipt
 from .shown import shown
 from .unclaimed import Shelf, Unclaimed
 
-# How many seconds an interrupt leaves for the cancel of its call.
+# How many seconds an interrupt leaves for the cancel of its call, and a close for that of a request that was given up.
 FAREWELL = 1.0
+# After how many seconds a close looks again whether that is told, where somebody else heard of it first.
+LOOK_EACH = 0.05
 
 
 class Session:
@@ -67,7 +70,9 @@ class Session:
         manner = manner_of(version, patience, answer, connect_timeout, record, renew)
         self._process = os.getpid()
         self._driver = driver_of(self.address, name_of(client, incarnation, clients), manner)
-        # The job that runs, or that its caller left: setdefault and pop are single steps.
+        self._closed = False
+        # The job that runs, or that its caller left, and that of a close: setdefault and pop are single steps. Whoever pops it
+        # has its outcome.
         self._jobs: "dict[str, Job]" = {}
         # what was not recorded, and a handler's exception hid
         self._hidden: "dict[str, errors.NotRecorded]" = {}
@@ -98,17 +103,62 @@ class Session:
         self._told(self._job(None, None), nothing)
 
     def close(self) -> None:
-        """Closes the connection, for good, ends the call that runs, and gives a leased number back. An unsettled request goes on
-        standing, until a greater incarnation says hello, as the next session does that leases the number. `NotRecorded` where a
-        handler's exception hid that, unless the end of a block by an exception closes the session."""
+        """Closes the connection, for good, ends the call that runs by what is known, and gives a leased number back. What a
+        request comes to that was given up, as by an interrupt, or that an exception left, is waited for, for up to a second: what
+        it took stands in `unclaimed()`. One that is unsettled then stands in `unsettled`, and goes on standing in the server,
+        until a greater incarnation says hello, as the next session does that leases the number. `NotRecorded` where a handler's
+        exception hid that, unless the end of a block by an exception closes the session."""
         self._close()
         self._tell_hidden()
 
     def _close(self) -> None:
         """Closes, and tells nothing."""
-        self._driver.close()
+        self._closed = True
+        try:
+            if os.getpid() == self._process and not self._driver.closing:
+                self._say_farewell()
+        finally:
+            self._driver.close()
         if os.getpid() == self._process and self._driver.ended.acquire(timeout=1.0):
             self._driver.ended.release()
+        self._collect("farewell")
+
+    def _say_farewell(self) -> None:
+        """Waits for what a request comes to that was given up, or that this thread's call left. That call ends by what is known;
+        one that runs in another thread is left to it."""
+        job = self._jobs.get("job")
+        if job is not None and is_elsewhere(job):
+            if job.given_up:
+                self._await(job)
+            return
+        if job is not None and not job.over:
+            job.fault, job.tell_at = "the session was closed", time.monotonic()
+            self._driver.order(job)
+            self._await(job)
+        machine = self._driver.machine
+        if machine.state is m.State.OUTSTANDING and (job is not None or machine.giving_up):
+            farewell = self._jobs["farewell"] = self._job(None, None, True)
+            farewell.give_up(FAREWELL)
+            self._driver.order(farewell)
+            self._await(farewell)
+
+    def _await(self, job: Job) -> None:
+        """Waits until a job is told, for up to a second, and lets others who wait for it go on."""
+        ends = time.monotonic() + FAREWELL
+        while not job.over and not self._driver.gone and time.monotonic() < ends:
+            if job._done.acquire(timeout=LOOK_EACH):
+                job._done.release()
+
+    def _collect(self, which: str) -> None:
+        """What a job took that nobody goes on with, since the session is closed, is unclaimed from now on."""
+        job = self._jobs.get(which)
+        if not self._driver.closing or job is None or job.told is None or is_elsewhere(job):
+            return
+        self._shelf.keep(job)
+        if job.shelved:
+            self._jobs.pop(which, None)
+        if job.shelved and job.unrecorded is not None:
+            self._hidden["fault"] = job.unrecorded
 
     @property
     def client(self) -> int:
@@ -131,6 +181,12 @@ class Session:
         """What the last request that was settled came to, with its key: also where an exception of a signal's handler came
         just behind its call."""
         return self._driver.last
+
+    @property
+    def unsettled(self) -> Optional[Key]:
+        """The key of a request that was sent and has no outcome yet: that of the call that runs, or one that was left; also
+        after `close`. None where there is none."""
+        return self._driver.unsettled
 
     @property
     def running(self) -> Optional[Running]:
@@ -209,11 +265,21 @@ class Session:
         """The items that requests took and no call gave, oldest first: an exception of a signal's handler came meanwhile, which
         says nothing of the request. They stay here, also behind `close`, until `claim` or `items` takes them. `Interrupted`,
         `NotRecorded` and `again` tell an outcome themselves, so that it doesn't stand here."""
-        return self._shelf.listed()
+        return self._standing().listed()
 
     def claim(self, one: Unclaimed) -> str:
-        """Takes one of `unclaimed()` out, and gives its item. ValueError where it isn't there any more."""
-        return self._shelf.claim(one)
+        """Takes one of `unclaimed()` out, and gives its item, which nothing else gives any more. ValueError where it isn't there
+        any more. `NotRecorded`, which has all that the request took, where that could not be recorded."""
+        shelf, fault = self._standing(), self._hidden.get("fault")
+        if fault is not None and fault.outcome.key == one.key:
+            self._tell_hidden()
+        return shelf.claim(one)
+
+    def _standing(self) -> Shelf:
+        """What stands unclaimed, with what an exception left in a session that is closed."""
+        self._collect("job")
+        self._collect("farewell")
+        return self._shelf
 
     # ---- how a call is asked
 
@@ -239,7 +305,7 @@ class Session:
     def _resumed(self, timeout: Optional[float], gives_up: bool) -> Outcome:
         """Goes on with what is unsettled: a job that its caller left, or the machine's request."""
         left = self._jobs.get("job")
-        if left is not None and left.thread is not threading.current_thread() and left.thread.is_alive():
+        if left is not None and is_elsewhere(left):
             raise errors.Misused("another thread's call runs")
         job = left or self._job(None, timeout, True)
         job.limit(timeout)
@@ -251,7 +317,7 @@ class Session:
         """Has a job done, and gives its result; what is thrown meanwhile is thrown once the request was cancelled."""
         if os.getpid() != self._process:
             raise errors.Misused(f"this session is of process {self._process}: behind a fork make one anew")
-        if self._driver.closing:
+        if self._closed or self._driver.closing:
             raise errors.Misused("the session is closed")
         self._tell_hidden()
         owner, value, fault = None, None, None
@@ -266,6 +332,10 @@ class Session:
         if owner is not job:
             raise errors.Misused("a call of this session runs, or was left by its caller: again() tells what it came to")
         self._jobs.pop("job", None)
+        if self._shelf.lacks(job):
+            raise errors.Misused("the session was closed, and what the call took was claimed")
+        self._shelf.give_back(job)
+        self._hidden.clear()
         if fault is not None:
             raise fault
         return cast(Result, value)
@@ -278,10 +348,12 @@ class Session:
         self._driver.order(job)
         job.wait(self._driver)
         outcome, fault = known_of(job)
+        if isinstance(thrown, KeyboardInterrupt) and not job.shelved:
+            interrupted = errors.Interrupted(outcome.key if outcome else fault.key if fault else None, outcome, fault)
+            self._jobs.pop("job", None)
+            raise interrupted from None
+        self._shelf.keep(job)
         self._jobs.pop("job", None)
-        if isinstance(thrown, KeyboardInterrupt):
-            key = outcome.key if outcome else fault.key if fault else None
-            raise errors.Interrupted(key, outcome, fault) from None
         if isinstance(fault, errors.NotRecorded):
             self._hidden["fault"] = fault
         raise thrown
@@ -306,9 +378,9 @@ class Items(Iterator[str]):
     def __next__(self) -> str:
         session = self._session
         session._loop = weakref.ref(self)
-        kept = session._shelf.first(self._queue)
+        kept = session._standing().first(self._queue)
         if kept is not None and not self._stopped:
-            return session._shelf.claim(kept)
+            return session.claim(kept)
         job = self._job = session._job(self._call, None)
         # who stops the loop sees the job, or is seen here
         if self._stopped:
@@ -337,6 +409,11 @@ class Items(Iterator[str]):
             job.cancelled = job.given_up = True
             self._session._driver.order(job)
         return True
+
+
+def is_elsewhere(job: Job) -> bool:
+    """Whether a job is of another thread, which lives."""
+    return job.thread is not threading.current_thread() and job.thread.is_alive()
 
 
 def no_loop() -> Optional[Items]:

@@ -165,10 +165,11 @@ class UnderWay:
         except StopIteration:
             pass
 
-    async def to_its_end(self) -> None:
-        """Goes on until it has ended. It may be cancelled at any time, and gone on with elsewhere."""
-        while not self.over:
-            self.go_on(await self.course.wait(self.moment))
+    def end(self, why: str) -> None:
+        """Ends it by what is known, unless it has ended."""
+        if not self.over:
+            self.job.fault, self.job.tell_at = why, time.monotonic()
+            self.go_on(False)
 
 
 def let_go(course: StreamCourse) -> None:

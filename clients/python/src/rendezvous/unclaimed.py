@@ -21,15 +21,28 @@ class Unclaimed:
 
 
 class Shelf:
-    """Keeps such items, by their requests and places. Each change is one step, which nothing that is thrown can split."""
+    """Keeps such items, by their requests and places. An item moves here from its job once, and is given from here once. Each
+    change is one step, which nothing that is thrown can split."""
 
     def __init__(self) -> None:
         self._kept: Dict[Tuple[Key, int], Unclaimed] = {}
 
     def keep(self, job: Job) -> None:
-        """Keeps what a job's request took, if it took something."""
-        for place, one in enumerate(taken_by(job)):
+        """What a job's request took moves here from the job, if it took something and that has not moved before."""
+        taken = [] if job.shelved else taken_by(job)
+        for place, one in enumerate(taken):
             self._kept.setdefault((one.key, place), one)
+        job.shelved = job.shelved or bool(taken)
+
+    def lacks(self, job: Job) -> bool:
+        """Whether something was given that moved here from a job."""
+        return job.shelved and any((one.key, place) not in self._kept for place, one in enumerate(taken_by(job)))
+
+    def give_back(self, job: Job) -> None:
+        """What moved here from a job, and was not given, is the job's again."""
+        for place, one in enumerate(taken_by(job) if job.shelved else []):
+            self._kept.pop((one.key, place), None)
+        job.shelved = False
 
     def listed(self) -> List[Unclaimed]:
         """What is kept, oldest first."""
@@ -42,14 +55,15 @@ class Shelf:
     def claim(self, one: Unclaimed) -> str:
         """Takes it out, and gives its item; it stays where something is thrown meanwhile. ValueError where it isn't there."""
         place = next((place for place, kept in list(self._kept.items()) if kept == one), None)
-        if place is None:
-            raise ValueError(f"it is not unclaimed: {one}")
         try:
-            self._kept.pop(place, None)
-            return one.item
+            # a signal's handler may have claimed it meanwhile
+            if place is not None and self._kept.pop(place, None) is not None:
+                return one.item
         except BaseException:
-            self._kept[place] = one
+            if place is not None:
+                self._kept[place] = one
             raise
+        raise ValueError(f"it is not unclaimed: {one}")
 
     def forget(self, key: Key) -> None:
         """What this request took was told."""
