@@ -75,7 +75,13 @@ IN_JAVA = [
     WrongClient("tells each cancel as a time that is over", "java_scenes, cancelled though nobody asked", [
         Edit(SESSION, 'running.order() == Order.TIME', 'running.order() != Order.USER')]),
     WrongClient("goes on behind a close", "java_scenes, close in a pause", [
-        Edit(SESSION, '(closed || running.isExpired())', 'running.isExpired()')]),
+        Edit(RUNNING, "            noteClose();\n", "")]),
+    WrongClient("closes and waits not for what was given up", "java_scenes, a close behind a cancel", [
+        Edit(RUNNING, "order == Order.NOBODY ? now() : sum(now(), grace)", "now()")]),
+    WrongClient("closes and tells nobody what is unsettled", "java_scenes, close in a call", [
+        Edit(POOL, "            abandoned.add(seat.session);\n", "")]),
+    WrongClient("tells an earlier call's outcome for one that asked nothing", "java_scenes, a threads last outcome", [
+        Edit(CLIENTS, "        last.remove();\n", "")]),
     WrongClient("tells the outcome of another request", "java_scenes, the last outcome", [
         Edit(SESSION, '            last = null;\n', '')]),
     WrongClient("gives a thread its unsettled session again", "java_scenes, a pooled thread", [
@@ -124,7 +130,7 @@ IN_JAVA = [
     WrongClient("records in the environment's file though another is chosen", "java_record, the environment", [
         Edit(CLIENTS, 'recordIsChosen ? Optional', 'recordIsChosen && System.getenv("RV_RECORD") == null ? Optional')]),
     WrongClient("drops an item of a cancelled future that it can't record", "java_record, futures", [
-        Edit(FUTURE, 'unrecorded) ? null : unrecorded.outcome();', 'unrecorded) ? null : null;')]),
+        Edit(FUTURE, "unclaimed.completed(this, isTold);", "unclaimed.completed(this, true);")]),
     WrongClient("waits for its first welcome as long as its patience", "java, a first hello", [
         Edit(SESSION, "welcomed ? patience : Math.min(patience, connectTime)", "patience")]),
     WrongClient("ends all its calls by the time of its first hello", "java, behind the welcome", [

@@ -7,6 +7,7 @@ import java.util.Optional;
 import java.util.concurrent.TimeUnit;
 import java.util.concurrent.locks.Condition;
 import java.util.concurrent.locks.ReentrantLock;
+import java.util.function.Consumer;
 import java.util.stream.Stream;
 
 /**
@@ -56,11 +57,14 @@ final class Pool {
     private final Maker maker;
     private final long patience;
     private final long idle;
+    private final Consumer<Outcome> whenSettled;
     /** Fair, so that who waits for a session has it before a thread that comes again and again. */
     private final ReentrantLock lock = new ReentrantLock(true);
     private final Condition changed = lock.newCondition();
     /** By their client numbers. */
     private final List<Seat> seats = new ArrayList<>();
+    /** The sessions that were closed with a request that is unsettled. */
+    private final List<RvSession> abandoned = new ArrayList<>();
     private boolean closed;
 
     /**
@@ -68,12 +72,14 @@ final class Pool {
      *
      * @param patience for how many nanoseconds a call waits where all numbers are in use, {@link Calls#FOR_EVER} for ever
      * @param idle for how many the session of a thread that ended keeps its connection
+     * @param whenSettled what each session tells its calls' outcomes
      */
-    Pool(Numbers numbers, Maker maker, long patience, long idle) {
+    Pool(Numbers numbers, Maker maker, long patience, long idle, Consumer<Outcome> whenSettled) {
         this.numbers = numbers;
         this.maker = maker;
         this.patience = patience;
         this.idle = idle;
+        this.whenSettled = whenSettled;
     }
 
     /** How many sessions there are, run and are unsettled. */
@@ -173,26 +179,47 @@ final class Pool {
         }
     }
 
-    /** The sessions whose request is unsettled. */
+    /** The sessions whose request is unsettled. Behind a close that is also one whose call has not ended yet. */
     List<RvSession> unsettled() {
         lock.lock();
         try {
-            return seats.stream().map(Seat::session).filter(session -> session.isUnsettled() && !session.isOver()).toList();
+            Stream<RvSession> there = seats.stream().map(Seat::session)
+                .filter(session -> closed ? session.isOutstanding() : session.isUnsettled() && !session.isOver());
+            return Stream.concat(abandoned.stream(), there).toList();
         } finally {
             lock.unlock();
         }
     }
 
-    /** Closes all sessions for good. The number of one whose call runs is given back at the end of that call. */
-    void close() {
+    /**
+     * Closes all sessions for good, and waits until no call runs, for so many nanoseconds at most and through interrupts,
+     * which are set again. The number of a session whose call runs is given back at the end of that call.
+     */
+    void close(long nanos) {
         lock.lock();
         try {
             closed = true;
             seats.forEach(seat -> seat.session.close());
             List.copyOf(seats).stream().filter(seat -> !seat.isRunning()).forEach(this::end);
             changed.signalAll();
+            awaitCalls(nanos);
         } finally {
             lock.unlock();
+        }
+    }
+
+    private void awaitCalls(long nanos) {
+        boolean interrupted = false;
+        long ends = System.nanoTime() + nanos;
+        while (anyRuns() && ends - System.nanoTime() > 0) {
+            try {
+                changed.awaitNanos(ends - System.nanoTime());
+            } catch (InterruptedException later) {
+                interrupted = true;
+            }
+        }
+        if (interrupted) {
+            Thread.currentThread().interrupt();
         }
     }
 
@@ -244,6 +271,7 @@ final class Pool {
             if (numbers.areUsedAgain()) {
                 seat.session.renews();
             }
+            seat.session.whenSettled(whenSettled);
             made = true;
             return seat;
         } finally {
@@ -295,6 +323,9 @@ final class Pool {
     private void end(Seat seat) {
         seat.session.close();
         seats.remove(seat);
+        if (closed && seat.session.isOutstanding()) {
+            abandoned.add(seat.session);
+        }
         if (closed || numbers.areUsedAgain()) {
             seat.lease.giveBack();
         }

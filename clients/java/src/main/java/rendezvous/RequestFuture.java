@@ -11,7 +11,8 @@ import java.util.function.Function;
  * cancels the request.
  */
 class RequestFuture<T> extends CompletableFuture<T> {
-    private final Abort abort = new Abort();
+    /** Also as soon as it is completed: what its user does then may come before the abort is asked. */
+    private final Abort abort = new Abort(this::isDone);
     private final AtomicBoolean begun = new AtomicBoolean();
     private final CountDownLatch ended = new CountDownLatch(1);
     private final Unclaimed unclaimed;
@@ -58,8 +59,10 @@ class RequestFuture<T> extends CompletableFuture<T> {
             super.cancel(false);
             Thread.currentThread().interrupt();
         } catch (RvException.NotRecorded unrecorded) {
-            // where something else completed the future, the thread's handler is told
-            if (!handle((value, fault) -> fault == unrecorded).join()) {
+            boolean isTold = completeExceptionally(unrecorded);
+            unclaimed.completed(this, isTold);
+            if (!isTold) {
+                // something else completed the future: the thread's handler is told
                 throw unrecorded;
             }
         } catch (RvException.NotAsked | RvException.Full | IllegalStateException nothing) {
@@ -72,18 +75,11 @@ class RequestFuture<T> extends CompletableFuture<T> {
         }
     }
 
-    /** Asks; an item that the future does not get is kept. */
     private Outcome outcome(Asking asking) throws InterruptedException {
-        Outcome outcome = null;
         try {
-            outcome = asking.ask(this, abort);
-            return outcome;
-        } catch (RvException.NotRecorded unrecorded) {
-            // where the future has the exception, that tells the outcome
-            outcome = completeExceptionally(unrecorded) ? null : unrecorded.outcome();
-            throw unrecorded;
+            return asking.ask(this, abort);
         } finally {
-            unclaimed.ends(this, outcome);
+            unclaimed.ends(this);
         }
     }
 

@@ -74,6 +74,15 @@ final class Running {
         }
     }
 
+    /** Takes in that the session was closed: the call ends at once, or within its grace where it is being given up. */
+    private void noteClose() {
+        long ends = order == Order.NOBODY ? now() : sum(now(), grace);
+        if (ends < expires) {
+            expires = ends;
+            due = true;
+        }
+    }
+
     private void endsSoon(Order who) {
         ordered(who);
         expires = Math.min(expires, sum(now(), grace));
@@ -86,22 +95,28 @@ final class Running {
         }
     }
 
-    /** Whether the call has something else to do than to wait: an interrupt or an abort is to be obeyed. */
-    boolean isDue() {
+    /**
+     * Whether the call has something else to do than to wait: an interrupt, an abort or its session's close is to be obeyed.
+     * What gave it up before that close counts first.
+     */
+    boolean isDue(boolean closed) {
         noteInterrupt();
         noteAbort();
+        if (closed) {
+            noteClose();
+        }
         return due;
     }
 
     /** Whether the request is to be given up now: this tells it once for each reason. */
-    boolean takesGiveUp() {
+    boolean takesGiveUp(boolean closed) {
         boolean late = order == Order.NOBODY && now() >= givesUp;
         if (late) {
             ordered(Order.TIME);
         }
-        boolean taken = isDue() || late;
+        boolean isDue = isDue(closed);
         due = false;
-        return taken;
+        return late || isDue && order != Order.NOBODY;
     }
 
     /** Whether the call ends by what is known. */

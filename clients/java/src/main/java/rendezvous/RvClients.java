@@ -11,6 +11,7 @@ import java.util.concurrent.CancellationException;
 import java.util.concurrent.Executor;
 import java.util.concurrent.ExecutorService;
 import java.util.concurrent.Executors;
+import java.util.function.Consumer;
 import java.util.function.LongFunction;
 
 /**
@@ -45,21 +46,29 @@ public final class RvClients implements AutoCloseable {
 
     private final Link.Maker links;
     private final Pool pool;
+    private final long grace;
     private final ThreadLocal<Outcome> last = new ThreadLocal<>();
     private final Executor chosen;
     private ExecutorService own;
     private boolean closed;
 
-    private RvClients(Link.Maker links, Pool pool, Executor chosen) {
+    private RvClients(Link.Maker links, Numbers numbers, Pool.Maker maker, long patience, long idle, long grace,
+        Executor chosen) {
         this.links = links;
-        this.pool = pool;
+        this.pool = new Pool(numbers, maker, patience, idle, last::set);
+        this.grace = grace;
         this.chosen = chosen;
     }
 
     /** So many clients from the first one on, whose sessions are made so, for tests. */
     RvClients(long first, int most, LongFunction<RvSession> maker) {
-        this(null, new Pool(new Numbers.Given(new ClientRange(first, first + most - 1), 1),
-            (client, incarnation) -> maker.apply(client), RvSession.PATIENCE.toNanos(), Pool.IDLE), null);
+        this(first, most, Running.GRACE, maker);
+    }
+
+    /** The same, whose sessions have this grace. */
+    RvClients(long first, int most, long grace, LongFunction<RvSession> maker) {
+        this(null, new Numbers.Given(new ClientRange(first, first + most - 1), 1), (client, incarnation) -> maker.apply(client),
+            RvSession.PATIENCE.toNanos(), Pool.IDLE, grace, null);
         maker.apply(first);
     }
 
@@ -213,7 +222,7 @@ public final class RvClients implements AutoCloseable {
             Numbers numbers = numbers();
             // one is made for what it does not allow
             maker.make(numbers.first(), 1);
-            return new RvClients(links, new Pool(numbers, maker, RvSession.nanos("patience", patience), idle), executor);
+            return new RvClients(links, numbers, maker, RvSession.nanos("patience", patience), idle, grace, executor);
         }
 
         /** What makes sessions as they are chosen by now, whatever is chosen later. */
@@ -261,15 +270,23 @@ public final class RvClients implements AutoCloseable {
 
     /**
      * The outcome of the last call of the thread that asks: of its request, also if the call threw something else than
-     * its result. None before the first call, and where the last one's request was not settled.
+     * its result. It is never that of an earlier call. None where the last one's request was not settled, or it asked
+     * nothing: it was refused, interrupted or out of time before, or gave what was unclaimed. A call that begins a future
+     * counts, and has none: the future's outcome is of the thread that runs it.
      */
     public Optional<Outcome> last() {
         return Optional.ofNullable(last.get());
     }
 
+    /** Another call of the thread that asks begins: the outcome of its last one is told no more. */
+    void forget() {
+        last.remove();
+    }
+
     /**
      * The sessions whose request is unsettled, of living threads and of dead ones. Any thread may ask each of them
-     * {@link RvSession#again}, or {@link RvSession#giveUp}; behind that the session is used again.
+     * {@link RvSession#again}, or {@link RvSession#giveUp}; after that the session is used again. They stay here, also after
+     * {@link #close}, and then tell what was not settled, by their {@link RvSession#key}, and can be asked no more.
      */
     public List<RvSession> unsettled() {
         return pool.unsettled();
@@ -278,7 +295,7 @@ public final class RvClients implements AutoCloseable {
     /** The outcome of a call through interrupts, which are set again at its end. */
     Outcome ask(Calls.Job job) {
         try {
-            return ask(job, false);
+            return ask(job, false, outcome -> { });
         } catch (InterruptedException never) {
             throw new IllegalStateException(never);
         }
@@ -286,17 +303,23 @@ public final class RvClients implements AutoCloseable {
 
     /** The outcome of a call that an interrupt cancels; where it was met before, the thread stays interrupted. */
     Outcome askInterruptibly(Calls.Job job) throws InterruptedException {
-        return ask(job, true);
+        return askInterruptibly(job, outcome -> { });
+    }
+
+    /** The same; this is told its outcome too, if it has one, before {@link #close} takes the call as ended. */
+    Outcome askInterruptibly(Calls.Job job, Consumer<Outcome> settled) throws InterruptedException {
+        return ask(job, true, settled);
     }
 
     /** The outcome of a call. Where the server was started anew, it is asked again in another session, if that is right. */
-    private Outcome ask(Calls.Job job, boolean interruptible) throws InterruptedException {
+    private Outcome ask(Calls.Job job, boolean interruptible, Consumer<Outcome> settled) throws InterruptedException {
+        forget();
         long began = System.nanoTime();
         RvException restarted = null;
         long epoch = 0;
         while (true) {
             try {
-                return askOnce(job.later(System.nanoTime() - began), interruptible);
+                return askOnce(job.later(System.nanoTime() - began), interruptible, settled);
             } catch (RvException fault) {
                 long current = startedAnew(fault, job.call());
                 if (current <= epoch) {
@@ -324,13 +347,13 @@ public final class RvClients implements AutoCloseable {
         return fault instanceof RvException.EpochEnded ended && Calls.looks(call) ? ended.current() : 0;
     }
 
-    private Outcome askOnce(Calls.Job job, boolean interruptible) throws InterruptedException {
+    private Outcome askOnce(Calls.Job job, boolean interruptible, Consumer<Outcome> settled) throws InterruptedException {
         long began = System.nanoTime();
         Pool.Seat seat = pool.borrow(job, interruptible);
         try {
             return seat.session().ask(job.later(System.nanoTime() - began), interruptible);
         } finally {
-            last.set(seat.session().last().orElse(null));
+            last().ifPresent(settled);
             pool.giveBack(seat);
         }
     }
@@ -361,16 +384,22 @@ public final class RvClients implements AutoCloseable {
 
     /**
      * Closes all sessions for good, and gives their numbers back. Each call that runs ends by what is known:
-     * {@link RvException.NotAsked}, {@link RvException.Full} or {@link RvException.Unsettled}.
+     * {@link RvException.NotAsked}, {@link RvException.Full} or {@link RvException.Unsettled}. One that is being given up,
+     * as that of a future which was cancelled, has a second at most to hear what became of it. This waits for that, also
+     * through interrupts, which are set again: an item that still came is in its queue's
+     * {@link RvTransferQueue#unclaimed unclaimed}, and what was not settled in {@link #unsettled}. It waits a second more
+     * where a call does not end by itself, as in a write of the record that hangs.
+     *
+     * <p>Any thread may say this, also more than once, and what is done when a future is completed.
      */
     @Override
     public void close() {
-        pool.close();
         synchronized (this) {
             closed = true;
             if (own != null) {
                 own.shutdown();
             }
         }
+        pool.close(grace + Running.GRACE);
     }
 }

@@ -37,6 +37,7 @@ public final class RvConsumer implements AutoCloseable {
      * given to it. The consumer goes on where it is asked again.
      */
     public void forEach(Consumer<? super String> action) {
+        queue.begins();
         Objects.requireNonNull(action, "an action does something with an item");
         Abort abort = new Abort();
         takes.add(abort);

@@ -30,7 +30,9 @@ public final class RvExchanger {
         return "RvExchanger " + exchanger + " of " + clients;
     }
 
+    /** A call that begins: the outcome of the thread's last one is told no more. */
     private JsonObject swap(String item) {
+        clients.forget();
         return Calls.giving(Calls.at("swap", "exchanger", exchanger), item);
     }
 

@@ -7,6 +7,7 @@ import java.util.Optional;
 import java.util.concurrent.CancellationException;
 import java.util.concurrent.atomic.AtomicReference;
 import java.util.concurrent.locks.LockSupport;
+import java.util.function.Consumer;
 import rendezvous.Event.Plain;
 import rendezvous.Running.Order;
 
@@ -38,6 +39,7 @@ public final class RvSession implements AutoCloseable {
     private volatile Link link;
     private volatile boolean closed;
     private volatile Runnable whenLeft = () -> { };
+    private volatile Consumer<Outcome> whenSettled = outcome -> { };
     private volatile long grace = Running.GRACE;
     private volatile long connectTime = Calls.FOR_EVER;
     private volatile boolean renews;
@@ -120,6 +122,11 @@ public final class RvSession implements AutoCloseable {
         return now != null && now.epoch() < epoch;
     }
 
+    /** Whether it has a request that is not settled, also while its call runs. */
+    boolean isOutstanding() {
+        return machine.state() == Machine.State.OUTSTANDING;
+    }
+
     /** Whether nothing is asked and nothing is unsettled. */
     boolean isIdle() {
         return caller.get() == null && machine.call() == null && !isOver();
@@ -133,6 +140,11 @@ public final class RvSession implements AutoCloseable {
     /** Has this run at the end of each call. */
     void whenLeft(Runnable told) {
         whenLeft = told;
+    }
+
+    /** Tells this the outcome of each call that has one, in the call's thread; and null where one begins. */
+    void whenSettled(Consumer<Outcome> told) {
+        whenSettled = told;
     }
 
     /** Within so many nanoseconds a call ends that is to end, from the next one on: for tests. */
@@ -252,6 +264,7 @@ public final class RvSession implements AutoCloseable {
     }
 
     private void enter(boolean interruptible, long own, Abort abort) throws InterruptedException {
+        whenSettled.accept(null);
         if (!caller.compareAndSet(null, Thread.currentThread())) {
             throw new IllegalStateException("a session asks one request at a time: another thread's call runs");
         }
@@ -317,6 +330,7 @@ public final class RvSession implements AutoCloseable {
             throw new RvException.NotRecorded(outcome, line, file, fault);
         } finally {
             last = outcome;
+            whenSettled.accept(outcome);
         }
     }
 
@@ -372,13 +386,13 @@ public final class RvSession implements AutoCloseable {
     /** Takes in what is due: that the request is given up, that the times are over, that the session was closed. */
     private Told due() {
         Told told = null;
-        if (running.takesGiveUp()) {
+        if (running.takesGiveUp(closed)) {
             if (machine.flying() != Machine.Flying.NOTHING) {
                 lose();
             }
             told = take(Plain.GIVE_UP).tell();
         }
-        return told == null && (closed || running.isExpired()) ? take(Plain.EXPIRE).tell() : told;
+        return told == null && running.isExpired() ? take(Plain.EXPIRE).tell() : told;
     }
 
     /** Says one message, this one or what is to be said now, and takes its answer in. */
@@ -477,7 +491,7 @@ public final class RvSession implements AutoCloseable {
 
     /** Whether the call has something else to do than to wait. */
     private boolean isWoken() {
-        return running.isDue() || closed;
+        return running.isDue(closed);
     }
 
     /** Pauses behind a fault, a random time, which may be longer each time. */
@@ -514,8 +528,9 @@ public final class RvSession implements AutoCloseable {
 
     /**
      * Closes the session for good. Another thread's call that runs ends by what is known: {@link RvException.NotAsked},
-     * {@link RvException.Full} or {@link RvException.Unsettled}. An unsettled request goes on standing at the server, until
-     * a greater incarnation of the client says hello.
+     * {@link RvException.Full} or {@link RvException.Unsettled}. One that is being given up, by an interrupt, its time or
+     * another thread, has a second at most to hear what became of it. This does not wait. An unsettled request goes on
+     * standing at the server, until a greater incarnation of the client says hello.
      */
     @Override
     public void close() {

@@ -63,7 +63,14 @@ public final class RvTransferQueue extends AbstractQueue<String> implements Tran
         this.queue = Calls.place(queue);
     }
 
+    /** A call of the thread that asks begins: the outcome of its last one is told no more. */
+    void begins() {
+        clients.forget();
+    }
+
+    /** A call that begins. */
     private JsonObject call(String word) {
+        begins();
         return Calls.at(word, "queue", queue);
     }
 
@@ -132,7 +139,8 @@ public final class RvTransferQueue extends AbstractQueue<String> implements Tran
 
     /**
      * Gives out the items that were assigned to takes whose futures were cancelled, or completed otherwise, before the
-     * item was there. Each of them is given once: here, or by the next call of this object that takes one.
+     * item was there. Each of them is given once: here, or by the next call of this object that takes one. They stay here,
+     * also after {@link RvClients#close}, which waits for those that are still under way.
      */
     public List<String> unclaimed() {
         return unclaimed.all();
@@ -141,6 +149,7 @@ public final class RvTransferQueue extends AbstractQueue<String> implements Tran
     /** The oldest item, waiting for one if need be. */
     @Override
     public String take() throws InterruptedException {
+        begins();
         if (Thread.interrupted()) {
             throw new InterruptedException();
         }
@@ -150,6 +159,7 @@ public final class RvTransferQueue extends AbstractQueue<String> implements Tran
 
     /** The oldest item, waiting for one if need be; none where this is aborted before there is one. */
     Optional<String> take(Abort abort) throws InterruptedException {
+        begins();
         String kept = abort.isAsked() ? null : unclaimed.next();
         if (kept != null || abort.isAsked()) {
             return Optional.ofNullable(kept);
@@ -167,6 +177,7 @@ public final class RvTransferQueue extends AbstractQueue<String> implements Tran
     /** The oldest item, or null. */
     @Override
     public String poll() {
+        begins();
         String kept = unclaimed.nextThroughInterrupts();
         return kept != null ? kept : itemOf(ask(Calls.waiting(call("take"), "now")));
     }
@@ -174,6 +185,7 @@ public final class RvTransferQueue extends AbstractQueue<String> implements Tran
     /** The oldest item, or null where none came in time. */
     @Override
     public String poll(long timeout, TimeUnit unit) throws InterruptedException {
+        begins();
         if (Thread.interrupted()) {
             throw new InterruptedException();
         }
@@ -202,12 +214,13 @@ public final class RvTransferQueue extends AbstractQueue<String> implements Tran
 
     private <T> CompletableFuture<T> taken(Calls.Job job, Function<Optional<String>, T> result) {
         RequestFuture.Asking asking = (future, abort) -> {
-            String kept = unclaimed.next();
+            begins();
+            String kept = unclaimed.nextFor(future);
             if (kept != null) {
                 return new Outcome.Item(null, kept);
             }
             unclaimed.begins(future);
-            return askInterruptibly(job.with(abort));
+            return clients.askInterruptibly(job.with(abort), outcome -> unclaimed.settled(future, outcome));
         };
         return new RequestFuture<T>(unclaimed).begin(clients.executor(), asking,
             outcome -> result.apply(Optional.ofNullable(itemOf(outcome))));
@@ -244,6 +257,7 @@ public final class RvTransferQueue extends AbstractQueue<String> implements Tran
     /** The oldest item, which stays; or null. */
     @Override
     public String peek() {
+        begins();
         String kept = unclaimed.first();
         if (kept != null) {
             return kept;
@@ -282,6 +296,7 @@ public final class RvTransferQueue extends AbstractQueue<String> implements Tran
      */
     @Override
     public int drainTo(Collection<? super String> into, int most) {
+        begins();
         if (Objects.requireNonNull(into, "items are drained into a collection") == this) {
             throw new IllegalArgumentException("a queue is not drained into itself");
         }

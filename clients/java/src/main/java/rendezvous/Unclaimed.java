@@ -2,7 +2,6 @@ package rendezvous;
 
 import java.util.ArrayList;
 import java.util.HashSet;
-import java.util.Iterator;
 import java.util.List;
 import java.util.Optional;
 import java.util.Set;
@@ -26,8 +25,9 @@ final class Unclaimed {
         }
 
         private boolean isGiven() {
-            Object result = future.isCompletedExceptionally() ? null : future.getNow(null);
-            return result == item || result instanceof Optional<?> found && found.orElse(null) == item;
+            return future.handle((result, fault) -> fault instanceof RvException.NotRecorded unrecorded
+                ? unrecorded.outcome() instanceof Outcome.Item taken && taken.item() == item
+                : result == item || result instanceof Optional<?> found && found.orElse(null) == item).join();
         }
     }
 
@@ -40,12 +40,17 @@ final class Unclaimed {
         running.add(future);
     }
 
-    /** The call of a future has ended, and the future is completed next: with its item, if it has one. */
-    synchronized void ends(CompletableFuture<?> future, Outcome outcome) {
-        running.remove(future);
+    /** The call of a future has this outcome. An item is the future's, if nothing else completes that before. */
+    synchronized void settled(CompletableFuture<?> future, Outcome outcome) {
         if (outcome instanceof Outcome.Item taken) {
             items.add(new Kept(taken.item(), future));
         }
+        notifyAll();
+    }
+
+    /** The call of a future has ended, and the future is completed next. */
+    synchronized void ends(CompletableFuture<?> future) {
+        running.remove(future);
         notifyAll();
     }
 
@@ -64,14 +69,24 @@ final class Unclaimed {
      */
     synchronized String next() throws InterruptedException {
         awaitEnds();
-        for (Iterator<Kept> each = items.iterator(); each.hasNext();) {
-            Kept kept = each.next();
-            if (kept.isFree()) {
-                each.remove();
-                return kept.item;
-            }
+        Kept kept = oldest().orElse(null);
+        items.remove(kept);
+        return kept == null ? null : kept.item;
+    }
+
+    /** As {@link #next}; the item stays until the future has it, and is free where something else completes that before. */
+    synchronized String nextFor(CompletableFuture<?> future) throws InterruptedException {
+        awaitEnds();
+        Kept kept = oldest().orElse(null);
+        if (kept == null) {
+            return null;
         }
-        return null;
+        kept.future = future;
+        return kept.item;
+    }
+
+    private Optional<Kept> oldest() {
+        return items.stream().filter(Kept::isFree).findFirst();
     }
 
     private void awaitEnds() throws InterruptedException {
@@ -100,7 +115,7 @@ final class Unclaimed {
 
     /** The oldest item, which stays; null where there is none. */
     synchronized String first() {
-        return items.stream().filter(Kept::isFree).findFirst().map(kept -> kept.item).orElse(null);
+        return oldest().map(kept -> kept.item).orElse(null);
     }
 
     /** Puts an item back, as the oldest. */

@@ -74,6 +74,18 @@ final class Answering implements AutoCloseable {
         return Answers.of(outcome.apply(Bodies.keyOf(message)));
     }
 
+    /** The welcome to a hello, in epoch 1. */
+    static JsonObject welcome(JsonObject hello) {
+        return welcome(hello, 1);
+    }
+
+    private static JsonObject welcome(JsonObject hello, long epoch) {
+        JsonObject welcome = hello.deepCopy();
+        welcome.addProperty("kind", "welcome");
+        welcome.addProperty("epoch", epoch);
+        return welcome;
+    }
+
     /** What a server says where nothing waits: puts are done, and what is cancelled is cancelled. */
     static JsonObject well(JsonObject message) {
         return reply(message, Bodies.word(message, "kind").equals("cancel") ? Outcome.Cancelled::new : Outcome.Done::new);
@@ -120,10 +132,7 @@ final class Answering implements AutoCloseable {
     private JsonObject answered(JsonObject message) {
         long current = heard(message);
         if (Bodies.word(message, "kind").equals("hello")) {
-            JsonObject welcome = message.deepCopy();
-            welcome.addProperty("kind", "welcome");
-            welcome.addProperty("epoch", current);
-            return welcome;
+            return welcome(message, current);
         }
         return Bodies.number(message, "epoch") < current ? otherEpoch(current) : answer.apply(message);
     }

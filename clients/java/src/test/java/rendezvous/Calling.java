@@ -1,6 +1,7 @@
 package rendezvous;
 
 import static org.junit.jupiter.api.Assertions.assertThrows;
+import static org.junit.jupiter.api.Assertions.assertTrue;
 
 import java.util.concurrent.Callable;
 import java.util.concurrent.ExecutionException;
@@ -17,9 +18,10 @@ record Calling<T>(Thread thread, FutureTask<T> told) {
         return new Calling<>(thread, told);
     }
 
-    /** Waits until the thread is within a method of this name. */
+    /** Waits until the thread is within a method of this name, which it must be before it ends. */
     void isWithin(String method) throws InterruptedException {
         while (Stream.of(thread.getStackTrace()).noneMatch(frame -> frame.getMethodName().equals(method))) {
+            assertTrue(thread.isAlive(), "it has ended, and was not seen within " + method);
             Thread.sleep(1);
         }
     }

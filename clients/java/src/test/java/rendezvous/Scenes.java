@@ -51,7 +51,8 @@ final class Scenes {
     private static final Map<String, Scene> SCENES = Map.ofEntries(
         Map.entry("dead-unsettled", Scenes::deadUnsettled), Map.entry("dead-ended", Scenes::deadEnded),
         Map.entry("stale", port -> stale(clients(port, 1, 1, 60_000))),
-        Map.entry("stale-and-full", port -> stale(brief(port, 1))), Map.entry("close-in-a-call", Scenes::closeInACall),
+        Map.entry("stale-and-full", port -> stale(brief(port, 1))), Map.entry("last", Scenes::lastOfAThread),
+        Map.entry("close-in-a-call", Scenes::closeInACall), Map.entry("close-and-cancel", Scenes::closeBehindACancel),
         Map.entry("close-in-a-pause", Scenes::closeInAPause), Map.entry("full-memory", Scenes::fullMemory),
         Map.entry("two-threads", Scenes::twoThreads), Map.entry("not-ordered", Scenes::notOrdered),
         Map.entry("not-possible", Scenes::notPossible), Map.entry("for-ever", Scenes::forEver),
@@ -144,9 +145,9 @@ final class Scenes {
             return told.get();
         }
 
-        /** Waits until the thread is within a method. */
+        /** Waits until the thread is within a method, or has ended. */
         void isWithin(String type, String method) throws InterruptedException {
-            while (Stream.of(thread.getStackTrace()).noneMatch(
+            while (thread.isAlive() && Stream.of(thread.getStackTrace()).noneMatch(
                     frame -> frame.getClassName().endsWith(type) && frame.getMethodName().equals(method))) {
                 Thread.sleep(5);
             }
@@ -280,6 +281,40 @@ final class Scenes {
         System.out.println("take " + taking.end());
         System.out.println("put " + told(put(clients, "a")));
         System.out.println(keys(clients));
+    }
+
+    /** A future of a take is cancelled, and the clients are closed before anything is heard of that. */
+    private static void closeBehindACancel(int port) throws Exception {
+        RvClients clients = patient(port, 1);
+        RvTransferQueue queue = new RvTransferQueue(clients, 3);
+        CompletableFuture<String> taken = queue.takeAsync();
+        LINES.readLine();
+        System.out.println("cancel " + taken.cancel(true));
+        LINES.readLine();
+        Started closing = Started.of(() -> {
+            clients.close();
+            return "an end";
+        });
+        closing.isWithin("Pool", "awaitCalls");
+        System.out.println("closes");
+        System.out.println(closing.end() + ", unclaimed " + queue.unclaimed() + ", unsettled " + keys(clients));
+    }
+
+    /** What clients tell of a thread's last call, where that asked nothing. */
+    private static void lastOfAThread(int port) {
+        RvClients clients = clients(port, 1, 1, 60_000);
+        RvTransferQueue queue = new RvTransferQueue(clients, 3);
+        List<Callable<?>> calls = List.of(() -> {
+            Thread.currentThread().interrupt();
+            return queue.take();
+        }, put(clients, "x".repeat(513)), () -> queue.drainTo(queue), () -> {
+            clients.close();
+            return queue.poll();
+        });
+        for (Callable<?> call : calls) {
+            System.out.println("put " + told(put(clients, "a")) + ", last " + clients.last());
+            System.out.println(told(call) + ", last " + clients.last());
+        }
     }
 
     /** The clients are closed while a thread waits for its next try. */
