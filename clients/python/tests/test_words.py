@@ -14,7 +14,7 @@ import threading
 import unittest
 from unittest import mock
 
-from context import PATIENCE, Case, asked, behind, key, leasing, nobody, raised_by, rv, session, unhurried
+from context import PATIENCE, Case, asked, behind, is_free, key, leasing, nobody, raised_by, rv, session, unhurried
 from rendezvous import aio, link
 from rendezvous.course import Course
 from scripted import HANG_UP, SILENCE, Scripted, refused, reply, running_first, welcome
@@ -273,7 +273,7 @@ class Arguments(Case):
 
     def test_of_a_session(self):
         """In both."""
-        with leasing() as folder:
+        with leasing() as clients:
             for kind in (rv.Session, aio.Session):
                 for name, value, raises, word in MADE:
                     given = {"address": "127.0.0.1:1", name: value}
@@ -281,7 +281,7 @@ class Arguments(Case):
                         given["client"] = 1
                     with self.subTest(kind=kind.__module__, argument=name, value=repr(value)[:40]):
                         self.named(raised_by(lambda: kind(**given)), raises, word)
-            self.assertFalse(folder.exists())
+            self.assertTrue(all(map(is_free, clients)))
 
     def test_of_a_call(self):
         """In both; the session goes on."""

@@ -174,7 +174,11 @@ final class LastTest {
                 place.isAway = true;
                 return refused(10, null, 0);
             })),
-            new Thrown(RvException.EpochEnded.class, place -> place.then(message -> refused(2, "current", 5))),
+            new Thrown(RvException.NotAsked.class, place -> place.then(message -> refused(2, "current", 5))),
+            new Thrown(RvException.EpochEnded.class, place -> place.then(message -> {
+                place.then(again -> refused(2, "current", 5));
+                throw new IOException("lost");
+            })),
             new Thrown(RvException.Replaced.class, place -> place.then(message -> refused(4, "current", 9))),
             new Thrown(RvException.Refused.class, place -> place.then(message -> refused(1, null, 0))));
     }

@@ -22,6 +22,7 @@ import java.util.ArrayList;
 import java.util.Arrays;
 import java.util.List;
 import java.util.Optional;
+import java.util.OptionalLong;
 import java.util.Set;
 import java.util.concurrent.TimeUnit;
 import java.util.regex.Matcher;
@@ -31,7 +32,6 @@ import java.util.stream.Stream;
 import org.junit.jupiter.api.Test;
 import org.junit.jupiter.api.Timeout;
 import org.junit.jupiter.api.function.Executable;
-import org.junit.jupiter.api.io.TempDir;
 
 /** What the clients say of what they are given, and what of it goes to another program. */
 @Timeout(value = 5, unit = TimeUnit.MINUTES)
@@ -39,8 +39,7 @@ final class WordsTest {
     private static final Class<IllegalArgumentException> ILLEGAL = IllegalArgumentException.class;
     private static final Class<NullPointerException> NULL = NullPointerException.class;
     private static final Key KEY = new Key(9, 1, 2, 3);
-    @TempDir
-    private Path folder;
+    private static final long FIRST = OwnNumbers.first();
 
     /** A call with something that it does not take, what it throws, and a word of that. */
     private record Row(Executable call, Class<? extends RuntimeException> kind, String word) {
@@ -51,24 +50,24 @@ final class WordsTest {
         }
     }
 
-    private static List<Row> ofBuilders(Path folder) {
+    private static List<Row> ofBuilders() {
         List<Row> rows = new ArrayList<>();
         rows.add(new Row(() -> RvClients.builder(null, 7411), NULL, "host"));
         for (String host : List.of("", "rv://a", "a b", "a/b", "a:7411", "user@a", "a\0", "[::1", "::1]")) {
-            rows.add(new Row(() -> RvClients.builder(host, 7411).folder(folder).build(), ILLEGAL, "host"));
+            rows.add(new Row(() -> RvClients.builder(host, 7411).clients(FIRST, FIRST).build(), ILLEGAL, "host"));
         }
         for (int port : new int[] {0, -1, 65_536}) {
-            rows.add(new Row(() -> RvClients.builder("a", port).folder(folder).build(), ILLEGAL, "port"));
+            rows.add(new Row(() -> RvClients.builder("a", port).clients(FIRST, FIRST).build(), ILLEGAL, "port"));
         }
         for (int version : new int[] {0, 3}) {
-            rows.add(new Row(() -> RvClients.builder("a", 1).folder(folder).version(version).build(), ILLEGAL, "version"));
+            rows.add(new Row(() -> RvClients.builder("a", 1).clients(FIRST, FIRST).version(version).build(), ILLEGAL, "version"));
         }
-        RvClients.Builder builder = RvClients.builder("a", 1).folder(folder);
+        RvClients.Builder builder = RvClients.builder("a", 1).clients(FIRST, FIRST);
         rows.add(new Row(() -> builder.clients(0, 1), ILLEGAL, "clients"));
         rows.add(new Row(() -> builder.clients(1, 1L << 53), ILLEGAL, "clients"));
         rows.add(new Row(() -> builder.incarnation(0), ILLEGAL, "incarnation"));
         rows.add(new Row(() -> builder.patience(null), NULL, "patience"));
-        RvClients.Builder impatient = RvClients.builder("a", 1).folder(folder).patience(Duration.ofNanos(-1));
+        RvClients.Builder impatient = RvClients.builder("a", 1).clients(FIRST, FIRST).patience(Duration.ofNanos(-1));
         rows.add(new Row(impatient::build, ILLEGAL, "patience"));
         rows.add(new Row(() -> builder.connectTimeout(null), NULL, "connectTimeout"));
         rows.add(new Row(() -> builder.connectTimeout(Duration.ofNanos(-1)), ILLEGAL, "connectTimeout"));
@@ -115,7 +114,7 @@ final class WordsTest {
         try (Answering server = new Answering(Answering::well); RvClients clients = server.clients(1, 1).build()) {
             RvTransferQueue queue = new RvTransferQueue(clients, 3);
             RvExchanger exchanger = new RvExchanger(clients, 3);
-            ofBuilders(folder).forEach(Row::judge);
+            ofBuilders().forEach(Row::judge);
             ofPlaces(clients).forEach(Row::judge);
             ofItems(queue, exchanger, null, NULL).forEach(Row::judge);
             ofItems(queue, exchanger, "a".repeat(513), ILLEGAL).forEach(Row::judge);
@@ -123,17 +122,16 @@ final class WordsTest {
             ofOthers(queue, exchanger).forEach(Row::judge);
             assertEquals(0, server.connections());
         }
-        try (Stream<Path> left = Files.list(folder)) {
-            assertEquals(List.of(), left.toList());
-        }
+        Leases leases = new Leases(new ClientRange(FIRST, FIRST), OptionalLong.empty());
+        leases.next().orElseThrow(leases::none).giveBack();
     }
 
     @Test
     void timesWithoutAnEndAreTaken() {
         Duration forEver = ChronoUnit.FOREVER.getDuration();
-        RvClients.builder("a", 1).folder(folder).patience(forEver).connectTimeout(forEver).build().close();
-        RvClients.builder("::1", 1).folder(folder).patience(Duration.ZERO).connectTimeout(Duration.ZERO).build().close();
-        RvClients.builder("[fe80::1%eth0]", 1).folder(folder).patientForEver().build().close();
+        RvClients.builder("a", 1).clients(FIRST, FIRST).patience(forEver).connectTimeout(forEver).build().close();
+        RvClients.builder("::1", 1).clients(FIRST, FIRST).patience(Duration.ZERO).connectTimeout(Duration.ZERO).build().close();
+        RvClients.builder("[fe80::1%eth0]", 1).clients(FIRST, FIRST).patientForEver().build().close();
     }
 
     /** One of each kind, and more of some. */
