@@ -13,7 +13,7 @@ import threading
 import unittest
 from unittest import mock
 
-from context import GENEROUS, Case, behind, impatient, key, leasing, raised_by, rv, session, unhurried
+from context import GENEROUS, Case, behind, impatient, is_free, key, leasing, raised_by, rv, session, unhurried
 from let_in import handled
 from record_lines import ending_of, lines_of
 from rendezvous import aio, record
@@ -253,13 +253,14 @@ class Before(Recorded):
         """Each session says so, by the file's name, and the system's word."""
         with Scripted(welcome) as server:
             for kind in (rv.Session, aio.Session):
-                with self.subTest(path=path, kind=kind.__module__), leasing() as leases:
+                with self.subTest(path=path, kind=kind.__module__), leasing() as clients:
                     before = sorted(self.folder.rglob("*"))
                     fault = raised_by(lambda: kind(server.address, record=path))
                     self.assertIsInstance(fault, OSError)
                     self.assertNotIsInstance(fault, rv.RendezvousError)
                     self.assertEqual((fault.errno, fault.filename), (number, str(path)))
-                    self.assertEqual((sorted(self.folder.rglob("*")), leases.exists()), (before, False))
+                    self.assertEqual(sorted(self.folder.rglob("*")), before)
+                    self.assertTrue(all(map(is_free, clients)))
             self.assertEqual(server.heard, [])
 
     def test_a_folder(self):

@@ -366,14 +366,14 @@ class Renewed(Case):
     @both
     def test_a_leased_number(self, kind):
         """Stays leased; the next lease of it has a greater incarnation, whatever the clock says."""
-        with leasing(), playing(kind, welcome, ANEW, welcome_anew, reply("done"), client=None) as (server, played):
+        with leasing() as clients, playing(kind, welcome, ANEW, welcome_anew, reply("done"), client=None) as (server, played):
             played.ask(put)
             one = played.one
             with contextlib.closing(rv.Session("127.0.0.1:1")) as other:
-                self.assertEqual((one.client, other.client), (1, 2))
+                self.assertEqual([one.client, other.client], [*clients[:2]])
             played.close()
             with mock.patch("rendezvous.leases.now", lambda: 1), contextlib.closing(rv.Session("127.0.0.1:1")) as other:
-                self.assertEqual(other.client, 1)
+                self.assertEqual(other.client, clients[0])
                 self.assertLess(max(hellos(server)), other.incarnation)
 
     def test_an_incarnation_that_is_given(self):

@@ -89,7 +89,7 @@ class FirstHello(Case):
             self.assertEqual(inspect.signature(kind).parameters["connect_timeout"].default, 5.0)
         for given, kept in ((None, INF), (INF, INF), (7, 7.0)):
             with contextlib.closing(rv.Session("127.0.0.1:1", 1, 1, connect_timeout=given)) as one:
-                self.assertEqual(one._driver.connect_timeout, kept)
+                self.assertEqual(one._driver.manner.connect_timeout, kept)
 
     def test_nobody_listens(self):
         """The call ends behind this time, long before its patience, and names the address and the reason."""
@@ -246,6 +246,7 @@ MADE = [
     ("clients", 7, TypeError, "clients"), ("clients", "1-9", TypeError, "clients"), ("clients", range(0), ValueError, "clients"),
     ("record", 7, TypeError, "record"), ("record", "a\0b", ValueError, "record"), ("record", b"a", TypeError, "record"),
     ("record", object(), TypeError, "record"),
+    *[("renew", each, TypeError, "renew") for each in (None, 1, "yes")],
 ]
 # Each argument of each call: a call with it, what it is not, and a word that is said.
 CALLED = [

@@ -133,6 +133,8 @@ def manner_of(version: int, patience: Optional[float], answer: float, connect_ti
     """The manner of a session, by what it is given."""
     awaits, connects = times_of(patience, answer, connect_timeout)
     checked(is_whole(version, 1, GREATEST_VERSION), f"the version is 1 to {GREATEST_VERSION}: {version!r}")
+    if not isinstance(renew, bool):
+        raise TypeError(f"renew is True or False: {renew!r}")
     return Manner(version, awaits, connects, record_of(record), renew)
 
 
