@@ -6,6 +6,8 @@ import subprocess
 import sys
 import threading
 
+from tools import left_out
+
 PROGRAM = "crates/rv_app/out/rv_app"
 # The program for tests: a machine's steps under limits of one's own, a hub's events, and JSON that is written back.
 STEPS = "crates/rv_steps/out/rv_steps"
@@ -77,6 +79,8 @@ class Bar:
 
 
 BAR = Bar()
+# What the commands so far left out for want of a tool.
+missed = []
 
 
 # What rt ci says of edits that don't compile: it lets them pass, and here each is a failure, since it shows nothing.
@@ -95,6 +99,7 @@ def run(words):
             counted = re.fullmatch(r"(\d+) passed, (\d+) failed\n", line) or counted
             share = re.fullmatch(r"rt: ok; .*; ((?:done in this run:|every proof) .*)\n", line) or share
             bad += sum(map(int, BAD_EDITS.findall(line)))
+            missed.extend(filter(None, [left_out.heard(line)]))
     numbers = counted and [int(counted[1]), int(counted[2]) + bad]
     return numbers, ran.returncode, share and share[1]
 
@@ -129,7 +134,8 @@ def seed_of_commit():
 
 
 def finish(counts):
-    """Tells all that was counted, and ends."""
+    """Tells what was left out, and all that was counted, and ends."""
     passed, failed = map(sum, zip(*counts))
+    print(left_out.summary(missed))
     print(f"{passed} passed, {failed} failed")
     sys.exit(failed > 0)

@@ -21,7 +21,7 @@ def found():
 
 def missing():
     """What this machine lacks to show a picture, if something."""
-    return None if found() else f"none of {', '.join(NAMES)} is there"
+    return None if found() else f"none of {', '.join(NAMES)} is there, as Debian's chromium is"
 
 
 def words_of(text):

@@ -20,8 +20,9 @@ PATIENCE = 600
 VERSION = "3.3.0"
 # The interpreters whose packages are looked at: Debian's packages are of the first.
 INTERPRETERS = ["/usr/bin/python3", sys.executable]
-# What is imported to see that a tool is there.
-TOOLS = {"pip": "ensurepip, venv, setuptools, wheel", "mypy": "mypy", "pytest": "pytest"}
+# What is imported to see that a tool is there, and Debian's packages that have it.
+TOOLS = {"pip": "ensurepip, pip, setuptools, venv, wheel", "mypy": "mypy", "pytest": "pytest"}
+DEBIANS = {"pip": "python3-pip, python3-venv", "mypy": "mypy", "pytest": "python3-pytest"}
 # What is run by the interpreter of an environment; it is told the server's port.
 ONCE = """
 import json, rendezvous, sys
@@ -69,7 +70,7 @@ def interpreter(tool):
 
 def missing(tool):
     """What this machine lacks for a tool, if something."""
-    return None if interpreter(tool) else f"no Python here has all of {TOOLS[tool]}"
+    return None if interpreter(tool) else f"no Python here has all of {TOOLS[tool]}, of Debian's {DEBIANS[tool]}"
 
 
 def ran(*words, folder):

@@ -44,8 +44,8 @@ def missing():
     """What the Java client lacks on this machine, if something: the compiler, or the library that reads
     JSON."""
     if not shutil.which("javac"):
-        return "javac is missing"
-    return None if GSON.exists() else "gson.jar is missing"
+        return "javac is missing, of Debian's default-jdk-headless"
+    return None if GSON.exists() else f"{GSON} is missing, of Debian's libgoogle-gson-java"
 
 
 def compiler(path, folder, *sources):

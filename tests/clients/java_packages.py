@@ -15,6 +15,7 @@ from tests import ROOT
 from tests.clients import java
 from tests.sockets.programs import Server
 from tests.sockets.wire import demand
+from tools import left_out
 
 SETTINGS = pathlib.Path("/etc/maven/settings-debian.xml")
 # What the JUnit tests of a client need of Debian's packages, and what starts them.
@@ -44,16 +45,16 @@ public class User {
 def maven_missing():
     """What Maven's build lacks on this machine, if something."""
     if not shutil.which("mvn"):
-        return "mvn is missing"
+        return "mvn is missing, of Debian's maven-debian-helper"
     if not SETTINGS.exists():
-        return "maven-debian-helper is missing"
+        return f"{SETTINGS} is missing, of Debian's maven-debian-helper"
     return junit_missing(JARS)
 
 
 def junit_missing(jars):
     """Which of these jars is missing, if one is."""
     lacking = [path.name for path in jars if not path.exists()]
-    return f"{lacking[0]} is missing" if lacking else None
+    return f"{lacking[0]} is missing, of Debian's junit5" if lacking else None
 
 
 def console_missing():
@@ -149,18 +150,18 @@ def virtual_threads(_program):
 
 
 def cases():
-    """The cases that this machine has what they need for, and what is left out of the others."""
-    chosen, left_out = [], []
+    """The cases that this machine has what they need for. The others are told."""
+    chosen = []
     if not maven_missing():
         chosen.append(maven_builds_it)
     else:
-        left_out.append(f"Maven was left out: {maven_missing()}")
+        left_out.tell("the Java package by Maven", maven_missing())
         if console_missing():
-            left_out.append(f"JUnit was left out: {console_missing()}")
+            left_out.tell("the Java client's own tests", console_missing())
         else:
             chosen.append(tests_of_junit)
     if later_jdk():
         chosen.append(virtual_threads)
     else:
-        left_out.append("virtual threads were left out: there is no JDK of 21 or later")
-    return chosen, left_out
+        left_out.tell("Java's virtual threads", f"no JDK of 21 or later is in {java.JDKS}")
+    return chosen

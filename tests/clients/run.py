@@ -16,9 +16,10 @@ ROOT = pathlib.Path(__file__).resolve().parents[2]
 sys.dont_write_bytecode, sys.path[0] = True, str(ROOT)
 from tests.clients import (  # noqa: E402
     browser, cancelled_tasks, crowds, drains, guide, installed, interrupted, interrupted_judged, java, java_leases,
-    java_packages, java_record, java_scenes, long_waits, python_page, python_tests, receipts, records, restarts, table_cases,
-    wrong_clients)
+    java_packages, java_record, java_scenes, long_waits, missing_tools, python_page, python_tests, receipts, records, restarts,
+    table_cases, wrong_clients)
 from tests.sockets.wire import Wrong  # noqa: E402
+from tools import left_out  # noqa: E402
 
 # How many cases that mostly wait run at once.
 AT_ONCE = 4
@@ -82,9 +83,8 @@ def run(program, asked, count):
     run_python(count)
     for case in long_waits.CASES + interrupted_judged.CASES + records.CASES:
         count.run(case)
-    lacking = java.missing()
-    if lacking:
-        print(f"Java was left out: {lacking}", flush=True)
+    if java.missing():
+        left_out.tell("the Java client", java.missing())
     else:
         run_java(program, count)
         count.run(crowds.beside_the_jdk, program, asked.seed, asked.scripts)
@@ -94,10 +94,10 @@ def run(program, asked, count):
     count.run(crowds.a_crowd, program, asked.seed, asked.seconds)
     for case in interrupted.CASES + cancelled_tasks.CASES:
         count.run(case, program, asked.seed)
-    for case in receipts.CASES + restarts.CASES + drains.CASES + python_page.CASES + guide.CASES:
+    for case in receipts.CASES + restarts.CASES + drains.CASES + python_page.CASES + guide.CASES + missing_tools.CASES:
         count.run(case, program)
     if browser.missing():
-        print(f"the browser was left out: {browser.missing()}", flush=True)
+        left_out.tell("the pictures in a browser", browser.missing())
     else:
         for case in browser.CASES:
             count.run(case, program)
@@ -108,7 +108,7 @@ def run_python(count):
     wanted = {tool: [case for case in cases if count.wants(name_of(case))] for tool, cases in installed.CASES.items()}
     lacking = [tool for tool, cases in wanted.items() if cases and installed.missing(tool)]
     for tool in lacking:
-        print(f"{tool} was left out: {installed.missing(tool)}", flush=True)
+        left_out.tell(f"the Python package by {tool}", installed.missing(tool))
     found = [case for tool, cases in wanted.items() if tool not in lacking for case in cases]
     with concurrent.futures.ThreadPoolExecutor(AT_ONCE) as pool:
         tests = pool.submit(lambda: python_tests.counted() if count.wants("python tests") else None)
@@ -121,9 +121,7 @@ def run_python(count):
 def run_java(program, count):
     """Runs the cases of the Java client alone, some at a time: most of them wait."""
     count.run(java.the_java_process)
-    packages, left_out = java_packages.cases()
-    print("\n".join(left_out), end="\n" if left_out else "", flush=True)
-    cases = [case for case in packages + java.CASES + java_leases.CASES + java_record.CASES + java_scenes.CASES
+    cases = [case for case in java_packages.cases() + java.CASES + java_leases.CASES + java_record.CASES + java_scenes.CASES
              if count.wants(name_of(case))]
     if cases:
         # so that they are not built by more than one thread

@@ -21,6 +21,7 @@ from tests.clients import java
 from tests.clients.wrong_java import IN_JAVA
 from tests.clients.wrong_python import IN_PYTHON, TESTS
 from tests.sockets.wire import demand
+from tools import left_out
 
 # What a case of the runner's takes, and what a test of the Python client does.
 FOLDERS, CLIENT = ["clients", "examples", "tests"], ["clients/python"]
@@ -144,7 +145,7 @@ def selftest(count):
         right()
     judge_all(count, "Python", in_python, said_in_python)
     if java.missing():
-        print(f"Java was left out: {java.missing()}", flush=True)
+        left_out.tell("the Java client", java.missing())
     elif in_java:
         with java.driver("rendezvous.Compiles") as compiler:
             judge_all(count, "Java", in_java, functools.partial(said_in_java, compiler))

@@ -27,6 +27,7 @@ from tests.sockets import calls, crowds, plain, times  # noqa: E402
 from tests.sockets import hostile as noisy  # noqa: E402
 from tests.sockets.cases import Count, came_of  # noqa: E402
 from tests.sockets.hosts import HostProgram  # noqa: E402
+from tools import left_out  # noqa: E402
 
 # The cases that are a host's own.
 OWN = [*options.CASES, *says.CASES, *waits.CASES, *moments.CASES, *sockets.CASES, *hostile.CASES, *memory.CASES, *system.CASES,
@@ -94,7 +95,7 @@ def run(program: HostProgram, asked: argparse.Namespace, count: Count) -> None:
         count.run(f"{name_of(case)}, seed {asked.seed}", case, program, asked.seed)
     count.run(name_of(client_crowds.a_crowd), client_crowds.a_crowd, program, asked.seed, asked.seconds)
     if java.missing():
-        print(f"Java was left out: {java.missing()}", flush=True)
+        left_out.tell("the Java client", java.missing())
         return
     for case in receipts.WITH_JAVA:
         count.run(name_of(case), case, program)

@@ -27,6 +27,7 @@ from tests.model.account import Key  # noqa: E402
 from tests.sockets.cases import Count  # noqa: E402
 from tests.sockets.hosts import Host, HostProgram  # noqa: E402
 from tests.sockets.wire import demand, frame, give, replied, request, take  # noqa: E402
+from tools import left_out  # noqa: E402
 from tools.bench import driver  # noqa: E402
 
 # Clients of a crowd, and the seconds between two of them that are killed; a killed one begins in a greater incarnation.
@@ -191,7 +192,7 @@ def main() -> None:
     if asked.seconds:
         count.run("crowds on bad links", bad_links, program, asked.seconds, asked.seed)
     if asked.entries and driver.missing():
-        print(f"the long load was left out: {driver.missing()}", flush=True)
+        left_out.tell("the long load", driver.missing())
     elif asked.entries:
         count.run("many entries", many_entries, program, asked.entries)
     count.end()

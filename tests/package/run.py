@@ -18,6 +18,7 @@ import tempfile
 ROOT = pathlib.Path(__file__).resolve().parents[2]
 sys.dont_write_bytecode, sys.path[0] = True, str(ROOT)
 from tests.sockets.wire import Wrong, demand  # noqa: E402
+from tools import left_out  # noqa: E402
 
 # What the package has for the system, with its mode; whatever else it has is its documentation.
 FILES = {"./usr/bin/rv": 0o755, "./usr/share/man/man1/rv.1.gz": 0o644, "./lib/systemd/system/rv.service": 0o644,
@@ -105,6 +106,9 @@ def the_same_bytes(built: Built) -> None:
         demand(len({member.mtime for member in archive.getmembers()}) == 1, "its files are of several times")
 
 
+# The tools that build it and look at it, and Debian's packages that have them.
+BUILD = {"git": "git", "make": "make", "dpkg-buildpackage": "dpkg-dev", "dh": "debhelper"}
+LOOK = {"dpkg-deb": "dpkg", "man": "man-db", "systemd-analyze": "systemd"}
 # Each case beside the tool that it needs.
 CASES = [(its_files, "dpkg-deb"), (its_needs, "dpkg-deb"), (its_manual_page, "man"), (its_unit, "systemd-analyze"),
          (the_same_bytes, "dpkg-deb")]
@@ -124,7 +128,7 @@ def tried(program: str, folder: pathlib.Path) -> list[int]:
     built = Built(program, folder)
     for case, tool in CASES:
         if not shutil.which(tool):
-            print(f"{case.__name__.replace('_', ' ')}: left out, {tool} is missing", flush=True)
+            left_out.tell(f"the Debian package, {case.__name__.replace('_', ' ')}", f"{tool} is missing, of Debian's {LOOK[tool]}")
             continue
         wrong = wrong_of(case, built)
         counts[wrong is not None] += 1
@@ -136,10 +140,10 @@ def tried(program: str, folder: pathlib.Path) -> list[int]:
 def main() -> None:
     if len(sys.argv) != 2:
         sys.exit(__doc__.strip().split("\n")[-1])
-    lacking = [tool for tool in ("git", "make", "dpkg-buildpackage", "dh") if not shutil.which(tool)]
+    lacking = [f"{tool} is missing, of Debian's {package}" for tool, package in BUILD.items() if not shutil.which(tool)]
     counts = [0, 0]
     if lacking:
-        print(f"the package was left out: {', '.join(lacking)} missing", flush=True)
+        left_out.tell("the Debian package", lacking[0])
     else:
         with tempfile.TemporaryDirectory(prefix="rv-package-") as folder:
             counts = tried(os.path.abspath(sys.argv[1]), pathlib.Path(folder))

@@ -10,7 +10,6 @@ from __future__ import annotations
 import argparse
 import pathlib
 import re
-import shutil
 import subprocess
 import sys
 from typing import Callable, Dict, List
@@ -18,7 +17,8 @@ from typing import Callable, Dict, List
 sys.dont_write_bytecode, sys.path[0] = True, str(pathlib.Path(__file__).resolve().parents[2])
 from tests import ROOT  # noqa: E402
 from tests.clients import browser  # noqa: E402
-from tests.status import busy, standin  # noqa: E402
+from tests.status import busy, stages, standin  # noqa: E402
+from tools import left_out  # noqa: E402
 
 ROWS, RULES = ROOT / "crates/rv_status/specs/Rows.antt", ROOT / "packaging/rv.rules.yml"
 # What a text that a peer chose might try, were it markup.
@@ -126,15 +126,15 @@ def main() -> None:
     picture = parser.parse_args().picture
     cases: List[Callable[[], None]] = [the_page_is_written]
     if browser.missing():
-        print(f"left out: the page in a browser: {browser.missing()}")
+        left_out.tell("the status page in a browser", browser.missing())
     else:
         cases += [a_busy_server_is_shown, texts_stay_texts, an_empty_server_is_shown]
         if picture:
             shown(busy.busy({**numbers(), "rv_fault_descriptor_total": 17}), f"--screenshot={picture}")
-    if shutil.which("promtool"):
-        cases += [metrics_follow_the_conventions, alerts_are_raised]
+    if stages.lacking():
+        left_out.tell("the metrics and alerts", stages.lacking())
     else:
-        print("left out: metrics and alerts by promtool, which is missing (Debian's prometheus)")
+        cases += [metrics_follow_the_conventions, alerts_are_raised]
     for case in cases:
         case()
     print(f"{counts[True]} passed, {counts[False]} failed")

@@ -32,6 +32,7 @@ from tests.sockets.cases import Count  # noqa: E402
 from tests.sockets.programs import Caller  # noqa: E402
 from tests.sockets.wire import Peer, demand, frame, give, hello, replied, request, swap, take, until  # noqa: E402
 from tests.status.stages import DAY, GIGABYTE, Reading, Stage, lacking, staged  # noqa: E402
+from tools import left_out  # noqa: E402
 
 # Readings behind which each alert that has to last is raised, and those of an account's growth.
 LASTS, LONG = 25, 100
@@ -260,7 +261,7 @@ def main() -> None:
         picture(os.path.abspath(asked.program), asked.picture)
         return
     if lacking():
-        print(f"left out: what the rules raise: {lacking()}")
+        left_out.tell("what the rules raise", lacking())
     count = Count(asked.only, True)
     for case in CASES:
         count.run(case.__name__.replace("_", " "), case, os.path.abspath(asked.program))

@@ -99,7 +99,7 @@ def wanted(second: int, alerts: Alerts) -> list[dict[str, Any]]:
 
 def lacking() -> str | None:
     """What is missing to evaluate the rules, if something is."""
-    return None if shutil.which("promtool") else "promtool is missing (Debian's prometheus)"
+    return None if shutil.which("promtool") else "promtool is missing, of Debian's prometheus"
 
 
 def evaluated(readings: Readings, marks: list[tuple[int, Alerts]]) -> None:
