@@ -56,6 +56,7 @@ def compiler(path, folder, *sources):
 @functools.lru_cache(maxsize=None)
 def built():
     """The folder of the built classes but JUnit's tests, which is gone when this program ends."""
+    demand(not missing(), missing())
     folder = tempfile.TemporaryDirectory(prefix="rv-java-")
     paths = [path for folder in (FOLDER, ROOT / "examples") for path in sorted(folder.rglob("*.java"))]
     sources = [path for path in paths if not any(word in path.read_text() for word in JUNIT)]

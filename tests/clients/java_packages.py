@@ -100,6 +100,36 @@ def maven_builds_it(program):
     return f"{count} tests"
 
 
+def it_is_built_without_maven(_program):
+    """`build` compiles the client and a program that uses it, of a user who has nothing of Maven's."""
+    with tempfile.TemporaryDirectory(prefix="rv-build-") as name:
+        user = pathlib.Path(name, "User.java")
+        user.write_text(USER)
+        ran = built(name, user, HOME=name, PATH=os.environ["PATH"])
+        demand((ran.returncode, ran.stdout, ran.stderr) == (0, "", ""), f"{ran.stdout} {ran.stderr}")
+        lacking = [each for each in ("User.class", "rendezvous/RvTransferQueue.class") if not pathlib.Path(name, each).exists()]
+        demand(not lacking, f"it did not make {lacking}")
+
+
+def what_a_build_lacks_is_told(_program):
+    """In one line: Gson, for both ways to build, and Maven for that by Maven."""
+    with tempfile.TemporaryDirectory(prefix="rv-build-") as name:
+        for tool in ("dirname", "javac", "sh"):
+            pathlib.Path(name, tool).symlink_to(shutil.which(tool))
+        for words, variables, told in [
+            ([name], {"GSON": "/none/gson.jar"}, "/none/gson.jar is missing: Debian's package libgoogle-gson-java has it"),
+            ([], {"GSON": "/none/gson.jar"}, "/none/gson.jar is missing: Debian's package libgoogle-gson-java has it"),
+            ([], {}, "mvn is missing: Debian's package maven-debian-helper has it"),
+        ]:
+            ran = built(*words, PATH=name, **variables)
+            demand((ran.returncode, ran.stdout, ran.stderr) == (1, "", f"{told}\n"), f"{words}: {ran.stdout} {ran.stderr}")
+
+
+def built(*words, **environment):
+    """What comes of the client's own `build`."""
+    return subprocess.run([ROOT / "clients/java/build", *words], capture_output=True, text=True, timeout=LIMIT, env=environment)
+
+
 def tests_of(folder):
     """How many tests Maven ran: those of each file that has some."""
     ran = 0
@@ -151,7 +181,7 @@ def virtual_threads(_program):
 
 def cases():
     """The cases that this machine has what they need for. The others are told."""
-    chosen = []
+    chosen = [it_is_built_without_maven, what_a_build_lacks_is_told]
     if not maven_missing():
         chosen.append(maven_builds_it)
     else:

@@ -47,9 +47,11 @@ def what_is_left_out_is_told(program):
     told, _ = last_lines(["tests/status/run.py"], ["tests/package/run.py", program], ["tests/clients/run.py", *NO_CASE, program],
                          ["tests/clients/run.py", "--selftest", *NO_CASE], [sys.executable, "-B", "-c", NO_JUNIT, ROOT])
     demand(told.startswith("left out for want of a tool: "), told)
-    for what, tool in [("the status page in a browser", "chromium"), ("the metrics and alerts", "promtool is missing"),
-                       ("the Debian package", "git is missing"), ("the Java client", "javac is missing"),
-                       ("the pictures in a browser", "chromium"), ("the Java package by Maven", "junit-jupiter-api.jar is missing")]:
+    for what, tool in [
+        ("the status page in a browser", "chromium"), ("the metrics and alerts", "promtool is missing"),
+        ("the Debian package", "git is missing"), ("the pictures in a browser", "chromium"),
+        ("the Java client", "javac is missing"), ("the Java package by Maven", "junit-jupiter-api.jar is missing"),
+    ]:
         parts = [part for part in told.partition(": ")[2].split("; ") if part.startswith(f"{what} (")]
         demand(len(parts) == 1 and tool in parts[0], f"{what} is told {len(parts)} times: {told}")
     demand(last_lines(ALL_IS_THERE, ALL_IS_THERE) == ["nothing was left out for want of a tool", "2 passed, 0 failed"],

@@ -128,7 +128,8 @@ def tried(program: str, folder: pathlib.Path) -> list[int]:
     built = Built(program, folder)
     for case, tool in CASES:
         if not shutil.which(tool):
-            left_out.tell(f"the Debian package, {case.__name__.replace('_', ' ')}", f"{tool} is missing, of Debian's {LOOK[tool]}")
+            name = case.__name__.replace("_", " ")
+            left_out.tell(f"the Debian package, {name}", f"{tool} is missing, of Debian's {LOOK[tool]}")
             continue
         wrong = wrong_of(case, built)
         counts[wrong is not None] += 1

@@ -165,7 +165,7 @@ class Peer:
         return Packets(size, packets, out - out_with_data)
 
     def came(self, before, size):
-        """What has come since `before` at the first look that finds so many bytes of it. Nothing is read: that may acknowledge."""
+        """What has come since `before`, at the first look that finds so many bytes of it. None is read: that may acknowledge."""
         now = before
 
         def is_whole():
