@@ -13,7 +13,7 @@ interface Link extends AutoCloseable {
         private static final long serialVersionUID = 1;
     }
 
-    /** No connection could be made: what says why names the server. */
+    /** No connection can be made, however long it is waited for: what says why names the server. */
     final class NotConnected extends IOException {
         private static final long serialVersionUID = 1;
 

@@ -95,7 +95,8 @@ final class SocketLink implements Link {
         } catch (Woken woken) {
             throw woken;
         } catch (SocketTimeoutException late) {
-            throw notConnected("no connection in time", late);
+            // it may be the call's own time that is over
+            throw new IOException(new To(host, port) + ": no connection in time", late);
         } catch (IOException fault) {
             throw notConnected(reason(fault), fault);
         }

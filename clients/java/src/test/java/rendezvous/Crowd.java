@@ -6,12 +6,14 @@ import com.google.gson.JsonElement;
 import com.google.gson.JsonObject;
 import java.nio.file.Path;
 import java.time.Duration;
+import java.time.temporal.ChronoUnit;
 import java.util.ArrayList;
 import java.util.List;
 import java.util.Random;
 import java.util.concurrent.TimeUnit;
 import java.util.concurrent.TimeoutException;
 import java.util.concurrent.locks.LockSupport;
+import java.util.logging.Logger;
 
 /**
  * Threads that ask random calls for so many seconds, and print a line of JSON for each: its call, its reply, and by what it
@@ -19,6 +21,8 @@ import java.util.concurrent.locks.LockSupport;
  */
 final class Crowd {
     private static final long[] MILLIS = {0, 1, 3, 10, 30, 100};
+    /** What the clients log, which is none of the lines; it is kept, so that it is not thrown away. */
+    private static final Logger LOG = Logger.getLogger("rendezvous");
     private static final Gson GSON = new GsonBuilder().serializeNulls().create();
     private final RvClients clients;
     private final Random chance;
@@ -36,13 +40,15 @@ final class Crowd {
     }
 
     public static void main(String[] words) throws InterruptedException {
+        LOG.setUseParentHandlers(false);
         int count = Integer.parseInt(words[2]);
         long ends = System.nanoTime() + TimeUnit.MILLISECONDS.toNanos((long) (1000 * Double.parseDouble(words[3])));
         List<Thread> threads = new ArrayList<>();
         for (int each = 0; each < count; each++) {
             long client = Long.parseLong(words[1]) + each;
             RvClients clients = RvClients.builder("127.0.0.1", Integer.parseInt(words[0])).clients(client, client).unleased()
-                .incarnation(1).patience(Duration.ofSeconds(120)).version(1 + each % 2).record(Path.of(words[5])).build();
+                .incarnation(1).patience(Duration.ofSeconds(120)).connectTimeout(ChronoUnit.FOREVER.getDuration())
+                .version(1 + each % 2).record(Path.of(words[5])).build();
             Crowd one = new Crowd(clients, Long.parseLong(words[4]) * 1000 + each);
             threads.add(new Thread(() -> one.run(ends)));
         }

@@ -15,6 +15,7 @@ import java.nio.file.Files;
 import java.nio.file.LinkOption;
 import java.security.Security;
 import java.time.Duration;
+import java.time.temporal.ChronoUnit;
 import java.util.ArrayList;
 import java.util.LinkedHashMap;
 import java.util.List;
@@ -96,7 +97,8 @@ final class Scenes {
 
     /** Clients of these numbers, which nobody leases, in incarnation 1. */
     private static RvClients.Builder given(String host, int port, long first, long last) {
-        return RvClients.builder(host, port).clients(first, last).unleased().incarnation(1);
+        return RvClients.builder(host, port).clients(first, last).unleased().incarnation(1)
+            .connectTimeout(ChronoUnit.FOREVER.getDuration());
     }
 
     /** What a call gives or throws, and whether its thread is interrupted then. */
