@@ -43,11 +43,12 @@ class HostEnds(Exception):
 
 @dataclass
 class Link:
-    """A connection's socket, what of its input isn't taken, and when it last heard and wrote."""
+    """A connection's socket, what of its input isn't taken, when it last heard and wrote, and when it last could not be read."""
 
     socket: socket.socket
     heard: float
     moved: float
+    barred: float = 0.0
     pending: bytes = field(default=b"")
 
 
@@ -56,6 +57,8 @@ class DoubleHost:
 
     def __init__(self, options: argparse.Namespace):
         self.options, self.links, self.again, self.looked = options, {}, 0.0, 0.0
+        # how many bytes were unread when all were looked at
+        self.unread = 0
         self.began = self.clock()
         self.epoch = self.chosen_epoch()
         self.listener = self.listening()
@@ -111,6 +114,7 @@ class DoubleHost:
         """Turns for ever."""
         while True:
             events = self.poll.select(self.wait())
+            self.bar()
             self.tell(Passed())
             for key, mask in events:
                 if key.fileobj is self.listener:
@@ -124,6 +128,13 @@ class DoubleHost:
             for number in list(self.links):
                 self.write(number)
             self.look_over()
+
+    def bar(self) -> None:
+        """Who could not be read until now has all its time from now on."""
+        for number, link in self.links.items():
+            view = self.hub.view(number)
+            if link.pending or (view is not None and not view.may_offer):
+                link.barred = time.monotonic()
 
     def wait(self) -> float:
         """For how long nothing is to be done."""
@@ -271,16 +282,22 @@ class DoubleHost:
     # ---- what ends by time, or holds too much
 
     def look_over(self) -> None:
-        """Now and then ends those that stall or are idle, and those that hold most."""
+        """Ends those that hold most, and now and then those that stall or are idle."""
+        self.make_room()
         now = time.monotonic()
         if now < self.looked + LOOK:
             return
         self.looked = now
         for number in [number for number in self.links if self.is_over(number, now)]:
             self.drop(number)
+        if WRONG == "counts what was answered":
+            self.unread = max(self.unread, sum(view.unread for number in self.links if (view := self.hub.view(number)) is not None))
+
+    def make_room(self) -> None:
+        """Ends those that hold most, where all hold too much."""
         held = {number: len(link.pending) + view.unread + view.held for number, link in self.links.items()
                 if (view := self.hub.view(number)) is not None}
-        while sum(held.values()) > self.options.memory << 20 and WRONG != "closes nobody who holds much":
+        while self.unread + sum(held.values()) > self.options.memory << 20 and held and WRONG != "closes nobody who holds much":
             number = max(held, key=lambda number: held[number])
             del held[number]
             self.drop(number)
@@ -296,9 +313,10 @@ class DoubleHost:
             return now - link.moved >= self.options.stall and WRONG != "keeps who takes no answer"
         if view.waits and WRONG != "ends who waits":
             return False
+        since = link.heard if WRONG in ("counts from the last read", "ends who waits") else max(link.heard, link.barred)
         if view.unread or link.pending:
-            return now - link.heard >= self.options.stall and WRONG != "keeps half a frame"
-        return now - link.heard >= self.options.idle and WRONG != "keeps who is idle"
+            return now - since >= self.options.stall and WRONG != "keeps half a frame"
+        return now - since >= self.options.idle and WRONG != "keeps who is idle"
 
 
 def verify(path: str) -> int:

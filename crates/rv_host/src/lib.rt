@@ -5,6 +5,7 @@ mod door;
 mod fault;
 mod host;
 mod journal;
+mod overdue;
 mod report;
 mod reserve;
 mod shell;

@@ -2,6 +2,7 @@
 use crate::door::{Accepted, Door};
 use crate::fault::HostEnd;
 use crate::journal::Journal;
+use crate::overdue::TimeLimits;
 use crate::report::{FaultKind, HostReport};
 use crate::status::StatusDesk;
 use libc::net::{IPPROTO_TCP, SO_KEEPALIVE, SOL_SOCKET, TCP_USER_TIMEOUT, setsockopt};
@@ -65,15 +66,12 @@ pub(crate) struct Shell {
     // At most so many connections are open.
     pub(crate) connections: usize,
     pub(crate) memory: u128,
-    pub(crate) idle: u64,
-    pub(crate) stall: u64,
+    pub(crate) limits: TimeLimits,
     // How many connections were accepted, and in how many turns the clock failed.
     pub(crate) opened: u64,
     pub(crate) clock_faults: u64,
     // When all were looked over.
     pub(crate) looked_over: u64,
-    // The unread bytes of the hub, as they were when all were looked over.
-    pub(crate) unread: usize,
 }
 
 /// A shell without its engine: where it is asked, what it keeps, a poll that tells who comes, and room for
@@ -154,12 +152,13 @@ impl Shell {
             report,
             connections: parts.connections,
             memory: options.memory as u128 * 1_048_576,
-            idle: options.idle.saturating_mul(1_000),
-            stall: options.stall.saturating_mul(1_000),
+            limits: TimeLimits {
+                stall: options.stall.saturating_mul(1_000),
+                idle: options.idle.saturating_mul(1_000),
+            },
             opened: 0,
             clock_faults: 0,
             looked_over: 0,
-            unread: 0,
         }
     }
 

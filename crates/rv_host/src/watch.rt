@@ -1,4 +1,5 @@
 //! Connections that are idle, stall, or hold too much.
+use crate::overdue::overdue;
 use crate::report::FaultKind;
 use crate::shell::{LOOK_OVER, Shell};
 use rv_hearers::ConnectionNumber;
@@ -12,18 +13,18 @@ impl Shell {
             return;
         }
         self.looked_over = now;
-        self.unread = 0;
         for number in 0..self.traffic.links().room() {
             self.look_over_one(now, number);
         }
         self.report.tell(rt, now);
     }
 
+    // Ends a connection whose time is over. Where lines of the account are left nobody is read or written to,
+    // so nobody's time is.
     fn look_over_one(&mut self, now: u64, number: ConnectionNumber) {
-        let Some(wire) = self.traffic.engine().hub().wire(number) else {
+        if !self.traffic.catch_up() {
             return;
-        };
-        self.unread = self.unread.saturating_add(wire.unread_count());
+        }
         if let Some(kind) = self.overdue(now, number) {
             self.report.note(kind);
             self.traffic.give_up(now, number);
@@ -35,22 +36,14 @@ impl Shell {
         let heard = self.traffic.links().heard(number)?;
         let moved = self.traffic.links().moved(number)?;
         let wire = self.traffic.engine().hub().wire(number)?;
-        if !wire.ready().is_empty() {
-            return (now.saturating_sub(moved) >= self.stall).then_some(FaultKind::Stall);
-        }
-        if wire.owes() || wire.held() > 0 {
-            return None;
-        }
-        if wire.unread_count() > 0 && now.saturating_sub(heard) >= self.stall {
-            return Some(FaultKind::Stall);
-        }
-        (now.saturating_sub(heard.max(moved)) >= self.idle).then_some(FaultKind::Idle)
+        overdue(wire, heard, moved, now, self.limits)
     }
 
-    // Closes those that hold most, until all hold at most what they may.
+    // Closes those that hold most, until all hold at most what they may. Where lines of the account are left
+    // the hub can't be told, and nothing more comes.
     fn make_room(&mut self, now: u64) {
         for _ in 0..self.connections {
-            if self.total() <= self.memory {
+            if self.total() <= self.memory || !self.traffic.catch_up() {
                 break;
             }
             self.close_largest(now);
@@ -60,9 +53,10 @@ impl Shell {
     // How many bytes are held of all connections.
     pub(crate) fn total(&self) -> u128 {
         let pending = self.traffic.links().pending_count();
-        let held = self.traffic.engine().hub().held();
-        held.saturating_add(pending)
-            .saturating_add(self.unread as u128)
+        let hub = self.traffic.engine().hub();
+        hub.held()
+            .saturating_add(hub.unread_count())
+            .saturating_add(pending)
     }
 
     // Closes the connection that holds most.
@@ -78,16 +72,7 @@ impl Shell {
         }
         if let Some(number) = largest {
             self.report.note(FaultKind::MostHeld);
-            self.unread = self.unread.saturating_sub(self.unread_of(number));
             self.traffic.give_up(now, number);
-        }
-    }
-
-    // How many bytes of a connection stand in front of a whole frame.
-    fn unread_of(&self, number: ConnectionNumber) -> usize {
-        match self.traffic.engine().hub().wire(number) {
-            Some(wire) => wire.unread_count(),
-            None => 0,
         }
     }
 

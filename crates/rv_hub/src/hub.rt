@@ -48,7 +48,7 @@ impl Hub {
     ghost use Rattle.rv_resume.specs.Resuming.{CanResume};
     ghost use Rattle.rv_rules.specs.StepLimits.{AreStepLimits};
     ghost use Rattle.rv_hearers.specs.Hearing.{nobody};
-    ghost use Rattle.rv_wires.specs.Connections.{AllHeldBack, IsTotalHeld, none_open};
+    ghost use Rattle.rv_wires.specs.Connections.{AllHeldBack, IsTotalHeld, IsTotalUnread, none_open};
     ghost use Rattle.rv_desk.specs.View.{begun};
     ghost use Rattle.rv_desk.specs.Telling.{CountsUnheard, IsUnheard};
     ghost use Rattle.rv_desk.specs.Rest.{IsNextMoment};
@@ -139,6 +139,13 @@ impl Hub {
         ensures { IsTotalHeld (hub_state self.now).open_wires.wires result }
     {
         self.parts.desk.wires().held()
+    }
+
+    /// How many bytes of all connections are unread.
+    pub fn unread_count(&self) -> u128
+        ensures { IsTotalUnread (hub_state self.now).open_wires.wires result }
+    {
+        self.parts.desk.wires().unread_count()
     }
 
     /// How many entries are written.

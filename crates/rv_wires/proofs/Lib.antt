@@ -10,3 +10,4 @@ pub mod Released
 pub mod Reaching
 pub mod Leading
 pub mod Tallying
+pub mod Unreads

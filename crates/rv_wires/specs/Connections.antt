@@ -81,11 +81,23 @@ abbrev pub total_below : (Traffic → ℕ) → (ℕ → Option Traffic) → ℕ 
 total_below count wires zero = 0
 total_below count wires (suc n) = total_below count wires n + count_at count (wires n)
 
--- all that are open are below a number, and so many bytes are held for them
-pub record IsTotalHeld (wires : ℕ → Option Traffic) (total : ℕ) : Type 0 where
+-- all that are open are below a number, and the sum of a count over them is this
+pub record IsTotalOf (count : Traffic → ℕ) (wires : ℕ → Option Traffic) (total : ℕ) : Type 0 where
   pub bound : ℕ
   pub all_below : (connection : ℕ) → bound ≤ connection → wires connection ≡ None
-  pub total_is : total ≡ total_below held_count wires bound
+  pub total_is : total ≡ total_below count wires bound
+
+-- so many bytes of answers are held for all that are open
+abbrev pub IsTotalHeld : (ℕ → Option Traffic) → ℕ → Type 0
+IsTotalHeld wires total = IsTotalOf held_count wires total
+
+-- how many bytes are unread
+abbrev pub unread_count : Traffic → ℕ
+unread_count wire = length wire.unread
+
+-- so many bytes of all that are open are unread
+abbrev pub IsTotalUnread : (ℕ → Option Traffic) → ℕ → Type 0
+IsTotalUnread wires total = IsTotalOf unread_count wires total
 
 -- ---- the list of those that changed
 
@@ -96,10 +108,6 @@ ListsOne old number new = (other : ℕ) → Contains new other ↔ (Contains old
 -- these numbers are listed with those that were
 abbrev pub ListsAll : List ℕ → List ℕ → List ℕ → Type 0
 ListsAll old numbers new = (other : ℕ) → Contains new other ↔ (Contains old other ⊎ Contains numbers other)
-
--- how many bytes are unread
-abbrev pub unread_count : Traffic → ℕ
-unread_count wire = length wire.unread
 
 -- what is kept of all connections beside their bytes
 pub record Tally : Type 0 where

@@ -1,10 +1,33 @@
 //! All open connections of a hub.
-ghost use Rattle.rv_wires.specs.Noting.{IsNoted};
+ghost use Rattle.std.specs.Prelude.{◌≡◌, ◌≤◌, ◌+◌, ◌*◌, Option, None, Some};
+ghost use Rattle.rv_wires.specs.Connections.{count_at, unread_count};
+ghost use Rattle.rv_wires.specs.Fields.{slots_state};
+ghost use Rattle.rv_wires.specs.Noting.{IsNoted, IsUnreadIn};
 
 use crate::noted::Noted;
 use rv_connection::{NoMemory, Wire};
 use rv_hearers::ConnectionNumber;
 use std::alloc::Global;
+
+// How many bytes of a connection are unread, if it is open.
+fn unread_of(noted: &Noted, connection: ConnectionNumber) -> usize
+    requires { IsNoted noted.now }
+    ensures { result ≡ count_at unread_count ((slots_state noted.now.slots).wires connection) }
+{
+    match noted.get(connection) {
+        Some(wire) => wire.unread_count(),
+        None => 0,
+    }
+}
+
+// So many bytes more, where fewer than 2^64 are unread of each number that has room.
+fn add_unread(unread: u128, more: usize, room: usize) -> u128
+    requires { unread ≤ 18446744073709551615 * room }
+    ensures { result ≡ unread + more }
+{
+    let _ = room;
+    unread + more as u128
+}
 
 /// All open connections, each under its number, with how many entries are written.
 ///
@@ -14,7 +37,10 @@ use std::alloc::Global;
 #[derive(Drop)]
 pub struct Wires {
     noted: Noted,
+    // How many bytes are unread of all.
+    unread: u128,
     ghost sound: { IsNoted noted },
+    ghost counted: { IsUnreadIn noted unread },
 }
 
 impl Wires {
@@ -25,6 +51,7 @@ impl Wires {
     ghost use Rattle.rv_connection.specs.Traffic.{IsDue};
     ghost use Rattle.rv_connection.specs.Steps.{AnswersBy, TakesIn, input_ended, left_by, taken};
     ghost use Rattle.rv_wires.specs.Connections.{AllHeldBack, ChangesWire, HasWire, IsTotalHeld, Notes};
+    ghost use Rattle.rv_wires.specs.Connections.{IsTotalUnread};
     ghost use Rattle.rv_wires.specs.Connections.{NotesReleased};
     ghost use Rattle.rv_wires.specs.Connections.{OpensWire, ReleasesAll};
     ghost use Rattle.rv_wires.specs.Connections.{SetsWire, none_open};
@@ -37,6 +64,7 @@ impl Wires {
     {
         Wires {
             noted: Noted::empty(alloc, written),
+            unread: 0,
         }
     }
 
@@ -79,7 +107,12 @@ impl Wires {
         ensures refused { OnErr result (wires_in self.new ≡ wires_in self.old) }
         ensures kept { OnErr result (tally_in self.new ≡ tally_in self.old) }
     {
-        self.noted.take_in(connection, piece)
+        let room = self.noted.slots.room();
+        let before = unread_of(&self.noted, connection);
+        let count = self.noted.take_in(connection, piece)?;
+        let more = unread_of(&self.noted, connection) - before;
+        self.unread = add_unread(self.unread, more, room);
+        Ok(count)
     }
 
     /// Takes the unread frame of a connection, whose answer is then owed.
@@ -90,7 +123,9 @@ impl Wires {
         ensures noted { Notes (wires_in self.old) (tally_in self.old) connection
             (wires_in self.new) (tally_in self.new) }
     {
-        self.noted.take_frame(connection)
+        let gone = unread_of(&self.noted, connection);
+        self.noted.take_frame(connection);
+        self.unread -= gone as u128;
     }
 
     /// Gives the answer that a connection is owed, by its body, behind all that is held for it. It rests on
@@ -162,7 +197,9 @@ impl Wires {
         ensures same { (wires_in self.old).wires connection ≡ None
             → tally_in self.new ≡ tally_in self.old }
     {
-        self.noted.close(connection)
+        let gone = unread_of(&self.noted, connection);
+        self.noted.close(connection);
+        self.unread -= gone as u128;
     }
 
     /// How many bytes of answers are held for all connections.
@@ -170,6 +207,13 @@ impl Wires {
         ensures { IsTotalHeld (wires_in self.now).wires result }
     {
         self.noted.slots.held
+    }
+
+    /// How many bytes of all connections are unread.
+    pub fn unread_count(&self) -> u128
+        ensures { IsTotalUnread (wires_in self.now).wires result }
+    {
+        self.unread
     }
 
     /// The connections that changed since `clear_changed`, each once: those that were opened or closed, that
