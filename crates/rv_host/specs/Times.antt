@@ -14,7 +14,7 @@ IsStalled wire heard moved now limit = ((0 < length wire.ready) × (limit ≤ no
     ⊎ (IsServed wire × (0 < length wire.unread) × (limit ≤ now - max heard moved))
 
 -- it is served and says nothing for so long, and hasn't stalled
-pub record IsIdle (wire : Traffic) (heard moved now : ℕ) (limits : TimeLimits) : Type 0 where
+pub record IsSilent (wire : Traffic) (heard moved now : ℕ) (limits : TimeLimits) : Type 0 where
   pub served : IsServed wire
   pub still : limits.idle ≤ now - max heard moved
   pub apart : ¬ IsStalled wire heard moved now limits.stall

@@ -1,7 +1,7 @@
 //! When a connection's time is over.
 ghost use Rattle.std.specs.Prelude.{◌≡◌, ◌↔◌, Some};
 ghost use Rattle.rv_log.specs.declared.kind.FaultKind.TheVariants as kind;
-ghost use Rattle.rv_host.specs.Times.{IsIdle, IsStalled};
+ghost use Rattle.rv_host.specs.Times.{IsSilent, IsStalled};
 
 use crate::report::FaultKind;
 use rv_connection::Wire;
@@ -13,10 +13,10 @@ pub(crate) struct TimeLimits {
     pub(crate) idle: u64,
 }
 
-/// Why a connection is to be ended at a moment, if it is, by the moments at which bytes of it last came, and at
-/// which bytes last left or none were there to leave.
+/// Why a connection is to be ended at a moment, if it is, by the moments at which bytes of it last came, and
+/// at which bytes last left or none were there to leave.
 ///
-/// Bytes have left, or none were there, whenever it could be read again: so it has all its time from then on.
+/// Where it could not be read, an answer left when it could be again: so it has all its time from then on.
 pub(crate) fn overdue(
     wire: &Wire,
     heard: u64,
@@ -25,7 +25,7 @@ pub(crate) fn overdue(
     limits: TimeLimits,
 ) -> Option<FaultKind>
     ensures stall { (result ≡ Some kind.Stall) ↔ IsStalled wire.now heard moved now limits.stall }
-    ensures idle { (result ≡ Some kind.Idle) ↔ IsIdle wire.now heard moved now limits }
+    ensures idle { (result ≡ Some kind.Idle) ↔ IsSilent wire.now heard moved now limits }
 {
     if !wire.ready().is_empty() {
         return (now.saturating_sub(moved) >= limits.stall).then_some(FaultKind::Stall);

@@ -213,7 +213,8 @@ impl Wires {
     pub fn unread_count(&self) -> u128
         ensures { IsTotalUnread (wires_in self.now).wires result }
     {
-        self.unread
+        let Wires { unread, .. } = self;
+        *unread
     }
 
     /// The connections that changed since `clear_changed`, each once: those that were opened or closed, that
