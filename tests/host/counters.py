@@ -2,11 +2,8 @@
 from __future__ import annotations
 
 import contextlib
-import http.client
 import os
 import re
-import time
-from collections.abc import Callable, Iterator
 from typing import Any
 
 from tests.faults.system import HostileHost, System
@@ -16,7 +13,6 @@ from tests.host.memory import half_frame
 from tests.host.moments import KEPT, QUESTIONS
 from tests.host.status import numbers, shows
 from tests.model.account import Key
-from tests.sockets.hosts import Host
 from tests.sockets.programs import free_port
 from tests.sockets.wire import demand, frame, hello, request, take, together, until
 
@@ -82,12 +78,14 @@ def broken_connections(program: str) -> None:
 
 def closed_for_memory(program: str) -> None:
     """Half frames beyond --memory count by those that are closed."""
-    with Counting(program, "--memory", str(MEBIBYTE)) as host, closing([host.connect() for _ in range(HALVES)]) as peers:
-        for peer in peers:
-            peer.send(half_frame(HALF))
-        until("one is closed", lambda: numbers(host.status_port)["rv_connections"] == HALVES - 1)
-        shows(host.status_port, {"rv_buffer_bytes": (HALVES - 1) * HALF, "rv_buffer_limit_bytes": MEBIBYTE << 20})
-        host.counts({"most_held": 1})
+    with Counting(program, "--memory", str(MEBIBYTE), "--stall", "3600") as host:
+        with closing([host.connect() for _ in range(HALVES)]) as peers:
+            for peer in peers:
+                peer.send(half_frame(HALF))
+            left = HALVES - 1
+            shows(host.status_port, {"rv_connections": left, "rv_buffer_bytes": left * HALF,
+                                     "rv_buffer_limit_bytes": MEBIBYTE << 20})
+            host.counts({"most_held": 1})
 
 
 def lacking_descriptors(program: str) -> None:

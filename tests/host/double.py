@@ -32,7 +32,8 @@ from tests.model.tables import table_audit  # noqa: E402
 from tests.sockets.accounts import read_account  # noqa: E402
 
 WRONG = os.environ.get("RV_WRONG", "")
-PATIENCE = {"tells early that it waits": 5_000, "never tells that it waits": 10**9}.get(WRONG, 10_000)
+PATIENCES = {"tells early that it waits": 5_000, "tells late that it waits": 25_000, "never tells that it waits": 10**9}
+PATIENCE = PATIENCES.get(WRONG, 10_000)
 # The bytes of a read, and the seconds between two looks at all connections, and between two accepts without a descriptor.
 READ, LOOK, AGAIN = 65_536, 0.5, 0.1
 
@@ -139,12 +140,27 @@ class DoubleHost:
     def wait(self) -> float:
         """For how long nothing is to be done."""
         moment = self.hub.next_moment
-        ends = LOOK if moment is None else min(LOOK, max(0.0, moment / 1000 - (self.clock() - self.began)))
+        late = 1_000 if WRONG == "polls past the end of a wait" else 0
+        ends = LOOK if moment is None else min(LOOK, max(0, moment + late - self.moment()) / 1_000)
+        if any(self.has_more(number) for number in self.links):
+            return 0.0
         return ends if self.listens or WRONG == "spins without descriptors" else min(ends, AGAIN)
+
+    def has_more(self, number: int) -> bool:
+        """Whether something is to be done for a connection at once."""
+        link, view = self.links[number], self.hub.view(number)
+        if WRONG == "turns while a peer is blocked" and view is not None and view.ready:
+            return True
+        return view is not None and view.may_offer and len(link.pending) > 0
+
+    def moment(self) -> int:
+        """The milliseconds since the start; where the clock shows whole ones, exactly these."""
+        return int(round((self.clock() - self.began) * 1_000, 3))
 
     def tell(self, event: Event) -> int:
         """Hands an event on to the hub."""
-        came = self.hub.handle(int((self.clock() - self.began) * 1000), event)
+        early = 1_000 if WRONG == "ends waits early" else 0
+        came = self.hub.handle(self.moment() + early, event)
         if not isinstance(came, model.Outcome):
             return 0
         self.unwritten += [entry_line(entry) + b"\n" for entry in came.entries]
@@ -200,11 +216,20 @@ class DoubleHost:
                 self.pause()
             return None
         link.setblocking(False)
+        self.set_options(link)
         number = self.tell(Opened())
         now = time.monotonic()
         self.links[number] = Link(link, now, now)
         self.poll.register(link, selectors.EVENT_READ, number)
         return None
+
+    @staticmethod
+    def set_options(link: socket.socket) -> None:
+        """Lets no packet wait, and gives up a peer that is gone, or takes nothing for a minute."""
+        link.setsockopt(socket.SOL_SOCKET, socket.SO_KEEPALIVE, 1)
+        link.setsockopt(socket.IPPROTO_TCP, socket.TCP_NODELAY, WRONG != "lets packets wait")
+        if WRONG != "has no user time-out":
+            link.setsockopt(socket.IPPROTO_TCP, socket.TCP_USER_TIMEOUT, 60_000)
 
     def pause(self) -> None:
         """Accepts nobody for a while."""
@@ -295,10 +320,13 @@ class DoubleHost:
 
     def make_room(self) -> None:
         """Ends those that hold most, where all hold too much."""
-        held = {number: len(link.pending) + view.unread + view.held for number, link in self.links.items()
+        answers = WRONG != "counts no answers"
+        held = {number: len(link.pending) + view.unread + view.held * answers for number, link in self.links.items()
                 if (view := self.hub.view(number)) is not None}
         while self.unread + sum(held.values()) > self.options.memory << 20 and held and WRONG != "closes nobody who holds much":
             number = max(held, key=lambda number: held[number])
+            if WRONG == "closes the first who holds anything":
+                number = next(number for number in held if held[number])
             del held[number]
             self.drop(number)
             if WRONG == "closes all that hold anything":
@@ -307,6 +335,7 @@ class DoubleHost:
     def is_over(self, number: int, now: float) -> bool:
         """Whether a connection's time is over."""
         link, view = self.links[number], self.hub.view(number)
+        now -= 10 if WRONG == "ends late by time" else 0
         if view is None:
             return False
         if view.ready:

@@ -52,7 +52,8 @@ def answers_count(program: str) -> None:
     closed that the rest fits."""
     with Stopped(program, options=("--memory", str(MEBIBYTE), "--stall", "3600")) as host:
         demand(sum(BESIDE) <= BYTES < sum(BESIDE) + DEAF * HELD and max(BESIDE) < HELD, "the answers are not too much")
-        with closing([host.connect() for _ in BESIDE]) as halves, closing([host.connect(receive=KEPT) for _ in range(DEAF)]) as deaf:
+        halves, deaf = [host.connect() for _ in BESIDE], [host.connect(receive=KEPT) for _ in range(DEAF)]
+        with closing(halves), closing(deaf):
             for peer, count in zip(halves, BESIDE):
                 peer.send(half_frame(count))
             for client, peer in enumerate(deaf, 1):
@@ -67,8 +68,8 @@ def answers_count(program: str) -> None:
 
 
 def descriptors_are_spared(program: str) -> None:
-    """Of the open files that it may have a host leaves 16 for itself, and 49 with a status address: all others may be connections,
-    none of which finds no descriptor."""
+    """Of the open files that it may have a host leaves 16 for itself, and 49 with a status address: all others may be
+    connections, none of which finds no descriptor."""
     with Host(program, preexec_fn=few_files) as host:
         with closing(connected(host.port, FILES - SPARE + BEYOND)):
             until("as many as may be are accepted", lambda: host.accepted() == FILES - SPARE)

@@ -75,6 +75,15 @@ WRONGS = [
     ("closes all that hold anything", "starts, holders are closed"),
     ("counts from the last read", "ends, a wait is no stall"),
     ("counts what was answered", "ends, what was answered is held no more"),
+    ("polls past the end of a wait", "moments, waits end at their moment"),
+    ("ends waits early", "moments, waits end at their moment"),
+    ("tells late that it waits", "moments, told that it waits at ten seconds"),
+    ("ends late by time", "moments, stalled and idle ends"),
+    ("lets packets wait", "sockets, options of a connection"),
+    ("has no user time-out", "sockets, options of a connection"),
+    ("turns while a peer is blocked", "sockets, rests beside blocked peers"),
+    ("closes the first who holds anything", "memory, the largest is closed"),
+    ("counts no answers", "memory, answers count"),
 ]
 DOUBLE = HostProgram(ROOT / "tests/host/double.py")
 # Silent connections, where descriptors allow them; spoilt frames; how long a crowd of the clients asks, in seconds, and the

@@ -28,13 +28,14 @@ def options_of_a_connection(program: str) -> None:
 
 
 def rests_beside_blocked_peers(program: str) -> None:
-    """Peers take no answers, stop in a frame, wait, write on behind a wait or send nothing more, and one more comes than there may
-    be: the host turns a few times a second."""
+    """Peers take no answers, stop in a frame, wait, write on behind a wait or send nothing more, and one more comes than there
+    may be: the host turns a few times a second."""
     system = System()
     system.be(kept=KEPT)
     with HostileHost(program, system, options=("--connections", "5")) as host:
         wishes = [Key(1, client, 1, 1) for client in (2, 3, 4)]
-        with closing([host.connect(receive=KEPT), *(host.greeted(client) for client in (1, 2, 3, 4))]) as peers:
+        greeted = [host.greeted(client) for client in (1, 2, 3, 4)]
+        with closing([host.connect(receive=KEPT), *greeted]) as peers:
             deaf, half, waiting, ahead, ended = peers
             half.send(frame(hello(1))[:-1])
             for peer, key in zip((waiting, ahead, ended), wishes):
