@@ -172,10 +172,11 @@ def tests_of_junit(program):
 
 
 def virtual_threads(_program):
-    """Ten thousand virtual threads share sixteen sessions and connections, and futures run on virtual threads."""
+    """Ten thousand virtual threads share sixteen sessions and connections, and futures run on virtual threads, whose cancels a close
+    waits for."""
     words = java.command("rendezvous.VirtualThreads", jdk=later_jdk())
     ran = subprocess.run(words, capture_output=True, text=True, timeout=LIMIT)
-    wanted = "11000 requests, 1000 items, no more sessions than 16\n"
+    wanted = "11000 requests, 1000 items, no more sessions than 16\n16 cancelled, 16 unclaimed, 0 unsettled\n"
     demand((ran.stdout, ran.stderr) == (wanted, ""), f"{ran.stdout} {ran.stderr}")
 
 

@@ -15,7 +15,7 @@ import time
 ROOT = pathlib.Path(__file__).resolve().parents[2]
 sys.dont_write_bytecode, sys.path[0] = True, str(ROOT)
 from tests.clients import (  # noqa: E402
-    browser, cancelled_tasks, crowds, drains, guide, installed, interrupted, interrupted_judged, java, java_leases,
+    browser, cancelled_tasks, crowds, drains, guide, installed, interrupted, interrupted_judged, java, java_closes, java_leases,
     java_packages, java_record, java_scenes, long_waits, missing_tools, python_page, python_tests, receipts, records, restarts,
     table_cases, wrong_clients)
 from tests.sockets.wire import Wrong  # noqa: E402
@@ -90,6 +90,8 @@ def run(program, asked, count):
         count.run(crowds.beside_the_jdk, program, asked.seed, asked.scripts)
         for case in receipts.WITH_JAVA + restarts.WITH_JAVA:
             count.run(case, program)
+        for case in java_closes.CASES:
+            count.run(case, program, asked.seed)
     count.run(crowds.at_the_double)
     count.run(crowds.a_crowd, program, asked.seed, asked.seconds)
     for case in interrupted.CASES + cancelled_tasks.CASES:
@@ -151,6 +153,7 @@ def main():
     parser.add_argument("--verbose", action="store_true", help="tell also what passed, with its seconds")
     parser.add_argument("--interrupts", type=int, help="in place of all that so many interrupted calls of Python")
     parser.add_argument("--cancels", type=int, help="in place of all that so many takes in asyncio, about half of them cancelled")
+    parser.add_argument("--closes", type=int, help="in place of all that so many cancelled takes of Java, whose clients are closed")
     parser.add_argument("--by-hand", action="store_true", help="in place of all that what takes ten minutes")
     parser.add_argument("--selftest", action="store_true", help="test the cases themselves, on wrong clients")
     asked = parser.parse_args()
@@ -161,6 +164,8 @@ def main():
         count.run(interrupted.interrupted_calls, os.path.abspath(asked.program), asked.seed, asked.interrupts)
     elif asked.cancels:
         count.run(cancelled_tasks.cancelled_takes, os.path.abspath(asked.program), asked.seed, asked.cancels)
+    elif asked.closes:
+        count.run(java_closes.cancelled_takes, os.path.abspath(asked.program), asked.seed, asked.closes)
     elif asked.by_hand:
         for case in long_waits.BY_HAND:
             count.run(case)

@@ -80,6 +80,9 @@ IN_JAVA = [
         Edit(RUNNING, "order == Order.NOBODY ? now() : sum(now(), grace)", "now()")]),
     WrongClient("closes and tells nobody what is unsettled", "java_scenes, close in a call", [
         Edit(POOL, "            abandoned.add(seat.session);\n", "")]),
+    WrongClient("closes at once, and tells nobody what it left", "java_closes, at the double", [
+        Edit(RUNNING, "order == Order.NOBODY ? now() : sum(now(), grace)", "now()"),
+        Edit(POOL, "            abandoned.add(seat.session);\n", "")]),
     WrongClient("tells an earlier call's outcome for one that asked nothing", "java_scenes, a threads last outcome", [
         Edit(CLIENTS, "        last.remove();\n", "")]),
     WrongClient("tells the outcome of another request", "java_scenes, the last outcome", [

@@ -10,7 +10,8 @@ import java.util.concurrent.Future;
 
 /**
  * Ten thousand virtual threads that put an item each, all at once, and futures of takes on virtual threads: prints how many
- * were asked, and whether they used no more sessions and connections than there are numbers. It needs JDK 21 or later.
+ * were asked, and whether they used no more sessions and connections than there are numbers; and how many items are unclaimed
+ * where takes are cancelled and a virtual thread closes their clients. It needs JDK 21 or later.
  */
 final class VirtualThreads {
     private static final int THREADS = 10_000;
@@ -21,6 +22,7 @@ final class VirtualThreads {
 
     public static void main(String[] words) throws Exception {
         System.out.println(run());
+        System.out.println(closed());
     }
 
     /** Whether this JDK has virtual threads. */
@@ -30,7 +32,7 @@ final class VirtualThreads {
 
     /** What came of it. */
     static String run() throws Exception {
-        ExecutorService executor = (ExecutorService) Executors.class.getMethod("newVirtualThreadPerTaskExecutor").invoke(null);
+        ExecutorService executor = executor();
         try (Answering server = new Answering(VirtualThreads::answer);
                 RvClients clients = server.clients(1, NUMBERS).executor(executor).idle(Long.MAX_VALUE).patientForEver().build()) {
             RvTransferQueue queue = new RvTransferQueue(clients, 3);
@@ -49,6 +51,33 @@ final class VirtualThreads {
             return server.asked().size() + " requests, " + got + " items, "
                 + (server.hellos().size() <= NUMBERS && server.connections() <= NUMBERS ? "no more" : "more") + " sessions than "
                 + NUMBERS;
+        } finally {
+            executor.shutdown();
+        }
+    }
+
+    private static ExecutorService executor() throws ReflectiveOperationException {
+        return (ExecutorService) Executors.class.getMethod("newVirtualThreadPerTaskExecutor").invoke(null);
+    }
+
+    /** What stands after a close of cancelled takes, whose items come nonetheless. */
+    static String closed() throws Exception {
+        ExecutorService executor = executor();
+        try (Answering server = new Answering(message -> Bodies.word(message, "kind").equals("cancel")
+                ? Answering.reply(message, key -> new Outcome.Item(key, "late")) : null)) {
+            RvClients clients = server.clients(1, NUMBERS).executor(executor).build();
+            RvTransferQueue queue = new RvTransferQueue(clients, 3);
+            List<CompletableFuture<String>> takes = new ArrayList<>();
+            for (int each = 0; each < NUMBERS; each++) {
+                takes.add(queue.takeAsync());
+            }
+            server.awaitAsked(NUMBERS);
+            takes.forEach(take -> executor.submit(() -> take.cancel(true)));
+            while (!takes.stream().allMatch(CompletableFuture::isDone)) {
+                Thread.sleep(1);
+            }
+            executor.submit(clients::close).get();
+            return NUMBERS + " cancelled, " + queue.unclaimed().size() + " unclaimed, " + clients.unsettled().size() + " unsettled";
         } finally {
             executor.shutdown();
         }
