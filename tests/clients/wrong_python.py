@@ -36,6 +36,8 @@ IN_PYTHON = [
         Edit(MACHINE, 'refusal["current"], not machine.doubtful))', 'refusal["current"]))')]),
     WrongClient("asks a call anew that may have been met", "test_restarts.SomebodyMayHaveMetIt.test_it_is_not_known", [
         Edit(COURSE, "not (told.unmet or looks(call))", "False")]),
+    WrongClient("asks a look anew that was cancelled", "test_restarts.SomebodyMayHaveMetIt.test_a_cancelled_look", [
+        Edit(COURSE, "job.resumes or job.given_up or told", "job.resumes or told")]),
     WrongClient("renews itself for an old server again and again", "test_restarts.Renewed.test_more_restarts_than_one", [
         Edit(COURSE, " or told.current <= self._renewed_for:", ":")]),
     WrongClient("renews itself in the incarnation that it had", "test_restarts.Renewed.test_each_call_goes_on", [

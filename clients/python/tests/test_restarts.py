@@ -146,11 +146,12 @@ class Away:
 @contextlib.contextmanager
 def tried_in_vain(deed):
     """In the block, a deed is done once a connection was refused."""
-    failed = Course._failed
+    failed, did = Course._failed, []
 
     def fails(course):
         failed(course)
-        with mock.patch.object(Course, "_failed", failed):
+        if not did:
+            did.append(deed)
             deed()
     with mock.patch.object(Course, "_failed", fails):
         yield
@@ -247,6 +248,17 @@ class SomebodyMayHaveMetIt(Case):
                 self.assertEqual([kind for kind, _, _ in asked(server)], ["hello", "request", "cancel"])
                 if renew:
                     played.ask(put)
+
+    @both
+    def test_a_cancelled_look(self, kind):
+        """It is not asked anew, though it may be."""
+        for call, _, _ in LOOKS:
+            with playing(kind, welcome) as (server, played):
+                server.deeds += [running_first(played.cancel, SILENCE), ANEW, welcome_anew, reply("done")]
+                with self.raises(rv.EpochEnded, current=5):
+                    played.ask(call)
+                played.ask(put)
+                self.assertEqual([epoch for epoch, _, _ in requests(server)], [1, 5])
 
     @both
     def test_an_unsettled_one(self, kind):

@@ -326,12 +326,11 @@ class Course:
         return made
 
     def _outlives(self, job: Job, told: m.EpochEnded) -> Optional[m.Told]:
-        """The epoch has ended. That is told, unless the session begins anew, and the call goes on there: nobody met it, or it
-        changes nothing, and the server is of a greater epoch than when that was done last."""
-        self._outlived = True
-        if not self.renew or job.resumes or told.current <= self._renewed_for:
+        """The epoch has ended. That is told, unless the session begins anew, and the call goes on there: it is still wanted, nobody
+        met it, or it changes nothing, and the server is of a greater epoch than when that was done last."""
+        self._outlived, call = True, job.call
+        if not self.renew or job.resumes or job.given_up or told.current <= self._renewed_for:
             return told
-        call = job.call
         if call is None or not (told.unmet or looks(call)):
             return told
         self._begin_anew(call)

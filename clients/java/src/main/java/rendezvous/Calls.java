@@ -14,11 +14,22 @@ final class Calls {
      *
      * @param replies the words of the replies that it may have
      * @param now and of those that it may have only where it does not wait
+     * @param looks whether it changes nothing at the server
      */
-    private record Row(Set<String> replies, Set<String> now) {
-        /** A call that has the same replies however it waits. */
+    private record Row(Set<String> replies, Set<String> now, boolean looks) {
+        /** A call that may change something. */
+        Row(Set<String> replies, Set<String> now) {
+            this(replies, now, false);
+        }
+
+        /** A call that may change something, and has the same replies however it waits. */
         Row(String... replies) {
             this(Set.of(replies), Set.of());
+        }
+
+        /** A call that only looks. */
+        static Row looking(String... replies) {
+            return new Row(Set.of(replies), Set.of(), true);
         }
     }
 
@@ -28,9 +39,8 @@ final class Calls {
         "take", new Row(Set.of("item"), Set.of("empty")),
         "drain", new Row("drained"),
         "swap", new Row("swapped"),
-        "count", new Row("counted"),
-        "peek", new Row("peeked", "empty"));
-    private static final Set<String> LOOKS = Set.of("count", "peek");
+        "count", Row.looking("counted"),
+        "peek", Row.looking("peeked", "empty"));
 
     /**
      * A call, and how long it may last.
@@ -128,7 +138,7 @@ final class Calls {
 
     /** Whether a call changes nothing at the server: it only looks. */
     static boolean looks(JsonObject call) {
-        return LOOKS.contains(Bodies.word(call, "call"));
+        return CALLS.get(Bodies.word(call, "call")).looks();
     }
 
     /** Whether a call waits for a time, which may be none. */

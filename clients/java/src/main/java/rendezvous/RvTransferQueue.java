@@ -22,7 +22,8 @@ import java.util.function.Function;
  * <li>Items are texts of at most 512 bytes of UTF-8; another one is an {@link IllegalArgumentException}.
  * <li>The order is that of arrival at the server, over the producers of all processes.
  * <li>{@link #size}, {@link #getWaitingConsumerCount}, {@link #hasWaitingConsumer} and {@link #peek} are exact in the
- *     server's step that answers them, and the items of waiting transfers are counted too.
+ *     server's step that answers them, and the items of waiting transfers are counted too. They go on where the server was
+ *     started anew.
  * <li>Waits are whole milliseconds, rounded up. One above a day is asked as a wait for ever, which the call ends at its
  *     time; a call with a time ends within a second behind it, also where the server is silent or away.
  * <li>Each call has a definite outcome also after a lost connection: it repeats its request until it has its one reply.
