@@ -145,7 +145,7 @@ class Course:
 
     def __init__(self, address: Tuple[str, int], name: Name, manner: Manner) -> None:
         self.address, self.name, self.manner = address, name, manner
-        self.answer, self.record, self.renew = manner.answer, manner.record, manner.renew
+        self.answer, self.record = manner.answer, manner.record
         self._welcomed = False
         # what was logged, until something is heard that leads on
         self._logged = ""
@@ -203,7 +203,7 @@ class Course:
         if job.resumes and self.machine.state is not m.State.OUTSTANDING:
             raise Misused("no request is unsettled")
         self._renewed_for = 0
-        if self._outlived and self.renew and not job.resumes:
+        if self._outlived and self.manner.renew and not job.resumes:
             self._begin_anew(None)
         if job.call is not None:
             self._step(m.Ask(job.call))
@@ -325,25 +325,6 @@ class Course:
             return m.step(m.Machine(before.client, self.name.incarnation, before.version, call=before.call), m.Speak())
         return made
 
-    def _outlives(self, job: Job, told: m.EpochEnded) -> Optional[m.Told]:
-        """The epoch has ended. That is told, unless the session begins anew, and the call goes on there: it is still wanted, nobody
-        met it, or it changes nothing, and the server is of a greater epoch than when that was done last."""
-        self._outlived, call = True, job.call
-        if not self.renew or job.resumes or job.given_up or told.current <= self._renewed_for:
-            return told
-        if call is None or not (told.unmet or looks(call)):
-            return told
-        self._begin_anew(call)
-        self._renewed_for = told.current
-        return None
-
-    def _begin_anew(self, call: Optional[Members]) -> None:
-        """The session begins anew in a greater incarnation, with this call if there is one. What it was is over."""
-        self.name.begin_anew()
-        anew = m.Machine(self.name.client, self.name.incarnation, self.machine.version)
-        self.machine = anew if call is None else m.step(anew, m.Ask(call)).machine
-        self._outlived = False
-
     def _recorded(self, outcome: Outcome, told: bytes) -> Optional[NotRecorded]:
         """Writes the reply to the request into the record, if there is one; the exception where it can't be written."""
         if self.record is None:
@@ -360,6 +341,25 @@ class Course:
         made = m.step(self.machine, event)
         self.machine = made.machine
         return made.tell
+
+    def _outlives(self, job: Job, told: m.EpochEnded) -> Optional[m.Told]:
+        """The epoch has ended. That is told, unless the session begins anew, and the call goes on there: it is still wanted, nobody
+        met it, or it changes nothing, and the server is of a greater epoch than when that was done last."""
+        self._outlived, call = True, job.call
+        if not self.manner.renew or job.resumes or job.given_up or told.current <= self._renewed_for:
+            return told
+        if call is None or not (told.unmet or looks(call)):
+            return told
+        self._begin_anew(call)
+        self._renewed_for = told.current
+        return None
+
+    def _begin_anew(self, call: Optional[Members]) -> None:
+        """The session begins anew in a greater incarnation, with this call if there is one. What it was is over."""
+        self.name.begin_anew()
+        anew = m.Machine(self.name.client, self.name.incarnation, self.machine.version)
+        self.machine = anew if call is None else m.step(anew, m.Ask(call)).machine
+        self._outlived = False
 
     # ---- the connection
 
