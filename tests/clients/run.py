@@ -152,7 +152,7 @@ def main():
     parser.add_argument("--only", default="", help="only the cases with these words in their name")
     parser.add_argument("--verbose", action="store_true", help="tell also what passed, with its seconds")
     parser.add_argument("--interrupts", type=int, help="in place of all that so many interrupted calls of Python")
-    parser.add_argument("--cancels", type=int, help="in place of all that so many takes in asyncio, about half of them cancelled")
+    parser.add_argument("--cancels", type=int, help="in place of all that so many cancelled calls in asyncio, and others between")
     parser.add_argument("--closes", type=int, help="in place of all that so many cancelled takes of Java, whose clients are closed")
     parser.add_argument("--by-hand", action="store_true", help="in place of all that what takes ten minutes")
     parser.add_argument("--selftest", action="store_true", help="test the cases themselves, on wrong clients")
@@ -163,7 +163,7 @@ def main():
     elif asked.interrupts:
         count.run(interrupted.interrupted_calls, os.path.abspath(asked.program), asked.seed, asked.interrupts)
     elif asked.cancels:
-        count.run(cancelled_tasks.cancelled_takes, os.path.abspath(asked.program), asked.seed, asked.cancels)
+        count.run(cancelled_tasks.many_mixed_calls, os.path.abspath(asked.program), asked.seed, asked.cancels)
     elif asked.closes:
         count.run(java_closes.cancelled_takes, os.path.abspath(asked.program), asked.seed, asked.closes)
     elif asked.by_hand:

@@ -18,7 +18,7 @@ from let_in import handled
 from record_lines import ending_of, lines_of
 from rendezvous import aio, record
 from scripted import HANG_UP, SILENCE, Scripted, frame, received_by, refused, reply, running_first, waiting, welcome
-from test_aio import CALLS, cancelled, made, run
+from test_aio import CALLS, cancelled, comes, made, run
 
 FULL = "/dev/full"
 # How many requests each of two processes asks that share a file, each with an item of the greatest length.
@@ -437,6 +437,16 @@ class NotWritten(Recorded):
             server.otherwise = reply("done")
             self.not_recorded(raised_by(lambda: one.put(3, "b")), rv.replies.Done(key(2)), errno.EISDIR)
 
+    def test_a_claim_behind_it(self):
+        """So does what would give the item else: a claim, and a loop."""
+        for gives in (lambda one: one.claim(one.unclaimed()[0]), lambda one: next(one.items(3))):
+            with Scripted(welcome) as server, session(server, record=self.folder) as one:
+                self.hidden_behind(server, one)
+                self.not_recorded(raised_by(lambda: gives(one)), rv.replies.Item(key(1), "a"), errno.EISDIR)
+                self.assertEqual(one.unclaimed(), [])
+                with self.assertRaises(ValueError):
+                    one.claim(rv.Unclaimed(key(1), "a", 3))
+
     def test_a_close_behind_it(self):
         """So does `close`, but where its block ends by another exception."""
         with Scripted(welcome) as server:
@@ -471,7 +481,7 @@ class Tasks(Recorded):
 
     @unhurried()
     def test_where_it_has_none(self):
-        """The next call raises that, once, with the item, which then stands nowhere else; so do `again` and `close`."""
+        """The next call raises that, once, with the item, which then stands nowhere else; so do `again`, `close` and `claim`."""
         async def asks(server, call):
             async with self.turning(made, server) as one:
                 await cancelled(one, lambda one: one.take(3), server, 2)
@@ -480,7 +490,11 @@ class Tasks(Recorded):
 
         async def closes(one):
             await one.close()
-        for call in (lambda one: one.put(3, "a"), lambda one: one.take(3), lambda one: one.again(), closes):
+
+        async def claims(one):
+            await comes("its outcome", lambda: one.last)
+            one.claim(one.unclaimed()[0])
+        for call in (lambda one: one.put(3, "a"), lambda one: one.take(3), lambda one: one.again(), closes, claims):
             with Scripted(welcome) as server:
                 server.otherwise = at_cancel(reply("item", item="a"))
                 fault, left, then = run(asks(server, call))
