@@ -24,8 +24,8 @@ MAY_THROW = {"Unsettled", "NotAsked", "IllegalStateException"}
 
 
 class Round(NamedTuple):
-    """What the takes of clients told that were closed: the clients' numbers and incarnation, what futures gave and threw, what stood
-    unclaimed and unsettled after the close; and the items that their requests took by the account."""
+    """What the takes of clients told that were closed: the clients' numbers and incarnation, what futures gave and threw, and what
+    stood unclaimed and unsettled after the close; and the items that their requests took by the account."""
 
     first: int
     most: int
@@ -132,6 +132,8 @@ def cancelled_takes(program, seed, how_many=TAKES):
     sums, began = collections.Counter(), time.monotonic()
     while sums["cancelled"] < how_many:
         an_epoch(program, seed + sums["epochs"], min(EACH_EPOCH, how_many - sums["cancelled"]), sums)
+        if how_many > EACH_EPOCH:
+            print(f"{sums['epochs']} epochs, {sums['cancelled']} takes cancelled", flush=True)
     return f"{json.dumps(sums)}, {time.monotonic() - began:.0f} seconds, each item told once"
 
 
@@ -143,15 +145,15 @@ def at_the_double(_program, seed):
 # ---- the rules, tried on lies
 
 def written():
-    """Lines that are true, and their account: of four takes of two rounds one gave its item, the item of one is unclaimed, that of
-    one is told to nobody but by its key, and one was cancelled."""
+    """Lines that are true, and their account: of four takes of two rounds one gave its item, the item of one is unclaimed, one is
+    unsettled, and one was cancelled."""
     take, keys = Call("take", 3, wait="forever"), [Key(1, 4, 1, 1), Key(1, 5, 1, 1), Key(1, 4, 2, 1), Key(1, 5, 2, 1)]
     hellos = [Entry(0, Hello(1, 1)), *(Entry(0, Hello(key.client, key.incarnation)) for key in keys[:2])]
     takes = [Entry(1, Request(key, take)) for key in keys[:2]]
     gives = [Entry(2, Request(Key(1, 1, 1, number), Call("put", 3, item=item)), partners)
              for number, item, partners in [(1, "a", (3,)), (2, "b", (4,)), (3, "c", ())]]
-    later = [Entry(3, Hello(4, 2)), Entry(3, Hello(5, 2)), Entry(4, Request(keys[2], take), (7,)), Entry(4, Request(keys[3], take)),
-             Entry(5, Cancel(keys[3]))]
+    later = [Entry(3, Hello(4, 2)), Entry(3, Hello(5, 2)), Entry(4, Request(keys[2], take), (7,)),
+             Entry(4, Request(keys[3], take)), Entry(5, Cancel(keys[3]))]
     round_of = {"first": 4, "most": 2, "threw": [], "given": [], "unclaimed": [], "unsettled": [], "cancelled": 1}
     return Account(1, 0, (*hellos, *takes, *gives, *later)), [
         {**round_of, "incarnation": 1, "given": ["a"], "unclaimed": ["b"]},

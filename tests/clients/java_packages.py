@@ -172,8 +172,8 @@ def tests_of_junit(program):
 
 
 def virtual_threads(_program):
-    """Ten thousand virtual threads share sixteen sessions and connections, and futures run on virtual threads, whose cancels a close
-    waits for."""
+    """Ten thousand virtual threads share sixteen sessions and connections, and futures run on virtual threads; a close waits for
+    those that are cancelled."""
     words = java.command("rendezvous.VirtualThreads", jdk=later_jdk())
     ran = subprocess.run(words, capture_output=True, text=True, timeout=LIMIT)
     wanted = "11000 requests, 1000 items, no more sessions than 16\n16 cancelled, 16 unclaimed, 0 unsettled\n"

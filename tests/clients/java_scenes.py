@@ -206,7 +206,7 @@ def no_outcome_where_there_is_no_room(_java):
 
 
 def close_in_a_call(_java):
-    """A take that waits ends by what is known of it, and nothing is asked behind that. What is unsettled stays so."""
+    """A take that waits ends by what is known of it, and nothing is asked after that. What is unsettled stays so."""
     for deeds, known in [((SILENCE,), "asked"), ((waiting, SILENCE), "accepted")]:
         with scripted(welcome, *deeds) as server, playing("close-in-a-call", server.port) as program:
             until("a take", lambda: len(server.heard) == 1 + len(deeds))
@@ -216,7 +216,7 @@ def close_in_a_call(_java):
             demand(len(server.heard) == 1 + len(deeds), f"{server.heard}")
 
 
-def a_close_behind_a_cancel(_java):
+def a_close_after_a_cancel(_java):
     """Waits for what becomes of the cancel: the item that comes is unclaimed."""
     told = threading.Event()
     late = lambda asked: told.wait(2 * LIMIT) and reply("item", item="late")(asked)
@@ -514,7 +514,7 @@ def times(_java):
 CASES = [
     a_dead_threads_unsettled_request, an_ended_session, a_restart_before_each_call, a_restart_in_calls_that_look,
     an_interrupt_behind_a_restart, the_last_outcome, no_outcome_where_there_is_no_room, a_threads_last_outcome, close_in_a_call,
-    a_close_behind_a_cancel, close_in_a_pause, full_memory, two_threads, cancelled_though_nobody_asked,
+    a_close_after_a_cancel, close_in_a_pause, full_memory, two_threads, cancelled_though_nobody_asked,
     replies_that_a_call_cannot_have, for_ever, a_long_time, connections_of_dead_threads, a_pooled_thread,
     an_interrupt_in_the_hello, an_interrupt_while_the_server_is_away, an_interrupt_in_again, a_nested_answer,
     exceptions_read_back, an_unresolved_host, numbers_of_sessions, no_descriptors, times, a_cancelled_take,

@@ -153,7 +153,7 @@ def main():
     parser.add_argument("--verbose", action="store_true", help="tell also what passed, with its seconds")
     parser.add_argument("--interrupts", type=int, help="in place of all that so many interrupted calls of Python")
     parser.add_argument("--cancels", type=int, help="in place of all that so many cancelled calls in asyncio, and others between")
-    parser.add_argument("--closes", type=int, help="in place of all that so many cancelled takes of Java, whose clients are closed")
+    parser.add_argument("--closes", type=int, help="in place of all that so many cancelled takes of Java, and closes meanwhile")
     parser.add_argument("--by-hand", action="store_true", help="in place of all that what takes ten minutes")
     parser.add_argument("--selftest", action="store_true", help="test the cases themselves, on wrong clients")
     asked = parser.parse_args()

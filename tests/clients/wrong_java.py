@@ -76,7 +76,7 @@ IN_JAVA = [
         Edit(SESSION, 'running.order() == Order.TIME', 'running.order() != Order.USER')]),
     WrongClient("goes on behind a close", "java_scenes, close in a pause", [
         Edit(RUNNING, "            noteClose();\n", "")]),
-    WrongClient("closes and waits not for what was given up", "java_scenes, a close behind a cancel", [
+    WrongClient("closes and waits not for what was given up", "java_scenes, a close after a cancel", [
         Edit(RUNNING, "order == Order.NOBODY ? now() : sum(now(), grace)", "now()")]),
     WrongClient("closes and tells nobody what is unsettled", "java_scenes, close in a call", [
         Edit(POOL, "            abandoned.add(seat.session);\n", "")]),

@@ -179,7 +179,7 @@ final class Pool {
         }
     }
 
-    /** The sessions whose request is unsettled. Behind a close that is also one whose call has not ended yet. */
+    /** The sessions whose request is unsettled. After a close that is also one whose call has not ended yet. */
     List<RvSession> unsettled() {
         lock.lock();
         try {

@@ -11,7 +11,7 @@ import java.util.function.Function;
  * cancels the request.
  */
 class RequestFuture<T> extends CompletableFuture<T> {
-    /** Also as soon as it is completed: what its user does then may come before the abort is asked. */
+    /** Asked as soon as the future is completed, for what its user has run then may come before {@link Abort#ask}. */
     private final Abort abort = new Abort(this::isDone);
     private final AtomicBoolean begun = new AtomicBoolean();
     private final CountDownLatch ended = new CountDownLatch(1);
@@ -75,6 +75,7 @@ class RequestFuture<T> extends CompletableFuture<T> {
         }
     }
 
+    /** Asks; whoever waits for the call's item waits no more at its end. */
     private Outcome outcome(Asking asking) throws InterruptedException {
         try {
             return asking.ask(this, abort);

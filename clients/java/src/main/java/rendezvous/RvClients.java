@@ -387,10 +387,10 @@ public final class RvClients implements AutoCloseable {
      * {@link RvException.NotAsked}, {@link RvException.Full} or {@link RvException.Unsettled}. One that is being given up,
      * as that of a future which was cancelled, has a second at most to hear what became of it. This waits for that, also
      * through interrupts, which are set again: an item that still came is in its queue's
-     * {@link RvTransferQueue#unclaimed unclaimed}, and what was not settled in {@link #unsettled}. It waits a second more
-     * where a call does not end by itself, as in a write of the record that hangs.
+     * {@link RvTransferQueue#unclaimed unclaimed}, and what was not settled is in {@link #unsettled}. Where a call does not
+     * end in that time, as in a write of the record that hangs, this waits a second more at most.
      *
-     * <p>Any thread may say this, also more than once, and what is done when a future is completed.
+     * <p>Any thread may say this, more than once, and also from what runs when a future is completed.
      */
     @Override
     public void close() {

@@ -129,8 +129,9 @@ final class Unclaimed {
 
     /** All items, which are the caller's now. */
     synchronized List<String> all() {
-        List<String> free = items.stream().filter(Kept::isFree).map(kept -> kept.item).toList();
-        items.removeIf(Kept::isFree);
-        return free;
+        // looked at once, for one more may be freed meanwhile
+        List<Kept> free = items.stream().filter(Kept::isFree).toList();
+        items.removeAll(free);
+        return free.stream().map(kept -> kept.item).toList();
     }
 }

@@ -87,7 +87,7 @@ final class ClosesTest {
         }
     }
 
-    /** What stands behind a close, each time that it is looked at. */
+    /** What stands after a close, each time that it is looked at. */
     private static void stands(RvClients clients, RvTransferQueue queue, List<Key> unsettled, String... unclaimed) {
         assertEquals(unsettled, unsettled(clients));
         assertEquals(unsettled, unsettled(clients), "once more");
@@ -96,7 +96,7 @@ final class ClosesTest {
     }
 
     @Test
-    void anItemThatComesBehindTheCloseIsUnclaimed() throws Exception {
+    void anItemThatComesAfterTheCloseIsUnclaimed() throws Exception {
         Held held = new Held(ClosesTest::late);
         try (Answering server = new Answering(held)) {
             RvClients clients = server.clients(1, 8).build();
@@ -117,7 +117,7 @@ final class ClosesTest {
     }
 
     @Test
-    void aCancelThatIsNotSentYetIsSentBehindTheClose() throws Exception {
+    void aCancelThatIsNotSentYetIsSentAfterTheClose() throws Exception {
         CountDownLatch asked = new CountDownLatch(1);
         CountDownLatch goesOn = new CountDownLatch(1);
         List<String> kinds = new ArrayList<>();
@@ -290,7 +290,7 @@ final class ClosesTest {
     }
 
     @Test
-    void whatIsDoneBehindAnItemMayClose() throws Exception {
+    void whatIsDoneWithAnItemMayClose() throws Exception {
         CountDownLatch first = new CountDownLatch(1);
         try (Answering server = new Answering(message -> {
             if (Bodies.number(message, "client") == 1) {
@@ -390,7 +390,7 @@ final class ClosesTest {
     }
 
     @Test
-    void aFutureThatBeginsBehindACloseTakesNothing() throws Exception {
+    void aFutureThatBeginsAfterACloseTakesNothing() throws Exception {
         Held held = new Held(ClosesTest::late);
         held.tell();
         List<Runnable> later = new ArrayList<>();

@@ -202,6 +202,23 @@ final class FuturesTest {
     }
 
     @Test
+    void anItemThatIsFreedWhileOthersAreGivenOutStays() {
+        Unclaimed unclaimed = new Unclaimed();
+        CompletableFuture<String> cancelledWhenLookedAt = new CompletableFuture<>() {
+            @Override
+            public boolean isDone() {
+                boolean was = super.isDone();
+                cancel(false);
+                return was;
+            }
+        };
+        unclaimed.settled(cancelledWhenLookedAt, new Outcome.Item(new Key(1, 1, 1, 1), "late"));
+        List<String> given = new ArrayList<>(unclaimed.all());
+        given.addAll(unclaimed.all());
+        assertEquals(List.of("late"), given);
+    }
+
+    @Test
     void whatsoeverCompletesATakeCancelsIt() throws Exception {
         try (Answering server = silentUntilCancel(message -> item(message, "late"));
                 RvClients clients = server.clients(1, 8).build()) {

@@ -24,14 +24,14 @@ import org.junit.jupiter.api.io.TempDir;
 /** The outcome of a thread's last call: it is that call's or none, however the call ended, and never an earlier one's. */
 @Timeout(value = 2, unit = TimeUnit.MINUTES)
 final class LastTest {
-    /** The requests that were there before, each under its number. */
+    /** The request that was there before, and the one that a call asks then. */
     private static final Key EARLIER = new Key(1, 1, 1, 1);
     private static final Key KEY = new Key(1, 1, 1, 2);
 
     @TempDir
     private static Path folder;
 
-    /** Clients of one number over a scripted link, behind a put that was done; then the script is another one. */
+    /** Clients of one number over a scripted link, after a put that was done; then the script is another one. */
     private static final class Place implements ScriptedLink.Script {
         private final RvClients clients;
         private final RvTransferQueue queue;
@@ -324,7 +324,7 @@ final class LastTest {
         }));
     }
 
-    /** A place where an item is unclaimed, behind a put that was done. */
+    /** A place where an item is unclaimed, after a put that was done. */
     private static Place withUnclaimed() throws Exception {
         Place place = new Place(Optional.empty());
         CompletableFuture<CompletableFuture<String>> taken = new CompletableFuture<>();
@@ -344,7 +344,7 @@ final class LastTest {
     }
 
     @Test
-    void aFutureIsNoOutcomeOfWhoBegunIt() throws Exception {
+    void aFutureIsNoOutcomeOfWhoBeganIt() throws Exception {
         Place place = new Place(Optional.empty());
         assertEquals("b", place.queue.takeAsync().join());
         assertEquals(Optional.empty(), place.clients.last());

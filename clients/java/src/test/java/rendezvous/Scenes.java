@@ -53,7 +53,7 @@ final class Scenes {
         Map.entry("dead-unsettled", Scenes::deadUnsettled), Map.entry("dead-ended", Scenes::deadEnded),
         Map.entry("stale", port -> stale(clients(port, 1, 1, 60_000))),
         Map.entry("stale-and-full", port -> stale(brief(port, 1))), Map.entry("last", Scenes::lastOfAThread),
-        Map.entry("close-in-a-call", Scenes::closeInACall), Map.entry("close-and-cancel", Scenes::closeBehindACancel),
+        Map.entry("close-in-a-call", Scenes::closeInACall), Map.entry("close-and-cancel", Scenes::closeAfterACancel),
         Map.entry("close-in-a-pause", Scenes::closeInAPause), Map.entry("full-memory", Scenes::fullMemory),
         Map.entry("two-threads", Scenes::twoThreads), Map.entry("not-ordered", Scenes::notOrdered),
         Map.entry("not-possible", Scenes::notPossible), Map.entry("for-ever", Scenes::forEver),
@@ -286,7 +286,7 @@ final class Scenes {
     }
 
     /** A future of a take is cancelled, and the clients are closed before anything is heard of that. */
-    private static void closeBehindACancel(int port) throws Exception {
+    private static void closeAfterACancel(int port) throws Exception {
         RvClients clients = patient(port, 1);
         RvTransferQueue queue = new RvTransferQueue(clients, 3);
         CompletableFuture<String> taken = queue.takeAsync();

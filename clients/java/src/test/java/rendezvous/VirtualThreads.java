@@ -77,7 +77,8 @@ final class VirtualThreads {
                 Thread.sleep(1);
             }
             executor.submit(clients::close).get();
-            return NUMBERS + " cancelled, " + queue.unclaimed().size() + " unclaimed, " + clients.unsettled().size() + " unsettled";
+            return NUMBERS + " cancelled, " + queue.unclaimed().size() + " unclaimed, " + clients.unsettled().size()
+                + " unsettled";
         } finally {
             executor.shutdown();
         }
