@@ -121,9 +121,10 @@ def numbers():
 
 @contextlib.contextmanager
 def leasing():
-    """In the block numbers are leased from a new range, which it is given, and which the environment says."""
+    """In the block numbers are leased from a new range, which it is given, and which the environment says; a close waits as long
+    as need be until its session's number is given back."""
     clients = numbers()
-    with mock.patch.dict(os.environ, RV_CLIENTS=f"{clients[0]}-{clients[-1]}"):
+    with mock.patch.dict(os.environ, RV_CLIENTS=f"{clients[0]}-{clients[-1]}"), mock.patch("rendezvous.session.END", GENEROUS):
         yield clients
 
 

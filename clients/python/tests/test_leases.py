@@ -305,7 +305,8 @@ def another_copy():
         other = sys.modules[made.name] = importlib.util.module_from_spec(made)
         made.loader.exec_module(other)
         assert other.Session is not rv.Session
-        yield other
+        with mock.patch("rendezvous_again.session.END", GENEROUS):
+            yield other
 
 
 def begun_in_a_fork(deed):
@@ -572,8 +573,8 @@ class Descriptors(Case):
 
     def told(self, text, server):
         """What a program prints of the server at this address."""
-        program = ("import asyncio, os, threading, _thread\nfrom context import rv, numbers, until\nfrom rendezvous import aio\n"
-                   f"address = {server.address!r}\n"
+        program = ("import asyncio, os, _thread\nfrom context import rv, numbers, until\nfrom rendezvous import aio, session\n"
+                   f"address, session.END = {server.address!r}, {GENEROUS}\n"
                    "counted = lambda: (len(os.listdir('/proc/self/fd')), _thread._count())\n"
                    "since = lambda before: [now - then for now, then in zip(counted(), before)]\n" + text)
         ran = subprocess.run([sys.executable, "-B", "-c", program], cwd=FOLDER, capture_output=True, text=True, timeout=GENEROUS)

@@ -26,6 +26,8 @@ from .unclaimed import Shelf, Unclaimed
 FAREWELL = 1.0
 # After how many seconds a close looks again whether that is told, where somebody else heard of it first.
 LOOK_EACH = 0.05
+# How many seconds a close waits for the end of the session's thread, by which a leased number is given back.
+END = 1.0
 
 
 class Session:
@@ -119,7 +121,7 @@ class Session:
                 self._say_farewell()
         finally:
             self._driver.close()
-        if os.getpid() == self._process and self._driver.ended.acquire(timeout=1.0):
+        if os.getpid() == self._process and self._driver.ended.acquire(timeout=END):
             self._driver.ended.release()
         self._collect("farewell")
 
