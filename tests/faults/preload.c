@@ -11,11 +11,11 @@
 
    The system. Growths are refused, what is read from and written to sockets is cut short or fails, connections can't be
    accepted, threads can't be started, the clock can't be read, a sleep ends at once, the time-outs of sockets are
-   shorter, the disk is full, the wall clock shows another time, and the steady clock stands still. How often stands in the file FAULT_PAGE, a row of 32-bit numbers that may be changed at any time from outside.
-   Of the odds, 0 is never, and n is once in n at random, with the seed FAULT_SEED; so 1 is always. A read and a write fail
-   once in so many bytes. Behind them stand how many times each of these was done, how many reads and writes of sockets
-   were asked for, how often epoll was asked to wait and how often it had nothing to tell while the steady clock stood, and the
-   options of the socket that was read last. */
+   shorter, the disk is full, the wall clock shows another time, and the steady clock stands. How often stands in the file
+   FAULT_PAGE, a row of 32-bit numbers that may be changed at any time from outside. Of the odds, 0 is never, and n is once
+   in n at random, with the seed FAULT_SEED; so 1 is always. A read and a write fail once in so many bytes. After them stand
+   how many times each of these was done, how many reads and writes of sockets were asked for, how often epoll was asked to
+   wait, how often it had nothing to tell while the steady clock stood, and the options of the socket that was read last. */
 #define _GNU_SOURCE
 #include <dlfcn.h>
 #include <errno.h>
