@@ -54,9 +54,10 @@ class Stopped(HostileHost):
     def rests(self) -> bool:
         """Whether it waits, and some looks of the system's find that nothing comes for it: it does nothing until the clock is
         set or something comes."""
-        polls, rests = self.system.seen("polls"), self.system.seen("rests")
-        until("the host waits", lambda: self.system.seen("rests") >= rests + RESTS or self.system.seen("polls") != polls)
-        return bool(self.system.seen("polls") == polls)
+        seen = self.system.seen
+        polls, rests = seen("polls"), seen("rests")
+        until("the host waits", lambda: seen("rests") >= rests + RESTS or seen("polls") != polls or not self.runs())
+        return bool(seen("polls") == polls)
 
     def ticks(self) -> list[int]:
         """The moments at which waits ended so far."""
