@@ -41,7 +41,7 @@ IN_PYTHON = [
     WrongClient("renews itself for an old server again and again", "test_restarts.Renewed.test_more_restarts_than_one", [
         Edit(COURSE, " or told.current <= self._renewed_for:", ":")]),
     WrongClient("renews itself in the incarnation that it had", "test_restarts.Renewed.test_each_call_goes_on", [
-        Edit(LEASES, "self.incarnation = max(now(), self.incarnation + 1)", "pass")]),
+        Edit(LEASES, "self.incarnation = new_incarnation()", "pass")]),
     WrongClient(NOBODY, "test_calls.Calls.test_each_call", [
         Edit(ENDINGS, "return outcome if isinstance(outcome, Receipt) else None",
              "return outcome if isinstance(outcome, (Receipt, replies.TimedOut)) else None")]),
@@ -149,11 +149,11 @@ IN_PYTHON = [
     WrongClient("keeps what strangers send", "test_leases.Places.test_what_others_send", [
         Edit(BELL, "held.connect(held.getsockname())", "self.ring = lambda: held.sendto(b'', held.getsockname())")]),
     WrongClient("is replaced where its clock was set back", "test_leases.TheServersWord.test_a_clock_that_was_set_back", [
-        Edit(LEASES, "        if self._renewed or current >= GREATEST:\n", "        if True:\n")]),
+        Edit(LEASES, "        if self._has_passed or current >= GREATEST:\n", "        if True:\n")]),
     WrongClient("begins anew where it is replaced", "test_leases.TheServersWord.test_behind_a_welcome", [
         Edit(COURSE, "if self.machine.state is m.State.NEW and isinstance(made", "if isinstance(made")]),
     WrongClient("begins anew again and again", "test_leases.TheServersWord.test_once", [
-        Edit(LEASES, "self._renewed, self.incarnation = True,", "self._renewed, self.incarnation = False,")]),
+        Edit(LEASES, "self._has_passed, self.incarnation = True,", "self._has_passed, self.incarnation = False,")]),
     WrongClient("has a descriptor more than it needs", "test_leases.Descriptors.test_a_session", [
         Edit(DRIVER, 'getattr(selectors, "PollSelector", selectors.SelectSelector)', "selectors.DefaultSelector")]),
     WrongClient("takes a wrong range for none", "test_leases.Ranges.test_wrong_variables", [

@@ -440,7 +440,7 @@ class NotWritten(Recorded):
     def test_a_claim_behind_it(self):
         """So does what would give the item else: a claim, and a loop."""
         for gives in (lambda one: one.claim(one.unclaimed()[0]), lambda one: next(one.items(3))):
-            with Scripted(welcome) as server, session(server, record=self.folder) as one:
+            with Scripted(welcome) as server, self.turning(session, server) as one:
                 self.hidden_behind(server, one)
                 self.not_recorded(raised_by(lambda: gives(one)), rv.replies.Item(key(1), "a"), errno.EISDIR)
                 self.assertEqual(one.unclaimed(), [])

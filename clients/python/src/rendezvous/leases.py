@@ -45,7 +45,7 @@ class Name:
 
 class Lease(Name):
     """A number that no other program of this user has on this host until it is closed, or this process ends. Where the clock was
-    set back, the server's word for a greater incarnation is taken, once."""
+    set back, the server's word for a greater incarnation is taken, once in each epoch."""
 
     _has_passed = False
 
@@ -55,6 +55,10 @@ class Lease(Name):
         self._has_passed, self.incarnation = True, current + 1
         USED.setdefault(self.incarnation, None)
         return True
+
+    def begin_anew(self) -> None:
+        super().begin_anew()
+        self._has_passed = False
 
 
 def name_of(client: Optional[int], incarnation: Optional[int], clients: Optional[range]) -> Name:
