@@ -56,8 +56,7 @@ IN_PYTHON = [
     WrongClient(SHORT_FRAMES, "test_calls.Drains.test_frames_of_each_length", [
         Edit(LINK, "if end == 2:", "if not 2 < end <= 4098:")]),
     WrongClient(OUT_OF_STEP, "test_refusals.Repeats.test_repeats_until_it_is_told", [
-        Edit(MACHINE, "return Step(replace(machine, flying=Flying.NOTHING), drop=True)",
-             "return Step(machine)")]),
+        Edit(MACHINE, "return Step(_lost(machine), drop=True)", "return Step(machine)")]),
     WrongClient(OTHER_WELCOME, "test_refusals.Hellos.test_versions", [
         Edit(MACHINE, 'welcome.get("version", 1))', "machine.version)")]),
     WrongClient(OLD_HELLO, "test_refusals.Hellos.test_versions", [
@@ -73,8 +72,8 @@ IN_PYTHON = [
         Edit(MACHINE, "    if machine.full and machine.out == 0:\n        return Step(_idle",
              "    if machine.full:\n        return Step(_idle")]),
     WrongClient(FULL_TOO_EARLY + ", in an answer", "test_true_words.Refusals.test_no_room_behind_no_memory", [
-        Edit(MACHINE, "return Step(replace(_answered(machine), full=False))",
-             "return Step(replace(_answered(machine), full=True))")]),
+        Edit(MACHINE, "return Step(replace(_lost(machine), out=machine.out - 1, full=False))",
+             "return Step(replace(_lost(machine), out=machine.out - 1, full=True))")]),
     WrongClient(REPEATS_ANEW, "test_true_words.Refusals.test_nothing_is_repeated_behind_a_lost_session", [
         Edit(MACHINE, "    return _end(machine, EpochEnded(machine.key, machine.key.epoch))\n",
              "    return Step(replace(machine, state=State.NEW, key=None, flying=Flying.NOTHING))\n")]),
@@ -83,8 +82,8 @@ IN_PYTHON = [
     WrongClient(ANY_REPLY + ", by its wait", "test_calls.Replies.test_replies_of_other_calls", [
         Edit(CALLS, 'now=("empty",)', 'now=("empty", "timedout")')]),
     WrongClient(LAST_OUTCOME, "test_interrupts.Interrupts.test_each_line_of_each_call", [
-        Edit(SESSION, "        outcome, fault = known_of(job)\n        self._jobs.pop",
-             "        outcome, fault = self.last, None\n        self._jobs.pop")]),
+        Edit(SESSION, "        outcome, fault = known_of(job)\n        if isinstance(thrown",
+             "        outcome, fault = self.last, None\n        if isinstance(thrown")]),
     WrongClient(ANY_CALL, "test_true_words.Cancels.test_a_cancel_names_its_call", [
         Edit(SESSION, "return None if job is None or job.told is not None else Running(job, partial(self._driver.order, job))",
              "return None if job is None or job.told is not None else self"),
@@ -110,7 +109,7 @@ IN_PYTHON = [
         Edit(SESSION, "        if os.getpid() != self._process:\n            raise",
              "        if False:\n            raise")]),
     WrongClient("waits for its first welcome as long as its patience", "test_words.FirstHello.test_behind_the_welcome", [
-        Edit(COURSE, "else min(job.patience, self.connect_timeout))", "else job.patience)")]),
+        Edit(COURSE, "else min(job.patience, self.manner.connect_timeout))", "else job.patience)")]),
     WrongClient("ends all its calls by the time of its first hello", "test_words.FirstHello.test_behind_the_welcome", [
         Edit(COURSE, "job.patience if self._welcomed else min(", "min(")]),
     WrongClient("logs nothing of a refused connection", "test_words.Logged.test_a_refused_connection", [
