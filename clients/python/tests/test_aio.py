@@ -394,11 +394,13 @@ class Once(Case):
     """However calls are mixed behind a task that was cancelled, each item is told once: by a call, an outcome, or at the end by
     `unclaimed`."""
 
+    @unhurried()
     def test_calls_behind_a_take(self):
         """Each order of two or three of them, behind a take that was met at its cancel; at once, or once that is known."""
         self.each_order(lambda one: one.take(PLACE), named("item"), False, itertools.product(FEW, repeat=3))
         self.each_order(lambda one: one.take(PLACE), named("item"), True, itertools.product(MIXED, repeat=2))
 
+    @unhurried()
     def test_calls_behind_a_drain(self):
         """The same, where some of its items were given and some not."""
         def met(came):
@@ -406,18 +408,18 @@ class Once(Case):
         self.each_order(lambda one: one.drain(PLACE, 9), met, True, itertools.product(FEW, repeat=3))
         self.each_order(lambda one: one.drain(PLACE, 9), met, False, itertools.product(MIXED, repeat=2))
 
+    @unhurried()
     def test_calls_behind_an_exchange(self):
         """Its object is no take's, and is told once as well."""
         self.each_order(lambda one: one.exchange(PLACE, "b"), named("swapped"), True, itertools.product(MIXED, repeat=2))
 
     def each_order(self, call, met, is_known, orders):
         """Tries these orders of calls behind a call that is met by its cancel."""
-        async def each(book):
-            for names in orders:
-                with self.subTest(calls=names, is_known=is_known):
-                    await self.told_once(book, call, met, is_known, names)
         with Book() as book:
-            run(each(book))
+            for names in orders:
+                self.goes_on()
+                with self.subTest(calls=names, is_known=is_known):
+                    run(self.told_once(book, call, met, is_known, names))
 
     async def told_once(self, book, call, met, is_known, names):
         """One order of calls: what they told, and what stands at the end, is what the server gave."""

@@ -206,13 +206,12 @@ class Tasks(Case):
             got += [] if await raised(task) else [task.result()]
             return client, got + [each.item for each in one.unclaimed()], one.unsettled
 
-        async def all_steps(book):
-            for met, steps, more in itertools.product((waits, named("item")), STEPS, STEPS):
-                with self.subTest(steps=steps, more=more, met=met.__name__):
-                    client, told, unsettled = await takes(book, met, steps, more)
-                    self.assertEqual((told, unsettled), (given_to(book, client), None))
         with Book() as book:
-            run(all_steps(book))
+            for met, steps, more in itertools.product((waits, named("item")), STEPS, STEPS):
+                self.goes_on()
+                with self.subTest(steps=steps, more=more, met=met.__name__):
+                    client, told, unsettled = run(takes(book, met, steps, more))
+                    self.assertEqual((told, unsettled), (given_to(book, client), None))
 
     def test_a_request_that_was_given_up_before(self):
         """An `again` ended unsettled: the close asks once more, and its item stands there."""
