@@ -239,6 +239,10 @@ IN_PYTHON = [
         Edit(AIO, "        if left.job.unrecorded is not None:\n", "        if False:\n")]),
     WrongClient("gives an item that its exception has told", "test_record.Tasks.test_where_it_has_none", [
         Edit(AIO, "            self._shelf.forget(fault.outcome.key)\n", "")]),
+    WrongClient("claims an item that an exception is to tell", "test_record.NotWritten.test_a_claim_behind_it", [
+        Edit(SESSION, "        if fault is not None and fault.outcome.key == one.key:\n", "        if False:\n")]),
+    WrongClient("claims an item of a cancelled task that an exception is to tell", "test_record.Tasks.test_where_it_has_none", [
+        Edit(AIO, "        if fault is not None and fault.outcome.key == one.key:\n", "        if False:\n")]),
     WrongClient("waits in its close as long as for an answer", "test_aio.Tasks.test_a_close_beside_a_silent_server", [
         Edit(AIO, "        self._left.job.give_up(FAREWELL)\n", "")]),
 ]

@@ -229,7 +229,8 @@ class Session:
         return await self._call(made("peek", queue), item_if_any)
 
     async def again(self, timeout: Optional[float] = None) -> Outcome:
-        """What the request came to that an exception left unsettled, or whose task was cancelled: a value that has its key."""
+        """What the request came to that an exception left unsettled, or whose task was cancelled: a value that has its key. It is
+        `Misused` where an item of it was given."""
         return await self._resumed(timeout, False)
 
     async def give_up(self, timeout: Optional[float] = None) -> Outcome:

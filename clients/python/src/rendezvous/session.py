@@ -105,11 +105,12 @@ class Session:
         self._told(self._job(None, None), nothing)
 
     def close(self) -> None:
-        """Closes the connection, for good, ends the call that runs by what is known, and gives a leased number back. What a
-        request comes to that was given up, as by an interrupt, or that an exception left, is waited for, for up to a second: what
-        it took stands in `unclaimed()`. One that is unsettled then stands in `unsettled`, and goes on standing in the server,
-        until a greater incarnation says hello, as the next session does that leases the number. `NotRecorded` where a handler's
-        exception hid that, unless the end of a block by an exception closes the session."""
+        """Closes the connection, for good, ends the call that runs by what is known, and gives a leased number back. A request
+        that was given up, as by an interrupt, and that of a call which this thread left, or in whose handler it closes, is
+        cancelled, and waited for, for up to a second: what it took stands in `unclaimed()`. One that is unsettled then stands in
+        `unsettled`, and goes on standing in the server, until a greater incarnation says hello, as the next session does that
+        leases the number. `NotRecorded` where a handler's exception hid that, unless the end of a block by an exception closes
+        the session."""
         self._close()
         self._tell_hidden()
 

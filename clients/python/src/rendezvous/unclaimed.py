@@ -1,4 +1,4 @@
-"""Items that requests took and no call gave, since its caller had gone."""
+"""Items that requests took and no call gave, since its caller had gone: each moves here from its request once."""
 from __future__ import annotations
 
 from dataclasses import dataclass
