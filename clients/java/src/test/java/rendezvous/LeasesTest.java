@@ -50,7 +50,7 @@ final class LeasesTest {
         List.of(eighth, again, ninth).forEach(Lease::giveBack);
     }
 
-    /** The same by the formats' own words, in another form. */
+    /** As the formats work them out. */
     @ParameterizedTest
     @CsvSource({"1000,1,127.64.3.232,61001", "0,1,127.64.0.0,61001", "0,4095,127.64.0.0,65095", "0,4096,127.119.121.177,61000",
         "1000,9007199254740991,127.72.138.55,65095", "4294967294,1,127.127.255.254,61001"})
