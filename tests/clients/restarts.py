@@ -22,11 +22,11 @@ BUSY, KILLS, EACH = 6, 3, 5
 
 
 class Told(NamedTuple):
-    """What a put was told: that it is done, that nobody met it, or that this is not known; and its request's key."""
+    """What a put was told: that it is done, that nobody met it, or that this is not known; and its request's key, if there is one."""
 
     item: str
     word: str
-    key: Key
+    key: Key | None
 
 
 class Putter:
@@ -46,8 +46,8 @@ class Putter:
             self.ask(lambda one: one.put(QUEUE, item))
             told = Told(item, "done", Key(*self.session.last.key))
         except rv.NotAsked as fault:
-            demand(not self.renew, f"a session that renews itself is told {fault!r}")
-            told = Told(item, "unmet", Key(*fault.key))
+            demand(not self.renew or fault.current is None, f"a session that renews itself is told {fault!r}")
+            told = Told(item, "unmet", fault.key and Key(*fault.key))
         except rv.EpochEnded as fault:
             told = Told(item, "unknown", Key(*fault.key))
         self.told.append(told)
