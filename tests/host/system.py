@@ -27,8 +27,9 @@ from tests.sockets.wire import (
 TALK, PIECE = 20, 16
 # The bytes of an account's first line in epoch 1.
 HEAD = len(b"epoch 1 opened 0\n")
-# Of what a busy loop gets in so many seconds a host that lacks descriptors takes at most such a part, and some seconds.
-WATCHED, SHARE, SOME = 1.0, 0.2, 0.05
+# Of what a busy loop gets in so many seconds a host that lacks descriptors takes at most such a part, and some seconds. Within so
+# many it is found asleep.
+WATCHED, SHARE, SOME, ASLEEP = 1.0, 0.2, 0.05, 20
 HOUR, DAY = 3_600, 86_400
 # So many seconds later a host has looked over its connections, and told what went wrong.
 SETTLES = 2
@@ -62,6 +63,7 @@ def few_descriptors(program: str) -> None:
         with closing([connected(host.port, 1)[0] for _ in range(3)]) as late:
             for client, peer in enumerate(late, 4):
                 peer.send(frame(hello(client)))
+            until("a host without descriptors sleeps", lambda: host.waits() is not None, ASLEEP)
             before, own = processor(host), spin(WATCHED)
             took = processor(host) - before
             demand(took < SOME + SHARE * own, f"a host without descriptors takes {took:.2f} seconds beside {own:.2f} of a busy loop")

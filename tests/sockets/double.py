@@ -36,7 +36,8 @@ from tests.sockets.standing import Replies  # noqa: E402
 from tests.sockets.wire import key_of, reply_of  # noqa: E402
 
 WRONG = os.environ.get("RV_WRONG", "")
-PAUSES, PAUSE = 200, 0.08 if WRONG == "pauses for too long" else 0.005
+# One that is wrong pauses so that its test's patience ends before it answers, however slow the machine.
+PAUSES, PAUSE, LONG_PAUSE = 200, 0.5 if WRONG == "pauses for too long" else 0.005, 0.05
 FRAMES = 65_536
 # How many bytes of a connection's answers are held back at most.
 HELD = 2**30 if WRONG == "holds back all answers to a piece" else 16_384
@@ -88,7 +89,7 @@ class Desk:
             with self.lock:
                 answer = self.handle(message)
                 if WRONG == "holds the lock while it pauses" and answer["kind"] == "waiting":
-                    time.sleep(PAUSE)
+                    time.sleep(LONG_PAUSE)
             if answer["kind"] != "waiting" or WRONG in ("never asks again", "says received when it waits"):
                 return self.spoilt_answer(message, answer)
             send()

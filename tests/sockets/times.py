@@ -108,7 +108,6 @@ def a_peer_that_goes(program):
             peer.send(frame(request(key, asked[key])) * PIECE)
         began = time.monotonic()
         with server.connect() as other:
-            other.socket.settimeout(2 * PIECE * alone)
             other.expect(hello(2), welcome(2))
         took = time.monotonic() - began
         demand(took < PIECE / 4 * alone, f"its worker was free after {took:.1f} seconds, and one wait takes {alone:.1f}")
