@@ -25,11 +25,12 @@ ROUNDS, LOOKED = 2, 1.2
 
 # ---- by time
 
-def gives(host: Host, client: int, queue: int) -> None:
-    """Another client puts an item."""
-    with host.greeted(client) as giver:
-        gift = Key(1, client, 1, 1)
-        giver.expect(request(gift, give("put", "a", queue=queue)), replied(gift, reply="done"))
+def gives(host: Host, client: int, queue: int) -> bool:
+    """Another client puts an item; whether it is told so."""
+    gift = Key(1, client, 1, 1)
+    with host.connect() as giver:
+        giver.send(frame(hello(client)) + frame(request(gift, give("put", "a", queue=queue))))
+        return giver.hear() == welcome(client) and giver.hear() == replied(gift, reply="done")
 
 
 def lasts(peer: Peer, began: float) -> None:
@@ -42,16 +43,16 @@ def lasts(peer: Peer, began: float) -> None:
 
 def waits_and_lasts(host: Host, rest: bytes, number: int) -> bool:
     """A client waits for longer than the limit, with these bytes behind its request; once it is told, the whole limit is left.
-    On a slow machine it may be ended before it asks, or told that it waits: then nothing is judged."""
+    On a slow machine who asks or gives may be ended before that, or told that it waits: then nothing is judged."""
     wish = Key(1, 1 + 2 * number, 1, 1)
     try:
         with host.connect() as peer:
             peer.send(frame(hello(wish.client)) + frame(request(wish, take("forever", queue=number))) + rest)
-            demand(peer.hear() == welcome(wish.client), "who is to wait is not welcome")
+            if peer.hear() != welcome(wish.client):
+                return False
             time.sleep(WAIT)
             began = time.monotonic()
-            gives(host, 2 + 2 * number, number)
-            if peer.hear() != replied(wish, reply="item", item="a"):
+            if not gives(host, 2 + 2 * number, number) or peer.hear() != replied(wish, reply="item", item="a"):
                 return False
             lasts(peer, began)
             return True
@@ -95,7 +96,7 @@ def waiters_stay(host: Host, first: int) -> None:
         for wish, peer in zip(wishes, peers):
             demand(peer.hear() == welcome(wish.client), "who is to wait is not welcome")
         for queue in range(WAITERS):
-            gives(host, first + WAITERS + queue, queue)
+            demand(gives(host, first + WAITERS + queue, queue), "who gives is not answered")
         for wish, peer in zip(wishes, peers):
             got = peer.hear()
             demand(got in (waits(wish), replied(wish, reply="item", item="a")), f"of {WAITERS} that fit one was told {got!r}")
