@@ -27,7 +27,6 @@ public final class RvSession implements AutoCloseable {
     static final Duration ANSWER = Duration.ofSeconds(30);
     /** For how long a call goes on before the first welcome, where nothing else is chosen. */
     static final Duration CONNECT = Duration.ofSeconds(5);
-    private static final System.Logger LOG = System.getLogger("rendezvous");
 
     private final Link.Maker links;
     private final long patience;
@@ -456,12 +455,12 @@ public final class RvSession implements AutoCloseable {
         return words.startsWith(server) ? words : server + words;
     }
 
-    /** Logs what is wrong, unless that was logged last. */
+    /** Logs what is wrong, unless that was logged last. The logger is made where it is needed. */
     private void warn(String words) {
         String line = named(words);
         if (!line.equals(logged)) {
             logged = line;
-            LOG.log(System.Logger.Level.WARNING, line);
+            System.getLogger("rendezvous").log(System.Logger.Level.WARNING, line);
         }
     }
 
