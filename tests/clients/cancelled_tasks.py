@@ -113,8 +113,8 @@ async def gives(port, client, chance, ends):
 
 
 class Mixed:
-    """A client of one session after another. `told` has each item that it was told, `ways` how often by which way; `unsettled` has
-    the keys of requests that a session left so."""
+    """A client of one session after another. `told` has each item that it was told, `ways` how often by which way; `unsettled`
+    has the keys of requests that a session left so."""
 
     def __init__(self, port, client, seed):
         self.port, self.client, self.incarnation = port, client, 0
@@ -128,7 +128,7 @@ class Mixed:
             await self.uses(aio.Session(("127.0.0.1", self.port), self.client, self.incarnation))
 
     async def uses(self, one):
-        """One session: cancelled calls, others between them, and what stands behind its end. Some begin with their hello."""
+        """One session: cancelled calls, others between them, and what stands after its end. Some begin with their hello."""
         if self.chance.randrange(HELLO_EACH):
             await one.connect()
         for _ in range(self.chance.randrange(1, LONGEST)):
@@ -214,7 +214,7 @@ def pairs_of(account):
 
 
 def mixed_faults(crowd, account):
-    """What is wrong in what was told: each item that went to a taker is told once, unless the taker is unsettled, and no other."""
+    """What is wrong in what was told: each item that went to a taker is told once, unless that is unsettled, and no other."""
     told = collections.Counter(item for one in crowd for item in one.told)
     unsettled = {tuple(key) for one in crowd for key in one.unsettled}
     pairs = pairs_of(account)
@@ -236,13 +236,14 @@ def mixed_epoch(program, seed, clients, how_many, epoch=1):
     demand(not faults, f"{len(faults)} items: {faults[:3]}")
     asked = sum(isinstance(entry.act, Request) for entry in account.entries)
     sums = sum((one.ways for one in crowd), collections.Counter(
-        {"cancelled calls": sum(one.cancelled for one in crowd), "sessions": sum(one.incarnation for one in crowd), "requests": asked,
-         "items that went to takers": len(pairs_of(account)), "unsettled": sum(len(one.unsettled) for one in crowd)}))
+        {"cancelled calls": sum(one.cancelled for one in crowd), "sessions": sum(one.incarnation for one in crowd),
+         "requests": asked, "items that went to takers": len(pairs_of(account)),
+         "unsettled": sum(len(one.unsettled) for one in crowd)}))
     return sums
 
 
 def mixed_calls(program, seed):
-    """Claims, polls, drains, agains and closes come at any moment behind a cancel: each item is told once."""
+    """Claims, polls, drains, agains and closes come at any moment after a cancel: each item is told once."""
     return mixed_epoch(program, seed, CLIENTS, CALLS_AT_ALL)
 
 

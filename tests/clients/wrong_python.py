@@ -173,12 +173,12 @@ IN_PYTHON = [
         Edit(AIO, "            self._shelf.keep(left.job)\n", "")]),
     WrongClient("gives an unclaimed item twice", "test_aio.Cancels.test_at_each_step_of_the_event_loop", [
         Edit(UNCLAIMED, "self._kept.pop(place, None) is not None:", "place in self._kept:")]),
-    WrongClient("has an item unclaimed again behind its claim", "test_aio.Once.test_calls_behind_a_take", [
+    WrongClient("has an item unclaimed again after its claim", "test_aio.Once.test_calls_after_a_take", [
         Edit(UNCLAIMED, "[] if job.shelved else taken_by(job)", "taken_by(job)"),
         Edit(AIO, "        self._left = None\n\n    def _has_room",
              "        if self._left is not None:\n            self._shelf.keep(self._left.job)\n        self._left = None\n\n"
              "    def _has_room")]),
-    WrongClient("tells an outcome whose item was claimed", "test_aio.Once.test_calls_behind_a_drain", [
+    WrongClient("tells an outcome whose item was claimed", "test_aio.Once.test_calls_after_a_drain", [
         Edit(AIO, " and not self._shelf.lacks(left.job):", ":")]),
     WrongClient("throws away an answer that has come with the cancel", "test_aio.Cancels.test_an_answer_that_is_here", [
         Edit(AIO, "        if self._course.has_news():\n            self._go_on(under_way, True)\n", "")]),
@@ -199,10 +199,10 @@ IN_PYTHON = [
         Edit(AIO, "            await asyncio.wait([self._idle], timeout=FAREWELL)\n", "")]),
     WrongClient("leaves the request of a call that its close ended", "test_closes.Tasks.test_each_moment", [
         Edit(AIO, "not (runs or machine.giving_up):", "not machine.giving_up:")]),
-    WrongClient("closes before an interrupted request is settled", "test_closes.Threads.test_behind_a_second_exception", [
+    WrongClient("closes before an interrupted request is settled", "test_closes.Threads.test_after_a_second_exception", [
         Edit(SESSION, "            self._await(farewell)\n", "")]),
     WrongClient("drops what a call took that two exceptions ended",
-                "test_interrupts.Interrupts.test_a_close_behind_two_exceptions", [
+                "test_interrupts.Interrupts.test_a_close_after_two_exceptions", [
                     Edit(SESSION, '        self._collect("job")\n', "")]),
     WrongClient(TELLS_WRONG, "crowds, at the double", [
         Edit(ENDINGS, "return outcome.item if", "return outcome.item[::-1] if")]),
@@ -239,7 +239,7 @@ IN_PYTHON = [
         Edit(AIO, "        if left.job.unrecorded is not None:\n", "        if False:\n")]),
     WrongClient("gives an item that its exception has told", "test_record.Tasks.test_where_it_has_none", [
         Edit(AIO, "            self._shelf.forget(fault.outcome.key)\n", "")]),
-    WrongClient("claims an item that an exception is to tell", "test_record.NotWritten.test_a_claim_behind_it", [
+    WrongClient("claims an item that an exception is to tell", "test_record.NotWritten.test_a_claim_after_it", [
         Edit(SESSION, "        if fault is not None and fault.outcome.key == one.key:\n", "        if False:\n")]),
     WrongClient("claims an item of a cancelled task that an exception is to tell", "test_record.Tasks.test_where_it_has_none", [
         Edit(AIO, "        if fault is not None and fault.outcome.key == one.key:\n", "        if False:\n")]),

@@ -391,17 +391,17 @@ class Cancels(Case):
 
 
 class Once(Case):
-    """However calls are mixed behind a task that was cancelled, each item is told once: by a call, an outcome, or at the end by
+    """However calls are mixed after a task that was cancelled, each item is told once: by a call, an outcome, or at the end by
     `unclaimed`."""
 
     @unhurried()
-    def test_calls_behind_a_take(self):
-        """Each order of two or three of them, behind a take that was met at its cancel; at once, or once that is known."""
+    def test_calls_after_a_take(self):
+        """Each order of two or three of them, after a take that was met at its cancel; at once, or once that is known."""
         self.each_order(lambda one: one.take(PLACE), named("item"), False, itertools.product(FEW, repeat=3))
         self.each_order(lambda one: one.take(PLACE), named("item"), True, itertools.product(MIXED, repeat=2))
 
     @unhurried()
-    def test_calls_behind_a_drain(self):
+    def test_calls_after_a_drain(self):
         """The same, where some of its items were given and some not."""
         def met(came):
             return {"reply": "drained", "texts": [f"{came['client']} {text}" for text in "abab"]}
@@ -409,12 +409,12 @@ class Once(Case):
         self.each_order(lambda one: one.drain(PLACE, 9), met, False, itertools.product(MIXED, repeat=2))
 
     @unhurried()
-    def test_calls_behind_an_exchange(self):
+    def test_calls_after_an_exchange(self):
         """Its object is no take's, and is told once as well."""
         self.each_order(lambda one: one.exchange(PLACE, "b"), named("swapped"), True, itertools.product(MIXED, repeat=2))
 
     def each_order(self, call, met, is_known, orders):
-        """Tries these orders of calls behind a call that is met by its cancel."""
+        """Tries these orders of calls after a call that is met by its cancel."""
         with Book() as book:
             for names in orders:
                 self.goes_on()
@@ -442,7 +442,7 @@ class Once(Case):
 
 
 def met_at_once(came):
-    """How calls are met that come behind the first: a take that waits by an item, and others by none."""
+    """How calls are met that come after the first: a take that waits by an item, and others by none."""
     if came["call"] == "drain":
         return {"reply": "drained", "texts": []}
     return named("item")(came) if came["wait"] == "forever" else {"reply": "empty"}
@@ -471,7 +471,7 @@ async def gives(call):
     return [] if came is None else [came] if isinstance(came, str) else list(came)
 
 
-# What is mixed behind a cancelled task: each gives the items that it told. A few of them, for longer orders.
+# What is mixed in after a cancelled task: each gives the items that it told. A few of them, for longer orders.
 MIXED = {
     "claim": claims, "poll": lambda one: gives(one.poll(PLACE)), "take": lambda one: gives(one.take(PLACE)),
     "loop": lambda one: gives(one.items(PLACE).__anext__()), "drain": lambda one: gives(one.drain(PLACE, 1)),

@@ -1,4 +1,4 @@
-"""What a close waits for behind a call that was given up: what the server answered is told by a call, or stands in the closed
+"""What a close waits for after a call that was given up: what the server answered is told by a call, or stands in the closed
 session, at whichever moment the close comes."""
 import asyncio
 import itertools
@@ -76,7 +76,7 @@ async def beside_a_call(one, server, began):
 
 
 async def beside_a_call_that_is_cancelled_too(one, server, began):
-    """So is the task that asks on behind it."""
+    """So is the task that asks on after it."""
     await cancelled(one, lambda one: one.take(3), server, 2)
     again = asyncio.ensure_future(one.again())
     await comes("the call", lambda: one.running)
@@ -150,7 +150,7 @@ class Tasks(Case):
                 run(self.at(moment))
 
     async def at(self, moment):
-        """A take whose cancel is answered by its item, behind the beginning of a close."""
+        """A take whose cancel is answered by its item, after a close has begun."""
         began = threading.Event()
         with Scripted(welcome) as server:
             server.otherwise = at_cancel(waiting_for(began, reply("item", item="a")))
@@ -162,7 +162,7 @@ class Tasks(Case):
 
     @unhurried()
     def test_with_the_answer(self):
-        """A close that begins in the very step in which the answer comes, before and behind it; the task may be cancelled."""
+        """A close that begins in the very step in which the answer comes, before and after it; the task may be cancelled."""
         for first, cancels in itertools.product((False, True), repeat=2):
             with self.subTest(first=first, cancels=cancels):
                 run(self.with_the_answer(first, cancels))
@@ -191,7 +191,7 @@ class Tasks(Case):
 
     @unhurried()
     def test_at_each_step_of_the_event_loop(self):
-        """A take is cancelled behind so many steps, and the session closed behind so many more: what the server gave was told, or
+        """A take is cancelled after so many steps, and the session closed after so many more: what the server gave was told, or
         stands there."""
         async def takes(book, met, steps, more):
             client = next(CLIENTS)
@@ -307,7 +307,7 @@ class Threads(Case):
         return meets
 
     @unhurried()
-    def test_behind_a_second_exception(self):
+    def test_after_a_second_exception(self):
         """The close waits for what the first one cancelled, and its item stands there."""
         for kind in (TimeoutError, SystemExit, KeyboardInterrupt):
             with Scripted(welcome) as server:
@@ -319,7 +319,7 @@ class Threads(Case):
                 self.assertEqual((one.unclaimed(), one.unsettled, one.last), (ITEM, None, rv.replies.Item(key(1), "a")))
                 self.assertEqual((one.claim(ITEM[0]), one.unclaimed()), ("a", []))
 
-    def test_behind_a_second_that_was_over(self):
+    def test_after_a_second_that_was_over(self):
         """Nothing was heard in the second that an interrupt leaves: the close asks once more."""
         for told, wanted in ((reply("item", item="a"), (ITEM, None)), (SILENCE, ([], key(1)))):
             with Scripted(welcome) as server:

@@ -149,7 +149,8 @@ SCRIPTS = {
 }
 # Calls that wait until they are cancelled, and are met then.
 MET_AT_CANCEL = {
-    "take": Script(lambda one: one.take(3), waits, named("item")), "drain": Script(lambda one: one.drain(3, 5), waits, named("drained")),
+    "take": Script(lambda one: one.take(3), waits, named("item")),
+    "drain": Script(lambda one: one.drain(3, 5), waits, named("drained")),
     "exchange": Script(lambda one: one.exchange(3, "a"), waits, named("swapped")),
 }
 # The types of outcomes, by the words of replies.
@@ -269,7 +270,7 @@ class Run:
 
 
 class Closed(Run):
-    """A run whose session is closed right behind the exceptions: what the server gave is told, or stands there, once."""
+    """A run whose session is closed right after the exceptions: what the server gave is told, or stands there, once."""
 
     def judge(self, value, fault, twice):
         self.session.close()
@@ -328,7 +329,7 @@ class Interrupts(Untouched):
                     self.everywhere(lambda: Run(self, book, script))
 
     def test_an_exception_behind_another(self):
-        """A second one at each line that is run behind the first, of a call whose item comes with the cancel."""
+        """A second one at each line that is run after the first, of a call whose item comes with the cancel."""
         with Book() as book:
             for name in ("take", "take, met at its cancel"):
                 first = self.everywhere(lambda: Run(self, book, SCRIPTS[name]), KINDS[:1])
@@ -337,17 +338,17 @@ class Interrupts(Untouched):
                         self.second(lambda: Run(self, book, SCRIPTS[name]), place)
 
     @unhurried()
-    def test_a_close_behind_two_exceptions(self):
-        """The first comes where the call waits, at once and once the server has the request, and the second at each line behind it:
-        then the session is closed."""
+    def test_a_close_after_two_exceptions(self):
+        """The first comes where the call waits, at once and once the server has the request, and the second at each line after
+        it: then the session is closed."""
         with Book() as book:
             each = [*itertools.product(["take"], KINDS, (False, True)), *((name, TimeoutError, False) for name in MET_AT_CANCEL)]
             for name, kind, late in each:
                 with self.subTest(script=name, kind=kind.__name__, late=late):
-                    self.closed_behind(lambda: Closed(self, book, MET_AT_CANCEL[name]), kind, late)
+                    self.closed_after(lambda: Closed(self, book, MET_AT_CANCEL[name]), kind, late)
 
-    def closed_behind(self, run, kind, late):
-        """A second exception at each place behind the first, and none."""
+    def closed_after(self, run, kind, late):
+        """A second exception at each place after the first, and none."""
         first = (*WAITS, 1)
         came_by = run().throw(kind, (first, NOWHERE), late)
         for each in came_by[came_by.index(first) + 1:]:

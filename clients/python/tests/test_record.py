@@ -437,7 +437,7 @@ class NotWritten(Recorded):
             server.otherwise = reply("done")
             self.not_recorded(raised_by(lambda: one.put(3, "b")), rv.replies.Done(key(2)), errno.EISDIR)
 
-    def test_a_claim_behind_it(self):
+    def test_a_claim_after_it(self):
         """So does what would give the item else: a claim, and a loop."""
         for gives in (lambda one: one.claim(one.unclaimed()[0]), lambda one: next(one.items(3))):
             with Scripted(welcome) as server, self.turning(session, server) as one:
