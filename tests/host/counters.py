@@ -12,9 +12,8 @@ from tests.host.many import closing, connected, no_descriptors
 from tests.host.memory import half_frame
 from tests.host.moments import KEPT, QUESTIONS
 from tests.host.status import numbers, shows
-from tests.model.account import Key
 from tests.sockets.programs import free_port
-from tests.sockets.wire import demand, frame, hello, request, take, together, until
+from tests.sockets.wire import demand, hello, together, until
 
 # Connections that take the last descriptors.
 CROWD = 20
@@ -22,8 +21,6 @@ CROWD = 20
 HALVES, HALF, MEBIBYTE = 17, 64_000, 1
 # The clock fails once in so many times that it is read.
 CLOCK = 3
-# Requests whose waits end together, and when, in milliseconds: their ends' lines are more than a host has room for.
-ENDS, WAIT = 400, 1_500
 FAULT = re.compile(r"rv_fault_(\w+)_total")
 Faults = dict[str, int]
 
@@ -159,25 +156,4 @@ def each_fault_has_its_number(program: str) -> None:
 STAGES = [idle_connections, stalled_connections, broken_connections, closed_for_memory, lacking_descriptors, failed_accepts,
           a_clock_that_fails, lost_lines]
 
-
-def want_of_memory(program: str) -> None:
-    """A connection that finds no memory, and turns in which lines of the account find none, have a number each."""
-    with Counting(program) as host:
-        host.system.be(growth=1)
-        with closing(connected(host.port, 1)) as (peer,):
-            peer.expect_end()
-        host.system.be()
-        host.counts({"memory": 1})
-    with Counting(program) as host, closing([host.greeted(client) for client in range(1, 1 + ENDS)]) as peers:
-        for client, peer in enumerate(peers, 1):
-            peer.send(frame(request(Key(1, client, 1, 1), take(WAIT))))
-        until("all wait", lambda: host.written().count(b"request") == ENDS)
-        host.system.be(growth=1)
-        until("growths are refused", lambda: host.system.made("growth") > 0)
-        host.system.be()
-        until("it is told", lambda: host.faults().get("unwritten", 0) > 0)
-        demand(host.faults().keys() == {"unwritten"}, f"lines found no memory, and it counts {host.faults()}")
-        host.halt()
-
-
-CASES = [each_fault_has_its_number, want_of_memory]
+CASES = [each_fault_has_its_number]

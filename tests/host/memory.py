@@ -14,7 +14,7 @@ from tests.sockets.wire import demand, frame, until
 
 # The MiB that all buffers may have, and their bytes.
 MEBIBYTE, BYTES = 1, 1 << 20
-# Bytes of half frames that just fit, one of which is the largest; and those of one more, behind which that one is to go.
+# Bytes of half frames that just fit, one of which is the largest; and those of one more, after which that one is to go.
 HALVES, LARGEST, MORE = [40_000] * 12 + [48_000] + [40_000] * 13, 12, 1_000
 # Bytes of half frames beside peers that take no answer, of each of which a host holds more than so many.
 BESIDE, DEAF, HELD = [64_000] * 15, 2, 65_536
@@ -23,7 +23,7 @@ FILES, SPARE, STATUS_SPARE, BEYOND = 100, 16, 49, 2
 
 
 def the_largest_is_closed(program: str) -> None:
-    """Half frames just fit into --memory. Behind some bytes more the connection that holds most is closed, and no other one."""
+    """Half frames just fit into --memory. After some bytes more the connection that holds most is closed, and no other one."""
     with Stopped(program, options=("--memory", str(MEBIBYTE), "--stall", "3600")) as host:
         with closing([host.connect() for _ in range(len(HALVES) + 1)]) as peers:
             demand(sum(HALVES) <= BYTES < sum(HALVES) + MORE, "the half frames are not such that just one is too much")

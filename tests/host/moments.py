@@ -17,11 +17,11 @@ from tests.sockets.wire import Peer, demand, frame, give, hello, replied, reques
 
 # What the clock shows at the start, in milliseconds, and how far it goes between two looks of a host at its connections.
 START, LOOK_OVER = 1_000_000, 1_000
-# The moment at which requests come: behind a look.
+# The moment at which requests come: after a look.
 ASKED = LOOK_OVER
 # Milliseconds until a request is told that it waits, accepting is tried again, a sample is taken, and a page is served on.
 TOLD, AGAIN, SAMPLE, VISIT = 10_000, 100, 10_000, 20
-# The seconds behind which a host that is told so ends who stalls, and who is idle.
+# The seconds after which a host that is told so ends who stalls, and who is idle.
 STALL, IDLE = 4, 6
 # So often a page may be looked for, and so many times more than it is to.
 LOOKS = 5_000
@@ -85,7 +85,7 @@ def waits_end_at_their_moment(program: str) -> None:
 
 
 def told_that_it_waits_at_ten_seconds(program: str) -> None:
-    """Who waits is told so ten seconds behind its frame, neither before nor later, and so again each time that it asks."""
+    """Who waits is told so ten seconds after its frame, neither before nor later, and so again each time that it asks."""
     with Stopped(program) as host, host.greeted(1) as peer:
         key, call = Key(1, 1, 1, 1), take("forever")
         host.at(ASKED)
@@ -120,11 +120,11 @@ def stalled_and_idle_ends(program: str) -> None:
                 until("the host rests", host.rests)
                 idle.expect(hello(2), welcome(2))
             until("the host rests", host.rests)
-            for limit, before, behind in ((STALL, 4, 2), (IDLE, 2, 1)):
+            for limit, before, after in ((STALL, 4, 2), (IDLE, 2, 1)):
                 host.at(ASKED + limit * 1_000 - 1)
                 demand(host.accepted() == before, f"before {limit} seconds {host.accepted()} of {before} connections are left")
                 host.at(ASKED + limit * 1_000 - 1 + LOOK_OVER)
-                demand(host.accepted() == behind, f"behind {limit} seconds {host.accepted()} connections are left, not {behind}")
+                demand(host.accepted() == after, f"after {limit} seconds {host.accepted()} connections are left, not {after}")
             demand(is_silent(waiting), "who waits was told something, or ended")
             host.ended()
 

@@ -10,7 +10,7 @@ from tests.host.moments import QUESTIONS
 from tests.model.account import Key
 from tests.sockets.wire import demand, frame, give, hello, request, take, until, welcome
 
-# What the options of a connection are to be: a peer that takes nothing is given up behind so many milliseconds.
+# What the options of a connection are to be: a peer that takes nothing is given up after so many milliseconds.
 OPTIONS = {"keeps_alive": 1, "user_time_out": 60_000, "no_delay": 1}
 # A host whose peers are blocked may turn so often in so many seconds; one that doesn't rest turns thousands of times.
 TURNS, SPAN = 20, 1.0
@@ -28,7 +28,7 @@ def options_of_a_connection(program: str) -> None:
 
 
 def rests_beside_blocked_peers(program: str) -> None:
-    """Peers take no answers, stop in a frame, wait, write on behind a wait or send nothing more, and one more comes than there
+    """Peers take no answers, stop in a frame, wait, write on after a wait or send nothing more, and one more comes than there
     may be: the host turns a few times a second."""
     system = System()
     system.be(kept=KEPT)
