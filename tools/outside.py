@@ -6,7 +6,7 @@ import subprocess
 import sys
 import threading
 
-from tools import left_out
+from tests import left_out
 
 PROGRAM = "crates/rv_app/out/rv_app"
 # The program for tests: a machine's steps under limits of one's own, a hub's events, and JSON that is written back.

@@ -15,7 +15,7 @@ from tests import ROOT
 from tests.clients import java
 from tests.sockets.programs import Server
 from tests.sockets.wire import demand
-from tools import left_out
+from tests import left_out
 
 SETTINGS = pathlib.Path("/etc/maven/settings-debian.xml")
 # What the JUnit tests of a client need of Debian's packages, and what starts them.

@@ -19,7 +19,7 @@ from tests.clients import (  # noqa: E402
     java_packages, java_record, java_scenes, long_waits, missing_tools, python_page, python_tests, receipts, records, restarts,
     table_cases, wrong_clients)
 from tests.sockets.wire import Wrong  # noqa: E402
-from tools import left_out  # noqa: E402
+from tests import left_out  # noqa: E402
 
 # How many cases that mostly wait run at once.
 AT_ONCE = 4

@@ -21,7 +21,7 @@ from tests.clients import java
 from tests.clients.wrong_java import IN_JAVA
 from tests.clients.wrong_python import IN_PYTHON, TESTS
 from tests.sockets.wire import demand
-from tools import left_out
+from tests import left_out
 
 # What a case of the runner's takes, and what a test of the Python client does.
 FOLDERS, CLIENT = ["clients", "examples", "tests"], ["clients/python"]

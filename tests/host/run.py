@@ -28,7 +28,7 @@ from tests.sockets import calls, crowds, plain, times  # noqa: E402
 from tests.sockets import hostile as noisy  # noqa: E402
 from tests.sockets.cases import Count, came_of  # noqa: E402
 from tests.sockets.hosts import HostProgram  # noqa: E402
-from tools import left_out  # noqa: E402
+from tests import left_out  # noqa: E402
 
 # The cases that are a host's own.
 OWN = [*options.CASES, *says.CASES, *waits.CASES, *moments.CASES, *sockets.CASES, *hostile.CASES, *memory.CASES, *system.CASES,

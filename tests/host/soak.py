@@ -27,7 +27,7 @@ from tests.model.account import Key  # noqa: E402
 from tests.sockets.cases import Count  # noqa: E402
 from tests.sockets.hosts import Host, HostProgram  # noqa: E402
 from tests.sockets.wire import demand, frame, give, replied, request, take  # noqa: E402
-from tools import left_out  # noqa: E402
+from tests import left_out  # noqa: E402
 from tools.bench import driver  # noqa: E402
 
 # Clients of a crowd, and the seconds between two of them that are killed; a killed one begins in a greater incarnation.

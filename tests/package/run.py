@@ -18,7 +18,7 @@ import tempfile
 ROOT = pathlib.Path(__file__).resolve().parents[2]
 sys.dont_write_bytecode, sys.path[0] = True, str(ROOT)
 from tests.sockets.wire import Wrong, demand  # noqa: E402
-from tools import left_out  # noqa: E402
+from tests import left_out  # noqa: E402
 
 # What the package has for the system, with its mode; whatever else it has is its documentation.
 FILES = {"./usr/bin/rv": 0o755, "./usr/share/man/man1/rv.1.gz": 0o644, "./lib/systemd/system/rv.service": 0o644,

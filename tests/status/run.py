@@ -18,7 +18,7 @@ sys.dont_write_bytecode, sys.path[0] = True, str(pathlib.Path(__file__).resolve(
 from tests import ROOT  # noqa: E402
 from tests.clients import browser  # noqa: E402
 from tests.status import busy, stages, standin  # noqa: E402
-from tools import left_out  # noqa: E402
+from tests import left_out  # noqa: E402
 
 ROWS, RULES = ROOT / "crates/rv_status/specs/Rows.antt", ROOT / "packaging/rv.rules.yml"
 # What a text that a peer chose might try, were it markup.

@@ -32,7 +32,7 @@ from tests.sockets.cases import Count  # noqa: E402
 from tests.sockets.programs import Caller  # noqa: E402
 from tests.sockets.wire import Peer, demand, frame, give, hello, replied, request, swap, take, until  # noqa: E402
 from tests.status.stages import DAY, GIGABYTE, Reading, Stage, lacking, staged  # noqa: E402
-from tools import left_out  # noqa: E402
+from tests import left_out  # noqa: E402
 
 # Readings behind which each alert that has to last is raised, and those of an account's growth.
 LASTS, LONG = 25, 100
