@@ -20,8 +20,8 @@ PATIENCE = 600
 VERSION = "3.3.0"
 # The interpreters whose packages are looked at: Debian's packages are of the first.
 INTERPRETERS = ["/usr/bin/python3", sys.executable]
-# What is imported to see that a tool is there, and Debian's packages that have it.
-TOOLS = {"pip": "ensurepip, pip, setuptools, venv, wheel", "mypy": "mypy", "pytest": "pytest"}
+# What is imported to see that a tool is there, setuptools before pip as it wants to be, and Debian's packages that have it.
+TOOLS = {"pip": "setuptools, ensurepip, pip, venv, wheel", "mypy": "mypy", "pytest": "pytest"}
 DEBIANS = {"pip": "python3-pip, python3-venv", "mypy": "mypy", "pytest": "python3-pytest"}
 # What is run by the interpreter of an environment; it is told the server's port.
 ONCE = """

@@ -24,6 +24,11 @@ WAITING = (Job.wait, "while self.told is None")
 SHORT = 0.05
 
 
+def interrupts():
+    """In the block the signal of the keyboard is an interrupt, also where this process was started without it."""
+    return handled(signal.SIGINT, signal.default_int_handler)
+
+
 def at_cancel(met):
     """A deed: a request waits, and its cancel is met so."""
     return lambda came: SILENCE if came["kind"] == "request" else met(came)
@@ -324,7 +329,7 @@ class Threads(Case):
         for told, wanted in ((reply("item", item="a"), (ITEM, None)), (SILENCE, ([], key(1)))):
             with Scripted(welcome) as server:
                 one, press = session(server), behind(server, 2, lambda: signal.raise_signal(signal.SIGINT))
-                with mock.patch.object(threads, "FAREWELL", SHORT), on_line(*WAITING, press):
+                with mock.patch.object(threads, "FAREWELL", SHORT), interrupts(), on_line(*WAITING, press):
                     self.assertIs(type(raised_by(lambda: one.take(3)).fault), rv.Unsettled)
                     server.otherwise = told
                     if told is SILENCE:
@@ -346,7 +351,7 @@ class Threads(Case):
                 return reply("item", item="a")(came)
             server.deeds += [SILENCE, meets]
             press = behind(server, 2, lambda: signal.raise_signal(signal.SIGINT))
-            with on_line(*WAITING, press), self.raises(rv.Interrupted, outcome=rv.replies.Item(key(1), "a")):
+            with interrupts(), on_line(*WAITING, press), self.raises(rv.Interrupted, outcome=rv.replies.Item(key(1), "a")):
                 one.take(3)
             closes[0].join()
             self.assertEqual((one.unclaimed(), one.unsettled), ([], None))
