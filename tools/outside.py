@@ -40,6 +40,8 @@ OUTSIDE = [
     ["tests/model/states.py", "--seed", SEED, "--steps", "10000", "--entries", "2000"],
     ["tests/model/hubs.py", "--selftest"],
     ["tests/model/hubs.py", "--seed", SEED, "--events", "5000", "--program", STEPS],
+    ["tests/model/crashes.py", "--selftest"],
+    ["tests/model/crashes.py", "--seed", SEED],
     ["tests/faults/hub_growths.py", STEPS],
     ["tests/sockets/serve.py", "--seed", SEED, PROGRAM],
     ["tests/sockets/serve.py", "--selftest"],

@@ -38,7 +38,7 @@ class Producer:
     """A thread that puts items, one about as often as one is taken, until it is told to end."""
 
     def __init__(self, port, seed):
-        self.session, self.chance = rv.Session(("127.0.0.1", port), 1, 1), random.Random(seed)
+        self.session, self.chance = rv.Session(("127.0.0.1", port), 1, 1, connect_timeout=None), random.Random(seed)
         self.put, self.pause, self.ends = [], PAUSE, False
         self.thread = threading.Thread(target=self.run, daemon=True)
         self.thread.start()
@@ -63,7 +63,7 @@ async def takes(port, seed, how_many, record):
     """So many takes, and what they gave; and then what is left, unclaimed and in the queue."""
     chance, span, got, late = random.Random(seed), SPAN, [], 0
     producer = Producer(port, seed)
-    async with aio.Session(("127.0.0.1", port), 2, 1, record=record) as one:
+    async with aio.Session(("127.0.0.1", port), 2, 1, record=record, connect_timeout=None) as one:
         while len(got) + late < how_many or min(len(got), late) < EACH_AT_LEAST:
             try:
                 got.append(await asyncio.wait_for(one.take(QUEUE), chance.random() * span))
@@ -103,7 +103,7 @@ CLOSED = "unclaimed in closed sessions"
 
 async def gives(port, client, chance, ends):
     """Puts one item after another, until it is told to end; some are transferred, where somebody waits for one."""
-    async with aio.Session(("127.0.0.1", port), client, 1) as one:
+    async with aio.Session(("127.0.0.1", port), client, 1, connect_timeout=None) as one:
         for number in itertools.count():
             call = one.put if chance.randrange(TRANSFER_EACH) else one.try_transfer
             await call(QUEUE, f"item {client} {number}")
@@ -125,7 +125,7 @@ class Mixed:
         """Goes on until so many calls were cancelled."""
         while self.cancelled < how_many:
             self.incarnation += 1
-            await self.uses(aio.Session(("127.0.0.1", self.port), self.client, self.incarnation))
+            await self.uses(aio.Session(("127.0.0.1", self.port), self.client, self.incarnation, connect_timeout=None))
 
     async def uses(self, one):
         """One session: cancelled calls, others between them, and what stands after its end. Some begin with their hello."""
@@ -197,7 +197,7 @@ async def mixes(port, seed, clients, how_many):
     ends.append(True)
     await givers
     last = Mixed(port, 1, seed)
-    async with aio.Session(("127.0.0.1", port), last.client, 1) as one:
+    async with aio.Session(("127.0.0.1", port), last.client, 1, connect_timeout=None) as one:
         while items := await one.drain(QUEUE, 16):
             last.hears("the rest", items)
     return [*crowd, last]

@@ -131,7 +131,7 @@ class Caller:
         self.record = os.open(record, os.O_WRONLY | os.O_CREAT | os.O_APPEND)
         self.left, self.number, self.asked, self.settled_at = calls, 1, 0, time.monotonic()
         self.session = rv.Session(("127.0.0.1", port), client, incarnation, version=1 + client % 2, patience=5, answer=2,
-                                  record=kept)
+                                  record=kept, connect_timeout=None)
 
     def write(self, **members):
         """Writes a line, in one step."""

@@ -195,7 +195,7 @@ def beside_another_language(_program):
         driver.expect(f"open {server.port} 2 {java.LONG}", "result open")
 
         def by_python():
-            with rv.Session(server.address, 1, 1, patience=PATIENCE, record=path) as one:
+            with rv.Session(server.address, 1, 1, patience=PATIENCE, record=path, connect_timeout=None) as one:
                 for _ in range(SHARED):
                     one.drain(3, 16)
 

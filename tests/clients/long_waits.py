@@ -26,7 +26,7 @@ def waits(seconds, pause, patience):
     with Scripted() as server:
         server.otherwise = later
         try:
-            with rv.Session(server.address, 1, 1, patience=patience) as session:
+            with rv.Session(server.address, 1, 1, patience=patience, connect_timeout=None) as session:
                 fault = None if session.take(3) == "a" else "it took another item"
         except rv.Unsettled as unsettled:
             fault = f"it was unsettled: {unsettled}"

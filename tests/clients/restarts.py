@@ -17,6 +17,8 @@ from tests.sockets.wire import PATIENCE, demand, until
 
 QUEUE, OTHER = 3, 4
 CLIENTS = itertools.count(1)
+# Times of sessions, on whatever machine.
+TIMES = {"patience": PATIENCE, "answer": PATIENCE / 2, "connect_timeout": None}
 # Threads that put without a pause, how often the host is killed meanwhile, and how many each thread puts in each epoch before.
 BUSY, KILLS, EACH = 6, 3, 5
 
@@ -38,7 +40,7 @@ class Putter:
 
     def made(self):
         """A session of a client number of its own."""
-        return rv.Session(("127.0.0.1", self.port), next(CLIENTS), patience=PATIENCE, answer=PATIENCE / 2, renew=self.renew)
+        return rv.Session(("127.0.0.1", self.port), next(CLIENTS), renew=self.renew, **TIMES)
 
     def puts(self, item):
         """Puts an item; what it was told."""
@@ -80,7 +82,7 @@ class Task(Putter):
         super().__init__(port, renew)
 
     def made(self):
-        return aio.Session(("127.0.0.1", self.port), next(CLIENTS), patience=PATIENCE, answer=PATIENCE / 2, renew=self.renew)
+        return aio.Session(("127.0.0.1", self.port), next(CLIENTS), renew=self.renew, **TIMES)
 
     def ask(self, call):
         return self.loop.run_until_complete(call(self.session))
@@ -101,7 +103,7 @@ def begun(deed):
 
 def takes_in_vain(port, renew):
     """A session, and what waits until its take is told that nobody knows what became of it."""
-    one, told = rv.Session(("127.0.0.1", port), next(CLIENTS), patience=PATIENCE, answer=PATIENCE / 2, renew=renew), []
+    one, told = rv.Session(("127.0.0.1", port), next(CLIENTS), renew=renew, **TIMES), []
 
     def takes():
         try:

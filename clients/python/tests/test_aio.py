@@ -159,9 +159,10 @@ class Alike(Case):
     def test_a_server_that_is_away(self):
         """The address and the reason are told, in the words of the other session."""
         async def connects(address):
-            return await raised(aio.Session(address, 1, 1, patience=PATIENCE).connect())
+            return await raised(aio.Session(address, 1, 1, patience=PATIENCE, connect_timeout=None).connect())
         for address in (("127.0.0.1", 1), "no.such.host.invalid:7411", ("." * 70, 7411)):
-            fault, other = run(connects(address)), raised_by(rv.Session(address, 1, 1, patience=PATIENCE).connect)
+            one = rv.Session(address, 1, 1, patience=PATIENCE, connect_timeout=None)
+            fault, other = run(connects(address)), raised_by(one.connect)
             self.assertEqual((type(fault), str(fault)), (rv.NotAsked, str(other)))
 
     @in_time
@@ -370,7 +371,7 @@ class Cancels(Case):
             client = next(CLIENTS)
             book.met[client] = named("item")
             got = []
-            async with aio.Session(book.address, client, 1) as one:
+            async with aio.Session(book.address, client, 1, connect_timeout=None) as one:
                 task = asyncio.ensure_future(one.take(PLACE))
                 for _ in itertools.takewhile(lambda step: step < steps and not task.done(), itertools.count()):
                     await asyncio.sleep(0)
@@ -426,7 +427,7 @@ class Once(Case):
         client, told = next(CLIENTS), []
         book.met[client] = lambda came: met_at_once(came) if came["number"] > 1 else None
         book.at_cancel[client] = lambda came: met(came) if came["number"] == 1 else {"reply": "cancelled"}
-        one = aio.Session(book.address, client, 1)
+        one = aio.Session(book.address, client, 1, connect_timeout=None)
         task = asyncio.ensure_future(call(one))
         await comes("its request", lambda: book.accounts[client].waits)
         task.cancel()
@@ -608,7 +609,7 @@ class Tasks(Case):
         """It ends soon, also where its own task is cancelled, and the connection and the number are gone."""
         async def asks(cancels):
             with leasing() as clients, Scripted(welcome) as server:
-                one = aio.Session(server.address, patience=None, answer=100_000)
+                one = aio.Session(server.address, patience=None, answer=100_000, connect_timeout=None)
                 await cancelled(one, lambda one: one.take(3), server, 2)
                 await comes("its cancel", lambda: len(server.heard) == 3)
                 close = asyncio.ensure_future(one.close())
@@ -626,12 +627,12 @@ class Tasks(Case):
         async def begins():
             with leasing() as clients, Scripted(refused(9)) as server:
                 with self.raises(rv.Refused, number=9):
-                    async with aio.Session(server.address):
+                    async with aio.Session(server.address, connect_timeout=None):
                         pass
                 self.assertTrue(is_free(clients[0]))
 
                 async def enters():
-                    async with aio.Session(server.address):
+                    async with aio.Session(server.address, connect_timeout=None):
                         pass
                 with contextlib.suppress(asyncio.TimeoutError):
                     await asyncio.wait_for(enters(), 0.01)
@@ -657,7 +658,7 @@ class Tasks(Case):
         """Its number is free, and its connection is gone."""
         async def drops():
             with leasing() as clients, Scripted(welcome) as server:
-                one = aio.Session(server.address)
+                one = aio.Session(server.address, connect_timeout=None)
                 await one.connect()
                 self.assertFalse(is_free(clients[0]))
                 del one
@@ -669,7 +670,7 @@ class Tasks(Case):
     def test_many_sessions(self):
         """Tasks with a session each, in one loop: each has a number of its own."""
         async def swaps(address):
-            async with aio.Session(address) as one:
+            async with aio.Session(address, connect_timeout=None) as one:
                 await one.put(3, "a")
                 await asyncio.sleep(0.01)
                 return one.client
@@ -762,7 +763,7 @@ class BesideAProducer(Case):
 
             async def takes():
                 got = []
-                async with aio.Session(book.address, client, 1) as one:
+                async with aio.Session(book.address, client, 1, connect_timeout=None) as one:
                     for number in range(times):
                         with contextlib.suppress(asyncio.TimeoutError):
                             got.append(await asyncio.wait_for(one.take(PLACE), (number % 7) / 3_000))

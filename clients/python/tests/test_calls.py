@@ -93,11 +93,11 @@ class Calls(Case):
         """Both name the server; a text without a port names none."""
         with Scripted(welcome, welcome) as server:
             for address in (server.address, ("127.0.0.1", server.port)):
-                with rv.Session(address, 1, 1) as one:
+                with rv.Session(address, 1, 1, connect_timeout=None) as one:
                     self.assertEqual(one.epoch, 1)
         for address in ("127.0.0.1", "127.0.0.1:", ":", "127.0.0.1:0", "127.0.0.1:65536", "127.0.0.1:x"):
             with self.raises(ValueError):
-                rv.Session(address, 1, 1)
+                rv.Session(address, 1, 1, connect_timeout=None)
 
 
 class Receipts(Case):

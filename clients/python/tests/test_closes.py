@@ -201,7 +201,7 @@ class Tasks(Case):
         async def takes(book, met, steps, more):
             client = next(CLIENTS)
             book.met[client], book.at_cancel[client] = met, named("item")
-            one, got = aio.Session(book.address, client, 1), []
+            one, got = aio.Session(book.address, client, 1, connect_timeout=None), []
             await one.connect()
             task = asyncio.ensure_future(one.take(PLACE))
             await passes(steps)

@@ -182,7 +182,7 @@ class Run:
         test.one_more()
         self.test, self.script, self.client, self.told = test, script, next(CLIENTS), []
         self.book, self.account = book, book.accounts[self.client]
-        self.session = rv.Session(book.address, self.client, 1)
+        self.session = rv.Session(book.address, self.client, 1, connect_timeout=None)
         self.session.count(1)
         book.met[self.client], book.at_cancel[self.client] = script.met, script.at_cancel
         if script.left:
@@ -378,7 +378,7 @@ class Sessions(Untouched):
             for kind in KINDS:
                 self.one_more()
                 client = next(CLIENTS)
-                one, thrown = rv.Session(book.address, client, 1), Thrown(kind, [place], lambda: None)
+                one, thrown = rv.Session(book.address, client, 1, connect_timeout=None), Thrown(kind, [place], lambda: None)
                 with self.subTest(place=place, kind=kind.__name__):
                     sys.settrace(thrown)
                     try:

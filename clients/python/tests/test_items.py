@@ -95,7 +95,7 @@ class Loops(Case):
         """One loop, with a cancel at so many lines behind its first item; whether there are so many."""
         client = 1 + len(book.accounts)
         book.met[client] = lambda came: named("item")(came) if came["number"] < 3 else None
-        with rv.Session(book.address, client, 1, patience=PATIENCE) as one:
+        with rv.Session(book.address, client, 1, patience=PATIENCE, connect_timeout=None) as one:
             loop = one.items(PLACE)
             tracer = CancelAt(one, count)
             got = [next(loop)]

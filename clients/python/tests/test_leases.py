@@ -77,10 +77,10 @@ class Numbers(Case):
         """Each session has one of its own, and one that was closed is the next one's at once."""
         with leasing() as clients, Scripted() as server:
             server.otherwise = welcome
-            first, second, third = (rv.Session(server.address) for _ in range(3))
+            first, second, third = (rv.Session(server.address, connect_timeout=None) for _ in range(3))
             self.assertEqual([one.client for one in (first, second, third)], [*clients[:3]])
             second.close()
-            with rv.Session(server.address) as fourth:
+            with rv.Session(server.address, connect_timeout=None) as fourth:
                 self.assertEqual(fourth.client, second.client)
                 self.assertGreater(fourth.incarnation, second.incarnation)
                 hello = {"kind": "hello", "client": fourth.client, "incarnation": fourth.incarnation, "version": 2}
@@ -94,7 +94,7 @@ class Numbers(Case):
             server.otherwise = lambda came: welcome(came) if came["kind"] == "hello" else reply("done")(came)
             names = []
             for _ in range(50):
-                with rv.Session(server.address) as one:
+                with rv.Session(server.address, connect_timeout=None) as one:
                     one.put(3, "a")
                     names.append((one.client, one.incarnation))
             self.assertEqual({client for client, _ in names}, {clients[0]})
@@ -130,7 +130,7 @@ class Numbers(Case):
         """Its number is given back."""
         with leasing() as clients, Scripted(refused(9)) as server:
             with self.raises(rv.Refused, number=9):
-                with rv.Session(server.address):
+                with rv.Session(server.address, connect_timeout=None):
                     pass
             self.assertTrue(is_free(clients[0]))
 
@@ -371,7 +371,7 @@ class Places(Case):
 
     def test_what_others_send(self):
         """It is thrown away: nothing of it can be read, and the session goes on."""
-        with leasing(), Scripted(welcome, reply("done")) as server, rv.Session(server.address) as one:
+        with leasing(), Scripted(welcome, reply("done")) as server, rv.Session(server.address, connect_timeout=None) as one:
             with socket.socket(socket.AF_INET, socket.SOCK_DGRAM) as stranger:
                 stranger.sendto(b"a", bound(one._driver.name))
             with self.raises(BlockingIOError):
@@ -453,7 +453,7 @@ class TheServersWord(Case):
         """The first hello of a leased number is refused: a greater one is said in the same call, before anything is asked."""
         for call, more in ((lambda one: one.connect(), []), (lambda one: one.put(3, "a"), ["request"])):
             with leasing() as clients, unused(), Scripted(ahead(1_000), welcome, reply("done")) as server:
-                one = rv.Session(server.address)
+                one = rv.Session(server.address, connect_timeout=None)
                 before = one.incarnation
                 call(one)
                 self.assertEqual(one.incarnation, before + 1_001)
@@ -468,7 +468,7 @@ class TheServersWord(Case):
         """There it is the same."""
         async def puts():
             with leasing(), unused(), Scripted(ahead(1_000), welcome, reply("done")) as server:
-                one = aio.Session(server.address)
+                one = aio.Session(server.address, connect_timeout=None)
                 before = one.incarnation
                 await one.put(3, "a")
                 self.assertEqual((one.incarnation, one.last.key.incarnation), (before + 1_001,) * 2)
@@ -478,7 +478,7 @@ class TheServersWord(Case):
     def test_once(self):
         """A second word of this kind is another program's: this one stops."""
         with leasing(), unused(), Scripted(ahead(1_000), ahead(5)) as server:
-            one, server.otherwise = rv.Session(server.address), refused(9)
+            one, server.otherwise = rv.Session(server.address, connect_timeout=None), refused(9)
             with self.raises(rv.Replaced, key=None, current=one.incarnation + 1_006):
                 one.put(3, "a")
             self.assertEqual(len(server.heard), 2)
@@ -487,17 +487,17 @@ class TheServersWord(Case):
     def test_the_last_incarnations(self):
         """Above the greatest one there is none."""
         with leasing(), unused(), Scripted(refused(4, current=2**53 - 2), welcome, refused(4, current=2**53 - 1)) as server:
-            with rv.Session(server.address) as one:
+            with rv.Session(server.address, connect_timeout=None) as one:
                 self.assertEqual(one.incarnation, 2**53 - 1)
             leases.USED.clear()
             with self.raises(rv.Replaced, key=None, current=2**53 - 1):
-                rv.Session(server.address).connect()
+                rv.Session(server.address, connect_timeout=None).connect()
 
     def test_names_that_are_given(self):
         """The session ends: its caller says who it is."""
         for incarnation in (None, 7):
             with unused(), Scripted(ahead(1_000)) as server:
-                one = rv.Session(server.address, numbers()[0], incarnation)
+                one = rv.Session(server.address, numbers()[0], incarnation, connect_timeout=None)
                 with self.raises(rv.Replaced, key=None, current=one.incarnation + 1_000):
                     one.connect()
                 one.close()
@@ -505,7 +505,7 @@ class TheServersWord(Case):
     def test_behind_a_welcome(self):
         """The session is replaced: its number is another program's too."""
         with leasing(), unused(), Scripted(welcome, reply("done"), ahead(1_000)) as server:
-            one, server.otherwise = rv.Session(server.address), refused(9)
+            one, server.otherwise = rv.Session(server.address, connect_timeout=None), refused(9)
             one.put(3, "a")
             with self.raises(rv.Replaced, current=one.incarnation + 1_000):
                 one.put(3, "b")
@@ -584,7 +584,7 @@ class Descriptors(Case):
     def test_a_session(self):
         """It has one thread and two descriptors, one of them before its connection; behind its close it has none."""
         for name in ("clients=numbers()", "client=1, incarnation=1"):
-            text = (f"before = counted()\none = rv.Session(address, {name})\nprint(since(before)[0])\n"
+            text = (f"before = counted()\none = rv.Session(address, {name}, connect_timeout=None)\nprint(since(before)[0])\n"
                     "one.connect()\nprint(since(before))\none.close()\nprint(since(before)[0])\n"
                     "until('the thread ends', lambda: since(before)[1] == 0)\n")
             with Scripted(welcome) as server, self.subTest(name=name):
@@ -593,7 +593,7 @@ class Descriptors(Case):
     def test_in_asyncio(self):
         """It has no thread, and its connection and its lease alone; a number that is given is no descriptor."""
         for name, count in (("clients=numbers()", 2), ("client=1, incarnation=1", 1)):
-            text = (f"async def runs():\n    before = counted()\n    one = aio.Session(address, {name})\n"
+            text = (f"async def runs():\n    before = counted()\n    one = aio.Session(address, {name}, connect_timeout=None)\n"
                     "    print(since(before)[0])\n    await one.connect()\n    print(since(before)[0])\n"
                     "    await one.close()\n    await asyncio.sleep(0)\n    print(since(before)[0])\nasyncio.run(runs())\n")
             with Scripted(welcome) as server, self.subTest(name=name):

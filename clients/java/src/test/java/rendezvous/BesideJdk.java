@@ -1,5 +1,6 @@
 package rendezvous;
 
+import java.time.temporal.ChronoUnit;
 import java.util.ArrayList;
 import java.util.List;
 import java.util.Random;
@@ -33,7 +34,7 @@ final class BesideJdk {
         int count = Integer.parseInt(words[1]);
         Exchanger<String> own = new Exchanger<>();
         try (RvClients clients = RvClients.builder("127.0.0.1", Integer.parseInt(words[0])).clients(1, 4).unleased()
-                    .incarnation(1).patientForEver().grace(Answering.LONG).build();
+                    .incarnation(1).patientForEver().connectTimeout(ChronoUnit.FOREVER.getDuration()).grace(Answering.LONG).build();
                 Side jdk = new Side(new LinkedTransferQueue<>(), (item, ms) -> own.exchange(item, ms, TimeUnit.MILLISECONDS));
                 Side ours = new Side(new RvTransferQueue(clients, 3),
                     (item, ms) -> new RvExchanger(clients, 5).exchange(item, ms, TimeUnit.MILLISECONDS))) {

@@ -1,6 +1,7 @@
 package rendezvous;
 
 import com.google.gson.Gson;
+import java.time.temporal.ChronoUnit;
 import java.util.ArrayList;
 import java.util.List;
 import java.util.Map;
@@ -82,7 +83,8 @@ final class Closes {
     }
 
     private RvClients.Builder clients(long first, int most, long incarnation) {
-        return RvClients.builder("127.0.0.1", port).clients(first, first + most - 1).unleased().incarnation(incarnation);
+        return RvClients.builder("127.0.0.1", port).clients(first, first + most - 1).unleased().incarnation(incarnation)
+            .connectTimeout(ChronoUnit.FOREVER.getDuration());
     }
 
     // ---- who gives

@@ -8,6 +8,7 @@ import static org.junit.jupiter.api.Assertions.assertTrue;
 
 import com.google.gson.JsonObject;
 import java.time.Duration;
+import java.time.temporal.ChronoUnit;
 import java.util.ArrayList;
 import java.util.List;
 import java.util.Optional;
@@ -256,7 +257,8 @@ final class PoolTest {
     }
 
     private RvClients.Builder leasing(Answering server) {
-        return RvClients.builder("127.0.0.1", server.port()).clients(first, first + 8);
+        return RvClients.builder("127.0.0.1", server.port()).clients(first, first + 8)
+            .connectTimeout(ChronoUnit.FOREVER.getDuration());
     }
 
     @Test

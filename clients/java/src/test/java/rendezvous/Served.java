@@ -5,6 +5,7 @@ import java.net.InetAddress;
 import java.net.Socket;
 import java.nio.file.Files;
 import java.nio.file.Path;
+import java.time.temporal.ChronoUnit;
 import java.util.concurrent.ThreadLocalRandom;
 import java.util.concurrent.atomic.AtomicLong;
 import java.util.stream.Stream;
@@ -69,7 +70,7 @@ final class Served implements AutoCloseable {
     RvClients clients() {
         long first = CLIENT.getAndAdd(8);
         return RvClients.builder("127.0.0.1", port).clients(first, first + 7).unleased().incarnation(1)
-            .grace(Answering.LONG).build();
+            .grace(Answering.LONG).connectTimeout(ChronoUnit.FOREVER.getDuration()).build();
     }
 
     @Override
