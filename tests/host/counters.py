@@ -10,10 +10,11 @@ from tests.faults.system import HostileHost, System
 from tests.host.hostile import ask_and_never_read
 from tests.host.many import closing, connected, no_descriptors
 from tests.host.memory import half_frame
-from tests.host.moments import KEPT, QUESTIONS
+from tests.host.moments import KEPT, QUESTIONS, is_silent
+from tests.model.account import Key
 from tests.host.status import numbers, shows
 from tests.sockets.programs import free_port
-from tests.sockets.wire import demand, hello, together, until
+from tests.sockets.wire import demand, frame, give, hello, request, together, until
 
 # Connections that take the last descriptors.
 CROWD = 20
@@ -21,6 +22,9 @@ CROWD = 20
 HALVES, HALF, MEBIBYTE = 17, 64_000, 1
 # The clock fails once in so many times that it is read.
 CLOCK = 3
+# A put of an item whose line is long takes fewer growths than this; and so many are refused, turn after turn, where lines find
+# no memory.
+GROWTHS, REFUSALS, LONG = 200, 10, "\x01" * 512
 FAULT = re.compile(r"rv_fault_(\w+)_total")
 Faults = dict[str, int]
 
@@ -156,4 +160,29 @@ def each_fault_has_its_number(program: str) -> None:
 STAGES = [idle_connections, stalled_connections, broken_connections, closed_for_memory, lacking_descriptors, failed_accepts,
           a_clock_that_fails, lost_lines]
 
-CASES = [each_fault_has_its_number]
+def want_of_memory(program: str) -> None:
+    """A connection that finds no memory, and turns in which lines of the account find none, have a number each."""
+    with Counting(program) as host:
+        host.system.be(growth=1)
+        with closing(connected(host.port, 1)) as (peer,):
+            peer.expect_end()
+        host.system.be()
+        host.counts({"memory": 1})
+    with Counting(program) as host:
+        demand(any(put_after_growths(host, calm) for calm in range(GROWTHS)), f"no line found no memory: {host.faults()}")
+        host.halt()
+
+
+def put_after_growths(host: Counting, calm: int) -> bool:
+    """A client's put, for which the system grants so many growths and refuses all others until it is answered, ended, or refused
+    in turn after turn; whether lines of the account found no memory then."""
+    with host.greeted(1 + calm) as peer:
+        before = host.system.made("growth")
+        host.system.be(growth=1, calm=calm)
+        peer.send(frame(request(Key(1, 1 + calm, 1, 1), give("put", LONG))))
+        until("it meets an end", lambda: not is_silent(peer) or host.system.made("growth") >= before + REFUSALS)
+        host.system.be()
+    return host.faults().get("unwritten", 0) > 0
+
+
+CASES = [each_fault_has_its_number, want_of_memory]
