@@ -135,7 +135,8 @@ class FirstHello(Case):
     def test_behind_the_welcome(self):
         """There it counts no more: the session's patience does; and before it, no other time is longer."""
         with Scripted(welcome) as server, session(server) as one:
-            one._driver.connect_timeout, server.otherwise = 0.0, reply("item", item="a")
+            one._driver.manner = one._driver.manner._replace(connect_timeout=0.0)
+            server.otherwise = reply("item", item="a")
             self.assertEqual(one.take(3), "a")
         with Scripted() as server, self.within(SOON):
             for ends in both(server.address, connect_timeout=0):
