@@ -17,6 +17,7 @@ import java.util.Map;
 import java.util.Optional;
 import java.util.OptionalLong;
 import java.util.TreeSet;
+import java.util.concurrent.TimeUnit;
 import org.junit.jupiter.api.Test;
 import org.junit.jupiter.params.ParameterizedTest;
 import org.junit.jupiter.params.provider.CsvSource;
@@ -28,6 +29,25 @@ final class LeasesTest {
 
     private Leases of(long least, long greatest) {
         return new Leases(new ClientRange(first + least, first + greatest), OptionalLong.empty());
+    }
+
+    /** Whether nobody has a number. */
+    static boolean isFree(long client) {
+        Optional<Lease> lease = new Leases(new ClientRange(client, client), OptionalLong.empty()).next();
+        lease.ifPresent(Lease::giveBack);
+        return lease.isPresent();
+    }
+
+    /**
+     * Waits until nobody has a number: a program that is just being started, as Maven starts some, has a copy of each socket until
+     * it begins.
+     */
+    static void awaitFree(long client) {
+        long ends = System.nanoTime() + TimeUnit.MINUTES.toNanos(2);
+        while (!isFree(client)) {
+            assertTrue(System.nanoTime() < ends, "client " + client + " is not free");
+            Thread.yield();
+        }
     }
 
     private static Lease next(Leases leases) {
@@ -42,6 +62,7 @@ final class LeasesTest {
         assertEquals(first + 7, seventh.client());
         assertEquals(first + 8, eighth.client());
         seventh.giveBack();
+        awaitFree(first + 7);
         Lease again = next(leases);
         assertEquals(first + 7, again.client());
         assertTrue(again.incarnation() > seventh.incarnation());
@@ -66,6 +87,7 @@ final class LeasesTest {
             assertEquals(first + 1, lease.client());
             lease.giveBack();
         }
+        awaitFree(first);
         Lease lease = next(of(0, 1));
         assertEquals(first, lease.client());
         lease.giveBack();
@@ -78,6 +100,7 @@ final class LeasesTest {
         assertEquals(first + 2, other.client());
         assertEquals(Optional.empty(), of(1, 2).next());
         one.giveBack();
+        awaitFree(first + 1);
         Lease again = next(of(1, 2));
         assertEquals(first + 1, again.client());
         List.of(other, again).forEach(Lease::giveBack);
@@ -96,10 +119,12 @@ final class LeasesTest {
     void aLeaseThatIsGivenBackTwiceEndsNoLaterOne() {
         Lease one = next(of(1, 1));
         one.giveBack();
+        awaitFree(first + 1);
         Lease second = next(of(1, 1));
         one.giveBack();
         assertEquals(Optional.empty(), of(1, 1).next());
         second.giveBack();
+        awaitFree(first + 1);
         Lease third = next(of(1, 1));
         assertEquals(first + 1, third.client());
         third.giveBack();
@@ -113,6 +138,7 @@ final class LeasesTest {
         assertEquals(Optional.empty(), of(1, 1).next(), "the lease stands");
         lease.giveBack();
         assertTrue(Thread.interrupted());
+        awaitFree(first + 1);
         Lease again = next(of(1, 1));
         assertEquals(first + 1, again.client());
         again.giveBack();

@@ -12,7 +12,6 @@ import java.time.temporal.ChronoUnit;
 import java.util.ArrayList;
 import java.util.List;
 import java.util.Optional;
-import java.util.OptionalLong;
 import java.util.concurrent.BrokenBarrierException;
 import java.util.concurrent.CompletableFuture;
 import java.util.concurrent.CountDownLatch;
@@ -250,10 +249,12 @@ final class PoolTest {
 
     /** Whether nobody leases this one of the numbers, which are counted from 1. */
     private boolean isFree(long which) {
-        long client = first + which - 1;
-        Optional<Lease> lease = new Leases(new ClientRange(client, client), OptionalLong.empty()).next();
-        lease.ifPresent(Lease::giveBack);
-        return lease.isPresent();
+        return LeasesTest.isFree(first + which - 1);
+    }
+
+    /** Waits until one is: a program that is just being started, as by Maven, has a copy of each socket until it begins. */
+    private void awaitFree(long which) {
+        LeasesTest.awaitFree(first + which - 1);
     }
 
     private RvClients.Builder leasing(Answering server) {
@@ -266,18 +267,18 @@ final class PoolTest {
         CountDownLatch latch = new CountDownLatch(1);
         try (Answering server = holding(latch)) {
             RvClients clients = leasing(server).build();
-            assertTrue(isFree(1));
+            awaitFree(1);
             Calling<String> held = putting(clients, "held");
             server.awaitAsked(1);
             assertFalse(isFree(1));
-            assertTrue(isFree(2));
+            awaitFree(2);
             queue(clients).put("a");
             assertFalse(isFree(2));
-            assertTrue(isFree(3));
+            awaitFree(3);
             clients.close();
             assertInstanceOf(RvException.Unsettled.class, held.thrown());
-            assertTrue(isFree(1));
-            assertTrue(isFree(2));
+            awaitFree(1);
+            awaitFree(2);
             latch.countDown();
         }
     }
@@ -293,7 +294,7 @@ final class PoolTest {
             assertEquals("done", held.end());
             assertFalse(isFree(1));
             queue(clients).put("b");
-            assertTrue(isFree(1));
+            awaitFree(1);
             assertFalse(isFree(2));
         }
     }
@@ -307,6 +308,7 @@ final class PoolTest {
                 RvClients clients = leasing(server).build()) {
             queue(clients).put("a");
             assertThrows(RvException.EpochEnded.class, () -> queue(clients).put("ends"));
+            awaitFree(1);
             queue(clients).put("b");
             List<JsonObject> hellos = server.hellos();
             assertEquals(2, hellos.size());
@@ -358,7 +360,7 @@ final class PoolTest {
             assertEquals(List.of(1L, 1L, 1L, 1L, 1L, 2L), epochs);
             assertEquals(5, server.hellos().size());
             assertFalse(isFree(1));
-            assertTrue(isFree(2));
+            awaitFree(2);
             putAtATime(clients, 4);
             server.startsAnew();
             queue(clients).put("a");
@@ -399,7 +401,7 @@ final class PoolTest {
             assertEquals(new Outcome.Cancelled(key), clients.unsettled().get(0).giveUp());
             assertEquals(List.of(), clients.unsettled());
             queue(clients).put("b");
-            assertTrue(isFree(1));
+            awaitFree(1);
         }
     }
 
