@@ -20,6 +20,8 @@ import java.util.logging.Logger;
  * ended. Their sessions are of version 1 and 2 in turn. Words: port, first client, how many, seconds, seed, record.
  */
 final class Crowd {
+    /** So many outcomes each client tells at least, on however slow a machine. */
+    private static final int LEAST = 50;
     private static final long[] MILLIS = {0, 1, 3, 10, 30, 100};
     /** What the clients log, which is none of the lines; it is kept, so that it is not thrown away. */
     private static final Logger LOG = Logger.getLogger("rendezvous");
@@ -29,6 +31,7 @@ final class Crowd {
     private final RvTransferQueue queue;
     private final RvExchanger exchanger;
     private int number;
+    private int told;
     private JsonObject call;
     private JsonObject ended;
 
@@ -59,7 +62,7 @@ final class Crowd {
     }
 
     private void run(long ends) {
-        while (System.nanoTime() - ends < 0) {
+        while (System.nanoTime() - ends < 0 || told < LEAST) {
             Outcome before = last();
             ended = new JsonObject();
             try {
@@ -94,6 +97,7 @@ final class Crowd {
     }
 
     private void tell() {
+        told++;
         JsonObject line = new JsonObject();
         line.add("call", call);
         line.add("told", Answers.of(last()));
