@@ -329,11 +329,11 @@ class Interrupts(Untouched):
                     self.everywhere(lambda: Run(self, book, script))
 
     def test_an_exception_behind_another(self):
-        """A second one at each line that is run after the first, of a call whose item comes with the cancel."""
+        """A second one at each line that is run after the first."""
         with Book() as book:
             for name in ("take", "take, met at its cancel"):
                 first = self.everywhere(lambda: Run(self, book, SCRIPTS[name]), KINDS[:1])
-                for place in sorted(first) if SCRIPTS[name].at_cancel else []:
+                for place in sorted(first):
                     with self.subTest(script=name):
                         self.second(lambda: Run(self, book, SCRIPTS[name]), place)
 
