@@ -1,14 +1,12 @@
 -- What a decoder looks for: a value that is alone in an object.
-use Rattle.std.specs.Prelude.{◌≡◌, ℕ, List, Option, Some, Result, Ok, Err, string_cmp}
-use Rattle.std.specs.BTreeMap.{IsOrdered}
+use Rattle.std.specs.Prelude.{◌≡◌, ℕ, List, Option, Some, Result, Ok, Err}
 use Rattle.serde_json.specs.Data.{Data, Members}
 use Rattle.serde_json.specs.Data as json
 use Rattle.serde_json.specs.Events.{members_len}
-use Rattle.serde_json.specs.View.{members_view}
 use Rattle.rv_json.specs.declared.fault.TextFault.{TextFault}
 use Rattle.rv_json.specs.declared.fault.TextFault.TheVariants as fault
 use Rattle.rv_json.specs.Bodies.{HasBodyLength, Reads, IsNotJson}
-use Rattle.rv_json.specs.Finding.{Map}
+use Rattle.rv_json.specs.Sorted.{IsSorted}
 
 -- what a body may be read as: how it is found, how many members it has, and its limits
 pub record Form (A : Type 0) : Type 1 where
@@ -30,12 +28,12 @@ FindsAlone form (Err fault.NotJson) object = ⊥
 FindsAlone {A} form (Err fault.NotMessage) object = (x : A) → ¬ IsAlone A form object x
 FindsAlone form (Err fault.NoMemory) object = Unit {0}
 
--- the bytes read as the object that the map is, and the value is alone in it
+-- the bytes read as the object of these members, and the value is alone in it
 pub record IsAloneIn (A : Type 0) (form : Form A) (bytes : List ℕ) (x : A) : Type 0 where
-  pub map : Map
-  pub ordered : IsOrdered string_cmp map
-  pub reads : Reads bytes (json.object (members_view map.entries))
-  pub alone : IsAlone A form (members_view map.entries) x
+  pub members : Members
+  pub sorted : IsSorted members
+  pub reads : Reads bytes (json.object members)
+  pub alone : IsAlone A form members x
 
 -- the bytes read as a value that is no object in which one is alone
 pub record HasNone (A : Type 0) (form : Form A) (bytes : List ℕ) : Type 0 where

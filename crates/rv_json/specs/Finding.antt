@@ -11,6 +11,9 @@ use Rattle.serde_json.specs.Events.{items_len}
 use Rattle.serde_json.specs.View.{members_view}
 use Rattle.serde_json.specs.declared.value.Value.{Value}
 use Rattle.serde_json.specs.Find.{get_member, as_number, as_u64, as_str, as_array}
+use Rattle.rv_json.specs.declared.members.Members.{Members as Object}
+use Rattle.rv_json.specs.declared.members.Members.TheVariants.{Flat, Tree}
+use Rattle.rv_json.specs.Flat.{seen}
 use Rattle.rv_json.specs.declared.fault.TextFault.{TextFault}
 use Rattle.rv_json.specs.declared.fault.TextFault.TheVariants as fault
 
@@ -33,10 +36,10 @@ Finds view (Err fault) found = Fails fault found
 
 -- the same of what is to be found among the members of a map
 abbrev pub FindsSeenAmong : {A B : Type 0}
-    → Map → (A → B) → Result A TextFault → (Members → Option B) → Type 0
-FindsSeenAmong object view answer found = Finds view answer (found (members_view object.entries))
+    → Object → (A → B) → Result A TextFault → (Members → Option B) → Type 0
+FindsSeenAmong object view answer found = Finds view answer (found (seen object))
 
-abbrev pub FindsAmong : {A : Type 0} → Map → Result A TextFault → (Members → Option A) → Type 0
+abbrev pub FindsAmong : {A : Type 0} → Object → Result A TextFault → (Members → Option A) → Type 0
 FindsAmong object answer found = FindsSeenAmong object (λ x. x) answer found
 
 -- ---- one member
@@ -59,9 +62,11 @@ without name (json.member other value members) =
     members
     (json.member other value (without name members))
 
--- behind a reader, a map has all that it had but the member of this name
-abbrev pub Leaves : List ℕ → Map → Map → Type 0
-Leaves name before after = members_view after.entries ≡ without name (members_view before.entries)
+-- after an item or texts were read, a map has all that it had but the member of this name, and flat members stay
+abbrev pub Leaves : List ℕ → Object → Object → Type 0
+Leaves name (Flat fields) after = after ≡ Flat fields
+Leaves name (Tree map) (Flat fields) = ⊥
+Leaves name (Tree map) (Tree rest) = members_view rest.entries ≡ without name (members_view map.entries)
 
 -- ---- a list of texts
 
@@ -85,7 +90,11 @@ few_of values = if nat_le (items_len values) 16 then Some values else None
 abbrev pub few_in : Data → Option Items
 few_in value = option_and_then few_of (as_array value)
 
-abbrev pub texts_among : Members → Option (List (List ℕ))
-texts_among members = do
-  values ← option_and_then few_in (get_member (codes "texts") members)
+-- the texts of a value that is a list of few, if one is there
+abbrev pub texts_in : Option Data → Option (List (List ℕ))
+texts_in value = do
+  values ← option_and_then few_in value
   texts_of values
+
+abbrev pub texts_among : Members → Option (List (List ℕ))
+texts_among members = texts_in (get_member (codes "texts") members)

@@ -1,5 +1,8 @@
 -- What a reader must agree with, all that public contracts cite:
 pub mod Bodies
+pub mod Flat
+pub mod Scan
+pub mod Sorted
 pub mod Finding
 pub mod Alone
 pub mod Writing

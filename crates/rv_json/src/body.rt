@@ -1,14 +1,23 @@
 //! The value whose body given bytes are, for each kind of value that has a body.
-ghost use Rattle.std.specs.Prelude.{◌≡◌, ◌↔◌, IsTrue, OnOk, string_cmp};
-ghost use Rattle.std.specs.BTreeMap.{IsOrdered};
+ghost use Rattle.std.specs.Prelude.{◌≡◌, ◌↔◌, ◌≤◌, IsTrue, IfErr, IfOk, IfSome, Ok, OnOk, Some};
+ghost use Rattle.serde_json.specs.Events.{members_len};
 ghost use Rattle.serde_json.specs.View.{members_view};
-ghost use Rattle.rv_json.specs.Alone.{FindsAlone, FindsIn, Form};
+ghost use Rattle.rv_json.specs.Alone.{FindsAlone, FindsIn, Form, IsAlone};
+ghost use Rattle.rv_json.specs.Bodies.{HasBodyLength};
 ghost use Rattle.rv_json.specs.Finding.{FindsAmong};
+ghost use Rattle.rv_json.specs.Flat.{members_of};
+ghost use Rattle.rv_json.specs.Sorted.{IsSorted};
 
 use crate::fault::TextFault;
+use crate::flat::Field;
 use crate::members::Members;
+use crate::scan::scan_body;
 use crate::value::read_value;
+use serde_json::{Map, Value};
 use std::alloc::Global;
+
+// The most members that a body has.
+const MOST_MEMBERS: usize = 9;
 
 /// A kind of value that has a body. Its form says how it is found among the members of an object, how many
 /// members it has, and its limits.
@@ -27,26 +36,82 @@ pub trait Body: Drop {
     /// Whether it is within its limits.
     fn is_within(&self) -> bool
         ensures { IsTrue result ↔ form.Fits self.now };
+
+    /// A law, which does nothing: a value that is found among members has no more than these are.
+    fn has_members(&self, fields: &[Field])
+        requires { form.found (members_of fields.now) ≡ Some self.now }
+        ensures { form.size self.now ≤ members_len (members_of fields.now) };
 }
 
 /// What is alone in the object that the bytes are the text of. [`TextFault::NoMemory`] comes only if a
-/// growth was refused.
+/// growth was refused. A compact text of whole numbers and texts is read in one pass with no memory but its
+/// item's, and any other as `serde_json` reads it.
 pub fn decode<B: Body>(alloc: Global, bytes: &[u8]) -> Result<B, TextFault>
     ensures { FindsIn B.form bytes.now result }
 {
-    let mut value = read_value(alloc, bytes)?;
-    let members = value.as_object_mut().ok_or(TextFault::NotMessage)?;
-    read_alone(alloc, members)
+    match decode_flat(alloc, bytes) {
+        Ok(Some(value)) => Ok(value),
+        Ok(None) => decode_tree(alloc, bytes),
+        Err(_) => Err(TextFault::NoMemory),
+    }
+}
+
+// What is alone in a flat object, where the pass over its text is sure of it.
+fn decode_flat<B: Body>(alloc: Global, bytes: &[u8]) -> Result<Option<B>, TextFault>
+    ensures value { IfOk result (λ found. IfSome found (λ value. FindsIn B.form bytes.now (Ok value))) }
+    ensures fault { IfErr result (λ _. HasBodyLength bytes.now) }
+{
+    let mut places = [Field::NONE; MOST_MEMBERS];
+    match scan_body(bytes, &mut places) {
+        Some(count) => read_flat(alloc, &places[..count]),
+        None => Ok(None),
+    }
+}
+
+// The value that is alone among these members, if their number tells that none stands twice.
+fn read_flat<B: Body>(alloc: Global, fields: &[Field]) -> Result<Option<B>, TextFault>
+    ensures { IfOk result (λ found. IfSome found (IsAlone B B.form (members_of fields.now))) }
+{
+    let mut members = Members::Flat(fields);
+    match B::read(alloc, &mut members) {
+        Ok(value) => Ok(own_alone(fields, value)),
+        Err(TextFault::NoMemory) => Err(TextFault::NoMemory),
+        Err(_) => Ok(None),
+    }
+}
+
+// The value, if it is alone among the members and none of their names stands twice.
+fn own_alone<B: Body>(fields: &[Field], value: B) -> Option<B>
+    requires { B.form.found (members_of fields.now) ≡ Some value }
+    ensures { IfSome result (IsAlone B B.form (members_of fields.now)) }
+{
+    value.has_members(fields);
+    if fields.len() == value.member_count() && value.is_within() {
+        Some(value)
+    } else {
+        None
+    }
+}
+
+// What is alone in the object that `serde_json` reads.
+fn decode_tree<B: Body>(alloc: Global, bytes: &[u8]) -> Result<B, TextFault>
+    ensures { FindsIn B.form bytes.now result }
+{
+    match read_value(alloc, bytes)? {
+        Value::Object(map) => read_alone(alloc, map),
+        _ => Err(TextFault::NotMessage),
+    }
 }
 
 // The value that is found among the members, if they are no more than its own and within its limits.
-#[tactic(auto, using(crate::proofs::Counts::members_counted))]
-fn read_alone<B: Body>(alloc: Global, members: &mut Members) -> Result<B, TextFault>
-    ensures alone { FindsAlone B.form result (members_view members.old.entries) }
-    ensures ordered { OnOk result (IsOrdered string_cmp members.old) }
+#[tactic(auto, using(crate::proofs::Counts::members_counted, crate::proofs::InOrder::entries_sorted))]
+fn read_alone<B: Body>(alloc: Global, map: Map<String, Value>) -> Result<B, TextFault>
+    ensures alone { FindsAlone B.form result (members_view map.entries) }
+    ensures sorted { OnOk result (IsSorted (members_view map.entries)) }
 {
-    let count = members.len();
-    let value = B::read(alloc, members)?;
+    let count = map.len();
+    let mut members = Members::Tree(map);
+    let value = B::read(alloc, &mut members)?;
     if count == value.member_count() && value.is_within() {
         Ok(value)
     } else {

@@ -3,12 +3,15 @@
 
 mod body;
 mod fault;
+mod flat;
 mod members;
+mod scan;
 mod value;
 mod writer;
 
 pub use body::{Body, decode};
 pub use fault::{NoMemory, TextFault};
-pub use members::{Members, find_whole, member, read_text, read_whole, take_item, take_texts};
+pub use flat::{Field, Plain};
+pub use members::{Members, find_text, find_whole, read_text, read_whole, take_item, take_texts};
 pub use value::{MAX_BODY_BYTES, read_value};
 pub use writer::ObjectText;

@@ -1,32 +1,73 @@
 //! Reads members of a JSON object, each by its name. The only limit is that of a list: 16 texts.
-ghost use Rattle.std.specs.Prelude.{◌≡◌, codes, option_map, Err};
-ghost use Rattle.serde_json.specs.Find.{get_member, as_str};
+ghost use Rattle.std.specs.Prelude.{◌≡◌, codes, option_map, option_and_then, Err, None};
+ghost use Rattle.serde_json.specs.Find.{get_member, as_str, as_u64, as_number};
+ghost use Rattle.rv_json.specs.Flat.{seen, plain_data};
 ghost use Rattle.serde_json.specs.View.{view, items_view, members_view};
-ghost use Rattle.rv_json.specs.Finding.{Finds, FindsAmong, FindsSeenAmong, whole_among, text_among, few_of};
-ghost use Rattle.rv_json.specs.Finding.{few_in, texts_of, texts_among, item_among, Leaves};
+ghost use Rattle.rv_json.specs.Finding.{Finds, texts_in, FindsAmong, FindsSeenAmong, whole_among, text_among, few_of};
+ghost use Rattle.rv_json.specs.Finding.{few_in, texts_of, texts_among, item_among, without, Leaves};
 ghost use Rattle.rv_json.specs.declared.fault.TextFault.TheVariants as fault;
 
 use crate::fault::TextFault;
+use crate::flat::{Field, Plain, find};
 use rv_item::{Item, Items, MAX_DRAIN};
 use serde_json::{Map, Value};
 use std::alloc::Global;
 
-/// The members of a JSON object, by name. Of a name that stood twice it has the last value.
-pub type Members = Map<String, Value>;
-
-/// The value at the name, if one stands there.
-pub fn member<'v>(members: &'v Members, name: &str) -> Option<&'v Value>
-    ensures { option_map (λ v. view v.now) result
-        ≡ get_member name.now (members_view members.now.entries) }
-{
-    members.get(name)
+/// The members of a JSON object. Of a name that stood twice the last value counts.
+#[derive(Drop)]
+pub enum Members<'a> {
+    /// Whole numbers and texts, as they stand in the body's bytes.
+    Flat(&'a [Field<'a>]),
+    /// Any members, as `serde_json` reads them.
+    Tree(Map<String, Value>),
 }
 
 /// The whole number at the name, 0 to 2^64 - 1, if one stands there.
 pub fn find_whole(members: &Members, name: &str) -> Option<u64>
-    ensures { result ≡ whole_among name.now (members_view members.now.entries) }
+    ensures { result ≡ whole_among name.now (seen members.now) }
 {
-    member(members, name).and_then(Value::as_u64)
+    match members {
+        Members::Flat(fields) => whole_of(find(fields, name)),
+        Members::Tree(map) => value_at(map, name).and_then(Value::as_u64),
+    }
+}
+
+fn whole_of(value: Option<Plain>) -> Option<u64>
+    ensures { result ≡ option_and_then as_u64 (option_and_then as_number (option_map plain_data value.entry)) }
+{
+    match value {
+        Some(Plain::Whole(n)) => Some(n),
+        Some(Plain::Text(_)) => None,
+        None => None,
+    }
+}
+
+fn text_of<'a>(value: Option<Plain<'a>>) -> Option<&'a str>
+    ensures { option_map (λ text. text.now) result ≡ option_and_then as_str (option_map plain_data value.entry) }
+{
+    match value {
+        Some(Plain::Text(text)) => Some(text),
+        Some(Plain::Whole(_)) => None,
+        None => None,
+    }
+}
+
+// The value at the name, if one stands there.
+fn value_at<'v>(map: &'v Map<String, Value>, name: &str) -> Option<&'v Value>
+    ensures { option_map (λ v. view v.now) result
+        ≡ get_member name.now (members_view map.now.entries) }
+{
+    map.get(name)
+}
+
+/// The text at the name, if one stands there.
+pub fn find_text<'v>(members: &'v Members<'v>, name: &str) -> Option<&'v str>
+    ensures { option_map (λ text. text.now) result ≡ text_among name.now (seen members.now) }
+{
+    match members {
+        Members::Flat(fields) => text_of(find(fields, name)),
+        Members::Tree(map) => value_at(map, name).and_then(Value::as_str),
+    }
 }
 
 /// The whole number at the name. The only fault is [`TextFault::NotMessage`], if none stands there.
@@ -38,43 +79,66 @@ pub fn read_whole(members: &Members, name: &str) -> Result<u64, TextFault>
 }
 
 /// The text at the name. The only fault is [`TextFault::NotMessage`], if none stands there.
-pub fn read_text<'v>(members: &'v Members, name: &str) -> Result<&'v str, TextFault>
+pub fn read_text<'v>(members: &'v Members<'v>, name: &str) -> Result<&'v str, TextFault>
     ensures found { FindsSeenAmong members.now (λ text. text.now) result (text_among name.now) }
     ensures sure { ¬ (result ≡ Err fault.NoMemory) }
 {
-    member(members, name)
-        .and_then(Value::as_str)
-        .ok_or(TextFault::NotMessage)
+    find_text(members, name).ok_or(TextFault::NotMessage)
 }
 
 // Takes the value at the name out of the members.
-fn take_member(members: &mut Members, name: &str) -> Option<Value>
-    ensures found { option_map view result ≡ get_member name.now (members_view members.old.entries) }
-    ensures left { Leaves name.now members.old members.new }
+fn take_member(map: &mut Map<String, Value>, name: &str) -> Option<Value>
+    ensures found { option_map view result ≡ get_member name.now (members_view map.old.entries) }
+    ensures left { members_view map.new.entries ≡ without name.now (members_view map.old.entries) }
 {
-    members.remove(name)
+    map.remove(name)
 }
 
-/// The text of the member `item`, taken out without a copy. The only fault is [`TextFault::NotMessage`],
-/// if no text stands there. The other members stay, and no `item` does.
-pub fn take_item(members: &mut Members) -> Result<Item, TextFault>
+/// The text of the member `item`: of flat members a copy, of others taken out. [`TextFault::NotMessage`] comes
+/// only if no text stands there; [`TextFault::NoMemory`] only if one does, and a growth was refused. Flat members
+/// stay as they are; of others all stay but `item`.
+pub fn take_item(alloc: Global, members: &mut Members) -> Result<Item, TextFault>
     ensures found { FindsAmong members.old result item_among }
-    ensures sure { ¬ (result ≡ Err fault.NoMemory) }
+    ensures sure { result ≡ Err fault.NoMemory → ¬ (item_among (seen members.old) ≡ None) }
     ensures left { Leaves (codes "item") members.old members.new }
 {
-    let value = take_member(members, "item").ok_or(TextFault::NotMessage)?;
-    item_of(value)
+    match members {
+        Members::Flat(fields) => copy_item(alloc, text_of(find(fields, "item"))),
+        Members::Tree(map) => item_of(take_member(map, "item").ok_or(TextFault::NotMessage)?),
+    }
+}
+
+fn copy_item(alloc: Global, text: Option<&str>) -> Result<Item, TextFault>
+    ensures found { Finds (λ item. item) result (option_map (λ t. t.now) text.entry) }
+    ensures sure { result ≡ Err fault.NoMemory → ¬ (option_map (λ t. t.now) text.entry ≡ None) }
+{
+    let text = String::from_str(alloc, text.ok_or(TextFault::NotMessage)?)?;
+    Ok(Item::from_text(text))
 }
 
 /// The texts of the member `texts`, taken out without a copy. [`TextFault::NotMessage`] comes only if no
-/// list of at most 16 texts stands there, and [`TextFault::NoMemory`] only if a growth was refused. The other
-/// members stay, and no `texts` does.
+/// list of at most 16 texts stands there, and [`TextFault::NoMemory`] only if a growth was refused. Flat members
+/// have no list, and stay as they are; of others all stay but `texts`.
 pub fn take_texts(alloc: Global, members: &mut Members) -> Result<Items, TextFault>
     ensures found { FindsAmong members.old result texts_among }
     ensures left { Leaves (codes "texts") members.old members.new }
 {
-    let value = take_member(members, "texts").ok_or(TextFault::NotMessage)?;
-    take_each_text(alloc, values_of(value)?)
+    match members {
+        Members::Flat(fields) => no_texts(find(fields, "texts")),
+        Members::Tree(map) => {
+            let value = take_member(map, "texts").ok_or(TextFault::NotMessage)?;
+            take_each_text(alloc, values_of(value)?)
+        }
+    }
+}
+
+// No plain value is a list.
+#[tactic(auto, using(crate::proofs::InOrder::no_list))]
+fn no_texts(value: Option<Plain>) -> Result<Items, TextFault>
+    ensures { Finds (λ items. items) result (texts_in (option_map plain_data value.entry)) }
+{
+    let _ = value;
+    Err(TextFault::NotMessage)
 }
 
 // The values of a list of 16 at most.

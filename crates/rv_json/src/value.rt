@@ -27,7 +27,7 @@ pub fn read_value(alloc: Global, bytes: &[u8]) -> Result<Value, TextFault>
     }
 }
 
-fn has_body_length(bytes: &[u8]) -> bool
+pub(crate) fn has_body_length(bytes: &[u8]) -> bool
     ensures { IsTrue result ↔ HasBodyLength bytes.now }
 {
     (1..=MAX_BODY_BYTES).contains(&bytes.len())

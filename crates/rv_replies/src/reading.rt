@@ -14,11 +14,10 @@ ghost use Rattle.rv_text.specs.declared.message.Key as keys;
 ghost use Rattle.rv_text.specs.declared.answer.Reply as replies;
 
 use rv_findings::Told;
-use rv_json::Members;
 use rv_text::{
     Answer, Call, Key, Message, NoMemory, Reply, TextFault, decode_answer, decode_message,
 };
-use serde_json::Value;
+use serde_json::{Map, Value};
 use std::alloc::{AllocError, Global};
 
 /// Why a line is no record of a reply.
@@ -67,7 +66,7 @@ fn value_of(alloc: Global, line: &[u8]) -> Result<Value, NotRead>
 
 // The members of an object that has two.
 #[tactic(auto, using(crate::proofs::Counts::members_counted))]
-fn two_members(value: &Value) -> Option<&Members>
+fn two_members(value: &Value) -> Option<&Map<String, Value>>
     ensures some { IfSome result (λ members. HasTwo (view value.now) (members_view members.now.entries)) }
     ensures none { result ≡ None → (members : json.Members) → ¬ HasTwo (view value.now) members }
 {
@@ -79,7 +78,7 @@ fn two_members(value: &Value) -> Option<&Members>
     }
 }
 
-fn member<'v>(members: &'v Members, name: &str) -> Option<&'v Value>
+fn member<'v>(members: &'v Map<String, Value>, name: &str) -> Option<&'v Value>
     ensures { option_map (λ v. view v.now) result
         ≡ get_member name.now (members_view members.now.entries) }
 {
@@ -87,7 +86,7 @@ fn member<'v>(members: &'v Members, name: &str) -> Option<&'v Value>
 }
 
 // The text that is written of the member with a name.
-fn text_at(alloc: Global, members: &Members, name: &str) -> Result<Option<String>, NoMemory>
+fn text_at(alloc: Global, members: &Map<String, Value>, name: &str) -> Result<Option<String>, NoMemory>
     ensures { IfOk result (HasMemberText (get_member name.now (members_view members.now.entries))) }
 {
     match member(members, name) {
@@ -97,7 +96,7 @@ fn text_at(alloc: Global, members: &Members, name: &str) -> Result<Option<String
 }
 
 // The request that is the member `asked`.
-fn read_asked(alloc: Global, members: &Members) -> Result<(Key, Call), NotRead>
+fn read_asked(alloc: Global, members: &Map<String, Value>) -> Result<(Key, Call), NotRead>
     requires { IsShallow (json.object (members_view members.now.entries)) }
     ensures asks { IfOk result (λ p. AsksMember (members_view members.now.entries) p.0 p.1) }
     ensures flaw { (flaw : Flaw) → result ≡ Err (NotRead.Flawed flaw) → (key : keys.Key) (call : calls.Call)
@@ -117,7 +116,7 @@ fn read_asked(alloc: Global, members: &Members) -> Result<(Key, Call), NotRead>
 }
 
 // The reply and its key that are the member `told`.
-fn read_reply(alloc: Global, members: &Members) -> Result<(Key, Reply), NotRead>
+fn read_reply(alloc: Global, members: &Map<String, Value>) -> Result<(Key, Reply), NotRead>
     requires { IsShallow (json.object (members_view members.now.entries)) }
     ensures tells { IfOk result (λ p. TellsMember (members_view members.now.entries) p.0 p.1) }
     ensures flaw { (flaw : Flaw) → result ≡ Err (NotRead.Flawed flaw) → (key : keys.Key)

@@ -1,12 +1,11 @@
 -- From what an object's readers answer to what a decoder promises of the bytes.
-use Rattle.std.proofs.Common.{◌≡◌, ℕ, List, map, Some, Result, Ok, Err, String, Global, BTreeMap, string_cmp}
-use Rattle.std.proofs.Common.{refl, sym, ap, ◌∙◌, inl, inr}
+use Rattle.std.proofs.Common.{◌≡◌, ℕ, List, map, Some, Result, Ok, Err}
+use Rattle.std.proofs.Common.{◌≤◌, length, arith, refl, sym, ap, ◌∙◌, inl, inr}
 use Rattle.std.proofs.lemmas.List.{length-map}
 use Rattle.std.proofs.lemmas.Option.{same_Some}
-use Rattle.std.specs.BTreeMap.{IsOrdered}
-use Rattle.serde_json.specs.Data.{object}
-use Rattle.serde_json.specs.View.{members_view}
-use Rattle.serde_json.specs.declared.value.Value.{Value}
+use Rattle.serde_json.specs.Data.{object, Members}
+use Rattle.serde_json.specs.Events.{members_len}
+use Rattle.rv_json.specs.Sorted.{IsSorted}
 use Rattle.rv_json.specs.declared.fault.TextFault.{TextFault}
 use Rattle.rv_json.specs.declared.fault.TextFault.TheVariants.{NotJson, NotMessage, NoMemory}
 use Rattle.rv_text.specs.Bodies.{HasBodyLength, IsBody, Decodes}
@@ -15,8 +14,8 @@ use Rattle.rv_text.specs.Laws.{AtMostOne}
 use Rattle.rv_json.specs.Alone.{IsAlone, IsAloneIn, HasNone, FindsIn}
 use Rattle.rv_text.specs.Reading.{Shape, form_of}
 use Rattle.rv_text.proofs.Steps.{IsReader}
-use Rattle.rv_text.proofs.Objects.{IsSorted-entries, with_fields-found, found-with_fields}
-use Rattle.rv_text.proofs.Objects.{members_len-with_fields}
+use Rattle.rv_text.proofs.Objects.{with_fields-found, found-with_fields}
+use Rattle.rv_text.proofs.Objects.{members_len-with_fields, members_len-found}
 
 module _ (A : Type 0) (shape : Shape A) (reader : IsReader A shape) where
   abbrev fields_of : A → List Field
@@ -33,13 +32,21 @@ module _ (A : Type 0) (shape : Shape A) (reader : IsReader A shape) where
         fits = fits;
       }
 
+  -- what is found among members has no more than they are
+  pub has_each : (ms : Members) (x : A) → IsSorted ms → shape.found ms ≡ Some x → length (shape.row x) ≤ members_len ms
+  has_each ms x sorted found =
+      omega (
+        arith,
+        length-map (shape.row x) field_of,
+        members_len-found (fields_of x) ms sorted (reader.sound x).distinct
+            (reader.has ms x found),
+      )
+
   -- where a value is alone, the object is that of its row
-  alone_object : (m : BTreeMap (String Global) Value) (x : A) → IsOrdered string_cmp m
-      → IsAlone A (form_of shape) (members_view m.entries) x
-      → object (members_view m.entries) ≡ object_of (shape.row x)
-  alone_object m x ordered alone =
-      let ms = members_view m.entries in
-      ap object (with_fields-found (fields_of x) ms (IsSorted-entries m.entries ordered)
+  alone_object : (ms : Members) (x : A) → IsSorted ms → IsAlone A (form_of shape) ms x
+      → object ms ≡ object_of (shape.row x)
+  alone_object ms x sorted alone =
+      ap object (with_fields-found (fields_of x) ms sorted
       (reader.sound x).distinct
       (reader.has ms x alone.found) (alone.whole ∙ sym (length-map (shape.row x) field_of)))
 
@@ -56,7 +63,7 @@ module _ (A : Type 0) (shape : Shape A) (reader : IsReader A shape) where
       → IsBody shape.row shape.Fits bytes x
   body_of bytes x long alone = (
     long,
-    (alone.reads.0, alone.reads.1 ∙ ap Some (alone_object alone.map x alone.ordered alone.alone)),
+    (alone.reads.0, alone.reads.1 ∙ ap Some (alone_object alone.members x alone.sorted alone.alone)),
     alone.alone.fits,
   )
 

@@ -4,7 +4,6 @@ pub mod Texts
 pub mod ByKind
 pub mod Sound
 pub mod Ordered
-pub mod Passed
 pub mod Kept
 pub mod Steps
 pub mod Readers

@@ -1,23 +1,19 @@
 -- An object in which each of these members is found, and which has no more of them, is the object with these
 -- members.
 use Rattle.std.proofs.Common.{◌≡◌, ℕ, suc, ◌+◌, ◌≤◌, List, [], ◌∷◌, length, Bool, true, ◌&&◌, not, Some, None}
-use Rattle.std.proofs.Common.{String, Global, Ordering, Less, Equal, Greater, string_bytes, string_cmp}
+use Rattle.std.proofs.Common.{Ordering, Less, Equal, Greater}
 use Rattle.std.proofs.Common.{nat_cmp, is_eq, bytes_eq, refl, sym, ap, ◌∙◌, subst, inl, inr, arith}
 use Rattle.std.proofs.lemmas.Bool.{and_parts, not-true, both_ways}
 use Rattle.std.proofs.lemmas.Cmp.{nat_list_cmp_total}
 use Rattle.std.proofs.lemmas.Map.Text.{is_eq-slice_cmp}
 use Rattle.std.proofs.lemmas.Slice.Eq.{bytes_eq-Decides}
 use Rattle.std.specs.Cmp.Lexicographic.{slice_cmp}
-use Rattle.std.specs.List.{AllByRecursion}
-use Rattle.std.specs.List.Sorted.{IsStrictlySortedBy}
-use Rattle.std.specs.Map.{keys_of}
 use Rattle.std.specs.Ordering.{match_ordering}
 use Rattle.std.specs.Prelude.{◌⊎◌}
 use Rattle.serde_json.specs.Data.{Data, Members, no_members, member, put}
 use Rattle.serde_json.specs.Events.{members_len}
 use Rattle.serde_json.specs.Find.{get_member}
-use Rattle.serde_json.specs.View.{members_view}
-use Rattle.serde_json.specs.declared.value.Value.{Value}
+use Rattle.rv_json.specs.Sorted.{AreAbove, IsSorted}
 use Rattle.serde_json.proofs.Views.{get_member-put, get_member-put_other}
 use Rattle.rv_text.specs.Members.{Field, with_fields}
 
@@ -27,27 +23,6 @@ HoldsFields [] ms = Unit {0}
 HoldsFields (f ∷ fs) ms = (get_member f.0 ms ≡ Some f.1) × HoldsFields fs ms
 
 -- ---- members in order
-
--- each name is above k
-abbrev AreAbove : List ℕ → Members → Type 0
-AreAbove k no_members = Unit {0}
-AreAbove k (member l e ms) = (slice_cmp nat_cmp k l ≡ Less) × AreAbove k ms
-
-abbrev pub IsSorted : Members → Type 0
-IsSorted no_members = Unit {0}
-IsSorted (member l e ms) = AreAbove l ms × IsSorted ms
-
-AreAbove-keys : (k : String Global) (es : List (String Global × Value))
-    → AllByRecursion (λ l. string_cmp k l ≡ Less) (keys_of es) → AreAbove (string_bytes k) (members_view es)
-AreAbove-keys k [] h = tt
-AreAbove-keys k (e ∷ es) h = (h.0, AreAbove-keys k es h.1)
-
--- a map's entries are in order
-pub IsSorted-entries : (es : List (String Global × Value)) → IsStrictlySortedBy string_cmp (keys_of es)
-    → IsSorted (members_view es)
-unfolding IsStrictlySortedBy
-IsSorted-entries [] h = tt
-IsSorted-entries (e ∷ es) h = (AreAbove-keys e.0 es h.0, IsSorted-entries es h.1)
 
 AreAbove-below : (k l : List ℕ) (ms : Members) → slice_cmp nat_cmp k l ≡ Less → AreAbove l ms → AreAbove k ms
 AreAbove-below k l no_members lower h = tt
@@ -209,6 +184,24 @@ pub with_fields-found : (fs : List Field) (ms : Members) → IsSorted ms → are
     → HoldsFields fs ms → members_len ms ≡ length fs → ms ≡ with_fields fs no_members
 with_fields-found fs ms sorted apart has size = sym (filled fs ms no_members sorted apart has
     (AreFresh-none fs) (IsPart-none ms) (omega arith))
+
+placed : (fs : List Field) (ms part : Members) → IsSorted ms → are_distinct fs ≡ true → HoldsFields fs ms
+    → AreFresh fs part → IsPart part ms → length fs + members_len part ≤ members_len ms
+placed [] ms part sorted apart has fresh p = omega (arith, members_len-part part ms p)
+placed (f ∷ fs) ms part sorted apart has fresh p =
+    let each = and_parts _ _ apart in
+    omega (
+      arith,
+      members_len-put f.0 f.1 part fresh.0,
+      placed fs ms (put f.0 f.1 part) sorted each.1 has.1
+          (AreFresh-put f.0 f.1 part fs each.0 fresh.1) (IsPart-put f.0 f.1 ms sorted part p has.0 fresh.0),
+    )
+
+-- the object in which each field is found has as many members at least
+pub members_len-found : (fs : List Field) (ms : Members) → IsSorted ms → are_distinct fs ≡ true
+    → HoldsFields fs ms → length fs ≤ members_len ms
+members_len-found fs ms sorted apart has =
+    omega (arith, placed fs ms no_members sorted apart has (AreFresh-none fs) (IsPart-none ms))
 
 kept : (k : List ℕ) (fs : List Field) (ms : Members) → is_other k fs ≡ true
     → get_member k (with_fields fs ms) ≡ get_member k ms

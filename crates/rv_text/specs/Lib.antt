@@ -8,5 +8,4 @@ pub mod Bodies
 pub mod Laws
 -- For private clauses, what the decoder finds among the members of an object, and what the encoder writes:
 pub mod Reading
-pub mod Passing
 pub mod Writing

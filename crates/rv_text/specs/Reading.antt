@@ -21,7 +21,7 @@ use Rattle.rv_text.specs.declared.answer.Answer.TheVariants as answer
 use Rattle.rv_text.specs.Versions.{version_of}
 use Rattle.rv_text.specs.Members.{Member}
 use Rattle.rv_json.specs.Alone.{Form}
-pub use Rattle.rv_json.specs.Finding.{Map, Finds, FindsAmong, ◌>>=◌}
+pub use Rattle.rv_json.specs.Finding.{Finds, FindsAmong, ◌>>=◌}
 pub use Rattle.rv_json.specs.Finding.{whole_among, text_among, item_among, texts_among}
 use Rattle.rv_text.specs.Rows.{message_row, answer_row, call_row}
 use Rattle.rv_text.specs.Limits.{FitsMessage, FitsAnswer, FitsCall}

@@ -8,10 +8,9 @@ ghost use Rattle.rv_text.specs.declared.call.Call.{Call};
 
 use crate::answer::Answer;
 use crate::call::Call;
-use crate::members::{read_call, read_refusal, read_reply, read_version};
+use crate::members::{read_call, read_key, read_refusal, read_reply, read_version};
 use crate::message::Message;
-use crate::passing::read_key;
-use rv_json::{Body, Members, TextFault, decode, read_text, read_whole};
+use rv_json::{Body, Field, Members, TextFault, decode, read_text, read_whole};
 use std::alloc::Global;
 
 /// The message whose body the bytes are.
@@ -44,7 +43,7 @@ pub fn decode_call(alloc: Global, bytes: &[u8]) -> Result<Call, TextFault>
 impl Body for Message {
     ghost form = { form_of messages };
 
-    fn read(_alloc: Global, members: &mut Members) -> Result<Message, TextFault> {
+    fn read(alloc: Global, members: &mut Members) -> Result<Message, TextFault> {
         match read_text(members, "kind")? {
             "hello" => Ok(Message::Hello {
                 client: read_whole(members, "client")?,
@@ -53,7 +52,7 @@ impl Body for Message {
             }),
             "request" => Ok(Message::Request {
                 key: read_key(members)?,
-                call: read_call(members)?,
+                call: read_call(alloc, members)?,
             }),
             "cancel" => Ok(Message::Cancel {
                 key: read_key(members)?,
@@ -73,6 +72,8 @@ impl Body for Message {
     fn is_within(&self) -> bool {
         self.fits()
     }
+
+    fn has_members(&self, _fields: &[Field]) {}
 }
 
 impl Body for Answer {
@@ -111,13 +112,15 @@ impl Body for Answer {
     fn is_within(&self) -> bool {
         self.fits()
     }
+
+    fn has_members(&self, _fields: &[Field]) {}
 }
 
 impl Body for Call {
     ghost form = { form_of calls };
 
-    fn read(_alloc: Global, members: &mut Members) -> Result<Call, TextFault> {
-        read_call(members)
+    fn read(alloc: Global, members: &mut Members) -> Result<Call, TextFault> {
+        read_call(alloc, members)
     }
 
     // Its word and its place, how many items it drains or else its wait, and its item.
@@ -129,4 +132,6 @@ impl Body for Call {
     fn is_within(&self) -> bool {
         self.fits()
     }
+
+    fn has_members(&self, _fields: &[Field]) {}
 }

@@ -8,7 +8,6 @@ mod encode;
 pub mod laws;
 mod members;
 mod message;
-mod passing;
 mod version;
 
 pub use answer::{Answer, MAX_COUNTED, Refusal, Reply};

@@ -1,7 +1,7 @@
-//! Reads calls, replies and refusals among the members of a JSON object. Limits are not looked at yet.
+//! Reads keys, calls, replies and refusals among the members of a JSON object. Limits are not looked at yet.
 ghost use Rattle.std.specs.Prelude.{◌≡◌};
-ghost use Rattle.serde_json.specs.View.{members_view};
-ghost use Rattle.rv_text.specs.Reading.{FindsAmong, wait_among, call_among, version_among};
+ghost use Rattle.rv_json.specs.Flat.{seen};
+ghost use Rattle.rv_text.specs.Reading.{FindsAmong, key_among, wait_among, call_among, version_among};
 ghost use Rattle.rv_text.specs.Reading.{transfer_among, swap_among, drain_among, counted_among};
 ghost use Rattle.rv_text.specs.Reading.{received_among, reply_among, refusal_among, current_version_among};
 
@@ -9,39 +9,47 @@ use crate::answer::{Refusal, Reply};
 use crate::call::{Call, Wait};
 use crate::message::Key;
 use crate::version::Version;
-use rv_json::{
-    Members, TextFault, find_whole, member, read_text, read_whole, take_item, take_texts,
-};
+use rv_json::{Members, TextFault, find_whole, read_text, read_whole, take_item, take_texts};
 use std::alloc::Global;
+
+pub(crate) fn read_key(members: &Members) -> Result<Key, TextFault>
+    ensures { FindsAmong members.now result key_among }
+{
+    Ok(Key {
+        epoch: read_whole(members, "epoch")?,
+        client: read_whole(members, "client")?,
+        incarnation: read_whole(members, "incarnation")?,
+        number: read_whole(members, "number")?,
+    })
+}
 
 fn read_wait(members: &Members) -> Result<Wait, TextFault>
     ensures { FindsAmong members.now result wait_among }
 {
-    let value = member(members, "wait").ok_or(TextFault::NotMessage)?;
-    if let Some(millis) = value.as_u64() {
+    if let Some(millis) = find_whole(members, "wait") {
         return Ok(Wait::Millis(millis));
     }
-    match value.as_str().ok_or(TextFault::NotMessage)? {
+    match read_text(members, "wait")? {
         "now" => Ok(Wait::Now),
         "forever" => Ok(Wait::Forever),
         _ => Err(TextFault::NotMessage),
     }
 }
 
-pub(crate) fn read_call(members: &mut Members) -> Result<Call, TextFault>
+pub(crate) fn read_call(alloc: Global, members: &mut Members) -> Result<Call, TextFault>
     ensures { FindsAmong members.old result call_among }
 {
     match read_text(members, "call")? {
         "put" => Ok(Call::Put {
             queue: read_whole(members, "queue")?,
-            item: take_item(members)?,
+            item: take_item(alloc, members)?,
         }),
-        "transfer" => read_transfer(members),
+        "transfer" => read_transfer(alloc, members),
         "take" => Ok(Call::Take {
             queue: read_whole(members, "queue")?,
             wait: read_wait(members)?,
         }),
-        "swap" => read_swap(members),
+        "swap" => read_swap(alloc, members),
         "count" => read_whole(members, "queue").map(|queue| Call::Count { queue }),
         "peek" => read_whole(members, "queue").map(|queue| Call::Peek { queue }),
         "drain" => read_drain(members),
@@ -49,23 +57,23 @@ pub(crate) fn read_call(members: &mut Members) -> Result<Call, TextFault>
     }
 }
 
-fn read_transfer(members: &mut Members) -> Result<Call, TextFault>
+fn read_transfer(alloc: Global, members: &mut Members) -> Result<Call, TextFault>
     ensures { FindsAmong members.old result transfer_among }
 {
     Ok(Call::Transfer {
         queue: read_whole(members, "queue")?,
         wait: read_wait(members)?,
-        item: take_item(members)?,
+        item: take_item(alloc, members)?,
     })
 }
 
-fn read_swap(members: &mut Members) -> Result<Call, TextFault>
+fn read_swap(alloc: Global, members: &mut Members) -> Result<Call, TextFault>
     ensures { FindsAmong members.old result swap_among }
 {
     Ok(Call::Swap {
         exchanger: read_whole(members, "exchanger")?,
         wait: read_wait(members)?,
-        item: take_item(members)?,
+        item: take_item(alloc, members)?,
     })
 }
 
@@ -80,7 +88,7 @@ fn read_drain(members: &Members) -> Result<Call, TextFault>
 
 // The version that a hello or a welcome names, or else the first.
 pub(crate) fn read_version(members: &Members) -> Version
-    ensures { result ≡ version_among (members_view members.now.entries) }
+    ensures { result ≡ version_among (seen members.now) }
 {
     match find_whole(members, "version") {
         Some(2) => Version::Two,
@@ -125,13 +133,13 @@ pub(crate) fn read_reply(
         "done" => Ok(Reply::Done),
         "received" => read_received(members, epoch),
         "nobody" => Ok(Reply::Nobody),
-        "item" => take_item(members).map(Reply::Item),
+        "item" => take_item(alloc, members).map(Reply::Item),
         "empty" => Ok(Reply::Empty),
-        "swapped" => take_item(members).map(Reply::Swapped),
+        "swapped" => take_item(alloc, members).map(Reply::Swapped),
         "timedout" => Ok(Reply::TimedOut),
         "cancelled" => Ok(Reply::Cancelled),
         "counted" => read_counted(members),
-        "peeked" => take_item(members).map(Reply::Peeked),
+        "peeked" => take_item(alloc, members).map(Reply::Peeked),
         "drained" => take_texts(alloc, members).map(Reply::Drained),
         _ => Err(TextFault::NotMessage),
     }

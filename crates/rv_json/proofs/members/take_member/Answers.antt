@@ -30,8 +30,8 @@ view-remove_entry name (e ∷ es) =
 
 pub returns-clause-found : goal.returns-clause-found
 returns-clause-found c =
-    ap (option_map view) c.remove.ensures.value ∙ view-lookup c.args.name.now c.args.members.now.entries
+    ap (option_map view) c.remove.ensures.value ∙ view-lookup c.args.name.now c.args.map.now.entries
 
 pub returns-clause-left : goal.returns-clause-left
 returns-clause-left c =
-    ap members_view c.remove.ensures.entries ∙ view-remove_entry c.args.name.now c.args.members.now.entries
+    ap members_view c.remove.ensures.entries ∙ view-remove_entry c.args.name.now c.args.map.now.entries

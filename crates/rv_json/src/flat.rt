@@ -1,0 +1,45 @@
+//! The members of a flat object, one after another, with no memory of their own.
+ghost use Rattle.std.specs.Prelude.{◌≡◌, option_map};
+ghost use Rattle.serde_json.specs.Find.{get_member};
+ghost use Rattle.rv_json.specs.Flat.{plain_data, members_of};
+
+/// A value that is a whole number or a text.
+#[derive(Clone, Copy, Drop)]
+pub enum Plain<'a> {
+    /// A whole number, 0 to 2^64 - 1.
+    Whole(u64),
+    /// A text.
+    Text(&'a str),
+}
+
+/// A member of a flat object.
+#[derive(Clone, Copy, Drop)]
+pub struct Field<'a> {
+    /// Its name.
+    pub name: &'a str,
+    /// Its value.
+    pub value: Plain<'a>,
+}
+
+impl Field<'_> {
+    /// The member that stands in a place before one is read into it.
+    pub const NONE: Field<'static> = Field {
+        name: "",
+        value: Plain::Whole(0),
+    };
+}
+
+/// The value at the name: of a name that stands twice the last.
+pub fn find<'a>(fields: &[Field<'a>], name: &str) -> Option<Plain<'a>>
+    ensures { option_map plain_data result ≡ get_member name.now (members_of fields.now) }
+{
+    let mut left = fields.len();
+    'places: while left > 0 {
+        left -= 1;
+        let member = &fields[left];
+        if member.name == name {
+            return Some(member.value);
+        }
+    }
+    None
+}

@@ -1,0 +1,152 @@
+//! Reads the members of a flat object in one pass over its compact text.
+ghost use Rattle.std.specs.Prelude.{◌≡◌, ◌≤◌, ◌<◌, ◌-◌, ◌∷◌, [], ◌++◌, length, take, drop, get_or, IsTrue, IfSome, Some, decimal};
+ghost use Rattle.json.specs.Print.{escape, escape_byte, quoted};
+ghost use Rattle.serde_json.specs.Data.{object};
+ghost use Rattle.serde_json.specs.Read.{read};
+ghost use Rattle.rv_json.specs.Bodies.{HasBodyLength, Reads};
+ghost use Rattle.rv_json.specs.Flat.{members_of};
+ghost use Rattle.rv_json.specs.Scan.{plain_text, field_text, FitsPlain};
+
+use crate::flat::{Field, Plain};
+use crate::value::has_body_length;
+
+// Whether the byte stands for itself in a JSON string.
+#[inline(always)]
+fn is_plain(byte: u8) -> bool
+    ensures { IsTrue result → escape_byte byte ≡ byte ∷ [] }
+{
+    (byte >= 32) & (byte != b'"') & (byte != b'\\')
+}
+
+// The place after the plain bytes that begin at this one.
+#[inline(always)]
+fn plain_end(bytes: &[u8], from: usize) -> usize
+    requires { from ≤ length bytes.now }
+    ensures end { result ≤ length bytes.now }
+    ensures after { from ≤ result }
+    ensures plain { escape (take (result - from) (drop from bytes.now)) ≡ take (result - from) (drop from bytes.now) }
+{
+    let mut at = from;
+    'plain: while at < bytes.len() && is_plain(bytes[at]) {
+        at += 1;
+    }
+    at
+}
+
+// The text between the quotes that stand at the place, and the place after them.
+#[inline(always)]
+fn scan_text<'a>(text: &'a str, at: usize) -> Option<(&'a str, usize)>
+    ensures text { IfSome result (λ p. drop at text.now ≡ quoted p.0.now ++ drop p.1 text.now) }
+    ensures on { IfSome result (λ p. at < p.1) }
+{
+    let bytes = text.as_bytes();
+    if at >= bytes.len() || bytes[at] != b'"' {
+        return None;
+    }
+    let end = plain_end(bytes, at + 1);
+    if end >= bytes.len() || bytes[end] != b'"' {
+        return None;
+    }
+    Some((text.get(at + 1..end)?, end + 1))
+}
+
+// A number as great as this gets no digit more: with one, some would be past 64 bits.
+const MOST: u64 = 1_000_000_000_000_000_000;
+
+// The number at the place, of 19 digits at most, and the place after it.
+#[inline(always)]
+fn scan_whole(bytes: &[u8], at: usize) -> Option<(u64, usize)>
+    ensures text { IfSome result (λ p. drop at bytes.now ≡ decimal p.0 ++ drop p.1 bytes.now) }
+    ensures on { IfSome result (λ p. at < p.1) }
+{
+    if at >= bytes.len() || !bytes[at].is_ascii_digit() {
+        return None;
+    }
+    let mut value = (bytes[at] - b'0') as u64;
+    let mut end = at + 1;
+    if value == 0 {
+        return Some((value, end));
+    }
+    'digits: while end < bytes.len() && value < MOST && bytes[end].is_ascii_digit() {
+        value = value * 10 + (bytes[end] - b'0') as u64;
+        end += 1;
+    }
+    Some((value, end))
+}
+
+// The text or the number at the place, and the place after it.
+#[inline(always)]
+fn scan_plain<'a>(text: &'a str, at: usize) -> Option<(Plain<'a>, usize)>
+    ensures text { IfSome result (λ p. drop at text.now ≡ plain_text p.0 ++ drop p.1 text.now) }
+    ensures fits { IfSome result (λ p. FitsPlain p.0) }
+    ensures on { IfSome result (λ p. at < p.1) }
+{
+    let bytes = text.as_bytes();
+    if at < bytes.len() && bytes[at] == b'"' {
+        let (value, end) = scan_text(text, at)?;
+        Some((Plain::Text(value), end))
+    } else {
+        let (value, end) = scan_whole(bytes, at)?;
+        Some((Plain::Whole(value), end))
+    }
+}
+
+// The member at the place: its name, a colon, its value; and the place after it.
+#[inline(always)]
+fn scan_field<'a>(text: &'a str, at: usize) -> Option<(Field<'a>, usize)>
+    ensures text { IfSome result (λ p. drop at text.now ≡ field_text p.0 ++ drop p.1 text.now) }
+    ensures fits { IfSome result (λ p. FitsPlain p.0.value) }
+    ensures on { IfSome result (λ p. at < p.1) }
+{
+    let bytes = text.as_bytes();
+    let (name, end) = scan_text(text, at)?;
+    if end >= bytes.len() || bytes[end] != b':' {
+        return None;
+    }
+    let (value, after) = scan_plain(text, end + 1)?;
+    Some((Field { name, value }, after))
+}
+
+// Reads the members of the flat object that the text is into the first places, and tells how many they are, if
+// each is a whole number or a text, with no white space, escape or sign, and has a place.
+fn scan_flat<'a>(text: &'a str, places: &mut [Field<'a>]) -> Option<usize>
+    ensures within { IfSome result (λ count. count ≤ length places.new) }
+    ensures value { IfSome result (λ count. read text.now ≡ Some (object (members_of (take count places.new)))) }
+{
+    let bytes = text.as_bytes();
+    if bytes.is_empty() || bytes[0] != b'{' {
+        return None;
+    }
+    let mut count = 0;
+    let mut at = 1;
+    'turns: while at < bytes.len() && count < places.len() {
+        let (field, end) = scan_field(text, at)?;
+        if end >= bytes.len() {
+            return None;
+        }
+        places[count] = field;
+        count += 1;
+        if bytes[end] == b'}' && end + 1 == bytes.len() {
+            return Some(count);
+        }
+        if bytes[end] != b',' {
+            return None;
+        }
+        at = end + 1;
+    }
+    None
+}
+
+/// Reads the members of the object that the bytes are the text of into the first places, and tells how many they
+/// are; of a name that stands twice the last counts. `None` says nothing of the bytes: it comes for all that isn't
+/// the compact text of whole numbers and texts, below 10^19 and with no escape, or that has more members than places.
+pub(crate) fn scan_body<'a>(bytes: &'a [u8], places: &mut [Field<'a>]) -> Option<usize>
+    ensures within { IfSome result (λ count. count ≤ length places.new) }
+    ensures length { IfSome result (λ count. HasBodyLength bytes.now) }
+    ensures value { IfSome result (λ count. Reads bytes.now (object (members_of (take count places.new)))) }
+{
+    if !has_body_length(bytes) {
+        return None;
+    }
+    scan_flat(std::str::from_utf8(bytes).ok()?, places)
+}
