@@ -1,5 +1,6 @@
 -- The grammar's loop over members, a turn at a time, under the conversion to data.
-use Rattle.std.proofs.Common.{◌≡◌, ℕ, ◌-◌, ◌<◌, ◌≤◌, List, [], ◌∷◌, length, Option, Some, None, option_map, option_and_then, refl, ap, ◌∙◌, arith}
+use Rattle.std.proofs.Common.{◌≡◌, ℕ, ◌-◌, ◌<◌, ◌≤◌, List, [], ◌∷◌, length, Option, Some, None, option_map}
+use Rattle.std.proofs.Common.{option_and_then, refl, ap, ◌∙◌, arith}
 use Rattle.json.specs.Token.{Token}
 use Rattle.json.specs.Json as json
 use Rattle.json.specs.Json.{Parse, parse_map, read_key, members, value, if_last}
@@ -39,13 +40,15 @@ with_member : (k : List ℕ) (j : json.Json) (d : Data) (old : Members) → of_j
 with_member k j d old e None = refl
 with_member k j d old e (Some p) = rw e
 
-pub member_read : (p : Parse json.Json) (old : Members) (n : ℕ) (k : List ℕ) (ts s r : List Token) (d : Data) → 0 < n
+pub member_read : (p : Parse json.Json) (old : Members) (n : ℕ) (k : List ℕ) (ts s r : List Token)
+    (d : Data) → 0 < n
     → read_key ts ≡ Some (Some k, s) → converted of_json (p s) ≡ Some (d, r)
     → converted (λ ms. of_members ms old) (members p n ts)
     ≡ converted (λ ms. of_members ms (put k d old)) (members p (n - 1) r)
 member_read p old n k ts s r d some key e =
     let j = converted_some of_json (p s) d r e in
-    ap (converted (λ ms. of_members ms old)) (members_more p n k ts s r j.0 some key j.1) ∙ with_member k j.0 d old j.2 _
+    ap (converted (λ ms. of_members ms old)) (members_more p n k ts s r j.0 some key j.1)
+    ∙ with_member k j.0 d old j.2 _
 
 pub members_over : (p : Parse json.Json) (old : Members) (n : ℕ) (ts r : List Token) → length ts ≤ n
     → read_key ts ≡ Some (None, r) → converted (λ ms. of_members ms old) (members p n ts) ≡ Some (old, r)
@@ -56,7 +59,8 @@ members_over p old n ts r enough e = ap (converted (λ ms. of_members ms old)) (
 abbrev pub whole : Option (json.Json × List Token) → Option Data
 whole o = option_and_then of_json (option_and_then (λ p. if_last p.0 p.1) o)
 
-pub whole_read : (o : Option (json.Json × List Token)) (d : Data) → converted of_json o ≡ Some (d, []) → whole o ≡ Some d
+pub whole_read : (o : Option (json.Json × List Token)) (d : Data) → converted of_json o ≡ Some (d, [])
+    → whole o ≡ Some d
 whole_read o d e = let j = converted_some of_json o d [] e in ap whole j.1 ∙ j.2
 
 -- an object alone in the tokens

@@ -8,25 +8,33 @@ use Rattle.rv_json.specs.Alone.{Form, IsAlone, FindsAlone, FindsIn}
 use Rattle.rv_json.specs.Bodies.{HasBodyLength, Reads}
 use Rattle.rv_json.specs.Sorted.{IsSorted}
 
-abbrev members_of_object : Members → Data → Members
-members_of_object d (json.object ms) = ms
-members_of_object d json.null = d
-members_of_object d (json.boolean b) = d
-members_of_object d (json.number n) = d
-members_of_object d (json.string s) = d
-members_of_object d (json.array ds) = d
+abbrev members_in : Members → Data → Members
+members_in d (json.object ms) = ms
+members_in d json.null = d
+members_in d (json.boolean b) = d
+members_in d (json.number n) = d
+members_in d (json.string s) = d
+members_in d (json.array ds) = d
 
 module _ (A : Type 0) (form : Form A) (bytes : List ℕ) (ms : Members) where
   pub alone_in : (answer : Result A TextFault) → HasBodyLength bytes → Reads bytes (json.object ms)
       → OnOk answer (IsSorted ms) → FindsAlone form answer ms → FindsIn form bytes answer
-  alone_in (Ok x) long reads sorted alone = (long, record { members = ms; sorted = sorted; reads = reads; alone = alone })
+  alone_in (Ok x) long reads sorted alone = (
+    long,
+    record {
+      members = ms;
+      sorted = sorted;
+      reads = reads;
+      alone = alone;
+    },
+  )
   alone_in (Err NotJson) long reads sorted never = absurd never
   alone_in (Err NotMessage) long reads sorted none =
       λ _. record {
         value = json.object ms;
         reads = reads;
         none = λ members same x alone.
-            none x (subst (λ ms. IsAlone A form ms x) (sym (ap (members_of_object members) same)) alone);
+            none x (subst (λ ms. IsAlone A form ms x) (sym (ap (members_in members) same)) alone);
       }
   alone_in (Err NoMemory) long reads sorted alone = long
 

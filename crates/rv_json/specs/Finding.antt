@@ -62,7 +62,7 @@ without name (json.member other value members) =
     members
     (json.member other value (without name members))
 
--- after an item or texts were read, a map has all that it had but the member of this name, and flat members stay
+-- after an item or texts were read, flat members are as they were, and a map lacks the member of this name
 abbrev pub Leaves : List ℕ → Object → Object → Type 0
 Leaves name (Flat fields) after = after ≡ Flat fields
 Leaves name (Tree map) (Flat fields) = ⊥

@@ -6,21 +6,21 @@ use Rattle.rv_json.specs.declared.members.Members.TheVariants.{Flat, Tree}
 use Rattle.serde_json.specs.Data.{Data, number, unsigned, string, Members, no_members, put}
 use Rattle.rv_json.specs.declared.flat.Plain.{Plain}
 use Rattle.rv_json.specs.declared.flat.Plain.TheVariants.{Whole, Text}
-use Rattle.rv_json.specs.declared.flat.Field.{Field}
+use Rattle.rv_json.specs.declared.flat.FlatMember.{FlatMember}
 
 abbrev pub plain_data : Plain → Data
 plain_data (Whole n) = number (unsigned n)
 plain_data (Text s) = string s.now
 
 -- each of them put in: of a name that stands twice the last value counts
-abbrev pub put_each : List Field → Members → Members
+abbrev pub put_each : List FlatMember → Members → Members
 put_each [] ms = ms
 put_each (f ∷ fs) ms = put_each fs (put f.name.now (plain_data f.value) ms)
 
-abbrev pub members_of : List Field → Members
-members_of fs = put_each fs no_members
+abbrev pub flat_members : List FlatMember → Members
+flat_members fs = put_each fs no_members
 
 -- the members of an object, be they flat or a map
 abbrev pub seen : Object → Members
-seen (Flat fields) = members_of fields.now
+seen (Flat fields) = flat_members fields.now
 seen (Tree map) = members_view map.entries

@@ -5,11 +5,11 @@ ghost use Rattle.serde_json.specs.View.{members_view};
 ghost use Rattle.rv_json.specs.Alone.{FindsAlone, FindsIn, Form, IsAlone};
 ghost use Rattle.rv_json.specs.Bodies.{HasBodyLength};
 ghost use Rattle.rv_json.specs.Finding.{FindsAmong};
-ghost use Rattle.rv_json.specs.Flat.{members_of};
+ghost use Rattle.rv_json.specs.Flat.{flat_members};
 ghost use Rattle.rv_json.specs.Sorted.{IsSorted};
 
 use crate::fault::TextFault;
-use crate::flat::Field;
+use crate::flat::FlatMember;
 use crate::members::Members;
 use crate::scan::scan_body;
 use crate::value::read_value;
@@ -38,9 +38,9 @@ pub trait Body: Drop {
         ensures { IsTrue result ↔ form.Fits self.now };
 
     /// A law, which does nothing: a value that is found among members has no more than these are.
-    fn has_members(&self, fields: &[Field])
-        requires { form.found (members_of fields.now) ≡ Some self.now }
-        ensures { form.size self.now ≤ members_len (members_of fields.now) };
+    fn has_members(&self, fields: &[FlatMember])
+        requires { form.found (flat_members fields.now) ≡ Some self.now }
+        ensures { form.size self.now ≤ members_len (flat_members fields.now) };
 }
 
 /// What is alone in the object that the bytes are the text of. [`TextFault::NoMemory`] comes only if a
@@ -61,7 +61,7 @@ fn decode_flat<B: Body>(alloc: Global, bytes: &[u8]) -> Result<Option<B>, TextFa
     ensures value { IfOk result (λ found. IfSome found (λ value. FindsIn B.form bytes.now (Ok value))) }
     ensures fault { IfErr result (λ _. HasBodyLength bytes.now) }
 {
-    let mut places = [Field::NONE; MOST_MEMBERS];
+    let mut places = [FlatMember::NONE; MOST_MEMBERS];
     match scan_body(bytes, &mut places) {
         Some(count) => read_flat(alloc, &places[..count]),
         None => Ok(None),
@@ -69,8 +69,8 @@ fn decode_flat<B: Body>(alloc: Global, bytes: &[u8]) -> Result<Option<B>, TextFa
 }
 
 // The value that is alone among these members, if their number tells that none stands twice.
-fn read_flat<B: Body>(alloc: Global, fields: &[Field]) -> Result<Option<B>, TextFault>
-    ensures { IfOk result (λ found. IfSome found (IsAlone B B.form (members_of fields.now))) }
+fn read_flat<B: Body>(alloc: Global, fields: &[FlatMember]) -> Result<Option<B>, TextFault>
+    ensures { IfOk result (λ found. IfSome found (IsAlone B B.form (flat_members fields.now))) }
 {
     let mut members = Members::Flat(fields);
     match B::read(alloc, &mut members) {
@@ -81,9 +81,9 @@ fn read_flat<B: Body>(alloc: Global, fields: &[Field]) -> Result<Option<B>, Text
 }
 
 // The value, if it is alone among the members and none of their names stands twice.
-fn own_alone<B: Body>(fields: &[Field], value: B) -> Option<B>
-    requires { B.form.found (members_of fields.now) ≡ Some value }
-    ensures { IfSome result (IsAlone B B.form (members_of fields.now)) }
+fn own_alone<B: Body>(fields: &[FlatMember], value: B) -> Option<B>
+    requires { B.form.found (flat_members fields.now) ≡ Some value }
+    ensures { IfSome result (IsAlone B B.form (flat_members fields.now)) }
 {
     value.has_members(fields);
     if fields.len() == value.member_count() && value.is_within() {

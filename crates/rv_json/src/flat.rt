@@ -1,7 +1,7 @@
 //! The members of a flat object, one after another, with no memory of their own.
 ghost use Rattle.std.specs.Prelude.{◌≡◌, option_map};
 ghost use Rattle.serde_json.specs.Find.{get_member};
-ghost use Rattle.rv_json.specs.Flat.{plain_data, members_of};
+ghost use Rattle.rv_json.specs.Flat.{plain_data, flat_members};
 
 /// A value that is a whole number or a text.
 #[derive(Clone, Copy, Drop)]
@@ -14,24 +14,24 @@ pub enum Plain<'a> {
 
 /// A member of a flat object.
 #[derive(Clone, Copy, Drop)]
-pub struct Field<'a> {
+pub struct FlatMember<'a> {
     /// Its name.
     pub name: &'a str,
     /// Its value.
     pub value: Plain<'a>,
 }
 
-impl Field<'_> {
+impl FlatMember<'_> {
     /// The member that stands in a place before one is read into it.
-    pub const NONE: Field<'static> = Field {
+    pub const NONE: FlatMember<'static> = FlatMember {
         name: "",
         value: Plain::Whole(0),
     };
 }
 
 /// The value at the name: of a name that stands twice the last.
-pub fn find<'a>(fields: &[Field<'a>], name: &str) -> Option<Plain<'a>>
-    ensures { option_map plain_data result ≡ get_member name.now (members_of fields.now) }
+pub fn find<'a>(fields: &[FlatMember<'a>], name: &str) -> Option<Plain<'a>>
+    ensures { option_map plain_data result ≡ get_member name.now (flat_members fields.now) }
 {
     let mut left = fields.len();
     'places: while left > 0 {

@@ -11,7 +11,7 @@ mod writer;
 
 pub use body::{Body, decode};
 pub use fault::{NoMemory, TextFault};
-pub use flat::{Field, Plain};
+pub use flat::{FlatMember, Plain};
 pub use members::{Members, find_text, find_whole, read_text, read_whole, take_item, take_texts};
 pub use value::{MAX_BODY_BYTES, read_value};
 pub use writer::ObjectText;

@@ -3,12 +3,12 @@ ghost use Rattle.std.specs.Prelude.{◌≡◌, codes, option_map, option_and_the
 ghost use Rattle.serde_json.specs.Find.{get_member, as_str, as_u64, as_number};
 ghost use Rattle.rv_json.specs.Flat.{seen, plain_data};
 ghost use Rattle.serde_json.specs.View.{view, items_view, members_view};
-ghost use Rattle.rv_json.specs.Finding.{Finds, texts_in, FindsAmong, FindsSeenAmong, whole_among, text_among, few_of};
-ghost use Rattle.rv_json.specs.Finding.{few_in, texts_of, texts_among, item_among, without, Leaves};
+ghost use Rattle.rv_json.specs.Finding.{Finds, FindsAmong, FindsSeenAmong, texts_in, whole_among, text_among};
+ghost use Rattle.rv_json.specs.Finding.{few_of, few_in, texts_of, texts_among, item_among, without, Leaves};
 ghost use Rattle.rv_json.specs.declared.fault.TextFault.TheVariants as fault;
 
 use crate::fault::TextFault;
-use crate::flat::{Field, Plain, find};
+use crate::flat::{FlatMember, Plain, find};
 use rv_item::{Item, Items, MAX_DRAIN};
 use serde_json::{Map, Value};
 use std::alloc::Global;
@@ -17,7 +17,7 @@ use std::alloc::Global;
 #[derive(Drop)]
 pub enum Members<'a> {
     /// Whole numbers and texts, as they stand in the body's bytes.
-    Flat(&'a [Field<'a>]),
+    Flat(&'a [FlatMember<'a>]),
     /// Any members, as `serde_json` reads them.
     Tree(Map<String, Value>),
 }
@@ -33,7 +33,8 @@ pub fn find_whole(members: &Members, name: &str) -> Option<u64>
 }
 
 fn whole_of(value: Option<Plain>) -> Option<u64>
-    ensures { result ≡ option_and_then as_u64 (option_and_then as_number (option_map plain_data value.entry)) }
+    ensures { result ≡ option_and_then as_u64 (option_and_then as_number
+        (option_map plain_data value.entry)) }
 {
     match value {
         Some(Plain::Whole(n)) => Some(n),
@@ -43,7 +44,8 @@ fn whole_of(value: Option<Plain>) -> Option<u64>
 }
 
 fn text_of<'a>(value: Option<Plain<'a>>) -> Option<&'a str>
-    ensures { option_map (λ text. text.now) result ≡ option_and_then as_str (option_map plain_data value.entry) }
+    ensures { option_map (λ text. text.now) result
+        ≡ option_and_then as_str (option_map plain_data value.entry) }
 {
     match value {
         Some(Plain::Text(text)) => Some(text),
@@ -94,9 +96,9 @@ fn take_member(map: &mut Map<String, Value>, name: &str) -> Option<Value>
     map.remove(name)
 }
 
-/// The text of the member `item`: of flat members a copy, of others taken out. [`TextFault::NotMessage`] comes
-/// only if no text stands there; [`TextFault::NoMemory`] only if one does, and a growth was refused. Flat members
-/// stay as they are; of others all stay but `item`.
+/// The text of the member `item`: of flat members a copy, of others taken out. [`TextFault::NotMessage`]
+/// comes only if no text stands there; [`TextFault::NoMemory`] only if one does, and a growth was refused.
+/// Flat members stay as they are; of others all stay but `item`.
 pub fn take_item(alloc: Global, members: &mut Members) -> Result<Item, TextFault>
     ensures found { FindsAmong members.old result item_among }
     ensures sure { result ≡ Err fault.NoMemory → ¬ (item_among (seen members.old) ≡ None) }
@@ -117,8 +119,8 @@ fn copy_item(alloc: Global, text: Option<&str>) -> Result<Item, TextFault>
 }
 
 /// The texts of the member `texts`, taken out without a copy. [`TextFault::NotMessage`] comes only if no
-/// list of at most 16 texts stands there, and [`TextFault::NoMemory`] only if a growth was refused. Flat members
-/// have no list, and stay as they are; of others all stay but `texts`.
+/// list of at most 16 texts stands there, and [`TextFault::NoMemory`] only if a growth was refused. Flat
+/// members have no list, and stay as they are; of others all stay but `texts`.
 pub fn take_texts(alloc: Global, members: &mut Members) -> Result<Items, TextFault>
     ensures found { FindsAmong members.old result texts_among }
     ensures left { Leaves (codes "texts") members.old members.new }

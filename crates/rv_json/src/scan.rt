@@ -1,13 +1,14 @@
 //! Reads the members of a flat object in one pass over its compact text.
-ghost use Rattle.std.specs.Prelude.{◌≡◌, ◌≤◌, ◌<◌, ◌-◌, ◌∷◌, [], ◌++◌, length, take, drop, get_or, IsTrue, IfSome, Some, decimal};
+ghost use Rattle.std.specs.Prelude.{◌≡◌, ◌≤◌, ◌<◌, ◌-◌, ◌∷◌, [], ◌++◌, length, take, drop};
+ghost use Rattle.std.specs.Prelude.{decimal, IsTrue, IfSome, Some};
 ghost use Rattle.json.specs.Print.{escape, escape_byte, quoted};
 ghost use Rattle.serde_json.specs.Data.{object};
 ghost use Rattle.serde_json.specs.Read.{read};
 ghost use Rattle.rv_json.specs.Bodies.{HasBodyLength, Reads};
-ghost use Rattle.rv_json.specs.Flat.{members_of};
+ghost use Rattle.rv_json.specs.Flat.{flat_members};
 ghost use Rattle.rv_json.specs.Scan.{plain_text, field_text, FitsPlain};
 
-use crate::flat::{Field, Plain};
+use crate::flat::{FlatMember, Plain};
 use crate::value::has_body_length;
 
 // Whether the byte stands for itself in a JSON string.
@@ -24,7 +25,7 @@ fn plain_end(bytes: &[u8], from: usize) -> usize
     requires { from ≤ length bytes.now }
     ensures end { result ≤ length bytes.now }
     ensures after { from ≤ result }
-    ensures plain { escape (take (result - from) (drop from bytes.now)) ≡ take (result - from) (drop from bytes.now) }
+    ensures plain { let text = take (result - from) (drop from bytes.now) in escape text ≡ text }
 {
     let mut at = from;
     'plain: while at < bytes.len() && is_plain(bytes[at]) {
@@ -93,7 +94,7 @@ fn scan_plain<'a>(text: &'a str, at: usize) -> Option<(Plain<'a>, usize)>
 
 // The member at the place: its name, a colon, its value; and the place after it.
 #[inline(always)]
-fn scan_field<'a>(text: &'a str, at: usize) -> Option<(Field<'a>, usize)>
+fn scan_field<'a>(text: &'a str, at: usize) -> Option<(FlatMember<'a>, usize)>
     ensures text { IfSome result (λ p. drop at text.now ≡ field_text p.0 ++ drop p.1 text.now) }
     ensures fits { IfSome result (λ p. FitsPlain p.0.value) }
     ensures on { IfSome result (λ p. at < p.1) }
@@ -104,14 +105,15 @@ fn scan_field<'a>(text: &'a str, at: usize) -> Option<(Field<'a>, usize)>
         return None;
     }
     let (value, after) = scan_plain(text, end + 1)?;
-    Some((Field { name, value }, after))
+    Some((FlatMember { name, value }, after))
 }
 
-// Reads the members of the flat object that the text is into the first places, and tells how many they are, if
-// each is a whole number or a text, with no white space, escape or sign, and has a place.
-fn scan_flat<'a>(text: &'a str, places: &mut [Field<'a>]) -> Option<usize>
+// Reads the members of the flat object that the text is into the first places, and tells how many they are,
+// if each is a whole number or a text, with no white space, escape or sign, and has a place.
+fn scan_flat<'a>(text: &'a str, places: &mut [FlatMember<'a>]) -> Option<usize>
     ensures within { IfSome result (λ count. count ≤ length places.new) }
-    ensures value { IfSome result (λ count. read text.now ≡ Some (object (members_of (take count places.new)))) }
+    ensures value { IfSome result
+        (λ count. read text.now ≡ Some (object (flat_members (take count places.new)))) }
 {
     let bytes = text.as_bytes();
     if bytes.is_empty() || bytes[0] != b'{' {
@@ -137,13 +139,14 @@ fn scan_flat<'a>(text: &'a str, places: &mut [Field<'a>]) -> Option<usize>
     None
 }
 
-/// Reads the members of the object that the bytes are the text of into the first places, and tells how many they
-/// are; of a name that stands twice the last counts. `None` says nothing of the bytes: it comes for all that isn't
-/// the compact text of whole numbers and texts, below 10^19 and with no escape, or that has more members than places.
-pub(crate) fn scan_body<'a>(bytes: &'a [u8], places: &mut [Field<'a>]) -> Option<usize>
+/// Reads the members of the object that the bytes are the text of into the first places, and tells how many
+/// they are; of a name that stands twice the last counts. `None` says nothing of the bytes: it comes for all
+/// that isn't the compact text of whole numbers and texts, below 10^19 and with no escape, or that has more
+/// members than places.
+pub(crate) fn scan_body<'a>(bytes: &'a [u8], places: &mut [FlatMember<'a>]) -> Option<usize>
     ensures within { IfSome result (λ count. count ≤ length places.new) }
     ensures length { IfSome result (λ count. HasBodyLength bytes.now) }
-    ensures value { IfSome result (λ count. Reads bytes.now (object (members_of (take count places.new)))) }
+    ensures value { IfSome result (λ count. Reads bytes.now (object (flat_members (take count places.new)))) }
 {
     if !has_body_length(bytes) {
         return None;

@@ -33,7 +33,8 @@ module _ (A : Type 0) (shape : Shape A) (reader : IsReader A shape) where
       }
 
   -- what is found among members has no more than they are
-  pub has_each : (ms : Members) (x : A) → IsSorted ms → shape.found ms ≡ Some x → length (shape.row x) ≤ members_len ms
+  pub has_each : (ms : Members) (x : A) → IsSorted ms → shape.found ms ≡ Some x
+      → length (shape.row x) ≤ members_len ms
   has_each ms x sorted found =
       omega (
         arith,

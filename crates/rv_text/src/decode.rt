@@ -10,7 +10,7 @@ use crate::answer::Answer;
 use crate::call::Call;
 use crate::members::{read_call, read_key, read_refusal, read_reply, read_version};
 use crate::message::Message;
-use rv_json::{Body, Field, Members, TextFault, decode, read_text, read_whole};
+use rv_json::{Body, FlatMember, Members, TextFault, decode, read_text, read_whole};
 use std::alloc::Global;
 
 /// The message whose body the bytes are.
@@ -73,7 +73,7 @@ impl Body for Message {
         self.fits()
     }
 
-    fn has_members(&self, _fields: &[Field]) {}
+    fn has_members(&self, _fields: &[FlatMember]) {}
 }
 
 impl Body for Answer {
@@ -113,7 +113,7 @@ impl Body for Answer {
         self.fits()
     }
 
-    fn has_members(&self, _fields: &[Field]) {}
+    fn has_members(&self, _fields: &[FlatMember]) {}
 }
 
 impl Body for Call {
@@ -133,5 +133,5 @@ impl Body for Call {
         self.fits()
     }
 
-    fn has_members(&self, _fields: &[Field]) {}
+    fn has_members(&self, _fields: &[FlatMember]) {}
 }

@@ -1,8 +1,9 @@
 -- A member more, and at last the bracket.
-use Rattle.std.proofs.Common.{◌≡◌, ◌<◌, ◌+◌, ◌∷◌, ◌++◌, Some, get_or, length, take, drop, arith, subst, sym, ap, ◌∙◌}
+use Rattle.std.proofs.Common.{◌≡◌, ◌<◌, ◌+◌, ◌∷◌, ◌++◌, Some, get_or, length, take, drop, arith, subst, sym}
+use Rattle.std.proofs.Common.{ap, ◌∙◌}
 use Rattle.std.proofs.lemmas.List.{length-set, take_more_set}
 use Rattle.serde_json.specs.Data.{object}
-use Rattle.rv_json.specs.Flat.{members_of}
+use Rattle.rv_json.specs.Flat.{flat_members}
 use Rattle.rv_json.specs.Scan.{each_text, FitEach}
 use Rattle.rv_json.proofs.FlatParts.{more_read, last_read, FitEach-push}
 use Rattle.rv_json.proofs.FlatTokens.{flat_text}
@@ -19,7 +20,8 @@ returns-then-end-bytes-2-clause-value c =
     let ends : end + 1 ≡ length t = subst (λ d. end + 1 ≡ length d) same c.if-end-bytes-2.true in
     let whole = last_read t fs f c.turns.at end c.turns.invariant.0 c.in_ok-field.ensures.text ends close in
     flat_text fs f t (FitEach-push fs f c.turns.invariant.1 c.in_ok-field.ensures.fits) whole
-    ∙ ap (λ all. Some (object (members_of all))) (sym (take_more_set c.turns.places c.turns.count f c.if-count-places.true))
+    ∙ ap (λ all. Some (object (flat_members all))) (sym (take_more_set c.turns.places c.turns.count f
+    c.if-count-places.true))
 
 pub turns-preserved : goal.turns-preserved
 turns-preserved c =

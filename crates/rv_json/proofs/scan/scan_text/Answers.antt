@@ -10,9 +10,11 @@ returns-clause-text c =
     let end = c.plain_end-end.result in
     let s = c.in_ok-get.field-0.now in
     let between : s ≡ take (end - (c.args.at + 1)) (drop (c.args.at + 1) d) =
-    c.in_ok-get.ensures.cases.0 ∙ ap (λ t. take (end - (c.args.at + 1)) (drop (c.args.at + 1) t)) (sym c.as_bytes-bytes.ensures.value) in
+    c.in_ok-get.ensures.cases.0 ∙ ap (λ t. take (end - (c.args.at + 1)) (drop (c.args.at + 1) t))
+    (sym c.as_bytes-bytes.ensures.value) in
     let first : get_or d c.args.at 0 ≡ 34 = c.if-bytes-at-ne34.false in
     let last : get_or d end 0 ≡ 34 = c.if-bytes-end-ne34.false in
     let plain : escape s ≡ s = subst (λ l. escape l ≡ l) (sym between) c.plain_end-end.ensures.plain in
     subst (λ t. drop c.args.at t ≡ quoted s ++ drop (end + 1) t) c.as_bytes-bytes.ensures.value
-    (quoted_here d s c.args.at end (omega arith) first c.plain_end-end.ensures.after (omega arith) last between plain)
+    (quoted_here d s c.args.at end (omega arith) first c.plain_end-end.ensures.after
+    (omega arith) last between plain)

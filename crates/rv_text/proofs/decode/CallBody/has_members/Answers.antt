@@ -1,6 +1,6 @@
 -- A value that is found has each of its members among these.
-use Rattle.rv_json.specs.Flat.{members_of}
-use Rattle.rv_json.proofs.InOrder.{members_of_sorted}
+use Rattle.rv_json.specs.Flat.{flat_members}
+use Rattle.rv_json.proofs.InOrder.{flat_members_sorted}
 use Rattle.rv_text.specs.Reading.{calls}
 use Rattle.rv_text.proofs.Readers.{call_reader}
 use Rattle.rv_text.proofs.Decoding.{has_each}
@@ -9,4 +9,4 @@ use Rattle.rv_text.proofs.decode.CallBody.has_members.Goals as goal
 pub returns : goal.returns
 returns c =
     let fields = c.args._fields.now in
-    has_each _ calls call_reader (members_of fields) c.args.self.now (members_of_sorted fields) c.requires
+    has_each _ calls call_reader (flat_members fields) c.args.self.now (flat_members_sorted fields) c.requires

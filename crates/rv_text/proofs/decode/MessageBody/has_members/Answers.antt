@@ -1,6 +1,6 @@
 -- A value that is found has each of its members among these.
-use Rattle.rv_json.specs.Flat.{members_of}
-use Rattle.rv_json.proofs.InOrder.{members_of_sorted}
+use Rattle.rv_json.specs.Flat.{flat_members}
+use Rattle.rv_json.proofs.InOrder.{flat_members_sorted}
 use Rattle.rv_text.specs.Reading.{messages}
 use Rattle.rv_text.proofs.Readers.{message_reader}
 use Rattle.rv_text.proofs.Decoding.{has_each}
@@ -9,4 +9,5 @@ use Rattle.rv_text.proofs.decode.MessageBody.has_members.Goals as goal
 pub returns : goal.returns
 returns c =
     let fields = c.args._fields.now in
-    has_each _ messages message_reader (members_of fields) c.args.self.now (members_of_sorted fields) c.requires
+    has_each _ messages message_reader (flat_members fields) c.args.self.now
+    (flat_members_sorted fields) c.requires
