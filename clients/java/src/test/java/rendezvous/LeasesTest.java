@@ -15,7 +15,6 @@ import java.util.ArrayList;
 import java.util.List;
 import java.util.Map;
 import java.util.Optional;
-import java.util.OptionalLong;
 import java.util.TreeSet;
 import java.util.concurrent.TimeUnit;
 import org.junit.jupiter.api.Test;
@@ -28,12 +27,12 @@ final class LeasesTest {
     private final long first = OwnNumbers.first();
 
     private Leases of(long least, long greatest) {
-        return new Leases(new ClientRange(first + least, first + greatest), OptionalLong.empty());
+        return new Leases(new ClientRange(first + least, first + greatest));
     }
 
     /** Whether nobody has a number. */
     static boolean isFree(long client) {
-        Optional<Lease> lease = new Leases(new ClientRange(client, client), OptionalLong.empty()).next();
+        Optional<Lease> lease = new Leases(new ClientRange(client, client)).next();
         lease.ifPresent(Lease::giveBack);
         return lease.isPresent();
     }
@@ -144,13 +143,25 @@ final class LeasesTest {
         again.giveBack();
     }
 
+    /** A number may have been leased before in the same incarnation: that client's replies would be heard as this one's. */
     @Test
-    void anIncarnationThatTheUserChoseIsUsedAsItIs() {
-        Leases chosen = new Leases(new ClientRange(first, first), OptionalLong.of(17));
-        Lease lease = next(chosen);
-        assertEquals(17, lease.incarnation());
-        assertFalse(chosen.areUsedAgain());
-        lease.giveBack();
+    void anIncarnationIsNotChosenForLeasedNumbers() {
+        for (RvClients.Builder each : List.of(RvClients.builder("127.0.0.1", 1).incarnation(17),
+                RvClients.builder("127.0.0.1", 1).clients(first, first).incarnation(17),
+                RvClients.builder("127.0.0.1", 1).incarnation(17).clients(first, first))) {
+            IllegalStateException refused = assertThrows(IllegalStateException.class, each::build);
+            assertEquals("an incarnation is chosen along with numbers of your own, by unleased() and clients(first, last), or left "
+                + "out", refused.getMessage());
+        }
+        RvClients.builder("127.0.0.1", 1).clients(first, first).incarnation(17).unleased().build().close();
+    }
+
+    @Test
+    void anIncarnationThatTheUserChoseIsUsedAsItIsOnceForEachNumber() {
+        Numbers given = new Numbers.Given(new ClientRange(first, first), 17);
+        assertEquals(17, given.next().orElseThrow(given::none).incarnation());
+        assertFalse(given.areUsedAgain());
+        assertTrue(of(1, 1).areUsedAgain());
     }
 
     @Test

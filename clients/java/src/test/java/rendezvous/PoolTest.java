@@ -438,7 +438,7 @@ final class PoolTest {
     @Test
     void aChosenIncarnationIsThatOfEachSession() throws Exception {
         CountDownLatch latch = new CountDownLatch(1);
-        try (Answering server = holding(latch); RvClients clients = leasing(server).incarnation(17).build()) {
+        try (Answering server = holding(latch); RvClients clients = server.clients(1, 2).incarnation(17).build()) {
             Calling<String> held = putting(clients, "held");
             server.awaitAsked(1);
             queue(clients).put("a");
