@@ -17,7 +17,10 @@ import java.util.Map;
 import java.util.Optional;
 import java.util.TreeSet;
 import java.util.concurrent.TimeUnit;
+import java.util.concurrent.locks.LockSupport;
 import org.junit.jupiter.api.Test;
+import org.junit.jupiter.api.condition.EnabledOnOs;
+import org.junit.jupiter.api.condition.OS;
 import org.junit.jupiter.params.ParameterizedTest;
 import org.junit.jupiter.params.provider.CsvSource;
 import org.junit.jupiter.params.provider.ValueSource;
@@ -38,15 +41,20 @@ final class LeasesTest {
     }
 
     /**
-     * Waits until nobody has a number: a program that is just being started, as Maven starts some, has a copy of each socket until
-     * it begins.
+     * This program has no number's socket any more, and then nobody has the number. That is awaited: a program that is just being
+     * started, as Maven starts some, has a copy of each socket until it begins.
      */
-    static void awaitFree(long client) {
-        long ends = System.nanoTime() + TimeUnit.MINUTES.toNanos(2);
+    static void assertFree(long client) {
+        assertFalse(OwnSockets.isBound(placeOf(client)), "client " + client + " was not given back");
+        long ends = System.nanoTime() + TimeUnit.MINUTES.toNanos(1);
         while (!isFree(client)) {
             assertTrue(System.nanoTime() < ends, "client " + client + " is not free");
-            Thread.yield();
+            LockSupport.parkNanos(TimeUnit.MILLISECONDS.toNanos(1));
         }
+    }
+
+    private static InetSocketAddress placeOf(long client) {
+        return Leases.place(new UnixSystem().getUid(), client);
     }
 
     private static Lease next(Leases leases) {
@@ -61,7 +69,7 @@ final class LeasesTest {
         assertEquals(first + 7, seventh.client());
         assertEquals(first + 8, eighth.client());
         seventh.giveBack();
-        awaitFree(first + 7);
+        assertFree(first + 7);
         Lease again = next(leases);
         assertEquals(first + 7, again.client());
         assertTrue(again.incarnation() > seventh.incarnation());
@@ -78,15 +86,25 @@ final class LeasesTest {
         assertEquals(new InetSocketAddress(host, port), Leases.place(user, client));
     }
 
+    /** So that what has no number's socket any more is seen to have had it. */
+    @Test
+    @EnabledOnOs(OS.LINUX)
+    void aLeaseIsASocketOfThisProgramUntilItIsGivenBack() {
+        Lease lease = next(of(0, 0));
+        assertTrue(OwnSockets.isBound(placeOf(first)));
+        lease.giveBack();
+        assertFalse(OwnSockets.isBound(placeOf(first)));
+    }
+
     @Test
     void whoeverHasBoundThePlaceOfANumberHasTheNumber() throws Exception {
         try (DatagramChannel other = DatagramChannel.open(StandardProtocolFamily.INET)) {
-            other.bind(Leases.place(new UnixSystem().getUid(), first));
+            other.bind(placeOf(first));
             Lease lease = next(of(0, 1));
             assertEquals(first + 1, lease.client());
             lease.giveBack();
         }
-        awaitFree(first);
+        assertFree(first);
         Lease lease = next(of(0, 1));
         assertEquals(first, lease.client());
         lease.giveBack();
@@ -99,7 +117,7 @@ final class LeasesTest {
         assertEquals(first + 2, other.client());
         assertEquals(Optional.empty(), of(1, 2).next());
         one.giveBack();
-        awaitFree(first + 1);
+        assertFree(first + 1);
         Lease again = next(of(1, 2));
         assertEquals(first + 1, again.client());
         List.of(other, again).forEach(Lease::giveBack);
@@ -118,12 +136,12 @@ final class LeasesTest {
     void aLeaseThatIsGivenBackTwiceEndsNoLaterOne() {
         Lease one = next(of(1, 1));
         one.giveBack();
-        awaitFree(first + 1);
+        assertFree(first + 1);
         Lease second = next(of(1, 1));
         one.giveBack();
         assertEquals(Optional.empty(), of(1, 1).next());
         second.giveBack();
-        awaitFree(first + 1);
+        assertFree(first + 1);
         Lease third = next(of(1, 1));
         assertEquals(first + 1, third.client());
         third.giveBack();
@@ -137,7 +155,7 @@ final class LeasesTest {
         assertEquals(Optional.empty(), of(1, 1).next(), "the lease stands");
         lease.giveBack();
         assertTrue(Thread.interrupted());
-        awaitFree(first + 1);
+        assertFree(first + 1);
         Lease again = next(of(1, 1));
         assertEquals(first + 1, again.client());
         again.giveBack();
