@@ -9,7 +9,6 @@ for everything in the account's list of entries, so a line's cost grows faster t
 script of a book is longer, and more clients come to it than it serves. What must hold of every world is looked at in
 the model's own world, at the end of each script.
 """
-import argparse
 import pathlib
 import random
 import subprocess
@@ -25,6 +24,7 @@ from tests.model.plays import make_play, play_fault  # noqa: E402
 from tests.model.records import compare_records  # noqa: E402
 from tests.model.row_entries import entry_faults  # noqa: E402
 from tests.model.rows import LATER_WORLDS, drain_faults, play_row_faults, row_faults  # noqa: E402
+from tests.model.runs import run, seeded  # noqa: E402
 from tests.model.scripts import law_fault, make_crowd, make_script  # noqa: E402
 from tests.model.spoilt import make_texts  # noqa: E402
 from tests.model.verdicts import Unsure, verdict  # noqa: E402
@@ -38,20 +38,14 @@ CROWD_LINES = 1_600
 
 def selftest():
     """Runs the whole model on worked rows, on accounts that are broken by hand, on random books of its own, and on books
-    that drain wrongly, each of which must be found."""
-    passed = failed = 0
+    that drain wrongly, each of which must be found: the faults of each."""
     books = ((f"random book {seed}", law_fault(random.Random(seed))) for seed in range(10))
     plays = ((f"random world {seed}", play_fault(random.Random(seed))) for seed in range(20))
     audits = ((f"random accounts {seed}", audits_fault(random.Random(seed))) for seed in range(5))
     hands = [*row_faults(), *drain_faults(), *broken_faults(), *line_faults(), *play_row_faults()]
     hands += [*row_faults(VERSION_ROWS), *play_row_faults(VERSION_WORLDS), *second_faults()]
     hands += [*entry_faults(), *play_row_faults(LATER_WORLDS)]
-    for name, fault in [*hands, *books, *plays, *audits, *wrong_book_faults()]:
-        passed, failed = passed + (not fault), failed + bool(fault)
-        if fault:
-            print(f"FAILED: {name}: {fault}")
-    print(f"{passed} passed, {failed} failed")
-    return failed == 0
+    return [*hands, *books, *plays, *audits, *wrong_book_faults()]
 
 
 def audits_fault(chance):
@@ -134,9 +128,21 @@ def compare_steps(program, seed, count, machines):
     return same and not machines.lacking()
 
 
+def compare_as(asked):
+    """Compares what is asked for."""
+    scripts = play_script if asked.play else book_script
+    program = asked.program or (STEPS if asked.limits else PROGRAM)
+    if asked.audit:
+        return compare_audits(program, asked.seed, asked.accounts)
+    if asked.replies:
+        return compare_records(program, asked.seed, asked.replies, asked.records)
+    if asked.limits:
+        return compare_steps(program, asked.seed, asked.lines, Machines(limits_of(asked.limits), asked.anew))
+    return compare(program, asked.seed, asked.lines, asked.epoch, scripts)
+
+
 def main():
-    parser = argparse.ArgumentParser(description=__doc__)
-    parser.add_argument("--seed", type=int, default=random.randrange(10**9), help="default: any")
+    parser = seeded(__doc__, "test the model itself, with no program")
     parser.add_argument("--lines", type=int, default=10_000)
     parser.add_argument("--epoch", type=int, help="default: some, by the seed")
     parser.add_argument("--program", help="default: rv, or rv_steps under limits")
@@ -147,22 +153,7 @@ def main():
     parser.add_argument("--records", type=int, default=1, help="how many of each account")
     parser.add_argument("--limits", nargs=3, metavar=("ENTRIES", "CLIENTS", "OPEN"), help="messages to a machine under these")
     parser.add_argument("--anew", action="store_true", help="a machine that is made anew behind each line")
-    parser.add_argument("--selftest", action="store_true", help="test the model itself, with no program")
-    asked = parser.parse_args()
-    if asked.selftest:
-        sys.exit(not selftest())
-    scripts = play_script if asked.play else book_script
-    program = asked.program or (STEPS if asked.limits else PROGRAM)
-    if asked.audit:
-        same = compare_audits(program, asked.seed, asked.accounts)
-    elif asked.replies:
-        same = compare_records(program, asked.seed, asked.replies, asked.records)
-    elif asked.limits:
-        same = compare_steps(program, asked.seed, asked.lines, Machines(limits_of(asked.limits), asked.anew))
-    else:
-        same = compare(program, asked.seed, asked.lines, asked.epoch, scripts)
-    print("1 passed, 0 failed" if same else "0 passed, 1 failed")
-    sys.exit(not same)
+    run(parser, selftest, compare_as)
 
 
 main()

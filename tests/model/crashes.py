@@ -4,7 +4,6 @@ crashes, and holds each world against the nine clauses of its headline by brute 
 dropped in turn, and a list that is kept must break the clause that rests on it."""
 from __future__ import annotations
 
-import argparse
 import pathlib
 import random
 import sys
@@ -16,6 +15,7 @@ from tests.model.account import Call  # noqa: E402
 from tests.model.crash_laws import faults  # noqa: E402
 from tests.model.crash_world import CrashWorld, sender  # noqa: E402
 from tests.model.limits import BOOK, Limits  # noqa: E402
+from tests.model.runs import run, seeded  # noqa: E402
 from tests.model.world import Idle  # noqa: E402
 from tests.model.wrong_crashes import wrong_crash_faults  # noqa: E402
 
@@ -158,17 +158,6 @@ MEETS = [*ODDS, "welcome", "waiting", "done", "received", "item", "swapped", "no
          "peeked", "drained", "2", "4", "5", "9", "10", "11"]
 
 
-def selftest() -> bool:
-    """Drops each rule in turn."""
-    passed = failed = 0
-    for name, fault in wrong_crash_faults():
-        passed, failed = passed + (not fault), failed + bool(fault)
-        if fault:
-            print(f"FAILED: {name}: {fault}")
-    print(f"{passed} passed, {failed} failed")
-    return failed == 0
-
-
 def play(seed: int, count: int) -> bool:
     """Plays so many occurrences in lists of their own; ends at the first clause that is broken."""
     met, worlds = Counter(), 0
@@ -191,16 +180,9 @@ def play(seed: int, count: int) -> bool:
 
 
 def main() -> None:
-    parser = argparse.ArgumentParser(description=__doc__)
-    parser.add_argument("--seed", type=int, default=random.randrange(10**9), help="default: any")
+    parser = seeded(__doc__, "worlds that drop a rule, each of which a list must show")
     parser.add_argument("--occurrences", type=int, default=5_000)
-    parser.add_argument("--selftest", action="store_true", help="worlds that drop a rule, each of which a list must show")
-    asked = parser.parse_args()
-    if asked.selftest:
-        sys.exit(not selftest())
-    same = play(asked.seed, asked.occurrences)
-    print("1 passed, 0 failed" if same else "0 passed, 1 failed")
-    sys.exit(not same)
+    run(parser, wrong_crash_faults, lambda asked: play(asked.seed, asked.occurrences))
 
 
 main()

@@ -6,7 +6,6 @@ A script has a hub of its own, and up to 120 events. Of each the program must te
 were taken, or why it can't be, the entries, each connection that changed with its bytes to hand out, the totals and the next
 moment. The program is rv_steps, whose lines tests/model/hub_lines.py has.
 """
-import argparse
 import pathlib
 import random
 import subprocess
@@ -21,6 +20,7 @@ from tests.model.hub_lines import blocks_of, hub_words  # noqa: E402
 from tests.model.hub_rows import SHORT_ROWS, events_of, hub_row_faults  # noqa: E402
 from tests.model.hub_scripts import Script, make_hub_script  # noqa: E402
 from tests.model.hub_tally import Tally  # noqa: E402
+from tests.model.runs import run, seeded  # noqa: E402
 from tests.model.wrong_hubs import wrong_hub_faults  # noqa: E402
 from tools.outside import STEPS  # noqa: E402
 
@@ -30,17 +30,12 @@ FULL_RUN = 20_000
 EVENTS = 120
 
 
-def selftest() -> bool:
-    """Looks at the model's hub in worked rows and in random events, and at wrong ones, each of which random events find."""
-    passed = failed = 0
+def selftest() -> list[tuple[str, object]]:
+    """Looks at the model's hub in worked rows and in random events, and at wrong ones, each of which random events find: the
+    faults of each."""
     laws = ((f"random hub {seed}", hub_fault(random.Random(f"laws {seed}"), 60)) for seed in range(60))
     lacking = ((f"{name}, a growth refused", lacking_fault(terms, events_of(terms, lines))) for name, terms, lines in SHORT_ROWS)
-    for name, fault in [*hub_row_faults(), *laws, *lacking, *wrong_hub_faults()]:
-        passed, failed = passed + (not fault), failed + bool(fault)
-        if fault:
-            print(f"FAILED: {name}: {fault}")
-    print(f"{passed} passed, {failed} failed")
-    return failed == 0
+    return [*hub_row_faults(), *laws, *lacking, *wrong_hub_faults()]
 
 
 def told_by(program: str, script: Script) -> Iterator[list[bytes]]:
@@ -89,17 +84,10 @@ def compare(program: str, seed: int, count: int) -> bool:
 
 
 def main() -> None:
-    parser = argparse.ArgumentParser(description=__doc__)
-    parser.add_argument("--seed", type=int, default=random.randrange(10**9), help="default: any")
+    parser = seeded(__doc__, "test the model itself, with no program")
     parser.add_argument("--events", type=int, default=5_000)
     parser.add_argument("--program", default=STEPS)
-    parser.add_argument("--selftest", action="store_true", help="test the model itself, with no program")
-    asked = parser.parse_args()
-    if asked.selftest:
-        sys.exit(not selftest())
-    same = compare(asked.program, asked.seed, asked.events)
-    print("1 passed, 0 failed" if same else "0 passed, 1 failed")
-    sys.exit(not same)
+    run(parser, selftest, lambda asked: compare(asked.program, asked.seed, asked.events))
 
 
 main()

@@ -6,13 +6,13 @@ accounts with the same state, which must go on alike.
 In some walks there may be few entries or few clients, or little may be open, so that the rules of room are met; a step that they
 don't refuse is one under a book's limits.
 """
-import argparse
 import pathlib
 import random
 import sys
 
 ROOT = pathlib.Path(__file__).resolve().parents[2]
 sys.dont_write_bytecode, sys.path[0] = True, str(ROOT)
+from tests.model.runs import run, seeded  # noqa: E402
 from tests.model.state_comparison import Comparison, missed  # noqa: E402
 from tests.model.state_pairs import pair_faults  # noqa: E402
 from tests.model.state_rows import state_row_faults  # noqa: E402
@@ -26,14 +26,8 @@ WALKS = 2_000
 
 def selftest():
     """Looks at states that are written by hand, at pairs that differ in one part, and at wrong definitions, each of which must
-    be refused."""
-    passed = failed = 0
-    for name, fault in [*state_row_faults(), *pair_faults(), *wrong_state_faults()]:
-        passed, failed = passed + (not fault), failed + bool(fault)
-        if fault:
-            print(f"FAILED: {name}: {fault}")
-    print(f"{passed} passed, {failed} failed")
-    return failed == 0
+    be refused: the faults of each."""
+    return [*state_row_faults(), *pair_faults(), *wrong_state_faults()]
 
 
 def compare(seed, steps, entries):
@@ -55,17 +49,10 @@ def compare(seed, steps, entries):
 
 
 def main():
-    parser = argparse.ArgumentParser(description=__doc__)
-    parser.add_argument("--seed", type=int, default=random.randrange(10**9), help="default: any")
+    parser = seeded(__doc__, "states by hand, and wrong definitions, which it must refuse")
     parser.add_argument("--steps", type=int, default=5_000)
     parser.add_argument("--entries", type=int, default=1_000)
-    parser.add_argument("--selftest", action="store_true", help="states by hand, and wrong definitions, which it must refuse")
-    asked = parser.parse_args()
-    if asked.selftest:
-        sys.exit(not selftest())
-    same = compare(asked.seed, asked.steps, asked.entries)
-    print("1 passed, 0 failed" if same else "0 passed, 1 failed")
-    sys.exit(not same)
+    run(parser, selftest, lambda asked: compare(asked.seed, asked.steps, asked.entries))
 
 
 main()

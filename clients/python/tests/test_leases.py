@@ -142,6 +142,13 @@ class Numbers(Case):
                 with self.subTest(**wrong), self.assertRaises(ValueError):
                     rv.Session(**{"address": "127.0.0.1:7411", **wrong})
 
+    def test_an_incarnation_without_its_client_number(self):
+        """Whoever leased the number before may have used it too, and had replies that would be heard as this session's."""
+        for kind in (rv.Session, aio.Session):
+            for more in ({}, {"clients": numbers()}):
+                with self.assertRaisesRegex(ValueError, "an incarnation is given along with its client number, or left out"):
+                    kind("127.0.0.1:1", incarnation=7, **more)
+
     def test_a_thread_that_can_not_be_started(self):
         """The number is given back."""
         with leasing() as clients, mock.patch("_thread.start_new_thread", side_effect=RuntimeError("no thread")):

@@ -144,6 +144,17 @@ class Away:
 
 
 @contextlib.contextmanager
+def moved(kind, renew):
+    """A server that is started anew and still away, and a session that was idle when the old one ended, and looks for the new one."""
+    away = Away(ANEW, welcome_anew, reply("done"))
+    with contextlib.closing(away), playing(kind, welcome, reply("done"), renew=renew) as (server, played):
+        played.ask(put)
+        server.__exit__()
+        played.goes_to(away.address)
+        yield away, played
+
+
+@contextlib.contextmanager
 def tried_in_vain(deed):
     """In the block, a deed is done once a connection was refused."""
     failed, did = Course._failed, []
@@ -159,6 +170,12 @@ def tried_in_vain(deed):
 
 class NobodyMetIt(Case):
     """Each copy of a request was refused by a server of a greater epoch."""
+
+    def puts_anew(self, away, played, renew):
+        """A put, which the new server refuses: that is told, or the session renews itself and asks there."""
+        with contextlib.nullcontext() if renew else self.raises(rv.NotAsked, current=5):
+            played.ask(put)
+        self.assertEqual(requests(away.server), [(1, 2, "put"), (5, 1, "put")][:1 + renew])
 
     @both
     def test_idle_over_a_restart(self, kind):
@@ -180,34 +197,18 @@ class NobodyMetIt(Case):
     def test_begun_while_the_server_was_away(self, kind):
         """Its only copy came to the new server."""
         for renew in (False, True):
-            away = Away(ANEW, welcome_anew, reply("done"))
-            with contextlib.closing(away), playing(kind, welcome, reply("done"), renew=renew) as (server, played):
-                played.ask(put)
-                server.__exit__()
-                played.goes_to(away.address)
-                with tried_in_vain(away.begin):
-                    if renew:
-                        played.ask(put)
-                    else:
-                        with self.raises(rv.NotAsked, current=5):
-                            played.ask(put)
-                self.assertEqual(requests(away.server), [(1, 2, "put"), (5, 1, "put")][:1 + renew])
+            with moved(kind, renew) as (away, played), tried_in_vain(away.begin):
+                self.puts_anew(away, played, renew)
 
     @both
     def test_a_cancel_while_the_server_is_away(self, kind):
         """Nothing was asked, and the session goes on; the next call is told of the restart, or renews it."""
         for renew in (False, True):
-            away = Away(ANEW, welcome_anew, reply("done"))
-            with contextlib.closing(away), playing(kind, welcome, reply("done"), renew=renew) as (server, played):
-                played.ask(put)
-                server.__exit__()
-                played.goes_to(away.address)
+            with moved(kind, renew) as (away, played):
                 with tried_in_vain(played.cancel), self.raises(rv.Cancelled, key=None):
                     played.ask(put)
                 away.begin()
-                with contextlib.nullcontext() if renew else self.raises(rv.NotAsked, current=5):
-                    played.ask(put)
-                self.assertEqual(requests(away.server), [(1, 2, "put"), (5, 1, "put")][:1 + renew])
+                self.puts_anew(away, played, renew)
 
     @both
     def test_no_room_is_no_doubt(self, kind):

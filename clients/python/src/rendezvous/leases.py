@@ -64,7 +64,7 @@ class Lease(Name):
 def name_of(client: Optional[int], incarnation: Optional[int], clients: Optional[range]) -> Name:
     """The name of a session: what is given, and for what is left out a leased number and a new incarnation."""
     if client is None:
-        checked(incarnation is None, "an incarnation is given along with its client number")
+        checked(incarnation is None, "an incarnation is given along with its client number, or left out")
         return leased(range_of(clients))
     checked(clients is None, "a client number is given, or a range to lease one from")
     for what, number in (("client", client), ("incarnation", 1 if incarnation is None else incarnation)):

@@ -37,8 +37,9 @@ class Session:
     with: left out, it is this moment, in microseconds, or above all that this process used. Without a client number the least
     free one of `clients` is leased, until the session is closed; a lease counts among the programs of one user on one host, so
     each host has a range of its own. The range is `clients`, or what the environment says in RV_CLIENTS (as 1-512), or 1 to
-    1,024. `AllLeased` where none is free. Where the server has a greater incarnation at the first hello of a leased number, for
-    the clock was set back, the session takes the next one above that.
+    1,024. `AllLeased` where none is free. No incarnation is given for a leased number: whoever leased it before may have used
+    that one too, and this session would hear its replies. Where the server has a greater incarnation at the first hello of a
+    leased number, for the clock was set back, the session takes the next one above that.
 
     `version` is what the session speaks: in version 2 a receipt names the consumer, in version 1, which
     each server knows, it does not. `patience` is for how many seconds a call goes on while nothing at all is

@@ -9,7 +9,6 @@ import java.net.InetSocketAddress;
 import java.net.StandardProtocolFamily;
 import java.nio.channels.DatagramChannel;
 import java.util.Optional;
-import java.util.OptionalLong;
 
 /**
  * Client numbers that are leased, each by a datagram socket that is bound to a loopback address and a port, which stand for
@@ -26,12 +25,10 @@ final class Leases implements Numbers {
     private static final byte[] ONE_ADDRESS = {127, 0, 0, 1};
 
     private final ClientRange range;
-    private final OptionalLong chosen;
 
-    /** Leases of this range, in incarnations of their own or in the one that the user chose. */
-    Leases(ClientRange range, OptionalLong chosen) {
+    /** Leases of this range, each in an incarnation of its own. */
+    Leases(ClientRange range) {
         this.range = range;
-        this.chosen = chosen;
     }
 
     @Override
@@ -41,7 +38,7 @@ final class Leases implements Numbers {
 
     @Override
     public boolean areUsedAgain() {
-        return chosen.isEmpty();
+        return true;
     }
 
     @Override
@@ -64,7 +61,7 @@ final class Leases implements Numbers {
     private Lease leased(long client, DatagramChannel held) {
         boolean made = false;
         try {
-            Lease lease = new Lease(client, chosen.orElseGet(Incarnations::next), () -> close(held));
+            Lease lease = new Lease(client, Incarnations.next(), () -> close(held));
             made = true;
             return lease;
         } finally {

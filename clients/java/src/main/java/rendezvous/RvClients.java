@@ -123,8 +123,9 @@ public final class RvClients implements AutoCloseable {
         }
 
         /**
-         * The incarnation of all sessions, 1 to 2<sup>53</sup> - 1, above each that the numbers were used in. Each number
-         * is then used by one session of these clients. Unless it is chosen here, it is the microseconds since 1970, or
+         * The incarnation of all sessions, 1 to 2<sup>53</sup> - 1, above each that the numbers were used in. It goes with
+         * numbers of your own, which {@link #unleased} tells: whoever leased a number before may have used this incarnation too,
+         * and these clients would hear its replies. Unless it is chosen here, it is the microseconds since 1970, or
          * above all that this process used: of each session with a leased number, which takes one above the server's where
          * its first hello is refused for that; else at {@link #build}.
          */
@@ -213,7 +214,8 @@ public final class RvClients implements AutoCloseable {
          *
          * @throws IllegalArgumentException if the host, the port, the version, the patience, {@code RV_CLIENTS} or
          *     {@code RV_RECORD} is none
-         * @throws IllegalStateException if numbers are not leased, and none are chosen
+         * @throws IllegalStateException if numbers are not leased, and none are chosen; or they are leased, and an incarnation is
+         *     chosen
          * @throws java.io.UncheckedIOException if the record cannot be written
          */
         public RvClients build() {
@@ -244,9 +246,12 @@ public final class RvClients implements AutoCloseable {
         }
 
         private Numbers numbers() {
+            if (leased && incarnation.isPresent()) {
+                throw new IllegalStateException("an incarnation is chosen along with numbers of your own, by unleased() and "
+                    + "clients(first, last), or left out");
+            }
             if (leased) {
-                ClientRange from = range == null ? ClientRange.of(System.getenv()) : range;
-                return new Leases(from, incarnation);
+                return new Leases(range == null ? ClientRange.of(System.getenv()) : range);
             }
             if (range == null) {
                 throw new IllegalStateException("numbers that are not leased are to be chosen: clients(first, last)");

@@ -7,6 +7,7 @@ import static org.junit.jupiter.api.Assertions.assertThrows;
 import static org.junit.jupiter.api.Assertions.assertTrue;
 
 import com.google.gson.JsonObject;
+import java.io.IOException;
 import java.time.Duration;
 import java.util.ArrayList;
 import java.util.List;
@@ -48,6 +49,33 @@ final class ClosesTest {
         }
     }
 
+    /** A take that came to a server, as the only call of its clients. */
+    private record Taking(Answering server, RvClients clients, RvTransferQueue queue, CompletableFuture<String> future)
+            implements AutoCloseable {
+        /** One at a server that answers so, of clients with this grace. */
+        static Taking at(Function<JsonObject, JsonObject> answer, long grace) throws Exception {
+            Answering server = new Answering(answer);
+            RvClients clients = server.clients(1, 8).grace(grace).build();
+            RvTransferQueue queue = ClosesTest.queue(clients);
+            CompletableFuture<String> future = queue.takeAsync();
+            server.awaitAsked(1);
+            return new Taking(server, clients, queue, future);
+        }
+
+        static Taking at(Function<JsonObject, JsonObject> answer) throws Exception {
+            return at(answer, Answering.LONG);
+        }
+
+        void stands(List<Key> unsettled, String... unclaimed) {
+            ClosesTest.stands(clients, queue, unsettled, unclaimed);
+        }
+
+        @Override
+        public void close() throws IOException {
+            server.close();
+        }
+    }
+
     private static boolean isCancel(JsonObject message) {
         return Bodies.word(message, "kind").equals("cancel");
     }
@@ -76,6 +104,14 @@ final class ClosesTest {
         });
     }
 
+    /** Closes the clients, which waits until this is done. */
+    private static void closesOnce(RvClients clients, Runnable done) throws Exception {
+        Calling<Boolean> closing = closing(clients);
+        closing.isWithin(WAITS);
+        done.run();
+        closing.end();
+    }
+
     private static List<Key> unsettled(RvClients clients) {
         return clients.unsettled().stream().map(RvSession::key).toList();
     }
@@ -98,21 +134,14 @@ final class ClosesTest {
     @Test
     void anItemThatComesAfterTheCloseIsUnclaimed() throws Exception {
         Held held = new Held(ClosesTest::late);
-        try (Answering server = new Answering(held)) {
-            RvClients clients = server.clients(1, 8).build();
-            RvTransferQueue queue = queue(clients);
-            CompletableFuture<String> taken = queue.takeAsync();
-            server.awaitAsked(1);
-            assertTrue(taken.cancel(true));
-            server.awaitAsked(2);
-            Calling<Boolean> closing = closing(clients);
-            closing.isWithin(WAITS);
-            held.tell();
-            closing.end();
-            stands(clients, queue, List.of(), "late");
-            assertTrue(taken.isCancelled());
-            assertEquals(2, server.asked().size(), "the cancel was sent again");
-            assertThrows(IllegalStateException.class, queue::take);
+        try (Taking take = Taking.at(held)) {
+            assertTrue(take.future().cancel(true));
+            take.server().awaitAsked(2);
+            closesOnce(take.clients(), held::tell);
+            take.stands(List.of(), "late");
+            assertTrue(take.future().isCancelled());
+            assertEquals(2, take.server().asked().size(), "the cancel was sent again");
+            assertThrows(IllegalStateException.class, take.queue()::take);
         }
     }
 
@@ -134,10 +163,7 @@ final class ClosesTest {
         CompletableFuture<String> taken = queue.takeAsync();
         asked.await();
         taken.cancel(true);
-        Calling<Boolean> closing = closing(clients);
-        closing.isWithin(WAITS);
-        goesOn.countDown();
-        closing.end();
+        closesOnce(clients, goesOn::countDown);
         assertEquals(List.of("request", "cancel"), kinds);
         stands(clients, queue, List.of(), "late");
     }
@@ -158,16 +184,12 @@ final class ClosesTest {
     void anItemThatCameBeforeTheCloseStaysUnclaimed() throws Exception {
         Held held = new Held(ClosesTest::late);
         held.tell();
-        try (Answering server = new Answering(held)) {
-            RvClients clients = server.clients(1, 8).build();
-            RvTransferQueue queue = queue(clients);
-            CompletableFuture<String> taken = queue.takeAsync();
-            server.awaitAsked(1);
-            taken.cancel(true);
-            isKept(queue);
-            clients.close();
-            assertEquals("late", queue.peek());
-            stands(clients, queue, List.of(), "late");
+        try (Taking take = Taking.at(held)) {
+            take.future().cancel(true);
+            isKept(take.queue());
+            take.clients().close();
+            assertEquals("late", take.queue().peek());
+            take.stands(List.of(), "late");
         }
     }
 
@@ -175,66 +197,47 @@ final class ClosesTest {
     void aTakeThatIsClosedByWhatCompletesItIsGivenUp() throws Exception {
         Held held = new Held(ClosesTest::late);
         held.tell();
-        try (Answering server = new Answering(held)) {
-            RvClients clients = server.clients(1, 8).build();
-            RvTransferQueue queue = queue(clients);
-            CompletableFuture<String> taken = queue.takeAsync();
-            server.awaitAsked(1);
-            taken.whenComplete((item, fault) -> clients.close());
-            assertTrue(taken.cancel(true));
-            stands(clients, queue, List.of(), "late");
+        try (Taking take = Taking.at(held)) {
+            take.future().whenComplete((item, fault) -> take.clients().close());
+            assertTrue(take.future().cancel(true));
+            take.stands(List.of(), "late");
         }
     }
 
     @Test
     void whatWasCancelledLeavesNothing() throws Exception {
         Held held = new Held(Outcome.Cancelled::new);
-        try (Answering server = new Answering(held)) {
-            RvClients clients = server.clients(1, 8).build();
-            RvTransferQueue queue = queue(clients);
-            CompletableFuture<String> taken = queue.takeAsync();
-            server.awaitAsked(1);
-            taken.cancel(true);
-            Calling<Boolean> closing = closing(clients);
-            closing.isWithin(WAITS);
-            held.tell();
-            closing.end();
-            stands(clients, queue, List.of());
+        try (Taking take = Taking.at(held)) {
+            take.future().cancel(true);
+            closesOnce(take.clients(), held::tell);
+            take.stands(List.of());
         }
     }
 
     @Test
     void whatIsNotSettledInTimeIsUnsettled() throws Exception {
-        try (Answering server = new Answering(message -> null)) {
-            RvClients clients = server.clients(1, 8).grace(SOON).build();
-            RvTransferQueue queue = queue(clients);
-            CompletableFuture<String> taken = queue.takeAsync();
-            server.awaitAsked(1);
-            taken.cancel(true);
-            clients.close();
-            stands(clients, queue, List.of(new Key(1, 1, 1, 1)));
-            assertTrue(taken.isCancelled());
-            while (!clients.unsettled().get(0).isUnsettled()) {
+        try (Taking take = Taking.at(message -> null, SOON)) {
+            take.future().cancel(true);
+            take.clients().close();
+            take.stands(List.of(new Key(1, 1, 1, 1)));
+            assertTrue(take.future().isCancelled());
+            while (!take.clients().unsettled().get(0).isUnsettled()) {
                 Thread.sleep(1);
             }
-            assertThrows(IllegalStateException.class, clients.unsettled().get(0)::again);
+            assertThrows(IllegalStateException.class, take.clients().unsettled().get(0)::again);
         }
     }
 
     @Test
     void aTakeThatNobodyGaveUpEndsAtOnceAndIsUnsettled() throws Exception {
-        try (Answering server = new Answering(message -> null)) {
-            RvClients clients = server.clients(1, 8).build();
-            RvTransferQueue queue = queue(clients);
-            CompletableFuture<String> future = queue.takeAsync();
-            server.awaitAsked(1);
-            Calling<String> taking = Calling.of(queue::take);
-            server.awaitAsked(2);
-            clients.close();
+        try (Taking take = Taking.at(message -> null)) {
+            Calling<String> taking = Calling.of(take.queue()::take);
+            take.server().awaitAsked(2);
+            take.clients().close();
             assertInstanceOf(RvException.Unsettled.class, taking.thrown());
-            assertEquals(List.of(1L, 2L), unsettled(clients).stream().map(Key::client).sorted().toList());
-            assertInstanceOf(RvException.Unsettled.class, future.handle((item, fault) -> fault).join());
-            assertEquals(2, server.asked().size(), "a cancel came");
+            assertEquals(List.of(1L, 2L), unsettled(take.clients()).stream().map(Key::client).sorted().toList());
+            assertInstanceOf(RvException.Unsettled.class, take.future().handle((item, fault) -> fault).join());
+            assertEquals(2, take.server().asked().size(), "a cancel came");
         }
     }
 
@@ -242,17 +245,13 @@ final class ClosesTest {
     void itWaitsThroughInterruptsWhichAreSetAgain() throws Exception {
         for (boolean before : List.of(true, false)) {
             Held held = new Held(ClosesTest::late);
-            try (Answering server = new Answering(held)) {
-                RvClients clients = server.clients(1, 8).build();
-                RvTransferQueue queue = queue(clients);
-                CompletableFuture<String> taken = queue.takeAsync();
-                server.awaitAsked(1);
-                taken.cancel(true);
+            try (Taking take = Taking.at(held)) {
+                take.future().cancel(true);
                 Calling<Boolean> closing = Calling.of(() -> {
                     if (before) {
                         Thread.currentThread().interrupt();
                     }
-                    clients.close();
+                    take.clients().close();
                     return Thread.interrupted();
                 });
                 closing.isWithin(WAITS);
@@ -262,7 +261,7 @@ final class ClosesTest {
                 }
                 held.tell();
                 assertTrue(closing.end(), "it is not interrupted");
-                stands(clients, queue, List.of(), "late");
+                take.stands(List.of(), "late");
             }
         }
     }
@@ -270,13 +269,9 @@ final class ClosesTest {
     @Test
     void severalThreadsMayCloseAndEachWaits() throws Exception {
         Held held = new Held(ClosesTest::late);
-        try (Answering server = new Answering(held)) {
-            RvClients clients = server.clients(1, 8).build();
-            RvTransferQueue queue = queue(clients);
-            CompletableFuture<String> taken = queue.takeAsync();
-            server.awaitAsked(1);
-            taken.cancel(true);
-            List<Calling<Boolean>> several = List.of(closing(clients), closing(clients));
+        try (Taking take = Taking.at(held)) {
+            take.future().cancel(true);
+            List<Calling<Boolean>> several = List.of(closing(take.clients()), closing(take.clients()));
             for (Calling<Boolean> each : several) {
                 each.isWithin(WAITS);
             }
@@ -284,8 +279,8 @@ final class ClosesTest {
             for (Calling<Boolean> each : several) {
                 assertFalse(each.end());
             }
-            clients.close();
-            stands(clients, queue, List.of(), "late");
+            take.clients().close();
+            take.stands(List.of(), "late");
         }
     }
 
@@ -325,10 +320,7 @@ final class ClosesTest {
                 server.awaitAsked(1);
                 taking.thread().interrupt();
                 server.awaitAsked(2);
-                Calling<Boolean> closing = closing(clients);
-                closing.isWithin(WAITS);
-                held.tell();
-                closing.end();
+                closesOnce(clients, held::tell);
                 if (held == taken) {
                     assertEquals("late", taking.end());
                 } else {
@@ -356,10 +348,7 @@ final class ClosesTest {
             jobs.close();
             Calling<Boolean> cancelling = Calling.of(() -> received.cancel(true));
             server.awaitAsked(4);
-            Calling<Boolean> closing = closing(clients);
-            closing.isWithin(WAITS);
-            held.tell();
-            closing.end();
+            closesOnce(clients, held::tell);
             assertEquals("an end", working.end());
             assertEquals(List.of("late"), done);
             assertFalse(cancelling.end());

@@ -10,7 +10,6 @@ import java.net.URLClassLoader;
 import java.nio.charset.StandardCharsets;
 import java.util.ArrayDeque;
 import java.util.Deque;
-import java.util.OptionalLong;
 
 /**
  * Leases a client number for each line "lease" of standard input, as the environment tells, for each line "other" by another
@@ -51,7 +50,7 @@ final class LeaseHolder {
 
     private static String leased() {
         try {
-            Leases leases = new Leases(ClientRange.of(System.getenv()), OptionalLong.empty());
+            Leases leases = new Leases(ClientRange.of(System.getenv()));
             Lease lease = leases.next().orElseThrow(leases::none);
             HELD.push(lease);
             return lease.client() + " " + lease.incarnation();

@@ -15,10 +15,12 @@ import java.util.ArrayList;
 import java.util.List;
 import java.util.Map;
 import java.util.Optional;
-import java.util.OptionalLong;
 import java.util.TreeSet;
 import java.util.concurrent.TimeUnit;
+import java.util.concurrent.locks.LockSupport;
 import org.junit.jupiter.api.Test;
+import org.junit.jupiter.api.condition.EnabledOnOs;
+import org.junit.jupiter.api.condition.OS;
 import org.junit.jupiter.params.ParameterizedTest;
 import org.junit.jupiter.params.provider.CsvSource;
 import org.junit.jupiter.params.provider.ValueSource;
@@ -28,26 +30,31 @@ final class LeasesTest {
     private final long first = OwnNumbers.first();
 
     private Leases of(long least, long greatest) {
-        return new Leases(new ClientRange(first + least, first + greatest), OptionalLong.empty());
+        return new Leases(new ClientRange(first + least, first + greatest));
     }
 
     /** Whether nobody has a number. */
     static boolean isFree(long client) {
-        Optional<Lease> lease = new Leases(new ClientRange(client, client), OptionalLong.empty()).next();
+        Optional<Lease> lease = new Leases(new ClientRange(client, client)).next();
         lease.ifPresent(Lease::giveBack);
         return lease.isPresent();
     }
 
     /**
-     * Waits until nobody has a number: a program that is just being started, as Maven starts some, has a copy of each socket until
-     * it begins.
+     * This program has no number's socket any more, and then nobody has the number. That is awaited: a program that is just being
+     * started, as Maven starts some, has a copy of each socket until it begins.
      */
-    static void awaitFree(long client) {
-        long ends = System.nanoTime() + TimeUnit.MINUTES.toNanos(2);
+    static void assertFree(long client) {
+        assertFalse(OwnSockets.isBound(placeOf(client)), "client " + client + " was not given back");
+        long ends = System.nanoTime() + TimeUnit.MINUTES.toNanos(1);
         while (!isFree(client)) {
             assertTrue(System.nanoTime() < ends, "client " + client + " is not free");
-            Thread.yield();
+            LockSupport.parkNanos(TimeUnit.MILLISECONDS.toNanos(1));
         }
+    }
+
+    private static InetSocketAddress placeOf(long client) {
+        return Leases.place(new UnixSystem().getUid(), client);
     }
 
     private static Lease next(Leases leases) {
@@ -62,7 +69,7 @@ final class LeasesTest {
         assertEquals(first + 7, seventh.client());
         assertEquals(first + 8, eighth.client());
         seventh.giveBack();
-        awaitFree(first + 7);
+        assertFree(first + 7);
         Lease again = next(leases);
         assertEquals(first + 7, again.client());
         assertTrue(again.incarnation() > seventh.incarnation());
@@ -79,15 +86,25 @@ final class LeasesTest {
         assertEquals(new InetSocketAddress(host, port), Leases.place(user, client));
     }
 
+    /** So that what has no number's socket any more is seen to have had it. */
+    @Test
+    @EnabledOnOs(OS.LINUX)
+    void aLeaseIsASocketOfThisProgramUntilItIsGivenBack() {
+        Lease lease = next(of(0, 0));
+        assertTrue(OwnSockets.isBound(placeOf(first)));
+        lease.giveBack();
+        assertFalse(OwnSockets.isBound(placeOf(first)));
+    }
+
     @Test
     void whoeverHasBoundThePlaceOfANumberHasTheNumber() throws Exception {
         try (DatagramChannel other = DatagramChannel.open(StandardProtocolFamily.INET)) {
-            other.bind(Leases.place(new UnixSystem().getUid(), first));
+            other.bind(placeOf(first));
             Lease lease = next(of(0, 1));
             assertEquals(first + 1, lease.client());
             lease.giveBack();
         }
-        awaitFree(first);
+        assertFree(first);
         Lease lease = next(of(0, 1));
         assertEquals(first, lease.client());
         lease.giveBack();
@@ -100,7 +117,7 @@ final class LeasesTest {
         assertEquals(first + 2, other.client());
         assertEquals(Optional.empty(), of(1, 2).next());
         one.giveBack();
-        awaitFree(first + 1);
+        assertFree(first + 1);
         Lease again = next(of(1, 2));
         assertEquals(first + 1, again.client());
         List.of(other, again).forEach(Lease::giveBack);
@@ -119,12 +136,12 @@ final class LeasesTest {
     void aLeaseThatIsGivenBackTwiceEndsNoLaterOne() {
         Lease one = next(of(1, 1));
         one.giveBack();
-        awaitFree(first + 1);
+        assertFree(first + 1);
         Lease second = next(of(1, 1));
         one.giveBack();
         assertEquals(Optional.empty(), of(1, 1).next());
         second.giveBack();
-        awaitFree(first + 1);
+        assertFree(first + 1);
         Lease third = next(of(1, 1));
         assertEquals(first + 1, third.client());
         third.giveBack();
@@ -138,19 +155,31 @@ final class LeasesTest {
         assertEquals(Optional.empty(), of(1, 1).next(), "the lease stands");
         lease.giveBack();
         assertTrue(Thread.interrupted());
-        awaitFree(first + 1);
+        assertFree(first + 1);
         Lease again = next(of(1, 1));
         assertEquals(first + 1, again.client());
         again.giveBack();
     }
 
+    /** A number may have been leased before in the same incarnation: that client's replies would be heard as this one's. */
     @Test
-    void anIncarnationThatTheUserChoseIsUsedAsItIs() {
-        Leases chosen = new Leases(new ClientRange(first, first), OptionalLong.of(17));
-        Lease lease = next(chosen);
-        assertEquals(17, lease.incarnation());
-        assertFalse(chosen.areUsedAgain());
-        lease.giveBack();
+    void anIncarnationIsNotChosenForLeasedNumbers() {
+        for (RvClients.Builder each : List.of(RvClients.builder("127.0.0.1", 1).incarnation(17),
+                RvClients.builder("127.0.0.1", 1).clients(first, first).incarnation(17),
+                RvClients.builder("127.0.0.1", 1).incarnation(17).clients(first, first))) {
+            IllegalStateException refused = assertThrows(IllegalStateException.class, each::build);
+            assertEquals("an incarnation is chosen along with numbers of your own, by unleased() and clients(first, last), or left "
+                + "out", refused.getMessage());
+        }
+        RvClients.builder("127.0.0.1", 1).clients(first, first).incarnation(17).unleased().build().close();
+    }
+
+    @Test
+    void anIncarnationThatTheUserChoseIsUsedAsItIsOnceForEachNumber() {
+        Numbers given = new Numbers.Given(new ClientRange(first, first), 17);
+        assertEquals(17, given.next().orElseThrow(given::none).incarnation());
+        assertFalse(given.areUsedAgain());
+        assertTrue(of(1, 1).areUsedAgain());
     }
 
     @Test

@@ -252,9 +252,9 @@ final class PoolTest {
         return LeasesTest.isFree(first + which - 1);
     }
 
-    /** Waits until one is: a program that is just being started, as by Maven, has a copy of each socket until it begins. */
-    private void awaitFree(long which) {
-        LeasesTest.awaitFree(first + which - 1);
+    /** Nobody does, and the pool has given it back, if it had it. */
+    private void assertFree(long which) {
+        LeasesTest.assertFree(first + which - 1);
     }
 
     private RvClients.Builder leasing(Answering server) {
@@ -267,18 +267,18 @@ final class PoolTest {
         CountDownLatch latch = new CountDownLatch(1);
         try (Answering server = holding(latch)) {
             RvClients clients = leasing(server).build();
-            awaitFree(1);
+            assertFree(1);
             Calling<String> held = putting(clients, "held");
             server.awaitAsked(1);
             assertFalse(isFree(1));
-            awaitFree(2);
+            assertFree(2);
             queue(clients).put("a");
             assertFalse(isFree(2));
-            awaitFree(3);
+            assertFree(3);
             clients.close();
             assertInstanceOf(RvException.Unsettled.class, held.thrown());
-            awaitFree(1);
-            awaitFree(2);
+            assertFree(1);
+            assertFree(2);
             latch.countDown();
         }
     }
@@ -294,7 +294,7 @@ final class PoolTest {
             assertEquals("done", held.end());
             assertFalse(isFree(1));
             queue(clients).put("b");
-            awaitFree(1);
+            assertFree(1);
             assertFalse(isFree(2));
         }
     }
@@ -308,7 +308,7 @@ final class PoolTest {
                 RvClients clients = leasing(server).build()) {
             queue(clients).put("a");
             assertThrows(RvException.EpochEnded.class, () -> queue(clients).put("ends"));
-            awaitFree(1);
+            assertFree(1);
             queue(clients).put("b");
             List<JsonObject> hellos = server.hellos();
             assertEquals(2, hellos.size());
@@ -360,7 +360,7 @@ final class PoolTest {
             assertEquals(List.of(1L, 1L, 1L, 1L, 1L, 2L), epochs);
             assertEquals(5, server.hellos().size());
             assertFalse(isFree(1));
-            awaitFree(2);
+            assertFree(2);
             putAtATime(clients, 4);
             server.startsAnew();
             queue(clients).put("a");
@@ -401,7 +401,7 @@ final class PoolTest {
             assertEquals(new Outcome.Cancelled(key), clients.unsettled().get(0).giveUp());
             assertEquals(List.of(), clients.unsettled());
             queue(clients).put("b");
-            awaitFree(1);
+            assertFree(1);
         }
     }
 
@@ -438,7 +438,7 @@ final class PoolTest {
     @Test
     void aChosenIncarnationIsThatOfEachSession() throws Exception {
         CountDownLatch latch = new CountDownLatch(1);
-        try (Answering server = holding(latch); RvClients clients = leasing(server).incarnation(17).build()) {
+        try (Answering server = holding(latch); RvClients clients = server.clients(1, 2).incarnation(17).build()) {
             Calling<String> held = putting(clients, "held");
             server.awaitAsked(1);
             queue(clients).put("a");

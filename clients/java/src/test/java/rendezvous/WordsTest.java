@@ -22,7 +22,6 @@ import java.util.ArrayList;
 import java.util.Arrays;
 import java.util.List;
 import java.util.Optional;
-import java.util.OptionalLong;
 import java.util.Set;
 import java.util.concurrent.TimeUnit;
 import java.util.regex.Matcher;
@@ -122,7 +121,7 @@ final class WordsTest {
             ofOthers(queue, exchanger).forEach(Row::judge);
             assertEquals(0, server.connections());
         }
-        Leases leases = new Leases(new ClientRange(FIRST, FIRST), OptionalLong.empty());
+        Leases leases = new Leases(new ClientRange(FIRST, FIRST));
         leases.next().orElseThrow(leases::none).giveBack();
     }
 
