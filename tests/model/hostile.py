@@ -1,24 +1,28 @@
 """Bodies that are hard to read: those of messages, answers and calls, in all orders, spoilt in many ways."""
 import random
+import re
 from collections.abc import Callable, Iterator
 from dataclasses import dataclass
 from itertools import islice, permutations
 
 from tests.model.answers import CODES, DETAILS, OTHER_VERSION, REPLIES
 from tests.model.calls import KINDS
-from tests.model.hostile_values import any_number, any_word, escaped, good_value, hostile_value, nested, other_value, quoted
+from tests.model.hostile_values import (
+    any_number, any_word, bad_text, escaped, good_value, hostile_value, near_number, nested, other_value, quoted, turned)
 from tests.model.texts import KEY, MAX_BODY_BYTES, TAKER
 
 Pair = tuple[bytes, bytes]
 SPACES = [b" ", b"\t", b"\n", b"\r", b"  ", b" \r\n\t", b"\n\n"]
 # What is no white space in JSON, though it looks like it.
 NO_SPACES = [b"\x0b", b"\x0c", b"\x00", b"\xc2\xa0", b"\xef\xbb\xbf", b"\xe2\x80\xa8", b"\x85", b"/**/"]
+# Where white space may stand, and where it may not, in texts.
+PLACES = re.compile(rb"\A|\Z|(?=[]}:,])|(?<=[{\[:,])")
 # What may stand after a body.
 ENDS = [b"}", b"]", b",", b":", b"x", b"1", b'"', b"null", b"{}", b"[]", b" {}", b"\n1", b"\x00", b" \x00", b"\xff", b"//", b"#", b"\xef\xbb\xbf"]
 # Bytes that mean something in JSON, or in UTF-8.
 BYTES = b'{}[]:,"\\/ \t\n\r0123456789+-.eEutfnabh\x00\x01\x1f\x7f\x80\xbf\xc3\xe2\xed\xf0\xff'
-# How many bodies a whole family has at most.
-FAMILY = 150
+# How many bodies a whole family has at most, and how many digits a number that is written in another way.
+FAMILY, MOST_DIGITS = 150, 20
 
 
 @dataclass(frozen=True)
@@ -93,9 +97,11 @@ def revalued(chance: random.Random, pairs: list[Pair]) -> None:
 
 
 def renumbered(chance: random.Random, pairs: list[Pair]) -> None:
-    """A member has a number that is mostly past its limit, or none."""
-    at = chance.randrange(len(pairs))
-    pairs[at] = (pairs[at][0], any_number(chance))
+    """A number is written in another way, mostly wrongly, or is past its limit, or none."""
+    numbers = [at for at, (_, value) in enumerate(pairs) if value.isdigit() and len(value) <= MOST_DIGITS]
+    at = chance.choice(numbers) if numbers else chance.randrange(len(pairs))
+    name, value = pairs[at]
+    pairs[at] = (name, near_number(chance, value) if numbers and chance.random() < 0.5 else any_number(chance))
 
 
 def reworded(chance: random.Random, pairs: list[Pair]) -> None:
@@ -113,8 +119,8 @@ def renamed(chance: random.Random, pairs: list[Pair]) -> None:
     plain = name[1:-1]
     other = chance.choice(NAMES).encode()
     names = [*[escaped(chance, plain)] * 6, other, plain.title(), plain + b"s", plain[:-1], plain + b"\\u0000", b"", plain + b" ", b" " + plain]
-    bare = [plain, b"'" + plain + b"'", quoted(plain) + b"x", b"1", b"null", b"[]"]
-    pairs[at] = (quoted(chance.choice(names)) if chance.random() < 0.9 else chance.choice(bare), value)
+    bare = [plain, b"'" + plain + b"'", quoted(plain) + b"x", b"1", b"null", b"[]", bad_text(chance), quoted(b"a" * 300), quoted(turned(chance, plain))]
+    pairs[at] = (quoted(chance.choice(names)) if chance.random() < 0.8 else chance.choice(bare), value)
 
 
 def added(chance: random.Random, pairs: list[Pair]) -> None:
@@ -122,6 +128,14 @@ def added(chance: random.Random, pairs: list[Pair]) -> None:
     name = chance.choice([chance.choice(NAMES), chance.choice(["", "x", "Kind", "id", "é", "\x7f", "texts"])])
     value = good_value_in(chance, quoted(name.encode()), b"1")
     pairs.insert(chance.randint(0, len(pairs)), (quoted(name.encode()), chance.choice([value, hostile_value(chance, name)])))
+
+
+def crowded(chance: random.Random, pairs: list[Pair]) -> None:
+    """Many members stand beside: of names of their own, or of all known names; or those of the body stand many times."""
+    count = chance.choice([5, 8, 12, 25, 40])
+    more = chance.choice([[f"x{number}" for number in range(count)], NAMES, [""] * count])
+    others = [(quoted(name.encode()), good_value_in(chance, quoted(name.encode()), b"1")) for name in more]
+    pairs[:] = chance.choice([[*pairs, *others], [*others, *pairs], pairs * count])
 
 
 def dropped(chance: random.Random, pairs: list[Pair]) -> None:
@@ -142,8 +156,8 @@ def swapped_values(chance: random.Random, pairs: list[Pair]) -> None:
 def spaced(chance: random.Random, text: bytes) -> bytes:
     """White space stands at some places, mostly where it may."""
     for _ in range(chance.choice([1, 1, 2, 5])):
-        may = [at for at in range(len(text) + 1) if text[max(0, at - 1):at] in (b"", b"{", b"}", b",", b":") or text[at:at + 1] in (b"}", b":")]
-        at = chance.choice(may) if may and chance.random() < 0.8 else chance.randint(0, len(text))
+        may = [place.start() for place in PLACES.finditer(text)]
+        at = chance.choice(may) if chance.random() < 0.8 else chance.randint(0, len(text))
         text = text[:at] + chance.choice(SPACES if chance.random() < 0.9 else NO_SPACES) + text[at:]
     return text
 
@@ -238,7 +252,8 @@ def all_doubles(chance: random.Random, pairs: list[Pair]) -> Iterator[bytes]:
 
 
 MEMBERS: list[Callable[[random.Random, list[Pair]], None]] = [
-    doubled, doubled, revalued, revalued, renumbered, reworded, renamed, added, dropped, swapped_values]
+    doubled, doubled, revalued, revalued, renumbered, renumbered, reworded, reworded, renamed, renamed, added, dropped,
+    swapped_values]
 TEXTS: list[Callable[[random.Random, bytes], bytes]] = [spaced, spaced, cut, touched, touched, moved, followed, wrapped]
 FAMILIES: list[Callable[[random.Random, list[Pair]], Iterator[bytes]]] = [
     all_cuts, all_orders, all_spaces, all_removals, all_insertions, all_changes, all_doubles]
@@ -260,6 +275,8 @@ def one_body(chance: random.Random) -> bytes:
     of_members, of_text = chance.choices(COUNTS, HOW_OFTEN)[0]
     for change in chance.choices(MEMBERS, k=of_members):
         change(chance, pairs)
+    if chance.random() < 0.01:
+        crowded(chance, pairs)
     text = text_of(pairs)
     for spoil in chance.choices(TEXTS, k=of_text):
         text = spoil(chance, text)

@@ -130,7 +130,13 @@ def nested(chance: random.Random, depth: int) -> bytes:
 def any_word(chance: random.Random) -> bytes:
     """A word that a member may have, or nearly one."""
     word = chance.choice(WORDS)
-    return quoted(chance.choice([word, word, escaped(chance, word), word.title(), word.upper(), word + b"s", word[:-1], word + b" ", b" " + word]))
+    return quoted(chance.choice([word, word, escaped(chance, word), word.title(), word.upper(), word + b"s", word[:-1], word + b" ", turned(chance, word)]))
+
+
+def turned(chance: random.Random, word: bytes) -> bytes:
+    """A word of which one letter is another."""
+    at = chance.randrange(len(word)) if word else 0
+    return word[:at] + bytes([chance.randrange(ord("a"), ord("z") + 1)]) + word[at + 1:]
 
 
 def escaped(chance: random.Random, text: bytes) -> bytes:
@@ -142,9 +148,9 @@ def escaped(chance: random.Random, text: bytes) -> bytes:
 
 def near_number(chance: random.Random, digits: bytes) -> bytes:
     """A number written in another way, most of which are none."""
-    before = chance.choice([b"-", b"+", b"0", b"00", b"- ", b"0x", b" "])
+    before = chance.choice([b"+", b"0", b"00", b"- ", b"0x", b" "])
     after = chance.choice([b".0", b".", b".00", b"e0", b"E+0", b"E-00", b"e", b"0", b"_", b" ", b"x", b"\x00", b"\x0c", b"\xa0"])
-    return chance.choice([before + digits, digits + after, quoted(digits), b"[" + digits + b"]", b"%d" % (int(digits) + 2**64)])
+    return chance.choice([b"-" + digits, before + digits, digits + after, quoted(digits), b"[" + digits + b"]", b"%d" % (int(digits) + 2**64)])
 
 
 def hostile_value(chance: random.Random, name: str) -> bytes:

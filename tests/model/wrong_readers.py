@@ -123,18 +123,19 @@ def takes_first_of_list(members: Members) -> Members:
 
 
 class Stale:
-    """Keeps a text or a number of the body before, longer than the new one, and reads its rest with the new one."""
+    """A text, or the digits of a number, that are shorter than those of the body before, are read with the rest of these."""
 
-    def __init__(self, name: str):
-        self.name, self.last = name, ""
+    def __init__(self, name: str, kind: type[str] | type[int]):
+        self.name, self.kind, self.last = name, kind, ""
 
     def __call__(self, body: bytes) -> Any:
         value = read_json(body)
-        if not isinstance(value, dict) or type(value.get(self.name)) not in (str, int):
+        now = value.get(self.name) if isinstance(value, dict) else None
+        if type(now) is not self.kind:
             return value
-        now = str(value[self.name])
-        read, self.last = now + self.last[len(now):], now
-        return {**value, self.name: type(value[self.name])(read) if read.isdigit() or isinstance(value[self.name], str) else now}
+        text, before = str(now), self.last
+        self.last = text
+        return {**value, self.name: self.kind(text + before[len(text):])}
 
 
 def by(read: Read) -> Program:
@@ -197,8 +198,8 @@ WRONG: dict[str, Program] = {
     "an escape in a value is overlooked": fast(takes_raw_words),
     "what stands after the object is passed over": by(stops_early),
     "white space is no JSON": slow(needs_no_spaces),
-    "a piece of the text before is read": fast(Stale("item")),
-    "a digit of the number before is read": fast(Stale("client")),
+    "a piece of the text before is read": fast(Stale("item", str)),
+    "a digit of the number before is read": fast(Stale("client", int)),
     "zeros in front of a number are passed over": fast(replaced(FRONT + rb"0+(?=\d)", b"")),
     "a sign is passed over": fast(replaced(FRONT + rb"[+-](?=\d)", b"")),
     "-0 is 0": fast(replaced(FRONT + rb"-0" + BACK, b"0")),
