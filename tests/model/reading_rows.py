@@ -9,12 +9,15 @@ TAKE = b'{"call":"take","client":2,"epoch":1,"incarnation":1,"kind":"request","n
 PUT = b'{"call":"put","client":1,"epoch":1,"incarnation":1,"item":"%s","kind":"request","number":1,"queue":3}'
 ITEM = b'{"client":2,"epoch":1,"incarnation":1,"item":"%s","kind":"reply","number":1,"reply":"item"}'
 DRAINED = b'{"client":2,"epoch":1,"incarnation":1,"kind":"reply","number":1,"reply":"drained","texts":[%s]}'
+SWAP = b'{"call":"swap","client":1,"epoch":1,"exchanger":63,"incarnation":1,"item":"a","kind":"request","number":1,"wait":5}'
+DRAIN = b'{"call":"drain","client":2,"epoch":1,"incarnation":1,"kind":"request","max":2,"number":1,"queue":3}'
+RECEIVED = b'{"client":1,"epoch":1,"incarnation":1,"kind":"reply","number":1,"reply":"received"}'
+RECEIVED_BY = b'{"by_client":2,"by_incarnation":1,"by_number":1,"client":1,"epoch":1,"incarnation":1,"kind":"reply","number":1,"reply":"received"}'
 MESSAGES = [
     HELLO, TAKE, PUT % b"a",
     b'{"client":1,"incarnation":1,"kind":"hello","version":2}',
     b'{"client":1,"epoch":1,"incarnation":1,"kind":"cancel","number":1}',
-    b'{"call":"swap","client":1,"epoch":1,"exchanger":63,"incarnation":1,"item":"a","kind":"request","number":1,"wait":5}',
-    b'{"call":"drain","client":2,"epoch":1,"incarnation":1,"kind":"request","max":2,"number":1,"queue":3}',
+    SWAP, DRAIN,
     b'{"call":"transfer","client":1,"epoch":1,"incarnation":1,"item":"","kind":"request","number":1,"queue":0,"wait":86400000}',
     b'{"call":"count","client":1,"epoch":1,"incarnation":1,"kind":"request","number":1,"queue":3}',
     HELLO.replace(b":1", b":" + GREATEST), PUT % (b"x" * 512), PUT % ("é".encode() * 256), PUT % b"\x7f\\u0000\\\\\\\""]
@@ -22,8 +25,7 @@ ANSWERS = [
     b'{"client":1,"epoch":1,"incarnation":1,"kind":"welcome"}',
     b'{"client":1,"epoch":1,"incarnation":1,"kind":"welcome","version":2}',
     b'{"client":1,"epoch":1,"incarnation":1,"kind":"reply","number":1,"reply":"done"}',
-    b'{"client":1,"epoch":1,"incarnation":1,"kind":"reply","number":1,"reply":"received"}',
-    b'{"by_client":2,"by_incarnation":1,"by_number":1,"client":1,"epoch":1,"incarnation":1,"kind":"reply","number":1,"reply":"received"}',
+    RECEIVED, RECEIVED_BY,
     b'{"client":3,"consumers":0,"epoch":1,"incarnation":1,"items":100000,"kind":"reply","number":1,"reply":"counted"}',
     b'{"client":1,"epoch":1,"incarnation":1,"kind":"waiting","number":1}',
     b'{"code":1,"kind":"refused"}', b'{"code":4,"current":2,"kind":"refused"}', b'{"code":8,"kind":"refused","last":0}',
@@ -60,9 +62,9 @@ NOT_MESSAGES = [
         b"1.0", b"1e2", b"-0", b"-1", b'"1"', b"18446744073709551616", b"18446744073709551617", b"18446744073709551615", b"0", b"9007199254740992",
         b"9223372036854775808", b"10000000000000000000", b"[1]", b"null", b"true", b"{}")),
     *(HELLO.replace(b"}", b',"version":%s}' % version) for version in (b"1", b"3", b'"2"', b"2.0")), TAKE.replace(b"}", b',"version":2}'),
-    MESSAGES[5].replace(b"5", b'"now"'), b'{"by_client":2,' + ANSWERS[3][1:], ANSWERS[4].replace(b'"by_number":1,', b""), b'{"code":13,"kind":"refused"}',
+    SWAP.replace(b"5", b'"now"'), b'{"by_client":2,' + RECEIVED[1:], RECEIVED_BY.replace(b'"by_number":1,', b""), b'{"code":13,"kind":"refused"}',
     b'{"code":12,"current":3,"kind":"refused"}', b'{"code":7,"kind":"refused","open":0}', b'{"code":1,"kind":"refused","last":1}',
-    MESSAGES[6].replace(b'"max":2', b'"max":0'), MESSAGES[6].replace(b'"max":2', b'"max":17'), b'{"call":"peek","kind":"request","queue":3}']
+    DRAIN.replace(b'"max":2', b'"max":0'), DRAIN.replace(b'"max":2', b'"max":17'), b'{"call":"peek","kind":"request","queue":3}']
 LONG = [b"", HELLO + b" " * (65_536 - len(HELLO)), b"\xff" * 65_536, b"[" * 65_537]
 
 
