@@ -44,7 +44,6 @@ class Shape:
 
 
 VERSIONS: list[tuple[str, ...]] = [(), ("version",)]
-DRAINED = ("drained", ("texts",))
 CALLS = [Shape({"call": word}, kind.members) for word, kind in KINDS.items()]
 MESSAGES = [
     *(Shape({"kind": "hello"}, ("client", "incarnation", *version)) for version in VERSIONS),
@@ -52,12 +51,13 @@ MESSAGES = [
     Shape({"kind": "cancel"}, KEY)]
 ANSWERS = [
     *(Shape({"kind": "welcome"}, (*KEY[:3], *version)) for version in VERSIONS),
-    *(Shape({"kind": "reply", "reply": word}, (*KEY, *names)) for word, names in [*REPLIES.items(), ("received", TAKER), DRAINED, DRAINED]),
+    *(Shape({"kind": "reply", "reply": word}, (*KEY, *names)) for word, names in [*REPLIES.items(), ("received", TAKER)]),
     Shape({"kind": "waiting"}, KEY),
     *(Shape({"kind": "refused", "code": code}, (DETAILS[code],) if code in DETAILS else ()) for code in range(1, CODES + 1))]
 NAMES = sorted({name for shape in (*MESSAGES, *ANSWERS) for name in (*shape.words, *shape.names)})
-# Messages come as often as answers, though there are fewer kinds.
-SHAPES, HOW_OFTEN_EACH = [MESSAGES, ANSWERS, CALLS], [45, 40, 15]
+# The one answer with a list comes more often, and messages come as often as answers, though there are fewer kinds.
+DRAINED = Shape({"kind": "reply", "reply": "drained"}, (*KEY, "texts"))
+SHAPES, HOW_OFTEN_EACH = [MESSAGES, [*ANSWERS, *[DRAINED] * 4], CALLS], [45, 40, 15]
 
 
 def text_of(pairs: list[Pair]) -> bytes:
@@ -92,7 +92,7 @@ def good_value_in(chance: random.Random, name: bytes, value: bytes) -> bytes:
 def revalued(chance: random.Random, pairs: list[Pair]) -> None:
     """A member has a value that is mostly none for it: often the one that is a text, or texts."""
     of_texts = [at for at, (name, _) in enumerate(pairs) if name in (b'"item"', b'"texts"')]
-    at = chance.choice(of_texts) if of_texts and chance.random() < 0.5 else chance.randrange(len(pairs))
+    at = chance.choice(of_texts) if of_texts and chance.random() < 0.7 else chance.randrange(len(pairs))
     pairs[at] = (pairs[at][0], hostile_value(chance, name_in(pairs[at])))
 
 
@@ -135,7 +135,8 @@ def crowded(chance: random.Random, pairs: list[Pair]) -> None:
     count = chance.choice([5, 8, 12, 25, 40])
     more = chance.choice([[f"x{number}" for number in range(count)], NAMES, [""] * count])
     others = [(quoted(name.encode()), good_value_in(chance, quoted(name.encode()), b"1")) for name in more]
-    pairs[:] = chance.choice([[*pairs, *others], [*others, *pairs], pairs * count])
+    again = [(name, good_value_in(chance, name, value)) for name, value in pairs * count]
+    pairs[:] = chance.choice([[*pairs, *others], [*others, *pairs], pairs * count, again, again])
 
 
 def dropped(chance: random.Random, pairs: list[Pair]) -> None:

@@ -103,7 +103,7 @@ def any_list(chance: random.Random) -> bytes:
     """A list of texts, at its limit or past it, among which other values stand now and then."""
     count = chance.choice([0, 1, 2, 15, 16, 16, 17, 17, 17, 18])
     values = [good_text(chance) for _ in range(count)]
-    if values and chance.random() < 0.3:
+    if values and chance.random() < 0.2:
         values[chance.randrange(count)] = chance.choice([any_number, other_value, bad_text, long_text])(chance)
     return list_of(values)
 

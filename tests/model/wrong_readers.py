@@ -166,6 +166,11 @@ def meaning_of(body: bytes) -> bytes:
         return NO_READING
 
 
+def shorter(bodies: list[bytes]) -> list[bytes]:
+    """A body of the greatest length is too long."""
+    return [NO_MEANING if len(body) == MAX_BODY_BYTES else reading(body) for body in bodies]
+
+
 def none_is_json(bodies: list[bytes]) -> list[bytes]:
     """A body without a byte is no JSON."""
     return [reading(body) if body else NO_READING for body in bodies]
@@ -221,11 +226,14 @@ WRONG: dict[str, Program] = {
     "an item may be longer": fast(changed(cuts_items)),
     "a drained may have more texts": fast(changed(cuts_texts)),
     "a list of one value is that value": fast(changed(takes_first_of_list)),
+    "members after the sixteenth are passed over": fast(lambda body: decoded(body, pairs=lambda pairs: object_of(pairs[:16]))),
     "a body may be longer": no_length,
+    "a body may not be as long": shorter,
     "a body of no bytes is no JSON": none_is_json,
     "what is no JSON is no message": one_fault,
     "a body is read as that before it": later,
-    "a request is a call": of_calls}
+    "a request is a call": of_calls,
+    "the last body isn't told": lambda bodies: [reading(body) for body in bodies[:-1]]}
 
 
 def is_found(program: Program, chance: random.Random) -> bool:
