@@ -9,7 +9,8 @@ import threading
 from tests import left_out
 
 PROGRAM = "crates/rv_app/out/rv_app"
-# The program for tests: a machine's steps under limits of one's own, a hub's events, and JSON that is written back.
+# The program for tests: a machine's steps under limits of one's own, a hub's events, what bodies are read as, and JSON that is
+# written back.
 STEPS = "crates/rv_steps/out/rv_steps"
 # What stands for the seed in the commands below, and the seed where there is no commit.
 SEED, NO_COMMIT = "SEED", 1
@@ -25,6 +26,8 @@ OUTSIDE = [
     ["tests/commands/fill.py", PROGRAM],
     ["tests/commands/waits.py", PROGRAM],
     ["tests/commands/steps.py", STEPS],
+    ["tests/commands/decoding.py", "--selftest"],
+    ["tests/commands/decoding.py", "--seed", SEED, "--program", STEPS],
     ["tests/model/compare.py", "--selftest"],
     ["tests/model/compare.py", "--seed", SEED, "--lines", "10000", "--program", PROGRAM],
     ["tests/model/compare.py", "--play", "--seed", SEED, "--lines", "5000", "--program", PROGRAM],

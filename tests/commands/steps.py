@@ -1,6 +1,6 @@
 #!/usr/bin/env python3
-"""Runs the program for tests on lines worked by hand: events of a hub, and JSON that is written back; and on words and lines that it
-doesn't take. Those of a machine are in its crate.
+"""Runs the program for tests on lines worked by hand: events of a hub, JSON that is written back, and bodies that are read; and on
+words and lines that it doesn't take. Those of a machine are in its crate.
 
 usage: tests/commands/steps.py STEPS
 """
@@ -15,16 +15,19 @@ from tests.commands.judged import all_of, judge, run  # noqa: E402
 HUB = ["hub", "8", "4", "4", "500", "journal"]
 HELLO = '{"client":1,"incarnation":1,"kind":"hello"}'
 TAKE = '{"call":"take","client":1,"epoch":1,"incarnation":1,"kind":"request","number":1,"queue":3,"wait":20}'
+PEEK = '{"call":"peek","client":1,"epoch":1,"incarnation":1,"kind":"request","number":1,"queue":3}'
 WELCOME = '{"client":1,"epoch":1,"incarnation":1,"kind":"welcome"}'
 TIMED_OUT = '{"client":1,"epoch":1,"incarnation":1,"kind":"reply","number":1,"reply":"timedout"}'
 USAGE = b"""\
 usage: rv_steps machine ENTRIES CLIENTS OPEN|none [anew | turns COUNT]
        rv_steps hub ENTRIES CLIENTS OPEN|none PATIENCE journal|none
        rv_steps json
+       rv_steps bodies
 with limits that a step may have
 """
 # Words that name no task, or limits that no step may have.
-OTHERS = ["", "machine 4 1", "machine 4 1 1 again", "machine 9007199254740992 1 1", "hub 8 4 4 500", "hub 8 4 4 500 yes", "json 1"]
+OTHERS = ["", "machine 4 1", "machine 4 1 1 again", "machine 9007199254740992 1 1", "hub 8 4 4 500", "hub 8 4 4 500 yes", "json 1",
+          "bodies 1"]
 
 
 def framed(body: str) -> str:
@@ -97,9 +100,17 @@ def texts() -> None:
     case("a line without a space", ["json"], "{}\n", "", b"Error: a line has no space\n", 1)
 
 
+def bodies() -> None:
+    texts = ['{"kind":"hello","incarnation":1, "client":1}', WELCOME, '{"call":"peek","queue":3}', "{}", "{"]
+    told = [f"{HELLO}\t2\t2", f"2\t{WELCOME}\t2", f"2\t2\t{PEEK}", "2\t2\t2", "1\t1\t1", "2\t2\t2"]
+    hexes = [*(text.encode().hex() for text in texts), "-"]
+    case("what bodies are read as", ["bodies"], "\n".join(hexes), "".join(f"{line}\n" for line in told))
+    case("a line that is no body", ["bodies"], "7b7\n-\n", "", b"Error: a line is no body\n", 1)
+
+
 def others() -> None:
     for words in OTHERS:
         case(f"other words: {words}", words.split(), "", "", USAGE, 2)
 
 
-all_of([events, texts, others])
+all_of([events, texts, bodies, others])

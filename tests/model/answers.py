@@ -17,6 +17,11 @@ def read_answer(body):
     demand(1 <= len(body) <= MAX_BODY_BYTES)
     members = read_json(body)
     demand(isinstance(members, dict))
+    return answer_of(members)
+
+
+def answer_of(members):
+    """The members of an answer, if these are such."""
     names = names_of(members)
     demand(members.keys() == {"kind", *names})
     for name in names:

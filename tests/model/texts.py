@@ -76,6 +76,11 @@ def read_message(body):
     demand(1 <= len(body) <= MAX_BODY_BYTES)
     members = read_json(body)
     demand(isinstance(members, dict))
+    return message_of(members)
+
+
+def message_of(members):
+    """The message with these members, which are taken out."""
     kind = members.pop("kind", None)
     if kind == "hello":
         return read_hello(members)

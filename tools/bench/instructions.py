@@ -32,7 +32,8 @@ PARSE = "parse: text to message"
 PARTS = {
     "read: input to lines": ("rv_run::input", "rv_lines", "rv_frame::source"),
     PARSE: ("rv_text::decode", "rv_text::members", "rv_text::message", "rv_text::serde_json",
-            "rv_json::value", "rv_json::members", "rv_json::serde_json", "serde_json", "json::index"),
+            "rv_json::value", "rv_json::members", "rv_json::body", "rv_json::flat", "rv_json::scan", "rv_json::serde_json",
+        "serde_json", "json::index"),
     "step: the machine and the book": (
         "rv_book", "rv_machine", "rv_kept", "rv_recall", "rv_open", "rv_session", "rv_text::answer",
         "rv_text::call"),

@@ -86,7 +86,11 @@ fn member<'v>(members: &'v Map<String, Value>, name: &str) -> Option<&'v Value>
 }
 
 // The text that is written of the member with a name.
-fn text_at(alloc: Global, members: &Map<String, Value>, name: &str) -> Result<Option<String>, NoMemory>
+fn text_at(
+    alloc: Global,
+    members: &Map<String, Value>,
+    name: &str,
+) -> Result<Option<String>, NoMemory>
     ensures { IfOk result (HasMemberText (get_member name.now (members_view members.now.entries))) }
 {
     match member(members, name) {

@@ -8,6 +8,10 @@
 //! each line, and what comes of that is printed.
 //!
 //! `json`: the JSON of each line is written back.
+//!
+//! `bodies`: of each line's body, in hexadecimal digits, or a lone `-` for none, it is printed what that is
+//! read as: the message, the answer and the call, with a tab between them, each written again, or the number
+//! of its fault. A call is written as the request whose key has 1 for each number.
 #![tactic(auto)]
 
 ghost use Rattle.rv_rules.specs.StepLimits.{AreStepLimits};
@@ -15,6 +19,7 @@ ghost use Rattle.rv_steps.specs.Hearing.{CanHear};
 
 mod anew;
 mod answers;
+mod bodies;
 mod driver;
 mod events;
 mod hexes;
@@ -24,6 +29,7 @@ mod telling;
 mod turns;
 mod words;
 
+use bodies::read_bodies;
 use driver::{Driver, answer, begin};
 use json::rewrite_lines;
 use rv_frame::Source;
@@ -36,7 +42,7 @@ use std::env;
 use std::io::{BufWriter, Write};
 use std::process::ExitCode;
 use turns::take_turns;
-use words::{Beginning, Task, Work, is_json, work_of};
+use words::{Beginning, Task, Work, is_bodies, is_json, work_of};
 
 // The epoch of the machine.
 const EPOCH: u64 = 1;
@@ -44,6 +50,7 @@ const EPOCH: u64 = 1;
 const USAGE: &str = "usage: rv_steps machine ENTRIES CLIENTS OPEN|none [anew | turns COUNT]
        rv_steps hub ENTRIES CLIENTS OPEN|none PATIENCE journal|none
        rv_steps json
+       rv_steps bodies
 with limits that a step may have";
 
 // Other words than those of a task, or limits that no step may have, are told on standard error.
@@ -51,6 +58,9 @@ fn main(rt: HostRuntime) -> anyhow::Result<ExitCode> {
     let words: Vec<String> = env::args(&rt)?.collect(rt.alloc())?;
     if is_json(&words) {
         return rewrite_lines(&rt);
+    }
+    if is_bodies(&words) {
+        return read_bodies(&rt);
     }
     match work_of(&words) {
         Some(work) => run(&rt, work),

@@ -45,6 +45,11 @@ pub(crate) fn is_json(words: &[String]) -> bool {
     words.len() == 2 && is_word(&words[1], "json")
 }
 
+/// Whether the words behind the program's name ask what bodies are read as.
+pub(crate) fn is_bodies(words: &[String]) -> bool {
+    words.len() == 2 && is_word(&words[1], "bodies")
+}
+
 /// What the words behind the program's name ask to be done under limits, if they do.
 pub(crate) fn work_of(words: &[String]) -> Option<Work>
     ensures { IfSome result (λ work. AreStepLimits work.limits) }
