@@ -262,6 +262,27 @@ final class FuturesTest {
     }
 
     @Test
+    void aCancelOfATransferWaitsNotForWhatIsDoneBehindIt() throws Exception {
+        CountDownLatch cancelled = new CountDownLatch(1);
+        try (Answering server = silentUntilCancel(Answering::well); RvClients clients = server.clients(1, 8).build()) {
+            CompletableFuture<Receipt> gone = new RvTransferQueue(clients, 3).transferAsync("a");
+            CompletableFuture<Boolean> behind = gone.handle((receipt, fault) -> isOpenedInTime(cancelled));
+            server.awaitAsked(1);
+            assertTrue(gone.cancel(true));
+            cancelled.countDown();
+            assertTrue(behind.join(), "the cancel waited for it");
+        }
+    }
+
+    private static boolean isOpenedInTime(CountDownLatch latch) {
+        try {
+            return latch.await(1, TimeUnit.MINUTES);
+        } catch (InterruptedException later) {
+            throw new IllegalStateException(later);
+        }
+    }
+
+    @Test
     void whatNoThreadHasBegunIsNeverAsked() throws Exception {
         ArrayDeque<Runnable> later = new ArrayDeque<>();
         try (Answering server = new Answering(Answering::well);
