@@ -280,18 +280,26 @@ public final class RvSession implements AutoCloseable {
             enters = true;
         } finally {
             if (!enters) {
-                caller.set(null);
+                letGo();
+                if (closed) {
+                    whenLeft.run();
+                }
             }
         }
     }
 
     private void leave() {
         running.restoreInterrupt();
+        letGo();
+        whenLeft.run();
+    }
+
+    /** The session is nobody's any more. A close that found it somebody's left the connection to whoever lets go. */
+    private void letGo() {
         caller.set(null);
         if (closed) {
             rest();
         }
-        whenLeft.run();
     }
 
     /** What settled the outstanding request; whatever else ends the call is thrown. */
