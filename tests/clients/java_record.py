@@ -157,8 +157,8 @@ def an_interrupt(_program):
 
 
 def futures(_program):
-    """A future ends by the exception, which has the item. Of one that was cancelled the thread's handler is told, and the item is
-    the queue's next one."""
+    """A future ends by the exception, which has the item. Of one that was cancelled the thread's handler is told, and nothing else
+    has the item."""
     with recording() as (driver, path), opened(driver, reply("item", item="a")) as server:
         path.mkdir()
         driver.expect("take-async", "result begun")
@@ -169,7 +169,7 @@ def futures(_program):
         until("a take", lambda: len(server.heard) > 2)
         driver.expect("cancel-async", "result true")
         driver.expect("uncaught", "threw NotRecorded 1/1/1/2 Item[key=1/1/1/2, item=b]")
-        driver.expect("take", "result b")
+        driver.expect("unclaimed", "result []")
         driver.expect("join-async", "threw CancellationException")
 
 

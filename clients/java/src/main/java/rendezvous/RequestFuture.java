@@ -62,10 +62,8 @@ class RequestFuture<T> extends CompletableFuture<T> {
             super.cancel(false);
             Thread.currentThread().interrupt();
         } catch (RvException.NotRecorded unrecorded) {
-            boolean isTold = completeExceptionally(unrecorded);
-            unclaimed.completed(this, isTold);
-            if (!isTold) {
-                // something else completed the future: the thread's handler is told
+            if (!completeExceptionally(unrecorded)) {
+                // something else completed the future: the thread's handler is told, and nobody else
                 throw unrecorded;
             }
         } catch (RvException.NotAsked | RvException.Full | IllegalStateException nothing) {

@@ -311,7 +311,7 @@ public final class RvClients implements AutoCloseable {
         return askInterruptibly(job, outcome -> { });
     }
 
-    /** The same; this is told its outcome too, if it has one, before {@link #close} takes the call as ended. */
+    /** The same; this is told the outcome that is given too, before {@link #close} takes the call as ended. */
     Outcome askInterruptibly(Calls.Job job, Consumer<Outcome> settled) throws InterruptedException {
         return ask(job, true, settled);
     }
@@ -356,9 +356,10 @@ public final class RvClients implements AutoCloseable {
         long began = System.nanoTime();
         Pool.Seat seat = pool.borrow(job, interruptible);
         try {
-            return seat.session().ask(job.later(System.nanoTime() - began), interruptible);
+            Outcome outcome = seat.session().ask(job.later(System.nanoTime() - began), interruptible);
+            settled.accept(outcome);
+            return outcome;
         } finally {
-            last().ifPresent(settled);
             pool.giveBack(seat);
         }
     }

@@ -147,7 +147,7 @@ final class RecordTest {
     }
 
     @Test
-    void ofACancelledFutureTheThreadsHandlerIsTold() throws Exception {
+    void ofACancelledFutureTheThreadsHandlerAloneIsTold() throws Exception {
         BlockingQueue<Throwable> uncaught = new LinkedBlockingQueue<>();
         ExecutorService executor = Executors.newSingleThreadExecutor(call -> {
             Thread thread = new Thread(call);
@@ -160,8 +160,9 @@ final class RecordTest {
             CompletableFuture<String> taken = queue.takeAsync();
             server.awaitAsked(1);
             taken.cancel(true);
-            assertInstanceOf(RvException.NotRecorded.class, uncaught.take());
-            assertEquals("a", queue.take());
+            RvException.NotRecorded fault = assertInstanceOf(RvException.NotRecorded.class, uncaught.take());
+            assertEquals(new Outcome.Item(new Key(1, 1, 1, 1), "a"), fault.outcome());
+            assertEquals(List.of(), queue.unclaimed(), "it is told once more");
         } finally {
             executor.shutdown();
         }
