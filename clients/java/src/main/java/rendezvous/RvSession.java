@@ -275,7 +275,7 @@ public final class RvSession implements AutoCloseable {
             if (interruptible && Thread.interrupted()) {
                 throw new InterruptedException();
             }
-            running = new Running(interruptible, own, welcomed ? patience : Math.min(patience, connectTime), grace, abort);
+            running = new Running(interruptible, own, silence(), grace, abort);
             abort.wakes(this::wake);
             enters = true;
         } finally {
@@ -292,6 +292,11 @@ public final class RvSession implements AutoCloseable {
         running.restoreInterrupt();
         letGo();
         whenLeft.run();
+    }
+
+    /** For how many nanoseconds a call goes on while nothing at all is heard. */
+    private long silence() {
+        return welcomed ? patience : Math.min(patience, connectTime);
     }
 
     /** The session is nobody's any more. A close that found it somebody's left the connection to whoever lets go. */
@@ -412,12 +417,12 @@ public final class RvSession implements AutoCloseable {
         heard = link.hear(running.left(answerTime));
         JsonObject answer = Bodies.readAnswer(heard);
         Step step = hear(answer);
-        if (step.send() != null) {
-            running.heard(patience);
-        }
         if (step.send() != null || step.tell() != null) {
             welcomed |= machine.state() != Machine.State.NEW;
             logged = "";
+            if (step.send() != null) {
+                running.heard(silence());
+            }
         } else if (isOfALowerEpoch(answer)) {
             String words = "the server is of the lower epoch " + Bodies.number(answer, "current") + ", and the session of "
                 + machine.key().epoch();

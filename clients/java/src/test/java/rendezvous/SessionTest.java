@@ -1,9 +1,12 @@
 package rendezvous;
 
 import static org.junit.jupiter.api.Assertions.assertEquals;
+import static org.junit.jupiter.api.Assertions.assertInstanceOf;
+import static org.junit.jupiter.api.Assertions.assertTimeoutPreemptively;
 
 import com.google.gson.JsonObject;
 import com.google.gson.JsonParser;
+import java.io.IOException;
 import java.nio.charset.StandardCharsets;
 import java.time.Duration;
 import java.util.List;
@@ -14,7 +17,7 @@ import java.util.stream.Stream;
 import org.junit.jupiter.api.Test;
 import org.junit.jupiter.api.Timeout;
 
-/** A session by itself: its close beside calls that begin. */
+/** A session by itself: its time before the welcome, and its close beside calls that begin. */
 @Timeout(value = 2, unit = TimeUnit.MINUTES)
 final class SessionTest {
     private static final int ROUNDS = 40;
@@ -67,8 +70,57 @@ final class SessionTest {
         }
     }
 
+    /** A server that has a greater incarnation, and is gone behind that word. */
+    private static final class Gone implements Link {
+        private final AtomicBoolean isGone;
+
+        Gone(AtomicBoolean isGone) {
+            this.isGone = isGone;
+        }
+
+        @Override
+        public void connect(long nanos) throws IOException {
+            if (isGone.get()) {
+                throw new IOException("gone");
+            }
+        }
+
+        @Override
+        public boolean isOver() {
+            return false;
+        }
+
+        @Override
+        public void send(byte[] body, long nanos) throws IOException {
+            connect(nanos);
+        }
+
+        @Override
+        public byte[] hear(long nanos) {
+            isGone.set(true);
+            return "{\"code\":4,\"current\":9,\"kind\":\"refused\"}".getBytes(StandardCharsets.UTF_8);
+        }
+
+        @Override
+        public void wake() {}
+
+        @Override
+        public void close() {}
+    }
+
     private static JsonObject put() {
         return Calls.giving(Calls.at("put", "queue", 3), "a");
+    }
+
+    /** The call's patience is longer than this test waits. */
+    @Test
+    void aHelloThatIsSaidAnewIsNoWelcome() {
+        AtomicBoolean isGone = new AtomicBoolean();
+        RvSession session = new RvSession(isWoken -> new Gone(isGone), 5, 1, null, RvSession.ANSWER, 2);
+        session.connectTime(TimeUnit.MILLISECONDS.toNanos(500));
+        session.renews();
+        Calling<Outcome> calling = Calling.of(() -> session.ask(put()));
+        assertTimeoutPreemptively(Duration.ofMinutes(1), () -> assertInstanceOf(RvException.NotAsked.class, calling.thrown()));
     }
 
     /** Begins calls, none of which asks anything, until the session was closed. */
