@@ -26,6 +26,8 @@ import java.util.stream.IntStream;
 import java.util.stream.Stream;
 import org.junit.jupiter.api.Test;
 import org.junit.jupiter.api.Timeout;
+import org.junit.jupiter.api.condition.EnabledOnOs;
+import org.junit.jupiter.api.condition.OS;
 import org.junit.jupiter.api.io.TempDir;
 
 /** The record of what clients were told: a line for each reply, or an exception that has the reply. */
@@ -114,6 +116,19 @@ final class RecordTest {
         }
         try (Stream<Path> left = Files.list(folder)) {
             assertEquals(0, left.count());
+        }
+    }
+
+    @Test
+    @EnabledOnOs({OS.LINUX, OS.MAC})
+    void aPipeIsRefusedAndADeviceIsTaken() throws Exception {
+        Path pipe = folder.resolve("pipe");
+        assertEquals(0, new ProcessBuilder("mkfifo", pipe.toString()).start().waitFor());
+        try (Answering server = new Answering(Answering::well)) {
+            UncheckedIOException fault = assertThrows(UncheckedIOException.class, server.clients(1, 1).record(pipe)::build);
+            assertEquals("no record can be kept in " + pipe + ": it is neither a file nor a character device", fault.getMessage());
+            server.clients(1, 1).record(Path.of("/dev/null")).build().close();
+            assertEquals(0, server.connections());
         }
     }
 
