@@ -10,6 +10,7 @@ import java.nio.ByteBuffer;
 import java.nio.channels.SelectionKey;
 import java.nio.channels.Selector;
 import java.nio.channels.SocketChannel;
+import java.nio.channels.UnsupportedAddressTypeException;
 import java.util.Objects;
 import java.util.concurrent.ExecutionException;
 import java.util.concurrent.FutureTask;
@@ -104,6 +105,8 @@ final class SocketLink implements Link {
             connect(found(ends), ends);
         } catch (UnknownHostException unknown) {
             throw notConnected("the host is not known", unknown);
+        } catch (UnsupportedAddressTypeException other) {
+            throw notConnected("this program has no addresses of that version", other);
         } catch (Woken woken) {
             throw woken;
         } catch (SocketTimeoutException late) {
@@ -135,7 +138,7 @@ final class SocketLink implements Link {
             return true;
         } catch (Woken | SocketTimeoutException over) {
             throw over;
-        } catch (IOException fault) {
+        } catch (IOException | UnsupportedAddressTypeException fault) {
             if (isLast) {
                 throw fault;
             }
@@ -143,7 +146,7 @@ final class SocketLink implements Link {
         }
     }
 
-    private NotConnected notConnected(String why, IOException cause) {
+    private NotConnected notConnected(String why, Exception cause) {
         return new NotConnected(new To(host, port) + ": " + why, cause);
     }
 

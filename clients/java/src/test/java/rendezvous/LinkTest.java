@@ -8,9 +8,11 @@ import java.io.IOException;
 import java.net.InetAddress;
 import java.net.ServerSocket;
 import java.nio.charset.StandardCharsets;
+import java.nio.file.Path;
 import java.util.concurrent.TimeUnit;
 import org.junit.jupiter.api.Test;
 import org.junit.jupiter.api.Timeout;
+import rendezvous.Link.NotConnected;
 
 /** Connections over TCP, and the addresses of a server. */
 @Timeout(value = 2, unit = TimeUnit.MINUTES)
@@ -42,6 +44,24 @@ final class LinkTest {
         }
     }
 
+    /** Connects in a program that has addresses of version 4 alone, and prints what comes of it. */
+    public static void main(String[] none) throws IOException {
+        try (SocketLink link = new SocketLink("::1", 1, () -> false)) {
+            link.connect(LONG);
+        } catch (NotConnected told) {
+            System.out.print(told.getMessage());
+        }
+    }
+
+    @Test
+    void anAddressOfAVersionThatTheProgramHasNotIsToldByTheServersName() throws Exception {
+        String java = Path.of(System.getProperty("java.home"), "bin", "java").toString();
+        Process program = new ProcessBuilder(java, "-Djava.net.preferIPv4Stack=true", "-cp", System.getProperty("java.class.path"),
+            LinkTest.class.getName()).redirectError(ProcessBuilder.Redirect.INHERIT).start();
+        assertEquals("[::1]:1: this program has no addresses of that version",
+            new String(program.getInputStream().readAllBytes(), StandardCharsets.UTF_8));
+    }
+
     @Test
     void whereNoneTakesAConnectionTheLastFaultIsTold() throws Exception {
         int port;
@@ -49,7 +69,7 @@ final class LinkTest {
             port = free.getLocalPort();
         }
         try (SocketLink link = link(port, NOBODY, SERVER)) {
-            Link.NotConnected none = assertThrows(Link.NotConnected.class, () -> link.connect(LONG));
+            NotConnected none = assertThrows(NotConnected.class, () -> link.connect(LONG));
             assertTrue(none.getMessage().startsWith("server:" + port + ": "), none.getMessage());
         }
     }
