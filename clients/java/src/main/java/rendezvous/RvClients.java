@@ -10,7 +10,10 @@ import java.util.OptionalLong;
 import java.util.concurrent.CancellationException;
 import java.util.concurrent.Executor;
 import java.util.concurrent.ExecutorService;
-import java.util.concurrent.Executors;
+import java.util.concurrent.SynchronousQueue;
+import java.util.concurrent.ThreadFactory;
+import java.util.concurrent.ThreadPoolExecutor;
+import java.util.concurrent.TimeUnit;
 import java.util.function.Consumer;
 import java.util.function.LongFunction;
 
@@ -379,11 +382,16 @@ public final class RvClients implements AutoCloseable {
             throw new IllegalStateException("the clients are closed");
         }
         if (own == null) {
-            own = Executors.newCachedThreadPool(call -> {
+            ThreadFactory threads = call -> {
                 Thread thread = new Thread(call, "rendezvous runs a future's call");
                 thread.setDaemon(true);
                 return thread;
-            });
+            };
+            // as Executors.newCachedThreadPool has it, but for what a call that comes beside the close is told
+            own = new ThreadPoolExecutor(0, Integer.MAX_VALUE, 1, TimeUnit.MINUTES, new SynchronousQueue<>(), threads,
+                (call, pool) -> {
+                    throw new IllegalStateException("the clients are closed");
+                });
         }
         return own;
     }
