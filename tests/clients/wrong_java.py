@@ -133,7 +133,7 @@ IN_JAVA = [
     WrongClient("records in the environment's file though another is chosen", "java_record, the environment", [
         Edit(CLIENTS, 'recordIsChosen ? Optional', 'recordIsChosen && System.getenv("RV_RECORD") == null ? Optional')]),
     WrongClient("drops an item of a cancelled future that it can't record", "java_record, futures", [
-        Edit(FUTURE, "unclaimed.completed(this, isTold);", "unclaimed.completed(this, true);")]),
+        Edit(FUTURE, "throw unrecorded;", 'throw new IllegalStateException("not recorded");')]),
     WrongClient("waits for its first welcome as long as its patience", "java, a first hello", [
         Edit(SESSION, "welcomed ? patience : Math.min(patience, connectTime)", "patience")]),
     WrongClient("ends all its calls by the time of its first hello", "java, behind the welcome", [

@@ -316,6 +316,13 @@ class Before(Recorded):
         os.mkfifo(self.path)
         self.refused(self.path, errno.ENXIO)
 
+    def test_a_pipe_that_somebody_reads(self):
+        """So is that one, for its reader may go."""
+        os.mkfifo(self.path)
+        reader = os.open(self.path, os.O_RDONLY | os.O_NONBLOCK)
+        self.addCleanup(os.close, reader)
+        self.refused(self.path, errno.ENXIO)
+
 
 class NotWritten(Recorded):
     """A reply that can't be recorded is in the exception, and the session goes on."""

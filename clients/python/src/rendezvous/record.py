@@ -3,6 +3,7 @@ from __future__ import annotations
 
 import errno
 import os
+import stat
 import tempfile
 from typing import Optional, Union
 
@@ -42,6 +43,10 @@ class Record:
                 other.write(bytes(ROOM))
             return
         try:
+            mode = os.fstat(file).st_mode
+            if not stat.S_ISREG(mode) and not stat.S_ISCHR(mode):
+                # a pipe that somebody reads now: to open it when nobody does any more would take for ever
+                raise OSError(errno.ENXIO, "neither a file nor a character device")
             os.write(file, b"")
         finally:
             os.close(file)

@@ -1,14 +1,20 @@
 package rendezvous;
 
 import com.sun.security.auth.module.UnixSystem;
+import java.io.FileInputStream;
 import java.io.IOException;
+import java.io.InputStream;
 import java.io.UncheckedIOException;
 import java.net.BindException;
 import java.net.InetAddress;
 import java.net.InetSocketAddress;
 import java.net.StandardProtocolFamily;
 import java.nio.channels.DatagramChannel;
+import java.nio.charset.StandardCharsets;
 import java.util.Optional;
+import java.util.OptionalLong;
+import java.util.regex.Matcher;
+import java.util.regex.Pattern;
 
 /**
  * Client numbers that are leased, each by a datagram socket that is bound to a loopback address and a port, which stand for
@@ -23,6 +29,9 @@ final class Leases implements Numbers {
     private static final int ADDRESSES = 1 << 22;
     private static final long FACTOR = 2_654_435_761L;
     private static final byte[] ONE_ADDRESS = {127, 0, 0, 1};
+    /** Where Linux tells of a process, and its line of users: the real one, the effective one, and two more. */
+    private static final String STATUS = "/proc/self/status";
+    private static final Pattern USERS = Pattern.compile("(?m)^Uid:\\s*[0-9]+\\s+([0-9]{1,18})\\s");
 
     private final ClientRange range;
 
@@ -71,9 +80,29 @@ final class Leases implements Numbers {
         }
     }
 
-    /** The user's number; 0 where the system has none. */
-    private static long user() {
-        return System.getProperty("os.name").startsWith("Windows") ? 0 : new UnixSystem().getUid();
+    /** The number of the effective user; 0 where the system has none. */
+    static long user() {
+        if (System.getProperty("os.name").startsWith("Windows")) {
+            return 0;
+        }
+        // the JDK knows the real user alone, and none that has no name
+        return effective(status()).orElseGet(() -> new UnixSystem().getUid());
+    }
+
+    /** What Linux tells of this process; nothing on another system. */
+    private static String status() {
+        // no channel: an interrupt would close it
+        try (InputStream status = new FileInputStream(STATUS)) {
+            return new String(status.readAllBytes(), StandardCharsets.ISO_8859_1);
+        } catch (IOException none) {
+            return "";
+        }
+    }
+
+    /** The effective user in what Linux tells of a process. */
+    static OptionalLong effective(String status) {
+        Matcher users = USERS.matcher(status);
+        return users.find() ? OptionalLong.of(Long.parseLong(users.group(1))) : OptionalLong.empty();
     }
 
     /** The address and the port that stand for a user's client number. Where two fall together, one of them is not free. */

@@ -17,7 +17,7 @@ interface Link extends AutoCloseable {
     final class NotConnected extends IOException {
         private static final long serialVersionUID = 1;
 
-        NotConnected(String words, IOException cause) {
+        NotConnected(String words, Exception cause) {
             super(words, cause);
         }
     }

@@ -21,6 +21,9 @@ final class RecordFile {
     static final String VARIABLE = "RV_RECORD";
     /** How many bytes are tried where a file can be made. */
     private static final int ROOM = 4_096;
+    /** The bits of a mode that tell what a file is, and those of a character device. */
+    private static final int KIND = 0170000;
+    private static final int CHARACTERS = 0020000;
     private static final byte[] ASKED = "{\"asked\":".getBytes(StandardCharsets.UTF_8);
     private static final byte[] TOLD = ",\"told\":".getBytes(StandardCharsets.UTF_8);
     private static final byte[] END = "}\n".getBytes(StandardCharsets.UTF_8);
@@ -64,6 +67,9 @@ final class RecordFile {
                 tryBeside(Files.isSymbolicLink(file) ? file.resolveSibling(Files.readSymbolicLink(file)) : file);
             } else if (Files.isRegularFile(file) || Files.isDirectory(file)) {
                 Files.newOutputStream(file, StandardOpenOption.APPEND, StandardOpenOption.WRITE).close();
+            } else if (!isCharacterDevice()) {
+                // to open a pipe that nobody reads would take for ever
+                throw new FileSystemException(file.toString(), null, "it is neither a file nor a character device");
             } else if (!Files.isWritable(file)) {
                 throw new AccessDeniedException(file.toString());
             }
@@ -91,6 +97,12 @@ final class RecordFile {
         } catch (NoSuchFileException none) {
             return false;
         }
+    }
+
+    /** Whether it is one; what the system does not tell apart is taken for one. */
+    private boolean isCharacterDevice() throws IOException {
+        return !file.getFileSystem().supportedFileAttributeViews().contains("unix")
+            || ((int) Files.getAttribute(file, "unix:mode") & KIND) == CHARACTERS;
     }
 
     /** Makes another file where this one would be, writes a line's length to it, and takes it away. */

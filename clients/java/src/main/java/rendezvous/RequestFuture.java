@@ -3,6 +3,7 @@ package rendezvous;
 import java.util.concurrent.CompletableFuture;
 import java.util.concurrent.CountDownLatch;
 import java.util.concurrent.Executor;
+import java.util.concurrent.TimeUnit;
 import java.util.concurrent.atomic.AtomicBoolean;
 import java.util.function.Function;
 
@@ -11,6 +12,8 @@ import java.util.function.Function;
  * cancels the request.
  */
 class RequestFuture<T> extends CompletableFuture<T> {
+    /** After so many milliseconds whoever cancels looks again whether the future is completed. */
+    private static final long GLANCE = 10;
     /** Asked as soon as the future is completed, for what its user has run then may come before {@link Abort#ask}. */
     private final Abort abort = new Abort(this::isDone);
     private final AtomicBoolean begun = new AtomicBoolean();
@@ -59,10 +62,8 @@ class RequestFuture<T> extends CompletableFuture<T> {
             super.cancel(false);
             Thread.currentThread().interrupt();
         } catch (RvException.NotRecorded unrecorded) {
-            boolean isTold = completeExceptionally(unrecorded);
-            unclaimed.completed(this, isTold);
-            if (!isTold) {
-                // something else completed the future: the thread's handler is told
+            if (!completeExceptionally(unrecorded)) {
+                // something else completed the future: the thread's handler is told, and nobody else
                 throw unrecorded;
             }
         } catch (RvException.NotAsked | RvException.Full | IllegalStateException nothing) {
@@ -84,14 +85,17 @@ class RequestFuture<T> extends CompletableFuture<T> {
         }
     }
 
-    /** Cancels the request, and waits until its end is known, a second at most: whether it was cancelled. */
+    /**
+     * Cancels the request, and waits until its end is known, a second at most: whether it was cancelled. What runs when the
+     * future is completed is not waited for: it may need what the thread that cancels has.
+     */
     boolean cancelAndWait() {
         if (isDone() || begun.compareAndSet(false, true)) {
             return super.cancel(false);
         }
         abort.ask();
         boolean interrupted = false;
-        while (!isEnded()) {
+        while (!isDone() && !isEnded()) {
             interrupted |= Thread.interrupted();
         }
         if (interrupted) {
@@ -100,11 +104,10 @@ class RequestFuture<T> extends CompletableFuture<T> {
         return isCancelled();
     }
 
-    /** Waits until the request has ended: true; or until the thread is interrupted, which is set: false. */
+    /** Waits a little, or until the request has ended: true. Where the thread is interrupted, that is set. */
     private boolean isEnded() {
         try {
-            ended.await();
-            return true;
+            return ended.await(GLANCE, TimeUnit.MILLISECONDS);
         } catch (InterruptedException later) {
             Thread.currentThread().interrupt();
             return false;

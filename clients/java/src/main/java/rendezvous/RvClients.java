@@ -10,7 +10,10 @@ import java.util.OptionalLong;
 import java.util.concurrent.CancellationException;
 import java.util.concurrent.Executor;
 import java.util.concurrent.ExecutorService;
-import java.util.concurrent.Executors;
+import java.util.concurrent.SynchronousQueue;
+import java.util.concurrent.ThreadFactory;
+import java.util.concurrent.ThreadPoolExecutor;
+import java.util.concurrent.TimeUnit;
 import java.util.function.Consumer;
 import java.util.function.LongFunction;
 
@@ -311,7 +314,7 @@ public final class RvClients implements AutoCloseable {
         return askInterruptibly(job, outcome -> { });
     }
 
-    /** The same; this is told its outcome too, if it has one, before {@link #close} takes the call as ended. */
+    /** The same; this is told the outcome that is given too, before {@link #close} takes the call as ended. */
     Outcome askInterruptibly(Calls.Job job, Consumer<Outcome> settled) throws InterruptedException {
         return ask(job, true, settled);
     }
@@ -356,9 +359,10 @@ public final class RvClients implements AutoCloseable {
         long began = System.nanoTime();
         Pool.Seat seat = pool.borrow(job, interruptible);
         try {
-            return seat.session().ask(job.later(System.nanoTime() - began), interruptible);
+            Outcome outcome = seat.session().ask(job.later(System.nanoTime() - began), interruptible);
+            settled.accept(outcome);
+            return outcome;
         } finally {
-            last().ifPresent(settled);
             pool.giveBack(seat);
         }
     }
@@ -378,11 +382,16 @@ public final class RvClients implements AutoCloseable {
             throw new IllegalStateException("the clients are closed");
         }
         if (own == null) {
-            own = Executors.newCachedThreadPool(call -> {
+            ThreadFactory threads = call -> {
                 Thread thread = new Thread(call, "rendezvous runs a future's call");
                 thread.setDaemon(true);
                 return thread;
-            });
+            };
+            // as Executors.newCachedThreadPool has it, but for what a call that comes beside the close is told
+            own = new ThreadPoolExecutor(0, Integer.MAX_VALUE, 1, TimeUnit.MINUTES, new SynchronousQueue<>(), threads,
+                (call, pool) -> {
+                    throw new IllegalStateException("the clients are closed");
+                });
         }
         return own;
     }

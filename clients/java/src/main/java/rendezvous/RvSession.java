@@ -275,23 +275,36 @@ public final class RvSession implements AutoCloseable {
             if (interruptible && Thread.interrupted()) {
                 throw new InterruptedException();
             }
-            running = new Running(interruptible, own, welcomed ? patience : Math.min(patience, connectTime), grace, abort);
+            running = new Running(interruptible, own, silence(), grace, abort);
             abort.wakes(this::wake);
             enters = true;
         } finally {
             if (!enters) {
-                caller.set(null);
+                letGo();
+                if (closed) {
+                    whenLeft.run();
+                }
             }
         }
     }
 
     private void leave() {
         running.restoreInterrupt();
+        letGo();
+        whenLeft.run();
+    }
+
+    /** For how many nanoseconds a call goes on while nothing at all is heard. */
+    private long silence() {
+        return welcomed ? patience : Math.min(patience, connectTime);
+    }
+
+    /** The session is nobody's any more. A close that found it somebody's left the connection to whoever lets go. */
+    private void letGo() {
         caller.set(null);
         if (closed) {
             rest();
         }
-        whenLeft.run();
     }
 
     /** What settled the outstanding request; whatever else ends the call is thrown. */
@@ -404,12 +417,12 @@ public final class RvSession implements AutoCloseable {
         heard = link.hear(running.left(answerTime));
         JsonObject answer = Bodies.readAnswer(heard);
         Step step = hear(answer);
-        if (step.send() != null) {
-            running.heard(patience);
-        }
         if (step.send() != null || step.tell() != null) {
             welcomed |= machine.state() != Machine.State.NEW;
             logged = "";
+            if (step.send() != null) {
+                running.heard(silence());
+            }
         } else if (isOfALowerEpoch(answer)) {
             String words = "the server is of the lower epoch " + Bodies.number(answer, "current") + ", and the session of "
                 + machine.key().epoch();

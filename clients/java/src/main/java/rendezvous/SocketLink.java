@@ -10,6 +10,7 @@ import java.nio.ByteBuffer;
 import java.nio.channels.SelectionKey;
 import java.nio.channels.Selector;
 import java.nio.channels.SocketChannel;
+import java.nio.channels.UnsupportedAddressTypeException;
 import java.util.Objects;
 import java.util.concurrent.ExecutionException;
 import java.util.concurrent.FutureTask;
@@ -17,7 +18,7 @@ import java.util.concurrent.TimeUnit;
 import java.util.function.BooleanSupplier;
 import java.util.regex.Pattern;
 
-/** A link over TCP. Its host is looked up anew with each. */
+/** A link over TCP. Its host is looked up anew with each, and each address that it has is tried, one after another. */
 final class SocketLink implements Link {
     /**
      * What makes such links to a server.
@@ -52,25 +53,35 @@ final class SocketLink implements Link {
         }
     }
 
+    /** What gives the addresses of a host, one at least. */
+    interface Names {
+        InetAddress[] of(String host) throws UnknownHostException;
+    }
+
     private final String host;
     private final int port;
     private final BooleanSupplier isWoken;
+    private final Names names;
     private final Selector selector;
-    private final SocketChannel channel;
-    private final SelectionKey key;
+    private SocketChannel channel;
+    private SelectionKey key;
 
     SocketLink(String host, int port, BooleanSupplier isWoken) throws IOException {
+        this(host, port, isWoken, InetAddress::getAllByName);
+    }
+
+    /** The same, with names of one's own, for tests. */
+    SocketLink(String host, int port, BooleanSupplier isWoken, Names names) throws IOException {
         this.host = host;
         this.port = port;
         this.isWoken = isWoken;
+        this.names = names;
         Selector made = Selector.open();
         SocketChannel opened = null;
         SelectionKey registered = null;
         try {
             opened = SocketChannel.open();
-            opened.configureBlocking(false);
-            opened.setOption(StandardSocketOptions.TCP_NODELAY, true);
-            registered = opened.register(made, 0);
+            registered = registered(made, opened);
         } finally {
             if (registered == null) {
                 closed(made, opened);
@@ -81,17 +92,21 @@ final class SocketLink implements Link {
         key = registered;
     }
 
+    private static SelectionKey registered(Selector selector, SocketChannel channel) throws IOException {
+        channel.configureBlocking(false);
+        channel.setOption(StandardSocketOptions.TCP_NODELAY, true);
+        return channel.register(selector, 0);
+    }
+
     @Override
     public void connect(long nanos) throws IOException {
         long ends = System.nanoTime() + nanos;
         try {
-            boolean connected = channel.connect(new InetSocketAddress(found(ends), port));
-            while (!connected) {
-                await(SelectionKey.OP_CONNECT, ends);
-                connected = channel.finishConnect();
-            }
+            connect(found(ends), ends);
         } catch (UnknownHostException unknown) {
             throw notConnected("the host is not known", unknown);
+        } catch (UnsupportedAddressTypeException other) {
+            throw notConnected("this program has no addresses of that version", other);
         } catch (Woken woken) {
             throw woken;
         } catch (SocketTimeoutException late) {
@@ -102,7 +117,36 @@ final class SocketLink implements Link {
         }
     }
 
-    private NotConnected notConnected(String why, IOException cause) {
+    /** Connects to the first of these addresses where that can be done. */
+    private void connect(InetAddress[] all, long ends) throws IOException {
+        for (int each = 0; !isConnected(all[each], each + 1 == all.length, ends); each++) {
+            // a channel that could not be connected is of no more use
+            channel.close();
+            channel = SocketChannel.open();
+            key = registered(selector, channel);
+        }
+    }
+
+    /** Connects to an address; false where that can't be done, or the fault of the last one. */
+    private boolean isConnected(InetAddress address, boolean isLast, long ends) throws IOException {
+        try {
+            boolean connected = channel.connect(new InetSocketAddress(address, port));
+            while (!connected) {
+                await(SelectionKey.OP_CONNECT, ends);
+                connected = channel.finishConnect();
+            }
+            return true;
+        } catch (Woken | SocketTimeoutException over) {
+            throw over;
+        } catch (IOException | UnsupportedAddressTypeException fault) {
+            if (isLast) {
+                throw fault;
+            }
+            return false;
+        }
+    }
+
+    private NotConnected notConnected(String why, Exception cause) {
         return new NotConnected(new To(host, port) + ": " + why, cause);
     }
 
@@ -112,12 +156,12 @@ final class SocketLink implements Link {
         return words.isEmpty() ? words : Character.toLowerCase(words.charAt(0)) + words.substring(1);
     }
 
-    /** The host's address. A name is looked up by another thread, so that this one can be woken. */
-    private InetAddress found(long ends) throws IOException {
+    /** The host's addresses. A name is looked up by another thread, so that this one can be woken. */
+    private InetAddress[] found(long ends) throws IOException {
         if (host.indexOf(':') >= 0 || host.matches("[0-9.]+")) {
-            return InetAddress.getByName(host);
+            return names.of(host);
         }
-        FutureTask<InetAddress> search = new FutureTask<>(() -> InetAddress.getByName(host)) {
+        FutureTask<InetAddress[]> search = new FutureTask<>(() -> names.of(host)) {
             @Override
             protected void done() {
                 wake();

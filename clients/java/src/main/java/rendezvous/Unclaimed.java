@@ -25,9 +25,8 @@ final class Unclaimed {
         }
 
         private boolean isGiven() {
-            return future.handle((result, fault) -> fault instanceof RvException.NotRecorded unrecorded
-                ? unrecorded.outcome() instanceof Outcome.Item taken && taken.item() == item
-                : result == item || result instanceof Optional<?> found && found.orElse(null) == item).join();
+            return future.handle((result, fault) -> result == item
+                || result instanceof Optional<?> found && found.orElse(null) == item).join();
         }
     }
 
@@ -40,7 +39,7 @@ final class Unclaimed {
         running.add(future);
     }
 
-    /** The call of a future has this outcome. An item is the future's, if nothing else completes that before. */
+    /** The call of a future gives this outcome, which is recorded. An item is the future's, if nothing else completes that before. */
     synchronized void settled(CompletableFuture<?> future, Outcome outcome) {
         if (outcome instanceof Outcome.Item taken) {
             items.add(new Kept(taken.item(), future));

@@ -18,6 +18,7 @@ import java.util.concurrent.CancellationException;
 import java.util.concurrent.CompletableFuture;
 import java.util.concurrent.CompletionException;
 import java.util.concurrent.CountDownLatch;
+import java.util.concurrent.Executor;
 import java.util.concurrent.ExecutorService;
 import java.util.concurrent.Executors;
 import java.util.concurrent.TimeUnit;
@@ -262,6 +263,27 @@ final class FuturesTest {
     }
 
     @Test
+    void aCancelOfATransferWaitsNotForWhatIsDoneBehindIt() throws Exception {
+        CountDownLatch cancelled = new CountDownLatch(1);
+        try (Answering server = silentUntilCancel(Answering::well); RvClients clients = server.clients(1, 8).build()) {
+            CompletableFuture<Receipt> gone = new RvTransferQueue(clients, 3).transferAsync("a");
+            CompletableFuture<Boolean> behind = gone.handle((receipt, fault) -> isOpenedInTime(cancelled));
+            server.awaitAsked(1);
+            assertTrue(gone.cancel(true));
+            cancelled.countDown();
+            assertTrue(behind.join(), "the cancel waited for it");
+        }
+    }
+
+    private static boolean isOpenedInTime(CountDownLatch latch) {
+        try {
+            return latch.await(1, TimeUnit.MINUTES);
+        } catch (InterruptedException later) {
+            throw new IllegalStateException(later);
+        }
+    }
+
+    @Test
     void whatNoThreadHasBegunIsNeverAsked() throws Exception {
         ArrayDeque<Runnable> later = new ArrayDeque<>();
         try (Answering server = new Answering(Answering::well);
@@ -313,6 +335,21 @@ final class FuturesTest {
             clients.close();
             assertInstanceOf(RvException.Unsettled.class, fault(taken));
             assertThrows(IllegalStateException.class, queue::takeAsync);
+        }
+    }
+
+    /** Where the close comes between the two steps by which a future begins. */
+    @Test
+    void aFutureThatBeginsBesideACloseIsToldThatTheClientsAreClosed() throws Exception {
+        try (Answering server = new Answering(Answering::well)) {
+            RvClients clients = server.clients(1, 8).build();
+            Executor executor = clients.executor();
+            clients.close();
+            IllegalStateException closed = assertThrows(IllegalStateException.class, () -> executor.execute(() -> { }));
+            assertEquals("the clients are closed", closed.getMessage());
+            IllegalStateException later =
+                assertThrows(IllegalStateException.class, new RvTransferQueue(clients, 3)::takeAsync);
+            assertEquals(closed.getMessage(), later.getMessage());
         }
     }
 

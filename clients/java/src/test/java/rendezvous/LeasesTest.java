@@ -5,16 +5,17 @@ import static org.junit.jupiter.api.Assertions.assertFalse;
 import static org.junit.jupiter.api.Assertions.assertThrows;
 import static org.junit.jupiter.api.Assertions.assertTrue;
 
-import com.sun.security.auth.module.UnixSystem;
 import java.net.InetSocketAddress;
 import java.net.StandardProtocolFamily;
 import java.nio.channels.DatagramChannel;
+import java.nio.charset.StandardCharsets;
 import java.time.Instant;
 import java.time.temporal.ChronoUnit;
 import java.util.ArrayList;
 import java.util.List;
 import java.util.Map;
 import java.util.Optional;
+import java.util.OptionalLong;
 import java.util.TreeSet;
 import java.util.concurrent.TimeUnit;
 import java.util.concurrent.locks.LockSupport;
@@ -54,7 +55,7 @@ final class LeasesTest {
     }
 
     private static InetSocketAddress placeOf(long client) {
-        return Leases.place(new UnixSystem().getUid(), client);
+        return Leases.place(Leases.user(), client);
     }
 
     private static Lease next(Leases leases) {
@@ -84,6 +85,25 @@ final class LeasesTest {
         "1000,9007199254740991,127.72.138.55,65095", "4294967294,1,127.127.255.254,61001"})
     void aNumberStandsForAnAddressAndAPort(long user, long client, String host, int port) {
         assertEquals(new InetSocketAddress(host, port), Leases.place(user, client));
+    }
+
+    /** As another language's client on the same host has it, also where the user has no name, or is not the real one. */
+    @Test
+    void theUserIsTheEffectiveOne() {
+        String before = "Name:\tUid: 7\nUmask:\t0022\n";
+        String after = "Gid:\t3\t4\t5\t6\n";
+        assertEquals(OptionalLong.of(54_321), Leases.effective(before + "Uid:\t1000\t54321\t2\t3\n" + after));
+        assertEquals(OptionalLong.of(4_294_967_294L), Leases.effective("Uid:\t0\t4294967294\t0\t0\n"));
+        assertEquals(OptionalLong.empty(), Leases.effective(before + after));
+        assertEquals(OptionalLong.empty(), Leases.effective(""));
+    }
+
+    @Test
+    @EnabledOnOs(OS.LINUX)
+    void theUserIsTheOneThatTheSystemTells() throws Exception {
+        Process id = new ProcessBuilder("id", "-u").start();
+        String told = new String(id.getInputStream().readAllBytes(), StandardCharsets.US_ASCII).strip();
+        assertEquals(Long.parseLong(told), Leases.user());
     }
 
     /** So that what has no number's socket any more is seen to have had it. */

@@ -26,6 +26,8 @@ import java.util.stream.IntStream;
 import java.util.stream.Stream;
 import org.junit.jupiter.api.Test;
 import org.junit.jupiter.api.Timeout;
+import org.junit.jupiter.api.condition.EnabledOnOs;
+import org.junit.jupiter.api.condition.OS;
 import org.junit.jupiter.api.io.TempDir;
 
 /** The record of what clients were told: a line for each reply, or an exception that has the reply. */
@@ -118,6 +120,19 @@ final class RecordTest {
     }
 
     @Test
+    @EnabledOnOs({OS.LINUX, OS.MAC})
+    void aPipeIsRefusedAndADeviceIsTaken() throws Exception {
+        Path pipe = folder.resolve("pipe");
+        assertEquals(0, new ProcessBuilder("mkfifo", pipe.toString()).start().waitFor());
+        try (Answering server = new Answering(Answering::well)) {
+            UncheckedIOException fault = assertThrows(UncheckedIOException.class, server.clients(1, 1).record(pipe)::build);
+            assertEquals("no record can be kept in " + pipe + ": it is neither a file nor a character device", fault.getMessage());
+            server.clients(1, 1).record(Path.of("/dev/null")).build().close();
+            assertEquals(0, server.connections());
+        }
+    }
+
+    @Test
     void whatCanNotBeWrittenIsInTheException() throws Exception {
         try (Answering server = new Answering(Answering::well); RvClients clients = turning(server.clients(1, 1))) {
             RvTransferQueue queue = new RvTransferQueue(clients, 3);
@@ -147,7 +162,7 @@ final class RecordTest {
     }
 
     @Test
-    void ofACancelledFutureTheThreadsHandlerIsTold() throws Exception {
+    void ofACancelledFutureTheThreadsHandlerAloneIsTold() throws Exception {
         BlockingQueue<Throwable> uncaught = new LinkedBlockingQueue<>();
         ExecutorService executor = Executors.newSingleThreadExecutor(call -> {
             Thread thread = new Thread(call);
@@ -160,8 +175,9 @@ final class RecordTest {
             CompletableFuture<String> taken = queue.takeAsync();
             server.awaitAsked(1);
             taken.cancel(true);
-            assertInstanceOf(RvException.NotRecorded.class, uncaught.take());
-            assertEquals("a", queue.take());
+            RvException.NotRecorded fault = assertInstanceOf(RvException.NotRecorded.class, uncaught.take());
+            assertEquals(new Outcome.Item(new Key(1, 1, 1, 1), "a"), fault.outcome());
+            assertEquals(List.of(), queue.unclaimed(), "it is told once more");
         } finally {
             executor.shutdown();
         }
