@@ -1,5 +1,6 @@
 -- The lemmas that the proofs of this crate share.
 pub mod Cutting
+pub mod Ends
 pub mod Forms
 pub mod Progress
 pub mod Answering

@@ -116,6 +116,10 @@ module _ {contents : Option (List ℕ)} {a : Account} {input : List ℕ} {now : 
     small = omega (arith, so_far.small);
   }
 
+  -- the same, where what is left of the input is these bytes
+  pub progress_kept : (left : List ℕ) → left ≡ rest → Progress contents a input now b left waiting sent
+  progress_kept left same = subst (λ l. Progress contents a input now b l waiting sent) (sym same) so_far
+
 -- ---- the end of a run
 
 module _ {W : Type 0} (contents : W → Option (List ℕ)) {a : Account} {input : List ℕ} (start now : Sink W)

@@ -5,3 +5,4 @@ pub mod Outcomes
 pub mod Run
 -- What only private clauses and proofs cite.
 pub mod Body
+pub mod Unanswered

@@ -5,5 +5,6 @@ pub mod laws;
 mod line;
 mod run;
 mod turn;
+mod unanswered;
 
 pub use run::book_run;

@@ -5,8 +5,10 @@ ghost use Rattle.rv_frame.specs.Sink.{FailsWithSink};
 ghost use Rattle.rv_run.specs.Output.{gathered_bytes, taken_in};
 ghost use Rattle.rv_turns.specs.Outcomes.{FailedReading, FoundTooLong, LackedMemory, Ran};
 ghost use Rattle.rv_turns.specs.Outcomes.{SendsAll, SendsFront, StoppedWriting, max_input};
+ghost use Rattle.rv_turns.specs.Unanswered.{unanswered};
 
 use crate::turn::answer_line;
+use crate::unanswered::Unanswered;
 use rv_book::Book;
 use rv_frame::{Sink, Source};
 use rv_lines::first_line;
@@ -22,8 +24,9 @@ use std::io::{Read, Write};
 /// memory was refused by that of refusal 11, and the run goes on. Lines end by LF, which the last
 /// one may lack.
 ///
-/// The whole input is read before the first line is looked at. Read faults, too long an input and want of
-/// memory that ends the run are found before anything is written. Write faults may come at any line.
+/// The whole input is read before the first line is looked at, and is let go as its lines are answered. Read
+/// faults, too long an input and want of memory that ends the run are found before anything is written. Write
+/// faults may come at any line.
 pub fn book_run<R: Read, W: Write>(
     alloc: Global,
     source: &mut Source<R>,
@@ -48,33 +51,34 @@ pub fn book_run<R: Read, W: Write>(
     ensures lacked_memory { result ≡ Err RunFault.NoMemory →
         LackedMemory source.new sink.old sink.new }
 {
-    let input = read_input(alloc, source)?;
+    let bytes = read_input(alloc, source)?;
+    let mut input = Unanswered::new(bytes);
     let mut output = Output::new(alloc)?;
     let mut book = Book::open(alloc, epoch, 0)?;
-    Ok(answer_lines(alloc, &mut book, &input, &mut output, sink)?)
+    Ok(answer_lines(alloc, &mut book, &mut input, &mut output, sink)?)
 }
 
-// Answers each line of the input, and sends all that was gathered.
+// Answers each line of the input, and sends all that was gathered. What was answered is let go.
 fn answer_lines<W: Write>(
     alloc: Global,
     book: &mut Book,
-    input: &[u8],
+    input: &mut Unanswered,
     output: &mut Output,
     sink: &mut Sink<W>,
 ) -> Result<(), OutputFault>
-    requires within { length input.now ≤ max_input }
+    requires within { length (unanswered input.old) ≤ max_input }
     requires nothing_gathered { gathered_bytes output.old ≡ [] }
     requires nothing_sent { taken_in output.old ≡ 0 }
-    ensures all { OnOk result (SendsAll W.contents book.old input.now sink.old sink.new) }
+    ensures all { OnOk result (SendsAll W.contents book.old (unanswered input.old) sink.old sink.new) }
     ensures part { IfErr result (λ fault.
-        SendsFront W.contents book.old input.now sink.old sink.new fault.sent) }
+        SendsFront W.contents book.old (unanswered input.old) sink.old sink.new fault.sent) }
     ensures told { FailsWithSink result sink.old sink.new }
 {
-    let mut rest = input;
-    while let Some((line, after)) = first_line(rest) {
+    while let Some((line, after)) = first_line(input.rest()) {
+        let left = after.len();
         let body = answer_line(alloc, book, line);
         output.line(sink, body.as_bytes())?;
-        rest = after;
+        input.keep_last(left);
     }
     output.flush(sink)
 }

@@ -1,8 +1,10 @@
 -- Each line that is answered moves the run on, and a fault leaves the front of what it prints.
-use Rattle.std.proofs.Common.{arith, refl, sym, subst, ◌∙◌}
+use Rattle.std.proofs.Common.{length, arith, ap, refl, sym, subst, ◌∙◌}
+use Rattle.rv_lines.specs.Lines.{lines}
 use Rattle.std.proofs.lemmas.Result.{err_from_is_err_and}
 use Rattle.rv_turns.specs.Run.{AnswersLine}
-use Rattle.rv_turns.proofs.Progress.{progress_start, progress_more, sends_all_on_ok, sends_front}
+use Rattle.rv_turns.proofs.Ends.{kept_is}
+use Rattle.rv_turns.proofs.Progress.{progress_start, progress_kept, progress_more, sends_all_on_ok, sends_front}
 use Rattle.rv_turns.proofs.Progress.{sends_front_if_err}
 use Rattle.rv_turns.proofs.run.answer_lines.Goals as goal
 
@@ -17,10 +19,13 @@ pub loop-line-preserved-in_ok-line : goal.loop-line-preserved-in_ok-line
 loop-line-preserved-in_ok-line g c =
     let answers = subst (AnswersLine c.in-Some.line.now c.loop-line.book c.answer_line-body.new.book)
     (sym c.as_bytes.ensures.text) c.answer_line-body.ensures.answers in
+    let first = ap lines (sym c.rest.ensures) ∙ c.in-Some.ensures.some in
+    let more = progress_more c.loop-line.invariant.progress _ _ _ _ _ c.as_bytes.result.now _ first answers
+    c.in_ok-line.ensures.ok c.in_ok-line.ensures.count c.as_bytes.ensures.of_body
+    (omega (arith, ap length c.rest.ensures, c.in-Some.ensures.shorter)) in
+    let kept = kept_is _ _ _ _ _ c.rest.ensures refl c.in-Some.ensures.cut in
     record {
-      progress = progress_more c.loop-line.invariant.progress _ _ _ _ _ c.as_bytes.result.now _
-          c.in-Some.ensures.some answers c.in_ok-line.ensures.ok c.in_ok-line.ensures.count
-          c.as_bytes.ensures.of_body c.in-Some.ensures.shorter;
+      progress = progress_kept more _ (c.keep_last.ensures ∙ kept);
       unfailed = c.in_ok-line.ensures.told ∙ c.loop-line.invariant.unfailed;
     }
 
@@ -28,10 +33,13 @@ pub loop-line-preserved : goal.loop-line-preserved
 loop-line-preserved g c =
     let answers = subst (AnswersLine c.in-Some.line.now c.loop-line.book c.answer_line-body.new.book)
     (sym c.as_bytes.ensures.text) c.answer_line-body.ensures.answers in
+    let first = ap lines (sym c.rest.ensures) ∙ c.in-Some.ensures.some in
+    let more = progress_more c.loop-line.invariant.progress _ _ _ _ _ c.as_bytes.result.now _ first answers
+    c.in_ok-line.ensures.ok c.in_ok-line.ensures.count c.as_bytes.ensures.of_body
+    (omega (arith, ap length c.rest.ensures, c.in-Some.ensures.shorter)) in
+    let kept = kept_is _ _ _ _ _ c.rest.ensures refl c.in-Some.ensures.cut in
     record {
-      progress = progress_more c.loop-line.invariant.progress _ _ _ _ _ c.as_bytes.result.now _
-          c.in-Some.ensures.some answers c.in_ok-line.ensures.ok c.in_ok-line.ensures.count
-          c.as_bytes.ensures.of_body c.in-Some.ensures.shorter;
+      progress = progress_kept more _ (c.keep_last.ensures ∙ kept);
       unfailed = c.in_ok-line.ensures.told ∙ c.loop-line.invariant.unfailed;
     }
 
@@ -48,5 +56,6 @@ returns-clause-part g c = sends_front_if_err g.W.Write.contents c.args.sink.now 
 
 pub returns-clause-all : goal.returns-clause-all
 returns-clause-all g c = sends_all_on_ok g.W.Write.contents c.args.sink.now c.loop-line.sink
-    c.loop-line.output c.loop-line.invariant.progress _ c.flush.result (c.in_default.ensures.none refl)
+    c.loop-line.output c.loop-line.invariant.progress _ c.flush.result
+    (sym c.rest.ensures ∙ c.in_default.ensures.none refl)
     c.flush.ensures.ok

@@ -4,6 +4,7 @@ use Rattle.std.proofs.lemmas.Result.{err_from_is_err_and}
 use Rattle.rv_run.specs.declared.fault.RunFault.{RunFault}
 use Rattle.rv_run.specs.declared.output.OutputFault.{OutputFault}
 use Rattle.rv_turns.specs.Outcomes.{StoppedWriting}
+use Rattle.rv_turns.specs.Unanswered.{unanswered}
 use Rattle.rv_turns.proofs.Answering.{all_sent, front_sent}
 use Rattle.rv_turns.proofs.run.book_run.Goals as goal
 
@@ -16,15 +17,15 @@ returns-in_err-answer_lines-clause-stopped_writing g c fault is =
     subst (λ (f : OutputFault). StoppedWriting g.R.Read.remaining g.W.Write.contents c.args.epoch
     c.args.source.now c.read_input.new.source c.args.sink.now c.answer_lines.new.sink f.sent) same
     (front_sent g.R.Read.remaining g.W.Write.contents c.args.epoch c.args.source.now c.read_input.new.source
-    c.args.sink.now c.answer_lines.new.sink c.in_ok-book.book c.in_ok-input.input.items c.deref.result.now
-    c.in_ok-input.ensures.all c.in_ok-input.ensures.bytes c.deref.ensures.value c.in_ok-book.ensures.epoch
+    c.args.sink.now c.answer_lines.new.sink c.in_ok-book.book c.in_ok-bytes.bytes.items (unanswered c.new-input.result)
+    c.in_ok-bytes.ensures.all c.in_ok-bytes.ensures.bytes c.new-input.ensures c.in_ok-book.ensures.epoch
     c.in_ok-book.ensures.opened c.in_ok-book.ensures.empty c.in_err-answer_lines.field-0.0.sent
     c.in_err-answer_lines.ensures.part c.in_err-answer_lines.ensures.told)
 
 pub returns-clause-ran : goal.returns-clause-ran
 returns-clause-ran g c =
     all_sent g.R.Read.remaining g.W.Write.contents c.args.epoch c.args.source.now c.read_input.new.source
-    c.args.sink.now c.answer_lines.new.sink c.in_ok-book.book c.in_ok-input.input.items c.deref.result.now
-    c.in_ok-input.ensures.all c.in_ok-input.ensures.bytes c.deref.ensures.value c.in_ok-book.ensures.epoch
+    c.args.sink.now c.answer_lines.new.sink c.in_ok-book.book c.in_ok-bytes.bytes.items (unanswered c.new-input.result)
+    c.in_ok-bytes.ensures.all c.in_ok-bytes.ensures.bytes c.new-input.ensures c.in_ok-book.ensures.epoch
     c.in_ok-book.ensures.opened c.in_ok-book.ensures.empty c.in_ok-answer_lines.ensures.all
     c.in_ok-answer_lines.ensures.told
