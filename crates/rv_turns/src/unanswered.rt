@@ -4,8 +4,8 @@ ghost use Rattle.std.specs.Prelude.{◌≡◌, ◌≤◌, ◌-◌, drop, length}
 // How many bytes were answered at least before they are let go.
 const LEAST: usize = 65_536;
 
-/// The bytes of an input, of which the first are answered. Of what it keeps at most half is answered, or 65,535
-/// bytes. No more bytes are moved in all than the input has.
+/// The bytes of an input, of which the first are answered. Of what it keeps at most half is answered, or
+/// 65,535 bytes. No more bytes are moved in all than the input has.
 #[derive(Drop)]
 pub(crate) struct Unanswered {
     bytes: Vec<u8>,

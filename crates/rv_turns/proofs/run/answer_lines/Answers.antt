@@ -4,7 +4,8 @@ use Rattle.rv_lines.specs.Lines.{lines}
 use Rattle.std.proofs.lemmas.Result.{err_from_is_err_and}
 use Rattle.rv_turns.specs.Run.{AnswersLine}
 use Rattle.rv_turns.proofs.Ends.{kept_is}
-use Rattle.rv_turns.proofs.Progress.{progress_start, progress_kept, progress_more, sends_all_on_ok, sends_front}
+use Rattle.rv_turns.proofs.Progress.{progress_start, progress_kept, progress_more, sends_all_on_ok}
+use Rattle.rv_turns.proofs.Progress.{sends_front}
 use Rattle.rv_turns.proofs.Progress.{sends_front_if_err}
 use Rattle.rv_turns.proofs.run.answer_lines.Goals as goal
 

@@ -8,7 +8,8 @@ use Rattle.rv_turns.proofs.run.answer_lines.Given as goal
 
 abbrev pub invariant-loop-line : goal.invariant-loop-line
 invariant-loop-line g l = record {
-  progress : Progress (sink_contents g.W.Write.contents l.initial.sink) l.initial.book (unanswered l.initial.input)
+  progress : Progress (sink_contents g.W.Write.contents l.initial.sink) l.initial.book
+      (unanswered l.initial.input)
       (sink_contents g.W.Write.contents l.sink) l.book (unanswered l.input) (gathered_bytes l.output)
       (sent_before l.output);
   unfailed : sink_failed l.sink ≡ sink_failed l.initial.sink;

@@ -17,7 +17,8 @@ returns-in_err-answer_lines-clause-stopped_writing g c fault is =
     subst (λ (f : OutputFault). StoppedWriting g.R.Read.remaining g.W.Write.contents c.args.epoch
     c.args.source.now c.read_input.new.source c.args.sink.now c.answer_lines.new.sink f.sent) same
     (front_sent g.R.Read.remaining g.W.Write.contents c.args.epoch c.args.source.now c.read_input.new.source
-    c.args.sink.now c.answer_lines.new.sink c.in_ok-book.book c.in_ok-bytes.bytes.items (unanswered c.new-input.result)
+    c.args.sink.now c.answer_lines.new.sink c.in_ok-book.book c.in_ok-bytes.bytes.items
+    (unanswered c.new-input.result)
     c.in_ok-bytes.ensures.all c.in_ok-bytes.ensures.bytes c.new-input.ensures c.in_ok-book.ensures.epoch
     c.in_ok-book.ensures.opened c.in_ok-book.ensures.empty c.in_err-answer_lines.field-0.0.sent
     c.in_err-answer_lines.ensures.part c.in_err-answer_lines.ensures.told)
@@ -25,7 +26,8 @@ returns-in_err-answer_lines-clause-stopped_writing g c fault is =
 pub returns-clause-ran : goal.returns-clause-ran
 returns-clause-ran g c =
     all_sent g.R.Read.remaining g.W.Write.contents c.args.epoch c.args.source.now c.read_input.new.source
-    c.args.sink.now c.answer_lines.new.sink c.in_ok-book.book c.in_ok-bytes.bytes.items (unanswered c.new-input.result)
+    c.args.sink.now c.answer_lines.new.sink c.in_ok-book.book c.in_ok-bytes.bytes.items
+    (unanswered c.new-input.result)
     c.in_ok-bytes.ensures.all c.in_ok-bytes.ensures.bytes c.new-input.ensures c.in_ok-book.ensures.epoch
     c.in_ok-book.ensures.opened c.in_ok-book.ensures.empty c.in_ok-answer_lines.ensures.all
     c.in_ok-answer_lines.ensures.told
