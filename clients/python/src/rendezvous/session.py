@@ -128,11 +128,11 @@ class Session:
         self._collect("farewell")
 
     def _say_farewell(self) -> None:
-        """Waits for what a request comes to that was given up, or that this thread's call left. That call ends by what is known;
-        one that runs in another thread is left to it."""
+        """Waits for what a request comes to that was given up, also by its own time, or that this thread's call left. That call
+        ends by what is known; one that runs in another thread is left to it."""
         job = self._jobs.get("job")
         if job is not None and is_elsewhere(job):
-            if job.given_up:
+            if job.given_up or self._driver.machine.giving_up:
                 self._await(job)
             return
         if job is not None and not job.over:
