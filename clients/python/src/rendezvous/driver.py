@@ -11,7 +11,7 @@ import selectors
 import threading
 import time
 from queue import Empty, SimpleQueue
-from typing import Optional, Tuple
+from typing import Dict, Optional, Tuple
 
 from . import course, machine as m
 from .bell import ANYWHERE, Bell
@@ -20,7 +20,7 @@ from .course import FOREVER, Channel, Course, Manner
 from .leases import Name
 from .link import Link
 
-CLOSED = "the session is closed"
+RUNS, CLOSED = "the thread runs", "the session is closed"
 # What a thread waits by has no descriptor of its own.
 Selector = getattr(selectors, "PollSelector", selectors.SelectSelector)
 # So many seconds a thread waits at once, for no system waits for any time.
@@ -66,10 +66,20 @@ class Driver(Course):
         self._bell = bell_of(name)
         self._selector: selectors.BaseSelector = Selector()
         self._rung = self._selector.register(self._bell.fileno(), selectors.EVENT_READ).fileobj
-        # in one step, where Thread.start waits for what an exception may leave
-        _thread.start_new_thread(self._run, ())
+        # what becomes of it: whoever comes first says so, and setdefault is one step
+        self._fate: "Dict[str, str]" = {}
 
     # ---- for who calls
+
+    def start(self) -> None:
+        """Begins its thread, which runs until a close."""
+        try:
+            # in one step, where Thread.start waits for what an exception may leave
+            _thread.start_new_thread(self._run, ())
+            self._fate.setdefault("is", RUNS)
+        except BaseException:
+            self.close()
+            raise
 
     def order(self, job: Optional[Job]) -> None:
         """Hands a job over, or has the thread look at it again; None where the driver is to close. It may be done twice.
@@ -78,15 +88,21 @@ class Driver(Course):
         self._bell.ring()
 
     def close(self) -> None:
-        """Ends the thread, and the call that runs. Behind a fork there is none, and behind its end nobody to wake."""
+        """Ends the thread, and the call that runs. Behind a fork there is none, and behind its end nobody to wake. One that has
+        not begun never does: its name is given back here."""
         if os.getpid() == self._process and not self.gone:
             self.closing = True
-            self.order(None)
+            if self._fate.setdefault("is", CLOSED) == CLOSED:
+                self.name.close()
+            else:
+                self.order(None)
 
     # ---- the thread
 
     def _run(self) -> None:
         """Does one job after another until the session is closed."""
+        if self._fate.setdefault("is", RUNS) != RUNS:
+            return
         try:
             while not self.closing:
                 job = self._next()

@@ -72,7 +72,6 @@ class Session:
         checked(not renew or incarnation is None, UNGIVEN)
         manner = manner_of(version, patience, answer, connect_timeout, record, renew)
         self._process = os.getpid()
-        self._driver = driver_of(self.address, name_of(client, incarnation, clients), manner)
         self._closed = False
         # The job that runs, or that its caller left, and that of a close: setdefault and pop are single steps. Whoever pops it
         # has its outcome.
@@ -81,7 +80,10 @@ class Session:
         self._hidden: "dict[str, errors.NotRecorded]" = {}
         self._shelf = Shelf()
         self._loop: "Callable[[], Optional[Items]]" = no_loop
+        self._driver = driver_of(self.address, name_of(client, incarnation, clients), manner)
+        # from here on whatever is thrown ends what begins
         self._closes = weakref.finalize(self, self._driver.close)
+        self._driver.start()
 
     def __repr__(self) -> str:
         """Its address, client and epoch, and what runs; any thread may ask, at any time."""
