@@ -608,7 +608,8 @@ class Ranges(Case):
 
     def test_wrong_ranges(self):
         """Ranges that are none of client numbers."""
-        for wrong in (range(0, 5), range(1, 1), range(1, 9, 2), range(5, 0, -1), range(1, 2**53 + 1)):
+        for wrong in (range(0, 5), range(1, 1), range(1, 9, 2), range(5, 0, -1), range(1, 2**53 + 1),
+                      range(1, 2**70)):
             with self.subTest(clients=wrong), self.assertRaises(ValueError):
                 lease(wrong)
         for wrong in ([1, 2], "1-2", 7):

@@ -131,7 +131,7 @@ def range_of(clients: Optional[range]) -> range:
     if clients is not None:
         if not isinstance(clients, range):
             raise TypeError(f"clients are a range of numbers: {clients!r}")
-        checked(len(clients) > 0 and clients.step == 1 and 1 <= clients[0] and clients[-1] <= GREATEST,
+        checked(bool(clients) and clients.step == 1 and 1 <= clients[0] and clients[-1] <= GREATEST,
                 f"clients are a range of numbers from 1 to {GREATEST}, each of them: {clients!r}")
         return clients
     return range_told(os.environ[VARIABLE]) if VARIABLE in os.environ else CLIENTS
