@@ -20,7 +20,7 @@ from .link import Address, address_of
 from .record import Path
 from .replies import Cancelled, Counted, Key, Outcome, Receipt
 from .shown import shown
-from .unclaimed import Shelf, Unclaimed
+from .unclaimed import NotThere, Shelf, Unclaimed
 
 # How many seconds an interrupt leaves for the cancel of its call, and a close for that of a request that was given up.
 FAREWELL = 1.0
@@ -385,8 +385,12 @@ class Items(Iterator[str]):
         session = self._session
         session._loop = weakref.ref(self)
         kept = session._standing().first(self._queue)
-        if kept is not None and not self._stopped:
-            return session.claim(kept)
+        while kept is not None and not self._stopped:
+            try:
+                return session.claim(kept)
+            except NotThere:
+                # a signal's handler, or another thread, claimed it meanwhile
+                kept = session._standing().first(self._queue)
         job = self._job = session._job(self._call, None)
         # who stops the loop sees the job, or is seen here
         if self._stopped:
