@@ -25,6 +25,8 @@ RUNS, CLOSED = "the thread runs", "the session is closed"
 Selector = getattr(selectors, "PollSelector", selectors.SelectSelector)
 # So many seconds a thread waits at once, for no system waits for any time.
 AT_ONCE = 3_600.0
+# So many where it never heard its bell, for a filter of the system may drop what rings it: without a call, and beside one.
+UNHEARD, UNHEARD_IN_A_CALL = 1.0, 0.1
 
 
 class Job(course.Job):
@@ -65,6 +67,8 @@ class Driver(Course):
         self._orders: "SimpleQueue[Optional[Job]]" = SimpleQueue()
         self._bell = bell_of(name)
         self._selector: selectors.BaseSelector = Selector()
+        # whether it was ever heard
+        self._hears = False
         self._rung = self._selector.register(self._bell.fileno(), selectors.EVENT_READ).fileobj
         # what becomes of it: whoever comes first says so, and setdefault is one step
         self._fate: "Dict[str, str]" = {}
@@ -133,7 +137,7 @@ class Driver(Course):
         try:
             return self._orders.get_nowait()
         except Empty:
-            if self._wait(FOREVER):
+            if self._wait(FOREVER, UNHEARD):
                 # the peer closed it, or said what nobody asked for
                 self._hang_up()
             return None
@@ -190,13 +194,15 @@ class Driver(Course):
         else:
             self._selector.register(link.socket, wanted)
 
-    def _wait(self, moment: float) -> bool:
-        """Waits until a moment, or until something comes; whether it is the connection's."""
-        seconds = None if moment == FOREVER else min(AT_ONCE, max(0.0, moment - time.monotonic()))
+    def _wait(self, moment: float, unheard: float = UNHEARD_IN_A_CALL) -> bool:
+        """Waits until a moment, or until something comes; whether it is the connection's. Until its bell was heard it waits for
+        few seconds, since orders may come without it."""
+        at_once = AT_ONCE if self._hears else unheard
+        seconds = None if self._hears and moment == FOREVER else min(at_once, max(0.0, moment - time.monotonic()))
         ready = {key.fileobj for key, _ in self._selector.select(seconds)}
         if self._rung in ready:
             # orders come first: a cancel that came before an answer is looked at before it
-            self._bell.heard()
+            self._hears = self._bell.heard() or self._hears
             return False
         return isinstance(self._link, Link) and self._link.socket in ready
 

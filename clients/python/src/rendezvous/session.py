@@ -26,8 +26,9 @@ from .unclaimed import NotThere, Shelf, Unclaimed
 FAREWELL = 1.0
 # After how many seconds a close looks again whether that is told, where somebody else heard of it first.
 LOOK_EACH = 0.05
-# How many seconds a close waits for the end of the session's thread, by which a leased number is given back.
-END = 1.0
+# How many seconds a close waits for the end of the session's thread, by which a leased number is given back: longer than a thread
+# waits that its bell doesn't reach.
+END = 2.0
 
 
 class Session:
