@@ -1,5 +1,6 @@
 """Sessions and exceptions where there is more than one process: forks and pickles."""
 import concurrent.futures
+import errno
 import multiprocessing
 import os
 import pickle
@@ -11,9 +12,9 @@ import threading
 import unittest
 from unittest import mock
 
-from context import GENEROUS, Case, asked, behind, key, raised_by, rv, session, unhurried, until
+from context import GENEROUS, Case, asked, behind, key, numbers, raised_by, rv, session, unhurried, until
 from let_in import on_line
-from rendezvous import driver
+from rendezvous import bell, driver
 from rendezvous.bell import Bell
 from scripted import SILENCE, Scripted, reply, welcome
 
@@ -178,6 +179,17 @@ class Bells(Case):
         with Scripted(welcome, reply("done"), counted) as server, session(server) as one:
             with on_line(Bell.ring, "send(b", rings), self.assertRaisesRegex(PermissionError, "the program's own"):
                 one.put(3, "a")
+
+    def test_no_loopback_address(self):
+        """It is told by the type and number that the system has for it, and what it is for."""
+        nowhere = ("192.0.2.1", 0)
+        said = "datagram socket at the loopback address 192.0.2.1"
+        for patched, more in (("driver.ANYWHERE", {"client": 5}), ("leases.place_of", {"clients": numbers()})):
+            place = nowhere if "client" in more else lambda *_: nowhere
+            with mock.patch(f"rendezvous.{patched}", place), mock.patch.object(bell, "ANYWHERE", nowhere):
+                with self.raises(OSError, errno=errno.EADDRNOTAVAIL) as told:
+                    rv.Session("127.0.0.1:7411", **more)
+            self.assertIn(said, str(told.raised))
 
 
 class Ends(Case):

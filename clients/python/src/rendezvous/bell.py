@@ -103,6 +103,11 @@ def bind(held: socket.socket, place: Place) -> None:
         held.bind((ANYWHERE[0], place[1]))
 
 
+def told_of(fault: OSError, need: str) -> OSError:
+    """A fault of the system's, which says beside its own words what was needed; what a handler throws as it is."""
+    return OSError(fault.errno, f"{need}: {fault.strerror}") if is_of_the_system(fault) else fault
+
+
 def forget() -> None:
     """A forked process closes its copies: what is bound goes on in its parent alone, and ends there."""
     for bell in list(BELLS):

@@ -14,7 +14,7 @@ from queue import Empty, SimpleQueue
 from typing import Dict, Optional, Tuple
 
 from . import course, machine as m
-from .bell import ANYWHERE, Bell
+from .bell import ANYWHERE, Bell, told_of
 from .bodies import Members
 from .course import FOREVER, Channel, Course, Manner
 from .leases import Name
@@ -211,5 +211,8 @@ def bell_of(name: Name) -> Bell:
     """What wakes the thread of a session of this name: its lease, or else a bell at any place. The name closes it."""
     if name.bell is None:
         name.bell = Bell()
-        name.bell.takes(ANYWHERE)
+        try:
+            name.bell.takes(ANYWHERE)
+        except OSError as fault:
+            raise told_of(fault, f"a session's thread is woken by a datagram socket at the loopback address {ANYWHERE[0]}")
     return name.bell
