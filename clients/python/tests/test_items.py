@@ -16,7 +16,7 @@ from scripted import SILENCE, Scripted, refused, reply, waiting, welcome
 
 FOLDER = os.path.dirname(rv.__file__)
 WAITING = (Job.wait, "while self.told is None")
-CLAIMING = (rv.Session.claim, "return shelf.claim(one)")
+CLAIMING = (rv.Session._claimed, "return shelf.claim(one)")
 
 
 def items_met(came):

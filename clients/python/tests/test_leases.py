@@ -3,6 +3,7 @@ import _thread
 import asyncio
 import contextlib
 import errno
+import gc
 import importlib.util
 import os
 import pathlib
@@ -183,6 +184,10 @@ class Numbers(Case):
 
     def test_an_exception_at_each_step(self):
         """A signal's handler may throw anywhere in the making of a session: the number is free again, and no thread is left."""
+        # what other tests left is let go before, and not within a traced step
+        gc.collect()
+        gc.disable()
+        self.addCleanup(gc.enable)
         with leasing() as clients:
             before, made, steps = _thread._count(), None, 0
             while made is None:

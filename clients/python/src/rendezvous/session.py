@@ -277,6 +277,13 @@ class Session:
     def claim(self, one: Unclaimed) -> str:
         """Takes one of `unclaimed()` out, and gives its item, which nothing else gives any more. ValueError where it isn't there
         any more. `NotRecorded`, which has all that the request took, where that could not be recorded."""
+        try:
+            return self._claimed(one)
+        except NotThere as absent:
+            raise ValueError(str(absent)) from None
+
+    def _claimed(self, one: Unclaimed) -> str:
+        """The same, but for the fault, which no handler's exception can be taken for."""
         shelf, fault = self._standing(), self._hidden.get("fault")
         if fault is not None and fault.outcome.key == one.key:
             self._tell_hidden()
@@ -388,7 +395,7 @@ class Items(Iterator[str]):
         kept = session._standing().first(self._queue)
         while kept is not None and not self._stopped:
             try:
-                return session.claim(kept)
+                return session._claimed(kept)
             except NotThere:
                 # a signal's handler, or another thread, claimed it meanwhile
                 kept = session._standing().first(self._queue)
