@@ -126,7 +126,8 @@ IN_PYTHON = [
                 "test_links.Kept.test_a_connection_that_the_server_closed_meanwhile", [
                     Edit(LINK, "        if not self.connected:\n            return False\n        try:\n            return",
                          "        return False\n        try:\n            return"),
-                    Edit(DRIVER, "            if self._wait(FOREVER):\n", "            if self._wait(FOREVER) and False:\n")]),
+                    Edit(DRIVER, "            if self._wait(FOREVER, UNHEARD):\n",
+                         "            if self._wait(FOREVER, UNHEARD) and False:\n")]),
     WrongClient("leases a number that another program has", "test_leases.Programs.test_another_program", [
         Edit(BELL, "                return False\n", "                return True\n"),
         Edit(BELL, "        held.connect(held.getsockname())\n", "")]),

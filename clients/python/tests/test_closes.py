@@ -9,7 +9,7 @@ import unittest
 from unittest import mock
 
 from book import PLACE, Book, named, waits
-from context import Case, asked, behind, impatient, key, raised_by, rv, session, unhurried, until
+from context import PATIENCE, Case, asked, behind, impatient, key, raised_by, rv, session, unhurried, until
 from let_in import handled, on_line
 from rendezvous import aio, stream
 from rendezvous import session as threads
@@ -379,6 +379,30 @@ class Threads(Case):
             one.close()
             taker.join()
             self.assertEqual(([type(each) for each in faults], one.unsettled, len(server.heard)), ([rv.Unsettled], key(1), 2))
+
+    @unhurried()
+    def test_a_call_of_another_thread_whose_time_is_over(self):
+        """Its cancel was sent: the close waits for what that comes to, and the call gives the item."""
+        waits, awaits = threading.Event(), rv.Session._await
+        with Scripted(welcome, SILENCE) as server:
+            one, told = session(server), []
+            closer = threading.Thread(target=one.close)
+
+            def meets(came):
+                closer.start()
+                until("the close", lambda: waits.is_set() or not closer.is_alive())
+                return reply("item", item="a")(came)
+            server.otherwise = meets
+            poller = threading.Thread(target=lambda: told.append(raised_by(lambda: told.append(one.poll(3, PATIENCE)))))
+            poller.start()
+            until("a request", lambda: len(server.heard) == 2)
+            with mock.patch.object(rv.Session, "_await", lambda one, job: (waits.set(), awaits(one, job))):
+                job = one._jobs["job"]
+                job.cancel_at = 0.0
+                one._driver.order(job)
+                poller.join()
+                closer.join()
+            self.assertEqual((told, one.unclaimed(), one.unsettled), (["a", None], [], None))
 
     def test_a_request_that_nobody_gave_up(self):
         """A take is unsettled, since its patience ended: the close asks nothing more, and its key stands."""

@@ -16,6 +16,7 @@ from scripted import SILENCE, Scripted, refused, reply, waiting, welcome
 
 FOLDER = os.path.dirname(rv.__file__)
 WAITING = (Job.wait, "while self.told is None")
+CLAIMING = (rv.Session._claimed, "return shelf.claim(one)")
 
 
 def items_met(came):
@@ -178,6 +179,20 @@ class Unclaimed(Case):
         self.assertEqual(next(one.items(4)), "item 2")
         loop = one.items(3)
         self.assertEqual(([next(loop) for _ in range(3)], one.unclaimed()), (["a", "b", "item 3"], []))
+
+    def test_a_handler_that_claims_what_a_loop_is_to_give(self):
+        """The loop gives the next one that stands there, or takes; what a handler throws is thrown on, and the item stays."""
+        for texts, wanted in ((["a", "b"], "b"), (["a"], "item 2")):
+            server, one = self.left(lambda one: one.drain(3, 9), reply("drained", texts=texts))
+            server.otherwise, loop, claimed = items_met, one.items(3), []
+
+            def throws():
+                raise ValueError("the handler's own")
+            with on_line(*CLAIMING, throws), self.assertRaisesRegex(ValueError, "the handler's own"):
+                next(loop)
+            with on_line(*CLAIMING, lambda: claimed.append(one.claim(one.unclaimed()[0]))):
+                self.assertEqual(next(loop), wanted)
+            self.assertEqual((claimed, one.unclaimed()), (["a"], []))
 
     def test_an_exchange(self):
         """The object has its exchanger, and no queue."""

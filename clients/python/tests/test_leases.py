@@ -1,7 +1,9 @@
 """Client numbers that are leased: which, for how long, from whom, and with which incarnations."""
+import _thread
 import asyncio
 import contextlib
 import errno
+import gc
 import importlib.util
 import os
 import pathlib
@@ -13,6 +15,7 @@ import sys
 import tempfile
 import threading
 import unittest
+import weakref
 from unittest import mock
 
 from context import GENEROUS, Case, is_free, leasing, numbers, place_of, raised_by, rv, until
@@ -68,6 +71,28 @@ def unused():
     """In the block this process has used no incarnation."""
     with mock.patch.dict(leases.USED, clear=True):
         yield
+
+
+class Ringing(Exception):
+    """What a signal's handler throws."""
+
+
+class Step:
+    """Traces what this thread runs of the package, and of finalizers: throws at the step of this number, be it the call of a
+    function, a line or a return."""
+
+    def __init__(self, left):
+        self.left, self.place = left, None
+
+    def __call__(self, frame, event, _):
+        if not frame.f_code.co_filename.startswith((os.path.dirname(rv.__file__), weakref.__file__)):
+            return None
+        if event in ("call", "line", "return") and self.place is None:
+            self.left -= 1
+            if self.left < 0:
+                self.place = (frame.f_code.co_name, frame.f_lineno, event)
+                raise Ringing
+        return self
 
 
 class Numbers(Case):
@@ -156,6 +181,28 @@ class Numbers(Case):
                 rv.Session("127.0.0.1:7411")
             self.assertIsNotNone(told.raised.__traceback__)
             self.assertTrue(is_free(clients[0]))
+
+    def test_an_exception_at_each_step(self):
+        """A signal's handler may throw anywhere in the making of a session: the number is free again, and no thread is left."""
+        # what other tests left is let go before, and not within a traced step
+        gc.collect()
+        gc.disable()
+        self.addCleanup(gc.enable)
+        with leasing() as clients:
+            before, made, steps = _thread._count(), None, 0
+            while made is None:
+                step, steps = Step(steps), steps + 1
+                with contextlib.suppress(Ringing), unused():
+                    sys.settrace(step)
+                    try:
+                        made = rv.Session("127.0.0.1:7411")
+                    finally:
+                        sys.settrace(None)
+                if made is None:
+                    until(f"its end: {step.place}", lambda: is_free(clients[0]) and _thread._count() <= before)
+            self.assertEqual((made.client, step.place), (clients[0], None))
+            self.assertGreater(steps, 100)
+            made.close()
 
     def test_numbers_that_are_given(self):
         """They are taken as they are, and lease nothing, so that two sessions may have one."""
@@ -566,7 +613,8 @@ class Ranges(Case):
 
     def test_wrong_ranges(self):
         """Ranges that are none of client numbers."""
-        for wrong in (range(0, 5), range(1, 1), range(1, 9, 2), range(5, 0, -1), range(1, 2**53 + 1)):
+        for wrong in (range(0, 5), range(1, 1), range(1, 9, 2), range(5, 0, -1), range(1, 2**53 + 1),
+                      range(1, 2**70)):
             with self.subTest(clients=wrong), self.assertRaises(ValueError):
                 lease(wrong)
         for wrong in ([1, 2], "1-2", 7):

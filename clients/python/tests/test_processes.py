@@ -1,15 +1,22 @@
 """Sessions and exceptions where there is more than one process: forks and pickles."""
 import concurrent.futures
+import errno
 import multiprocessing
 import os
 import pickle
 import signal
+import socket
 import subprocess
 import sys
+import threading
 import unittest
+from unittest import mock
 
-from context import GENEROUS, Case, asked, key, raised_by, rv, session
-from scripted import Scripted, reply, welcome
+from context import GENEROUS, Case, asked, behind, key, numbers, raised_by, rv, session, unhurried, until
+from let_in import on_line
+from rendezvous import bell, driver
+from rendezvous.bell import Bell
+from scripted import SILENCE, Scripted, reply, welcome
 
 EXCEPTIONS = [
     rv.Unsettled(key(1), True, "the session was closed"), rv.Unsettled(key(1)), rv.NotAsked(None, "no answer in time"),
@@ -111,6 +118,78 @@ class Forks(Case):
                 with rv.Session(server.address, 2, 1) as other:
                     return other.take(3)
             self.assertEqual(self.in_a_fork(takes), "b")
+
+
+def counted(came):
+    """A deed: a count of five items."""
+    return reply("counted", items=5, consumers=0)(came)
+
+
+class Bells(Case):
+    """What wakes a session's thread, where the system doesn't let it through."""
+
+    def asks_and_closes(self, one, server):
+        """It asks, cancels and closes as ever."""
+        self.assertEqual((one.put(3, "a"), one.count(1).items), (None, 5))
+        server.deeds.append(SILENCE)
+        canceller = threading.Thread(target=behind(server, 4, one.cancel))
+        canceller.start()
+        with unhurried(), self.raises(rv.Cancelled, key=key(3)):
+            one.take(3)
+        canceller.join()
+        with mock.patch("rendezvous.session.END", GENEROUS):
+            one.close()
+        self.assertTrue(one._driver.gone)
+
+    def test_rings_that_are_dropped(self):
+        """A filter drops them: the thread looks by itself."""
+        with Scripted(welcome, reply("done"), counted) as server, mock.patch.object(Bell, "ring", lambda _: None):
+            server.otherwise, one = reply("cancelled"), session(server)
+            self.asks_and_closes(one, server)
+
+    def test_rings_that_are_refused(self):
+        """The system refuses to send them: no call ends by that."""
+        with Scripted(welcome, reply("done"), counted) as server:
+            server.otherwise, one = reply("cancelled"), session(server)
+            held = one._driver.name.bell._open["socket"]
+            held.shutdown(socket.SHUT_WR)
+            with self.raises(BrokenPipeError):
+                held.send(b"\0")
+            self.asks_and_closes(one, server)
+
+    def test_how_often_an_idle_thread_looks(self):
+        """Once a second, and once its bell was heard not at all."""
+        waits, select = [], driver.Selector.select
+
+        def noted(selector, seconds):
+            waits.append(seconds)
+            return select(selector, seconds)
+        with Scripted(welcome, reply("done")) as server, mock.patch.object(driver.Selector, "select", noted):
+            one = session(server)
+            until("a wait", lambda: waits)
+            one.put(3, "a")
+            until("a wait for ever", lambda: waits[-1] is None)
+            one.close()
+        self.assertEqual(waits[0], 1.0)
+
+    def test_what_a_handler_throws(self):
+        """That is no fault of the bell's, be it an OSError: it is thrown on."""
+        def rings():
+            raise PermissionError("the program's own")
+        with Scripted(welcome, reply("done"), counted) as server, session(server) as one:
+            with on_line(Bell.ring, "send(b", rings), self.assertRaisesRegex(PermissionError, "the program's own"):
+                one.put(3, "a")
+
+    def test_no_loopback_address(self):
+        """It is told by the type and number that the system has for it, and what it is for."""
+        nowhere = ("192.0.2.1", 0)
+        said = "datagram socket at the loopback address 192.0.2.1"
+        for patched, more in (("driver.ANYWHERE", {"client": 5}), ("leases.place_of", {"clients": numbers()})):
+            place = nowhere if "client" in more else lambda *_: nowhere
+            with mock.patch(f"rendezvous.{patched}", place), mock.patch.object(bell, "ANYWHERE", nowhere):
+                with self.raises(OSError, errno=errno.EADDRNOTAVAIL) as told:
+                    rv.Session("127.0.0.1:7411", **more)
+            self.assertIn(said, str(told.raised))
 
 
 class Ends(Case):

@@ -32,7 +32,7 @@ from .record import Path
 from .replies import Counted, Key, Outcome, Receipt
 from .shown import shown
 from .stream import StreamCourse, UnderWay, let_go
-from .unclaimed import Shelf, Unclaimed
+from .unclaimed import NotThere, Shelf, Unclaimed
 
 __all__ = ["Items", "Session"]
 
@@ -258,7 +258,10 @@ class Session:
         fault = self._left.job.unrecorded if self._left is not None else None
         if fault is not None and fault.outcome.key == one.key:
             self._tell_left()
-        return self._shelf.claim(one)
+        try:
+            return self._shelf.claim(one)
+        except NotThere as absent:
+            raise ValueError(str(absent)) from None
 
     def _kept(self, queue: int) -> Optional[str]:
         """The oldest unclaimed item of a queue, which is given now."""

@@ -52,15 +52,20 @@ class Bell:
         return self._open["socket"].fileno()
 
     def ring(self) -> None:
-        """Wakes who waits for the descriptor; behind its close nobody. Any thread and a signal's handler may say it."""
-        self._open.get("socket", NOBODY).send(b"\0")
-
-    def heard(self) -> None:
-        """Takes in that it was rung."""
+        """Wakes who waits for the descriptor; behind its close nobody. Any thread and a signal's handler may say it. Where the
+        system doesn't let it through, as by a filter, nobody is woken."""
         try:
-            self._open["socket"].recv(1)
+            self._open.get("socket", NOBODY).send(b"\0")
+        except OSError as fault:
+            if not is_of_the_system(fault):
+                raise
+
+    def heard(self) -> bool:
+        """Takes in that it was rung; False where it was not."""
+        try:
+            return len(self._open["socket"].recv(1)) > 0
         except OSError:
-            pass
+            return False
 
     def close(self) -> None:
         """Gives its place back."""
@@ -80,6 +85,14 @@ NOBODY = Nobody()
 BELLS: "weakref.WeakSet[Bell]" = weakref.WeakSet()
 
 
+def is_of_the_system(fault: OSError) -> bool:
+    """Whether the system said it of what is asked here: what a signal's handler throws comes from a frame of its own."""
+    trace = fault.__traceback__
+    while trace is not None and trace.tb_next is not None:
+        trace = trace.tb_next
+    return trace is not None and trace.tb_frame.f_globals is globals()
+
+
 def bind(held: socket.socket, place: Place) -> None:
     """Binds a socket to a place, or to its port where the system has no such address."""
     try:
@@ -88,6 +101,11 @@ def bind(held: socket.socket, place: Place) -> None:
         if fault.errno != errno.EADDRNOTAVAIL:
             raise
         held.bind((ANYWHERE[0], place[1]))
+
+
+def told_of(fault: OSError, need: str) -> OSError:
+    """A fault of the system's, which says beside its own words what was needed; what a handler throws as it is."""
+    return OSError(fault.errno, f"{need}: {fault.strerror}") if is_of_the_system(fault) else fault
 
 
 def forget() -> None:

@@ -11,20 +11,22 @@ import selectors
 import threading
 import time
 from queue import Empty, SimpleQueue
-from typing import Optional, Tuple
+from typing import Dict, Optional, Tuple
 
 from . import course, machine as m
-from .bell import ANYWHERE, Bell
+from .bell import ANYWHERE, Bell, told_of
 from .bodies import Members
 from .course import FOREVER, Channel, Course, Manner
 from .leases import Name
 from .link import Link
 
-CLOSED = "the session is closed"
+RUNS, CLOSED = "the thread runs", "the session is closed"
 # What a thread waits by has no descriptor of its own.
 Selector = getattr(selectors, "PollSelector", selectors.SelectSelector)
 # So many seconds a thread waits at once, for no system waits for any time.
 AT_ONCE = 3_600.0
+# So many where it never heard its bell, for a filter of the system may drop what rings it: without a call, and beside one.
+UNHEARD, UNHEARD_IN_A_CALL = 1.0, 0.1
 
 
 class Job(course.Job):
@@ -65,11 +67,23 @@ class Driver(Course):
         self._orders: "SimpleQueue[Optional[Job]]" = SimpleQueue()
         self._bell = bell_of(name)
         self._selector: selectors.BaseSelector = Selector()
+        # whether it was ever heard
+        self._hears = False
         self._rung = self._selector.register(self._bell.fileno(), selectors.EVENT_READ).fileobj
-        # in one step, where Thread.start waits for what an exception may leave
-        _thread.start_new_thread(self._run, ())
+        # what becomes of it: whoever comes first says so, and setdefault is one step
+        self._fate: "Dict[str, str]" = {}
 
     # ---- for who calls
+
+    def start(self) -> None:
+        """Begins its thread, which runs until a close."""
+        try:
+            # in one step, where Thread.start waits for what an exception may leave
+            _thread.start_new_thread(self._run, ())
+            self._fate.setdefault("is", RUNS)
+        except BaseException:
+            self.close()
+            raise
 
     def order(self, job: Optional[Job]) -> None:
         """Hands a job over, or has the thread look at it again; None where the driver is to close. It may be done twice.
@@ -78,15 +92,21 @@ class Driver(Course):
         self._bell.ring()
 
     def close(self) -> None:
-        """Ends the thread, and the call that runs. Behind a fork there is none, and behind its end nobody to wake."""
+        """Ends the thread, and the call that runs. Behind a fork there is none, and behind its end nobody to wake. One that has
+        not begun never does: its name is given back here."""
         if os.getpid() == self._process and not self.gone:
             self.closing = True
-            self.order(None)
+            if self._fate.setdefault("is", CLOSED) == CLOSED:
+                self.name.close()
+            else:
+                self.order(None)
 
     # ---- the thread
 
     def _run(self) -> None:
         """Does one job after another until the session is closed."""
+        if self._fate.setdefault("is", RUNS) != RUNS:
+            return
         try:
             while not self.closing:
                 job = self._next()
@@ -117,7 +137,7 @@ class Driver(Course):
         try:
             return self._orders.get_nowait()
         except Empty:
-            if self._wait(FOREVER):
+            if self._wait(FOREVER, UNHEARD):
                 # the peer closed it, or said what nobody asked for
                 self._hang_up()
             return None
@@ -174,13 +194,15 @@ class Driver(Course):
         else:
             self._selector.register(link.socket, wanted)
 
-    def _wait(self, moment: float) -> bool:
-        """Waits until a moment, or until something comes; whether it is the connection's."""
-        seconds = None if moment == FOREVER else min(AT_ONCE, max(0.0, moment - time.monotonic()))
+    def _wait(self, moment: float, unheard: float = UNHEARD_IN_A_CALL) -> bool:
+        """Waits until a moment, or until something comes; whether it is the connection's. Until its bell was heard it waits for
+        few seconds, since orders may come without it."""
+        at_once = AT_ONCE if self._hears else unheard
+        seconds = None if self._hears and moment == FOREVER else min(at_once, max(0.0, moment - time.monotonic()))
         ready = {key.fileobj for key, _ in self._selector.select(seconds)}
         if self._rung in ready:
             # orders come first: a cancel that came before an answer is looked at before it
-            self._bell.heard()
+            self._hears = self._bell.heard() or self._hears
             return False
         return isinstance(self._link, Link) and self._link.socket in ready
 
@@ -189,5 +211,8 @@ def bell_of(name: Name) -> Bell:
     """What wakes the thread of a session of this name: its lease, or else a bell at any place. The name closes it."""
     if name.bell is None:
         name.bell = Bell()
-        name.bell.takes(ANYWHERE)
+        try:
+            name.bell.takes(ANYWHERE)
+        except OSError as fault:
+            raise told_of(fault, f"a session's thread is woken by a datagram socket at the loopback address {ANYWHERE[0]}")
     return name.bell

@@ -10,7 +10,7 @@ import re
 import time
 from typing import Dict, Optional
 
-from .bell import Bell, Place
+from .bell import Bell, Place, told_of
 from .bodies import GREATEST, is_whole
 from .calls import checked
 from .errors import AllLeased
@@ -79,12 +79,20 @@ def leased(clients: range) -> Lease:
     bell = Bell()
     try:
         for client in clients:
-            if bell.takes(place_of(user(), client)):
+            if takes(bell, place_of(user(), client)):
                 return Lease(client, new_incarnation(), bell)
         raise AllLeased(None, clients[0], clients[-1])
     except BaseException:
         bell.close()
         raise
+
+
+def takes(bell: Bell, place: Place) -> bool:
+    """Whether a bell gets a number's place; what the system says against it names the place."""
+    try:
+        return bell.takes(place)
+    except OSError as fault:
+        raise told_of(fault, "a client number is leased by a datagram socket at the loopback address %s:%d" % place)
 
 
 def user() -> int:
@@ -131,7 +139,7 @@ def range_of(clients: Optional[range]) -> range:
     if clients is not None:
         if not isinstance(clients, range):
             raise TypeError(f"clients are a range of numbers: {clients!r}")
-        checked(len(clients) > 0 and clients.step == 1 and 1 <= clients[0] and clients[-1] <= GREATEST,
+        checked(bool(clients) and clients.step == 1 and 1 <= clients[0] and clients[-1] <= GREATEST,
                 f"clients are a range of numbers from 1 to {GREATEST}, each of them: {clients!r}")
         return clients
     return range_told(os.environ[VARIABLE]) if VARIABLE in os.environ else CLIENTS

@@ -20,14 +20,15 @@ from .link import Address, address_of
 from .record import Path
 from .replies import Cancelled, Counted, Key, Outcome, Receipt
 from .shown import shown
-from .unclaimed import Shelf, Unclaimed
+from .unclaimed import NotThere, Shelf, Unclaimed
 
 # How many seconds an interrupt leaves for the cancel of its call, and a close for that of a request that was given up.
 FAREWELL = 1.0
 # After how many seconds a close looks again whether that is told, where somebody else heard of it first.
 LOOK_EACH = 0.05
-# How many seconds a close waits for the end of the session's thread, by which a leased number is given back.
-END = 1.0
+# How many seconds a close waits for the end of the session's thread, by which a leased number is given back: longer than a thread
+# waits that its bell doesn't reach.
+END = 2.0
 
 
 class Session:
@@ -72,7 +73,6 @@ class Session:
         checked(not renew or incarnation is None, UNGIVEN)
         manner = manner_of(version, patience, answer, connect_timeout, record, renew)
         self._process = os.getpid()
-        self._driver = driver_of(self.address, name_of(client, incarnation, clients), manner)
         self._closed = False
         # The job that runs, or that its caller left, and that of a close: setdefault and pop are single steps. Whoever pops it
         # has its outcome.
@@ -81,7 +81,10 @@ class Session:
         self._hidden: "dict[str, errors.NotRecorded]" = {}
         self._shelf = Shelf()
         self._loop: "Callable[[], Optional[Items]]" = no_loop
+        self._driver = driver_of(self.address, name_of(client, incarnation, clients), manner)
+        # from here on whatever is thrown ends what begins
         self._closes = weakref.finalize(self, self._driver.close)
+        self._driver.start()
 
     def __repr__(self) -> str:
         """Its address, client and epoch, and what runs; any thread may ask, at any time."""
@@ -128,11 +131,11 @@ class Session:
         self._collect("farewell")
 
     def _say_farewell(self) -> None:
-        """Waits for what a request comes to that was given up, or that this thread's call left. That call ends by what is known;
-        one that runs in another thread is left to it."""
+        """Waits for what a request comes to that was given up, also by its own time, or that this thread's call left. That call
+        ends by what is known; one that runs in another thread is left to it."""
         job = self._jobs.get("job")
         if job is not None and is_elsewhere(job):
-            if job.given_up:
+            if job.given_up or self._driver.machine.giving_up:
                 self._await(job)
             return
         if job is not None and not job.over:
@@ -274,6 +277,13 @@ class Session:
     def claim(self, one: Unclaimed) -> str:
         """Takes one of `unclaimed()` out, and gives its item, which nothing else gives any more. ValueError where it isn't there
         any more. `NotRecorded`, which has all that the request took, where that could not be recorded."""
+        try:
+            return self._claimed(one)
+        except NotThere as absent:
+            raise ValueError(str(absent)) from None
+
+    def _claimed(self, one: Unclaimed) -> str:
+        """The same, but for the fault, which no handler's exception can be taken for."""
         shelf, fault = self._standing(), self._hidden.get("fault")
         if fault is not None and fault.outcome.key == one.key:
             self._tell_hidden()
@@ -383,8 +393,12 @@ class Items(Iterator[str]):
         session = self._session
         session._loop = weakref.ref(self)
         kept = session._standing().first(self._queue)
-        if kept is not None and not self._stopped:
-            return session.claim(kept)
+        while kept is not None and not self._stopped:
+            try:
+                return session._claimed(kept)
+            except NotThere:
+                # a signal's handler, or another thread, claimed it meanwhile
+                kept = session._standing().first(self._queue)
         job = self._job = session._job(self._call, None)
         # who stops the loop sees the job, or is seen here
         if self._stopped:

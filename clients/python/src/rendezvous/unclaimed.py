@@ -20,6 +20,10 @@ class Unclaimed:
     exchanger: Optional[int] = None
 
 
+class NotThere(ValueError):
+    """It is not unclaimed, or not any more."""
+
+
 class Shelf:
     """Keeps such items, by their requests and places. An item moves here from its job once, and is given from here once. Each
     change is one step, which nothing that is thrown can split."""
@@ -63,7 +67,7 @@ class Shelf:
             if place is not None:
                 self._kept[place] = one
             raise
-        raise ValueError(f"it is not unclaimed: {one}")
+        raise NotThere(f"it is not unclaimed: {one}")
 
     def forget(self, key: Key) -> None:
         """What this request took was told."""
