@@ -251,9 +251,9 @@ def others_for(count):
 
 
 def bad(line):
-    """The same line with a member that is out of its limits: it is read with the same growths, and answers what needs
-    none."""
-    return line.replace('"incarnation":1', '"incarnation":0')
+    """A line as long that says nothing, and answers what needs no memory. To read the line itself takes none either: its body is
+    compact, and has no item."""
+    return "-" * len(line)
 
 
 def request(fill, client, moment=0):
@@ -278,7 +278,7 @@ def takes_none(growths, count, others):
     an answer: first in that line's, whose step was taken, and then in those behind it."""
     fill, good = crowd(count, others), True
     for line, again, told in endings(fill, count):
-        read = growths.count([*fill.lines, bad(line), *["-" * len(again)] * BEHIND])
+        read = growths.count([*fill.lines, bad(line), *[bad(again)] * BEHIND])
         for refusals in REFUSALS:
             answers, _ = growths.run([*fill.lines, line, *[again] * BEHIND], read + 1, refusals)
             wanted = [*fill.answers, *[NO_MEMORY] * refusals, *[told] * (BEHIND + 1 - refusals)]
