@@ -1,0 +1,5 @@
+mod Fronts
+mod Deeds
+mod Around
+mod Across
+mod AsToday
