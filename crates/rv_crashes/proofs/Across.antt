@@ -1,9 +1,7 @@
 -- Whatever occurs: what is kept, by what a server's deeds keep and by what may be sent.
-use Rattle.rv_parts.proofs.Words.{◌≡◌, ◌⊎◌, ◌++◌, ◌∷◌, ◌∙◌, inl, inr, ℕ, List, [], sym, subst}
-use Rattle.rv_parts.proofs.Words.{Contains, Contains-push, Contains-push_cases, Account, Key}
-use Rattle.rv_parts.proofs.Words.{Message}
-use Rattle.rv_parts.proofs.Words.{HasReply, Reply, World, IsAnswered, IsSoundWorld, OnlyGrows}
-use Rattle.rv_parts.proofs.Words.{book_limits}
+use Rattle.rv_parts.proofs.Words.{◌≡◌, ◌⊎◌, ◌++◌, ◌∷◌, ◌∙◌, inl, inr, ℕ, List, [], sym, subst, Contains}
+use Rattle.rv_parts.proofs.Words.{Contains-push, Contains-push_cases, Account, Key, Message, HasReply, Reply}
+use Rattle.rv_parts.proofs.Words.{World, IsAnswered, IsSoundWorld, OnlyGrows, book_limits}
 use Rattle.rv_text.specs.declared.answer.Answer.TheVariants as answers
 use Rattle.rv_text.specs.declared.answer.Refusal.TheVariants as refusals
 use Rattle.rv_text.specs.declared.message.Message.TheVariants as message
@@ -18,18 +16,14 @@ use Rattle.rv_parts.proofs.OneReply.{still_answered}
 use Rattle.rv_parts.proofs.Partners.{arrival_epoch, no_means_unmet}
 use Rattle.rv_parts.proofs.Soundness.{first_sound}
 use Rattle.rv_crashes.specs.Crashes.{AtServer, CrashWorld, LeavesServer, Occurrence, Occurs, Outside}
-use Rattle.rv_crashes.specs.Crashes.{RunsAcross}
-use Rattle.rv_crashes.specs.Crashes.{IsOfMessages, Sends, Server, ServerDeed, ServerDoes, first_crash_world}
-use Rattle.rv_crashes.specs.Crashes.{made}
-use Rattle.rv_crashes.specs.Crashes.{made_world, stored_world}
+use Rattle.rv_crashes.specs.Crashes.{RunsAcross, IsOfMessages, Sends, Server, ServerDeed, ServerDoes}
+use Rattle.rv_crashes.specs.Crashes.{first_crash_world, made, made_world, stored_world}
 use Rattle.rv_crashes.specs.Laws.{DeedsKeepServers, EveryAnswer, IsHeldRightly, IsOfSomeStep, IsServer}
-use Rattle.rv_crashes.specs.Laws.{KeepsServer}
-use Rattle.rv_crashes.specs.Laws.{SentIsStored}
+use Rattle.rv_crashes.specs.Laws.{KeepsServer, SentIsStored}
 use Rattle.rv_crashes.proofs.Fronts.{held_on, rightly_on}
 use Rattle.rv_crashes.proofs.Deeds.{begins, nothing_there}
 use Rattle.rv_crashes.proofs.Around.{IsOutside, made_sound, outside_is, outside_sound, sends_grow}
-use Rattle.rv_crashes.proofs.Around.{sends_sound}
-use Rattle.rv_crashes.proofs.Around.{stored_sound}
+use Rattle.rv_crashes.proofs.Around.{sends_sound, stored_sound}
 
 -- ---- what is kept
 

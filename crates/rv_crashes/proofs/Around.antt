@@ -1,14 +1,11 @@
 -- What stays around a server: the world with what is stored stays sound where clients and the link do
 -- something, where an answer is sent, and where more is stored.
 use Rattle.rv_parts.proofs.Words.{◌≡◌, ◌++◌, ◌∷◌, ◌∙◌, inl, inr, ℕ, List, [], Option, Some, None, length}
-use Rattle.rv_parts.proofs.Words.{refl}
-use Rattle.rv_parts.proofs.Words.{sym, ap, subst, Contains, Contains-push, Contains-push_cases, Account}
-use Rattle.rv_parts.proofs.Words.{Answer}
-use Rattle.rv_parts.proofs.Words.{Call, Key, Legal, Message, NextUnder, Reply, Process, Outcome}
+use Rattle.rv_parts.proofs.Words.{refl, sym, ap, subst, Contains, Contains-push, Contains-push_cases, Account}
+use Rattle.rv_parts.proofs.Words.{Answer, Call, Key, Legal, Message, NextUnder, Reply, Process, Outcome}
 use Rattle.rv_parts.proofs.Words.{Welcomed, TurnedAway, Settled, EpochEnded, Replaced, Ignored, book_limits}
 use Rattle.rv_parts.proofs.Words.{World, ComesTo, IsSoundWorld, OnlyGrows, Steps, WorldBecomes, accounts}
-use Rattle.rv_parts.proofs.Words.{cancel_of}
-use Rattle.rv_parts.proofs.Words.{hello_of, process_of, request_of, start_of, with_message}
+use Rattle.rv_parts.proofs.Words.{cancel_of, hello_of, process_of, request_of, start_of, with_message}
 use Rattle.rv_text.specs.declared.answer.Answer.TheVariants as answers
 use Rattle.rv_text.specs.declared.answer.Refusal.TheVariants as refusals
 use Rattle.rv_text.specs.declared.message.Message.TheVariants as message

@@ -1,8 +1,8 @@
 -- What happens in the network world occurs so, where a server stores and sends at once.
 use Rattle.rv_parts.proofs.Words.{◌≡◌, ◌≤◌, ◌++◌, ◌∷◌, ◌∙◌, ℕ, List, [], length, refl, sym, ap, subst, arith}
-use Rattle.rv_parts.proofs.Words.{Contains-push, Account, Answer, Entry, NextUnder, Ticks}
-use Rattle.rv_parts.proofs.Words.{World, Happening, Happens, RunsAnyhow, Elapses, Under, Steps, empty_account}
-use Rattle.rv_parts.proofs.Words.{first_world, sender}
+use Rattle.rv_parts.proofs.Words.{Contains-push, Account, Answer, Entry, NextUnder, Ticks, World, Happening}
+use Rattle.rv_parts.proofs.Words.{Happens, RunsAnyhow, Elapses, Under, Steps, empty_account, first_world}
+use Rattle.rv_parts.proofs.Words.{sender}
 use Rattle.std.specs.Prelude.{drop}
 use Rattle.std.proofs.Common.{append-nil}
 use Rattle.std.proofs.lemmas.List.{length-append, take_all}

@@ -1,9 +1,8 @@
 -- What each deed of a server keeps, whatever messages came.
 use Rattle.rv_parts.proofs.Words.{◌≡◌, ◌⊎◌, ◌<◌, ◌≤◌, ◌+◌, ◌++◌, ◌∷◌, ◌∙◌, inl, inr, ℕ, List, [], length}
-use Rattle.rv_parts.proofs.Words.{refl}
-use Rattle.rv_parts.proofs.Words.{sym, ap, subst, arith, none-some, Contains, Contains-push_cases, Account}
-use Rattle.rv_parts.proofs.Words.{Answer}
-use Rattle.rv_parts.proofs.Words.{Legal, Message, NextUnder, StepLimits, Ticks, ArrivesAt, sender}
+use Rattle.rv_parts.proofs.Words.{refl, sym, ap, subst, arith, none-some, Contains, Contains-push_cases}
+use Rattle.rv_parts.proofs.Words.{Account, Answer, Legal, Message, NextUnder, StepLimits, Ticks, ArrivesAt}
+use Rattle.rv_parts.proofs.Words.{sender}
 use Rattle.std.specs.Prelude.{drop, take}
 use Rattle.std.proofs.lemmas.List.{take-append-drop}
 use Rattle.std.proofs.Math.Seq.{take-append-add}
