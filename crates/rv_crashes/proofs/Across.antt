@@ -60,6 +60,9 @@ still_server messages more s grows server = record {
   arrivals = λ r key call arrived. still_contains messages more (message.Request key call) grows
       (server.arrivals r
       key call arrived);
+  hellos = λ r client incarnation version hello. still_contains messages more (message.Hello client
+      incarnation
+      version) grows (server.hellos r client incarnation version hello);
   answers = λ packet count there. rightly_on messages more (made s) (made s) packet count grows
       (extends_itself
       (made s)) (server.answers packet count there);
@@ -170,7 +173,7 @@ first_kept epoch = record {
 }
 
 module _ (deeds : DeedsKeepServers) (sends : SentIsStored) where
-  occurs_leads : (c : CrashWorld) (o : Occurrence) (d : CrashWorld) → IsKept c → Occurs c o d → Leads c d
+  pub occurs_leads : (c : CrashWorld) (o : Occurrence) (d : CrashWorld) → IsKept c → Occurs c o d → Leads c d
   occurs_leads c (AtServer deed) d kept is =
       subst (λ (w : World). Leads c (record { around = w; server = d.server }))
       (sym is.2) (server_leads deeds c deed d.server kept is.0 is.1)

@@ -1,24 +1,29 @@
 -- What each deed of a server keeps, whatever messages came.
 use Rattle.rv_parts.proofs.Words.{◌≡◌, ◌⊎◌, ◌<◌, ◌≤◌, ◌+◌, ◌++◌, ◌∷◌, ◌∙◌, inl, inr, ℕ, List, [], length}
-use Rattle.rv_parts.proofs.Words.{refl, sym, ap, subst, arith, none-some, Contains, Contains-push_cases}
-use Rattle.rv_parts.proofs.Words.{Account, Answer, Legal, Message, NextUnder, StepLimits, Ticks, ArrivesAt}
-use Rattle.rv_parts.proofs.Words.{sender}
+use Rattle.rv_parts.proofs.Words.{refl, sym, ap, subst, arith, none-some, same_Some, Some, Version, Contains}
+use Rattle.rv_parts.proofs.Words.{Contains-push_cases, Account, Answer, Legal, Message, NextUnder, StepLimits}
+use Rattle.rv_parts.proofs.Words.{Ticks, ArrivesAt, sender}
 use Rattle.std.specs.Prelude.{drop, take}
 use Rattle.std.proofs.lemmas.List.{take-append-drop}
 use Rattle.std.proofs.Math.Seq.{take-append-add}
 use Rattle.rv_text.specs.declared.answer.Answer.TheVariants as answers
 use Rattle.rv_text.specs.declared.answer.Refusal.TheVariants as refusals
-use Rattle.rv_account.specs.Account.{Extends, own_moment}
+use Rattle.rv_account.specs.Account.{Extends, act_at, own_moment, with_entry}
+use Rattle.rv_account.specs.declared.entry.Act.TheVariants as act
+use Rattle.rv_account.specs.declared.entry.Act.{Act}
+use Rattle.rv_text.specs.declared.message.Message.TheVariants as message
+use Rattle.rv_rules.specs.Steps.{Adds, step_moment}
+use Rattle.rv_rules.proofs.StepLeaves.{own_act}
 use Rattle.rv_account.specs.declared.entry.Act.TheVariants.{Arrive}
 use Rattle.rv_rules.specs.Legal.{before}
 use Rattle.rv_rules.proofs.Fronts.{Legal-before, read_whole}
-use Rattle.rv_rules.proofs.Growing.{act_read}
+use Rattle.rv_rules.proofs.Growing.{act_read, reads_back}
 use Rattle.rv_state.proofs.Extending.{extends_itself, steps_extend_under, ticks_extend}
 use Rattle.rv_state.proofs.StateLaws.{ticks_move}
 use Rattle.rv_parts.specs.declared.packet.Packet.{Packet}
 use Rattle.rv_parts.specs.Events.{IsTold}
 use Rattle.rv_parts.specs.World.{first_world}
-use Rattle.rv_parts.proofs.Answered.{next_arrives, next_legal, ticked_arrives}
+use Rattle.rv_parts.proofs.Answered.{became_at, next_arrives, next_legal, ticked_arrives}
 use Rattle.rv_parts.proofs.Epochs.{empty_legal}
 use Rattle.rv_parts.proofs.Growth.{goes_on_itself}
 use Rattle.rv_crashes.specs.Crashes.{Server, made, needs_stored, server_in, withholds}
@@ -35,6 +40,7 @@ pub begins : (messages : List Message) (epoch : ℕ) → IsServer messages (serv
 begins messages epoch = record {
   legal = (empty_legal (first_world epoch) epoch).legal;
   arrivals = λ r key call arrived. absurd (none-some _ arrived);
+  hellos = λ r client incarnation version hello. absurd (none-some _ hello);
   answers = λ packet count there. absurd (nothing_there (packet, count) there);
 }
 
@@ -53,6 +59,9 @@ same_made messages s t server same held = record {
   arrivals = λ r key call arrived. server.arrivals r key call (subst (λ (a : Account). ArrivesAt a.entries key
       r
       call) same arrived);
+  hellos = λ r client incarnation version hello. server.hellos r client incarnation version
+      (subst (λ (a : Account).
+      act_at a.entries r ≡ Some (act.Hello client incarnation version)) same hello);
   answers = λ packet count there. elim (held packet count there) [
     | inl none ↦ inl none
     | inr old ↦ subst (λ (a : Account). IsHeldRightly messages a packet count) (sym same)
@@ -60,6 +69,63 @@ same_made messages s t server same held = record {
         count old)
   ];
 }
+
+-- ---- entries that are new
+
+act_back : (a b : Account) (moment : ℕ) (does : Act) (r : ℕ) (x : Act) → Adds a moment does b
+    → act_at b.entries r ≡ Some x → (act_at a.entries r ≡ Some x) ⊎ (does ≡ x)
+act_back a b moment does r x added there =
+    let on : act_at (with_entry a added.entry).entries r ≡ Some x = subst (λ (d : Account). act_at d.entries r
+    ≡ Some x) added.follows there in
+    elim (reads_back act_read refl a.entries added.entry r x on) [
+      | inl old ↦ inl old.1
+      | inr last ↦ inr (sym added.act_is ∙ same_Some _ _ last.1)
+    ]
+
+pub ticked_act : (a t : Account) (moment r : ℕ) (x : Act) → Ticks a moment t → act_at t.entries r ≡ Some x
+    → (act_at a.entries r ≡ Some x) ⊎ (act.Tick ≡ x)
+ticked_act a t moment r x (inl ticks) there = act_back a t moment act.Tick r x ticks.1 there
+ticked_act a t moment r x (inr same) there = inl (subst (λ (d : Account). act_at d.entries r ≡ Some x) same.1
+    there)
+
+no_tick : (client incarnation : ℕ) (version : Version) → act.Tick ≡ act.Hello client incarnation version → ⊥
+no_tick client incarnation version is = cc
+
+hello_of_own : (m : Message) (client incarnation : ℕ) (version : Version)
+    → own_act m ≡ act.Hello client incarnation version → m ≡ message.Hello client incarnation version
+hello_of_own (message.Hello c i v) client incarnation version is = cc
+hello_of_own (message.Request key call) client incarnation version is = absurd (let no : ⊥ = cc in no)
+hello_of_own (message.Cancel key) client incarnation version is = absurd (let no : ⊥ = cc in no)
+
+-- a hello that time brought was there before
+ticked_hello : (a t : Account) (moment r client incarnation : ℕ) (version : Version) → Ticks a moment t
+    → act_at t.entries r ≡ Some (act.Hello client incarnation version)
+    → act_at a.entries r ≡ Some (act.Hello client incarnation version)
+ticked_hello a t moment r client incarnation version ticks there =
+    elim (ticked_act a t moment r (act.Hello client
+    incarnation version) ticks there) [
+      | inl old ↦ old
+      | inr tick ↦ absurd (no_tick client incarnation version tick)
+    ]
+
+-- one that a step brought is its message's
+next_hello : (limits : StepLimits) (a b : Account) (now : ℕ) (m : Message) (said : Answer)
+    (r client incarnation : ℕ) (version : Version) → NextUnder limits a now m b said
+    → act_at b.entries r ≡ Some (act.Hello client incarnation version)
+    → (act_at a.entries r ≡ Some (act.Hello client incarnation version))
+    ⊎ (m ≡ message.Hello client incarnation version)
+next_hello limits a b now m said r client incarnation version next there =
+    let t : Account = next.ticked in
+    let at : ℕ = step_moment a now in
+    elim (became_at limits t b at m said next.steps).account [
+      | inl same ↦ inl (ticked_hello a t at r client incarnation version next.ticks
+          (subst (λ (d : Account). act_at
+          d.entries r ≡ Some (act.Hello client incarnation version)) same there))
+      | inr added ↦ elim (act_back t b at (own_act m) r (act.Hello client incarnation version) added there) [
+        | inl old ↦ inl (ticked_hello a t at r client incarnation version next.ticks old)
+        | inr new ↦ inr (hello_of_own m client incarnation version new)
+      ]
+    ]
 
 -- ---- a step, and time alone
 
@@ -96,6 +162,12 @@ stepped messages s t limits moment message said told server sent next is_told re
               | inl old ↦ server.arrivals r key call old
               | inr new ↦ subst (Contains messages) new sent
             ];
+        hellos = λ r client incarnation version hello. elim (next_hello limits (made s) (made t) moment
+            message said
+            r client incarnation version next hello) [
+              | inl old ↦ server.hellos r client incarnation version old
+              | inr new ↦ subst (Contains messages) new sent
+            ];
         answers = λ packet count there. elim (Contains-push_cases s.withheld (own, needs_stored told late)
             (packet, count) (subst (λ (u : Server). Contains u.withheld (packet, count)) rest there)) [
               | inl old ↦ rightly_on messages messages (made s) (made t) packet count
@@ -121,6 +193,9 @@ passed messages s t moment server not_before ticks rest = record {
     arrivals = λ r key call arrived. server.arrivals r key call (ticked_arrives (made s) (made t) moment r key
         call
         ticks arrived);
+    hellos = λ r client incarnation version hello. server.hellos r client incarnation version
+        (ticked_hello (made s)
+        (made t) moment r client incarnation version ticks hello);
     answers = λ packet count there. rightly_on messages messages (made s) (made t) packet count
         (goes_on_itself messages) (ticks_extend (made s) (made t) moment ticks) (server.answers packet count
         (subst (λ (u : Server). Contains u.withheld (packet, count)) rest there));
@@ -172,6 +247,11 @@ crashed messages s t left server rest =
         arrivals = λ r key call arrived. server.arrivals r key call (read_whole act_read refl (made s).entries
             kept r
             (Arrive key call) (subst (λ (a : Account). ArrivesAt a.entries key r call) front arrived)).1;
+        hellos = λ r client incarnation version hello. server.hellos r client incarnation version
+            (read_whole act_read
+            refl (made s).entries kept r (act.Hello client incarnation version)
+            (subst (λ (a : Account). act_at
+            a.entries r ≡ Some (act.Hello client incarnation version)) front hello)).1;
         answers = λ packet count there. absurd (nothing_there (packet, count)
             (subst (λ (u : Server). Contains u.withheld (packet, count)) rest there));
       };

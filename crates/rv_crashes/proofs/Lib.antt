@@ -3,3 +3,6 @@ mod Deeds
 mod Around
 mod Across
 mod AsToday
+mod Known
+mod Turns
+mod Remembered

@@ -1,16 +1,20 @@
 -- The laws: of a server's deeds, whatever messages came; and the parts of the headline, after whatever
 -- occurs.
-use Rattle.std.specs.Prelude.{◌≡◌, ◌⊎◌, ◌≤◌, ℕ, List, length}
+use Rattle.std.specs.Prelude.{◌≡◌, ◌⊎◌, ◌≤◌, ℕ, List, Some, length}
 use Rattle.std.specs.List.{Contains}
+use Rattle.rv_text.specs.declared.version.Version.{Version}
 use Rattle.rv_text.specs.declared.message.Key.{Key}
 use Rattle.rv_text.specs.declared.message.Message.{Message}
-use Rattle.rv_text.specs.declared.message.Message.TheVariants.{Request}
+use Rattle.rv_text.specs.declared.message.Message.TheVariants.{Hello, Request}
 use Rattle.rv_text.specs.declared.call.Call.{Call}
 use Rattle.rv_text.specs.declared.answer.Answer.{Answer}
 use Rattle.rv_text.specs.declared.answer.Answer.TheVariants.{Refused}
-use Rattle.rv_text.specs.declared.answer.Refusal.TheVariants.{NoMemory}
+use Rattle.rv_text.specs.declared.answer.Refusal.{Refusal}
+use Rattle.rv_text.specs.declared.answer.Refusal.TheVariants.{Busy, Gap, NoMemory, NoSession, OtherCall}
+use Rattle.rv_text.specs.declared.answer.Refusal.TheVariants.{OtherVersion}
 use Rattle.rv_text.specs.declared.answer.Reply.{Reply}
-use Rattle.rv_account.specs.Account.{Account, Extends}
+use Rattle.rv_account.specs.declared.entry.Act.TheVariants as act
+use Rattle.rv_account.specs.Account.{Account, Extends, act_at}
 use Rattle.rv_rules.specs.Legal.{Legal, before}
 use Rattle.rv_rules.specs.Steps.{NextUnder, StepLimits}
 use Rattle.rv_parts.specs.declared.packet.Packet.{Packet}
@@ -45,12 +49,15 @@ abbrev pub IsHeldRightly : List Message → Account → Packet → ℕ → Type 
 IsHeldRightly messages a packet count =
     (packet.answer ≡ Refused NoMemory) ⊎ IsHeldStep messages a packet count
 
--- what the server made is legal, its arrivals came by these messages, and so did the answers that it holds
--- back
+-- what the server made is legal, its arrivals and hellos came by these messages, and so did the answers that
+-- it holds back
 pub record IsServer (messages : List Message) (s : Server) : Type 0 where
   pub legal : Legal (made s)
   pub arrivals : (r : ℕ) (key : Key) (call : Call) → ArrivesAt (made s).entries key r call
       → Contains messages (Request key call)
+  pub hellos : (r client incarnation : ℕ) (version : Version)
+      → act_at (made s).entries r ≡ Some (act.Hello client incarnation version)
+      → Contains messages (Hello client incarnation version)
   pub answers : (packet : Packet) (count : ℕ) → Contains s.withheld (packet, count)
       → IsHeldRightly messages (made s) packet count
 
@@ -122,6 +129,22 @@ EveryAnswer w = (packet : Packet) → Contains w.to_client packet
 
 abbrev pub EveryAnswerAcross : Type 0
 EveryAnswerAcross = AfterAll (λ c. EveryAnswer (stored_world c))
+
+-- refused so, a client that keeps the protocol was forgotten: refusals 3, 6, 7, 8 and 12
+abbrev pub ForgetsClient : Refusal → Type 0
+ForgetsClient NoSession = Unit {0}
+ForgetsClient OtherCall = Unit {0}
+ForgetsClient (Busy last) = Unit {0}
+ForgetsClient (Gap last) = Unit {0}
+ForgetsClient (OtherVersion current) = Unit {0}
+ForgetsClient _ = ⊥
+
+abbrev pub NobodyForgotten : World → Type 0
+NobodyForgotten w = (packet : Packet) (refusal : Refusal) → Contains w.to_client packet
+    → packet.answer ≡ Refused refusal → ¬ ForgetsClient refusal
+
+abbrev pub NobodyForgottenAcross : Type 0
+NobodyForgottenAcross = AfterAll (λ c. NobodyForgotten (stored_world c))
 
 -- ---- a server that stores and sends at once
 

@@ -1,9 +1,10 @@
 //! Laws of a server that crashes and goes on, and of the world around it: each function is its contract, over
 //! the definitions alone.
 ghost use Rattle.rv_crashes.specs.Laws.{DeedsKeepServers, EveryAnswerAcross, LegalAccountsAcross};
-ghost use Rattle.rv_crashes.specs.Laws.{NeverHandedOverAcross, NoTwoRepliesAcross, OnlyGrowthAcross};
-ghost use Rattle.rv_crashes.specs.Laws.{OrderOfArrivalAcross, ReceivedMeansAssignedAcross, SentIsStored};
-ghost use Rattle.rv_crashes.specs.Laws.{ServersBegin, TodayIsTheCase, TrueExchangeAcross};
+ghost use Rattle.rv_crashes.specs.Laws.{NeverHandedOverAcross, NoTwoRepliesAcross, NobodyForgottenAcross};
+ghost use Rattle.rv_crashes.specs.Laws.{OnlyGrowthAcross, OrderOfArrivalAcross};
+ghost use Rattle.rv_crashes.specs.Laws.{ReceivedMeansAssignedAcross, SentIsStored, ServersBegin};
+ghost use Rattle.rv_crashes.specs.Laws.{TodayIsTheCase, TrueExchangeAcross};
 
 /// Whatever messages came, a server begins with a legal account, and holds no answer back.
 pub fn servers_begin()
@@ -83,6 +84,15 @@ pub fn only_growth_across()
 /// fronts of what is stored, or want of memory.
 pub fn every_answer_across()
     ensures { EveryAnswerAcross }
+{
+    deeds_keep_servers();
+    sent_is_stored();
+}
+
+/// Whatever occurs, no answer that was sent is a refusal by which a client that keeps the protocol was
+/// forgotten.
+pub fn nobody_is_forgotten_across()
+    ensures { NobodyForgottenAcross }
 {
     deeds_keep_servers();
     sent_is_stored();
