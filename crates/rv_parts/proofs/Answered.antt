@@ -102,7 +102,7 @@ answers_tell m b own key x told asks epoch (inr waits) is = absurd (waiting_no_r
 -- ---- the lines of a step
 
 -- what each line for a key leads to; behind the first the key is of the account's epoch
-key_lines : (R : Refusal → Type 0) (L G T : Type 0) (a : Account) (key : Key)
+pub key_lines : (R : Refusal → Type 0) (L G T : Type 0) (a : Account) (key : Key)
     → ((refusal : Refusal) → R refusal → T) → (key.epoch ≡ a.epoch → L → T) → (key.epoch ≡ a.epoch → G → T)
     → KeyLines a key R L G → T
 key_lines R L G T a key refuses last above (inl refused) = refuses refused.refusal refused.refuses_it

@@ -17,13 +17,13 @@ use Rattle.rv_parts.specs.declared.event.Event.TheVariants as event
 
 -- ---- lists
 
-goes_on_itself : {X : Type 0} (xs : List X) → GoesOn xs xs
+pub goes_on_itself : {X : Type 0} (xs : List X) → GoesOn xs xs
 goes_on_itself xs = record { more = []; is = sym (append-nil xs) }
 
-goes_on : {X : Type 0} (xs more : List X) → GoesOn xs (xs ++ more)
+pub goes_on : {X : Type 0} (xs more : List X) → GoesOn xs (xs ++ more)
 goes_on xs more = record { more = more; is = refl }
 
-goes_on_trans : {X : Type 0} (xs ys zs : List X) → GoesOn xs ys → GoesOn ys zs → GoesOn xs zs
+pub goes_on_trans : {X : Type 0} (xs ys zs : List X) → GoesOn xs ys → GoesOn ys zs → GoesOn xs zs
 goes_on_trans xs ys zs first then = record {
   more = first.more ++ then.more;
   is = then.is ∙ ap (λ list. list ++ then.more) first.is ∙ append_assoc xs first.more then.more;
@@ -103,7 +103,7 @@ comes_grow (Some process) w packet v shows is = becomes_grow w packet.client pac
     is.becomes
 
 -- where the present account is extended, and answers are sent
-present_grows : (w : World) (present : Account) (answers : List Packet) → Extends w.present present
+pub present_grows : (w : World) (present : Account) (answers : List Packet) → Extends w.present present
     → GoesOn w.to_client answers → OnlyGrows w (record w { present = present; to_client = answers })
 present_grows w present answers extends more =
     let u : World = record w { present = present; to_client = answers } in

@@ -345,7 +345,7 @@ refused_no_reply : (key : Key) (told : Reply)
     → ◌≡◌ {A = Answer} (answers.Refused refusals.NoMemory) (answers.Replied key told) → ⊥
 refused_no_reply key told is = cc
 
-asked_by : (w : World) (m : Message) (b : Account) (key : Key) (told : Reply) → IsAskedFor w m
+pub asked_by : (w : World) (m : Message) (b : Account) (key : Key) (told : Reply) → IsAskedFor w m
     → IsToldReply m b key told → (call : Call) × WasAsked w key call
 asked_by w m b key told asked is = elim is.asks [
   | inl request ↦ (request.0, subst (IsAskedFor w) request.1 asked)
@@ -354,7 +354,7 @@ asked_by w m b key told asked is = elim is.asks [
 
 -- where the present account goes on to a legal one whose arrivals were asked, and of the answers each reply
 -- that is new is the one in it
-goes_on_sound : (w : World) (present : Account) (sent : List Packet) → IsSoundWorld w
+pub goes_on_sound : (w : World) (present : Account) (sent : List Packet) → IsSoundWorld w
     → Extends w.present present → let u : World = record w { present = present; to_client = sent } in
     IsLegalIn u present
     → ((key : Key) (told : Reply) → IsAnswered u key told → IsAnswered w key told ⊎ IsNewReply u key told)
