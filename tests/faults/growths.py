@@ -369,24 +369,32 @@ def count_growths(folder, lines):
     return least
 
 
+def behind_reading(folder, before, line):
+    """The forms of a line, each with the growth that ends the reading of its body, and whether the reading makes any. A compact body
+    is read with a growth for its item alone; with a space after it the whole is read, as one of the same form is that names client 0,
+    and so is no message."""
+    bad = re.sub(r'"client":\d', '"client":0', line) + " "
+    compact = count_growths(folder, [*before, "-" * len(line)]) + ('"item":' in line)
+    return [(line, compact, '"item":' in line), (line + " ", count_growths(folder, [*before, bad]), True)]
+
+
 def refuse_behind(folder, name, before, line, later, untaken):
     """The numbers of good and bad runs where growths are refused behind the reading of a line's body: its answer's text is
-    the first that finds no memory, and its step was taken. Where the last growth of the reading is refused it was not.
-    How many growths the reading makes is told by a line of the same form that names client 0, and so is no message."""
+    the first that finds no memory, and its step was taken. Where the last growth of the reading is refused it was not."""
     before = [text for text, _ in pairs_of(1, before)]
     [(line, _)], [(later, taken)], [(_, untaken)] = [
         pairs_of(1, row) for row in (line, later, later.rpartition("=>")[0] + f"=> {untaken}")]
-    bad = re.sub(r'"client":\d', '"client":0', line)
-    read = count_growths(folder, [*before, bad])
-    text = text_of([*before, line, *[later] * 8])
     passed = failed = 0
-    for growth, refusals, wanted in [(read, 1, untaken), *((read + 1, count, taken) for count in (1, 2, 5))]:
-        printed, end, _ = run(folder, book_words(1), text, growth, refusals)
-        told_later = [answer for answer in printed[len(before) + 1:] if answer != NO_MEMORY]
-        good = end == GOOD and printed[len(before)] == NO_MEMORY and set(told_later) == {wanted}
-        passed, failed = passed + good, failed + (not good)
-        if not good:
-            print(f"FAILED: {name}: {refusals} refused from growth {growth} on: {end}", *printed, sep="\n")
+    for form, read, grows in behind_reading(folder, before, line):
+        text = text_of([*before, form, *[later] * 8])
+        refused_at = [(read, 1, untaken)] * grows + [(read + 1, count, taken) for count in (1, 2, 5)]
+        for growth, refusals, wanted in refused_at:
+            printed, end, _ = run(folder, book_words(1), text, growth, refusals)
+            told_later = [answer for answer in printed[len(before) + 1:] if answer != NO_MEMORY]
+            good = end == GOOD and printed[len(before)] == NO_MEMORY and set(told_later) == {wanted}
+            passed, failed = passed + good, failed + (not good)
+            if not good:
+                print(f"FAILED: {name}: {refusals} refused from growth {growth} on: {end}", *printed, sep="\n")
     print(f"{name}: {passed} runs with growths refused behind the reading of its body")
     return passed, failed
 
