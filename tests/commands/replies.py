@@ -65,7 +65,7 @@ KEPT = [GIVEN, TAKEN, UNSEEN]
 # Each finding: the line, and what is printed of it.
 TOLD = [
     (GIVEN, ["1 kept"]),
-    (UNSEEN, ["2 kept"]),
+    (UNSEEN, ["2 kept, as a cancel tells it"]),
     (record(transfer(1, 1), received_by(2)), [f"3 another reply {received_by(1)}", "3 differs from line 1"]),
     (record(transfer(1, 1), told(1, 1, 'received"')), [f"4 another reply {received_by(1)}", "4 differs from line 1"]),
     (record(take(2, 1, FOREVER), item_of(2, 1, "b")), [f"5 another reply {item_of(2, 1, 'a')}"]),
@@ -81,9 +81,13 @@ TOLD = [
     ("", ["14 no record"]),
     (record(take(2, 1, NOW), told(2, 2, 'empty"')), ["15 no record"]),
     (TAKEN.replace('"a"', '"\\u0061"').replace(":", " : "), ["16 kept", "16 differs from line 5"]),
+    (GIVEN.replace(",", ", "), ["17 kept", "17 repeats line 1"]),
+    (record(take(1, 2, 6), told(1, 2, 'cancelled"')), ["18 kept, as a cancel tells it"]),
+    (UNSEEN, ["19 kept, as a cancel tells it", "19 repeats line 2"]),
+    (record(take(2, 1, 5), item_of(2, 1, "b")), [f"20 another call {take(2, 1, FOREVER)}"]),
 ]
-COUNTS = ("kept", "another reply", "another call", "no such request", "still waiting", "another epoch",
-          "a reply that this call can't have", "no record", "differing")
+COUNTS = ("kept", "kept, as a cancel tells it", "another reply", "another call", "no such request", "still waiting", "another epoch",
+          "a reply that this call can't have", "no record", "differing", "repeating")
 
 
 def joined(lines):
@@ -113,7 +117,7 @@ def by_records():
     """Records beside accounts: what was told of them, and what is to be told."""
     words, account, kept = ["ACCOUNT", "--replies", "RECORD"], joined(ACCOUNT), joined(KEPT)
     lines, printed = joined(line for line, _ in TOLD), [text for _, texts in TOLD for text in texts]
-    all_kept = ["1 kept", "2 kept", "3 kept", *counted(3)]
+    all_kept = ["1 kept", "2 kept", "3 kept, as a cancel tells it", *counted(2, 1)]
     yield "each finding", run(words, account, lines), (["legal", *printed, *counted(3, 4, 2, 1, 1, 1, 1, 3, 6)], "", 6)
     yield "a record that is kept", run(words, account, kept), (["legal", *all_kept], "", 0)
     yield "its last line without LF", run(words, account, kept[:-1]), (["legal", *all_kept], "", 0)
@@ -134,7 +138,7 @@ def by_records():
 def by_words():
     """Words in any order, and others, which are none of the command's; and files that can't be read."""
     account, kept, bad = joined(ACCOUNT), joined(KEPT), ([], "command fault 1\n", 2)
-    all_kept = ["legal", "1 kept", "2 kept", "3 kept", *counted(3)]
+    all_kept = ["legal", "1 kept", "2 kept", "3 kept, as a cancel tells it", *counted(2, 1)]
     yield "the record first", run(["--replies", "RECORD", "ACCOUNT"], account, kept), (all_kept, "", 0)
     yield "the record behind =", run(["--replies=RECORD", "ACCOUNT"], account, kept), (
         [], "record RECORD: No such file or directory (os error 2)\n", 1)
@@ -187,7 +191,7 @@ def by_growth():
         ["beyond limits 100001"], said, 4)
     yield "six entries first", followed(["x", "\n"], None, joined(ACCOUNT)), (["bad line 8"], "6 entries so far\n", 1)
     yield "a record beside it", followed([joined(ACCOUNT[:4]), joined(ACCOUNT[4:]), "x\n"], joined(KEPT)), (
-        ["bad line 8", "1 kept", "2 kept", "3 kept", *counted(3)], said, 1)
+        ["bad line 8", "1 kept", "2 kept", "3 kept, as a cancel tells it", *counted(2, 1)], said, 1)
 
 
 @contextlib.contextmanager

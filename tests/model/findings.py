@@ -5,7 +5,9 @@ from tests.model.account import Call, Key, Request, arrival_of, reply
 from tests.model.answers import read_answer
 from tests.model.texts import KEY, NoReading, demand, members_of, read_json, read_message, written
 
-FINDINGS = ("kept", "another reply", "another call", "no such request", "still waiting", "another epoch",
+# A reply by a cancel that came before its request: with which call that would have come nobody knows.
+UNSEEN = "kept, as a cancel tells it"
+FINDINGS = ("kept", UNSEEN, "another reply", "another call", "no such request", "still waiting", "another epoch",
             "a reply that this call can't have", "no record")
 # What a call may be told that met somebody, or looked; and what it is told at once if nobody was there.
 MET = {"put": ("done",), "transfer": ("received",), "take": ("item",), "drain": ("drained",), "swap": ("swapped",),
@@ -77,7 +79,7 @@ class Said:
             return "no record", None
         call, own = self.of(told.key)
         if own is not None and told_of(told.key, told.call, own) == told and call in (None, told.call):
-            return "kept", None
+            return UNSEEN if call is None else "kept", None
         if told.key.epoch != self.account.epoch:
             return "another epoch", None
         if not may_be_told(told.call, told.members):
@@ -91,14 +93,18 @@ class Said:
 
 def lines_said(account, lines):
     """What is printed of a record's lines beside an account, the findings, and whether each line is kept and no two differ."""
-    said, firsts, printed, found, differing = Said(account), {}, [], [], 0
+    said, firsts, printed, found, differing, repeating = Said(account), {}, [], [], 0, 0
     for number, told in enumerate(map(read_told, lines), 1):
         finding, body = said.finding(told)
         found.append(finding)
         printed.append(f"{number} {finding}" + (f" {written(body)}" if body else ""))
-        first, first_reply = firsts.setdefault(told.key, (number, told.reply)) if told else (number, None)
-        if told and first_reply != told.reply:
+        first, first_told = firsts.setdefault(told.key, (number, told)) if told else (number, None)
+        if told and first_told.reply != told.reply:
             differing += 1
             printed.append(f"{number} differs from line {first}")
-    printed += [f"{finding} {found.count(finding)}" for finding in FINDINGS] + [f"differing {differing}"]
-    return printed, found, not differing and set(found) <= {"kept"}
+        elif told == first_told and first != number:
+            repeating += 1
+            printed.append(f"{number} repeats line {first}")
+    printed += [f"{finding} {found.count(finding)}" for finding in FINDINGS]
+    printed += [f"differing {differing}", f"repeating {repeating}"]
+    return printed, found, not differing and set(found) <= {"kept", UNSEEN}

@@ -1,5 +1,5 @@
 -- What a status of 0 tells.
-use Rattle.std.proofs.Common.{◌≡◌, ◌∷◌, ◌∙◌, [], Bool, List, None, Option, Some, ap, arith, false}
+use Rattle.std.proofs.Common.{◌≡◌, ◌∷◌, ◌∙◌, [], Bool, List, None, Option, Some, ap, arith, false, inl, inr}
 use Rattle.std.proofs.Common.{length}
 use Rattle.std.proofs.Common.{refl, slice_get, subst, suc, sym, true, ℕ}
 use Rattle.std.specs.List.{All, AllZip}
@@ -8,13 +8,12 @@ use Rattle.std.proofs.lemmas.List.Elements.{All-cons, All-nil}
 use Rattle.rv_account.specs.Account.{Account}
 use Rattle.rv_breaking.specs.declared.rule.Rule.{Rule}
 use Rattle.rv_findings.specs.Statuses.{status_by}
-use Rattle.rv_findings.specs.declared.findings.Finding.TheVariants.{Kept}
 use Rattle.rv_findings.specs.declared.verdict.AccountVerdict.{AccountVerdict}
 use Rattle.rv_findings.specs.declared.verdict.AccountVerdict.TheVariants.{BadLine, BeyondLimits, Fault}
 use Rattle.rv_findings.specs.declared.verdict.AccountVerdict.TheVariants.{Legal as LegalSoFar, NotOpen}
-use Rattle.rv_inspect.specs.Statuses.{IsKeptBeside}
+use Rattle.rv_inspect.specs.Statuses.{IsKeptBeside, IsLineKept}
 use Rattle.rv_lines.specs.Lines.{lines}
-use Rattle.rv_replies.specs.Standing.{HasNoted, IsLineFinding, IsRecordLine}
+use Rattle.rv_replies.specs.Standing.{HasNoted, IsRecordLine}
 use Rattle.rv_replies.specs.declared.records.Line.{Line}
 use Rattle.rv_replies.specs.declared.records.Line.TheVariants as line
 use Rattle.rv_replies.specs.declared.records.Records.{Records}
@@ -48,13 +47,14 @@ zero_by (BeyondLimits place) rule false kept is = absurd (omega (arith, is))
 
 -- ---- the record
 
-line_kept : (a : Account) (text : List ℕ) (own : Line) → IsRecordLine text own → IsLineFinding a own Kept
+line_kept : (a : Account) (text : List ℕ) (own : Line) → IsRecordLine text own → IsLineKept a own
     → KeepsRecordLine a text
 line_kept a text (line.Told told) is kept = (told, is, kept)
-line_kept a text (line.Flawed flaw) is kept = absurd (let no : ⊥ = cc in no)
+line_kept a text (line.Flawed flaw) is (inl kept) = absurd (let no : ⊥ = cc in no)
+line_kept a text (line.Flawed flaw) is (inr kept) = absurd (let no : ⊥ = cc in no)
 
 each_kept : (a : Account) (texts : List (List ℕ)) (owns : List Line) → AllZip IsRecordLine texts owns
-    → ((index : ℕ) (own : Line) → slice_get owns index ≡ Some own → IsLineFinding a own Kept)
+    → ((index : ℕ) (own : Line) → slice_get owns index ≡ Some own → IsLineKept a own)
     → All (KeepsRecordLine a) texts
 each_kept a [] [] are kept = All-nil (KeepsRecordLine a)
 each_kept a [] (own ∷ owns) are kept = absurd are

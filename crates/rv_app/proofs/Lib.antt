@@ -2,3 +2,5 @@
 pub mod Writing
 pub mod Telling
 pub mod Kept
+pub mod Following
+pub mod Reporting

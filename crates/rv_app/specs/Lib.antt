@@ -4,3 +4,4 @@ pub mod Audits
 pub mod Verified
 -- What private clauses cite.
 pub mod Progress
+pub mod Verifying

@@ -1,10 +1,10 @@
 -- What a status of 0 tells of the bytes of an account and of a record beside it.
-use Rattle.std.specs.Prelude.{ℕ, List, Option, Some}
+use Rattle.std.specs.Prelude.{ℕ, ◌⊎◌, List, Option, Some}
 use Rattle.std.specs.List.{All, AllZip}
 use Rattle.rv_account.specs.Account.{Account}
 use Rattle.rv_breaking.specs.declared.rule.Rule.{Rule}
 use Rattle.rv_findings.specs.Findings.{IsFinding}
-use Rattle.rv_findings.specs.declared.findings.Finding.TheVariants.{Kept}
+use Rattle.rv_findings.specs.declared.findings.Finding.TheVariants.{Kept, KeptUnseen}
 use Rattle.rv_findings.specs.declared.findings.Told.{Told}
 use Rattle.rv_findings.specs.declared.verdict.AccountFinding.{AccountFinding}
 use Rattle.rv_inspect.specs.Statuses.{TellsFound}
@@ -18,7 +18,8 @@ use Rattle.rv_verify.specs.Verdicts.{TellsLegalAccount}
 
 -- the line is the record of a reply, and the account gives it
 abbrev pub KeepsRecordLine : Account → List ℕ → Type 0
-KeepsRecordLine a text = (told : Told) × ReadsTold text told × IsFinding a told Kept
+KeepsRecordLine a text = (told : Told) × ReadsTold text told
+    × (IsFinding a told Kept ⊎ IsFinding a told KeptUnseen)
 
 -- the lines are read as a legal account, whose state has had room after each entry, and it keeps each line of
 -- the record

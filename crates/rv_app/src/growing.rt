@@ -1,6 +1,8 @@
 //! Audits an account as its file grows.
-ghost use Rattle.std.specs.Prelude.{◌≡◌, ◌↔◌, false, IfOk, IsTrue};
+ghost use Rattle.std.specs.Prelude.{◌≡◌, ◌↔◌, false, IfOk, IfSome, IsTrue};
 ghost use Rattle.rv_app.specs.Progress.{IsProgressDue};
+ghost use Rattle.rv_app.specs.Verifying.{IsFirstFault};
+ghost use Rattle.rv_verify.specs.Stages.{AreNew};
 
 use crate::verify::{buffered, run_fault};
 use rv_findings::AccountFinding;
@@ -27,7 +29,10 @@ pub(crate) fn follow<T: Wait + time::Clock, F: Read + Drop>(
     file: F,
     records: &mut Records,
 ) -> Result<AccountFinding, RunFault>
-    ensures { IfOk result (λ found. found.torn ≡ false) }
+    requires { AreNew records.old }
+    ensures first { IfSome (F.remaining file) (λ bytes. IfOk result (IsFirstFault bytes records.new)) }
+    ensures whole { IfOk result (λ found. found.torn ≡ false) }
+    ensures lines { records.new.lines ≡ records.old.lines }
 {
     let alloc = rt.alloc();
     let mut reader = buffered(alloc, file)?;

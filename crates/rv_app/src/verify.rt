@@ -1,7 +1,8 @@
 //! Verifies the account in a file, or on standard input, in memory of what is open and of clients, and a
 //! record of replies beside it.
-ghost use Rattle.std.specs.Prelude.{◌≡◌, ℕ, IfOk, IfSome, List, Some};
+ghost use Rattle.std.specs.Prelude.{◌≡◌, ℕ, IfErr, IfOk, IfSome, List, Some, option_map};
 ghost use Rattle.std.specs.Io.Buffered.{reader_remaining};
+ghost use Rattle.rv_app.specs.Verifying.{IsFoundIn, Reports, StopsReporting, beside};
 ghost use Rattle.rv_lines.specs.Lines.{lines};
 ghost use Rattle.rv_verify.specs.Ends.{IsToldOfBytes};
 ghost use Rattle.rv_verify.specs.Naming.{BeginAlike, IsRuleAt};
@@ -25,10 +26,13 @@ use rv_words::{STANDARD_INPUT, VerifyWords};
 use std::alloc::Global;
 use std::fmt::Display;
 use std::fs::File;
-use std::io::{BufReader, Read};
+use std::io::{BufReader, Read, Write};
 use std::process::ExitCode;
 use std::sync::Wait;
 use std::time;
+
+// The status that tells that a file can't be opened.
+const UNREAD: u8 = 1;
 
 /// `rv verify`: verifies the account in a file, or on standard input, and tells what it is, and what it says
 /// of each line of a record, if one is named.
@@ -46,7 +50,10 @@ pub(crate) fn run_verify<T: Wait + time::Clock>(
             let mut records = records_in(rt, size_of(&file), file)?;
             verify_beside(rt, waits, words, &mut records)
         }
-        Err(error) => Ok(unread(rt, "record", path, &error)),
+        Err(error) => {
+            unread(rt, "record", path, &error);
+            Ok(ExitCode::from(UNREAD))
+        }
     }
 }
 
@@ -58,58 +65,139 @@ fn verify_beside<T: Wait + time::Clock>(
     records: &mut Records,
 ) -> Result<ExitCode, ProgramFault>
     requires { AreNew records.old }
+    ensures { records.new.lines ≡ records.old.lines }
 {
+    let mut sink = Sink::new(rt.stdout());
     if words.file == STANDARD_INPUT {
-        let found = found_in(rt, 0, rt.stdin(), records)?;
-        return tell(rt, words, &found, None, records);
+        let about = About {
+            size: 0,
+            is_regular: false,
+        };
+        let status = verify_bytes(rt, waits, words, &about, rt.stdin(), records, &mut sink)?;
+        return Ok(ExitCode::from(status));
     }
     match File::open(rt, words.file) {
-        Ok(file) => verify_file(rt, waits, words, file, records),
-        Err(error) => Ok(unread(rt, "account", words.file, &error)),
+        Ok(file) => {
+            let about = about_file(&file);
+            let status = verify_bytes(rt, waits, words, &about, file, records, &mut sink)?;
+            Ok(ExitCode::from(status))
+        }
+        Err(error) => {
+            unread(rt, "account", words.file, &error);
+            Ok(ExitCode::from(UNREAD))
+        }
     }
 }
 
-// The same of an open file.
-fn verify_file<T: Wait + time::Clock>(
+// What is known of a file.
+#[derive(Clone, Copy, Drop)]
+struct About {
+    // How many bytes it has, or 0 if nobody knows.
+    size: u64,
+    // Whether it is known to be a regular one.
+    is_regular: bool,
+}
+
+fn about_file(file: &File) -> About {
+    About {
+        size: size_of(file),
+        is_regular: is_regular(file),
+    }
+}
+
+// Tells what is found of the bytes of an input, and of the record if one is named, and gives the status.
+fn verify_bytes<T: Wait + time::Clock, F: Read + Drop, W: Write>(
     rt: &HostRuntime,
     waits: &T,
     words: &VerifyWords<'_>,
-    file: File,
+    about: &About,
+    input: F,
     records: &mut Records,
-) -> Result<ExitCode, ProgramFault>
+    sink: &mut Sink<W>,
+) -> Result<u8, RunFault>
     requires { AreNew records.old }
+    ensures lines { records.new.lines ≡ records.old.lines }
+
+    // What went out is the report on the bytes and the record, or none did.
+    ensures told { IfSome (F.remaining input) (λ bytes. IfOk result (Reports W.contents
+        (IsFoundIn words.now.follow bytes records.new) (beside words.now.replies records.new)
+        sink.old sink.new)) }
+    ensures stopped { IfSome (F.remaining input) (λ bytes. IfErr result (StopsReporting W.contents
+        (IsFoundIn words.now.follow bytes records.new) (beside words.now.replies records.new)
+        sink.old sink.new)) }
 {
-    let regular = is_regular(&file);
-    if words.follow {
-        let found = follow(rt, waits, file, records)?;
-        return tell_file(rt, words, regular, &found, records);
-    }
-    let found = found_in(rt, size_of(&file), file, records)?;
-    tell_file(rt, words, regular, &found, records)
+    let found = found_by(rt, waits, words.follow, about.size, input, records)?;
+    tell_file(rt, words, about.is_regular, &found, records, sink)
 }
 
-// Tells what was found in a file. Where an entry names a closed place it is opened once more, if it is a
-// regular one: another may give no byte twice, and a named pipe waits for who writes.
-fn tell_file(
+// What is found of an input's bytes: of all, or as they grow.
+fn found_by<T: Wait + time::Clock, F: Read + Drop>(
+    rt: &HostRuntime,
+    waits: &T,
+    grows: bool,
+    size: u64,
+    input: F,
+    records: &mut Records,
+) -> Result<AccountFinding, RunFault>
+    requires { AreNew records.old }
+    ensures found { IfSome (F.remaining input) (λ bytes. IfOk result (IsFoundIn grows bytes records.new)) }
+    ensures lines { records.new.lines ≡ records.old.lines }
+{
+    if grows {
+        follow(rt, waits, input, records)
+    } else {
+        found_in(rt, size, input, records)
+    }
+}
+
+// Tells what was found of a file, or nothing where it can't be opened once more, as standard error says.
+fn tell_file<W: Write>(
     rt: &HostRuntime,
     words: &VerifyWords<'_>,
-    regular: bool,
+    is_regular: bool,
     found: &AccountFinding,
     records: &Records,
-) -> Result<ExitCode, ProgramFault> {
-    let AccountVerdict::NotOpen { place, entry } = &found.verdict else {
-        return tell(rt, words, found, None, records);
+    sink: &mut Sink<W>,
+) -> Result<u8, RunFault>
+    ensures told { IfOk result (Reports W.contents (λ other. other ≡ found.now)
+        (beside words.now.replies records.now) sink.old sink.new) }
+    ensures stopped { IfErr result (StopsReporting W.contents (λ other. other ≡ found.now)
+        (beside words.now.replies records.now) sink.old sink.new) }
+{
+    let Some(rule) = rule_again(rt, words, is_regular, found)? else {
+        return Ok(UNREAD);
     };
-    if !regular {
-        return tell(rt, words, found, None, records);
+    tell_found(rt.alloc(), found, rule, record_named(words, records), sink)
+}
+
+// The rule at a closed place, if it is known. There a file is opened once more, if it is a regular one:
+// another may give no byte twice, and a named pipe waits for who writes. `None` if it can't be.
+fn rule_again(
+    rt: &HostRuntime,
+    words: &VerifyWords<'_>,
+    is_regular: bool,
+    found: &AccountFinding,
+) -> Result<Option<Option<Rule>>, RunFault> {
+    let AccountVerdict::NotOpen { place, entry } = &found.verdict else {
+        return Ok(Some(None));
+    };
+    if !is_regular {
+        return Ok(Some(None));
     }
     match File::open(rt, words.file) {
-        Ok(again) => {
-            let rule = rule_in(rt, *place, entry, size_of(&again), again)?;
-            tell(rt, words, found, rule, records)
+        Ok(again) => Ok(Some(rule_in(rt, *place, entry, size_of(&again), again)?)),
+        Err(error) => {
+            unread(rt, "account", words.file, &error);
+            Ok(None)
         }
-        Err(error) => Ok(unread(rt, "account", words.file, &error)),
     }
+}
+
+// The record, if the words name one.
+fn record_named<'a>(words: &VerifyWords<'_>, records: &'a Records) -> Option<&'a Records>
+    ensures { option_map (λ r. r.now) result ≡ beside words.now.replies records.now }
+{
+    words.replies.map(|_| records)
 }
 
 // Whether a file is known to be a regular one.
@@ -244,23 +332,7 @@ pub(crate) fn run_fault(fault: VerifyFault) -> RunFault {
     }
 }
 
-// Prints what was found, with the rule at a closed place if it is known, and what is found of a record if one
-// was named, and gives the status.
-fn tell(
-    rt: &HostRuntime,
-    words: &VerifyWords<'_>,
-    found: &AccountFinding,
-    rule: Option<Rule>,
-    records: &Records,
-) -> Result<ExitCode, ProgramFault> {
-    let mut sink = Sink::new(rt.stdout());
-    let records = words.replies.map(|_| records);
-    let status = tell_found(rt.alloc(), found, rule, records, &mut sink)?;
-    Ok(ExitCode::from(status))
-}
-
 // Says which file can't be opened, and why.
-fn unread<E: Display>(rt: &HostRuntime, what: &str, path: &str, why: &E) -> ExitCode {
+fn unread<E: Display>(rt: &HostRuntime, what: &str, path: &str, why: &E) {
     let _ = eprintln!(rt; "{what} {path}: {why}");
-    ExitCode::from(1)
 }

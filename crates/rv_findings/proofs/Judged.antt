@@ -7,12 +7,12 @@ use Rattle.rv_findings.specs.declared.fate.Fate.{Fate}
 use Rattle.std.specs.Prelude.{◌<◌}
 use Rattle.rv_state.proofs.OneTold.{one_call, one_reply, reply_or_waits}
 use Rattle.rv_findings.proofs.KeptTold.{gives_reply}
-use Rattle.rv_findings.specs.Judging.{SaidInstead, TellsSame}
+use Rattle.rv_findings.specs.Judging.{SaidInstead, TellsSame, kept_by}
 use Rattle.rv_findings.specs.Findings.{CameOtherwise, IsFinding, MayBeTold, IsSaid, order_of}
 use Rattle.rv_findings.specs.declared.fate.Fate.TheVariants.{CancelledUnseen, RepliedTo, Unnamed, Waits}
 use Rattle.rv_findings.specs.declared.findings.Told.{Told}
 use Rattle.rv_findings.specs.declared.findings.Finding.{Finding}
-use Rattle.rv_findings.specs.declared.findings.Finding.TheVariants.{Impossible, Kept, NoRecord}
+use Rattle.rv_findings.specs.declared.findings.Finding.TheVariants.{Impossible, Kept, KeptUnseen, NoRecord}
 use Rattle.rv_findings.specs.declared.findings.Finding.TheVariants.{NoRequest, OtherCall, OtherEpoch}
 use Rattle.rv_findings.specs.declared.findings.Finding.TheVariants.{OtherReply, Waiting}
 
@@ -46,14 +46,16 @@ module _ (a : Account) (told : Told) (legal : Legal a) where
       absurd (is.not_arrived has.replies.place has.replies.call has.replies.arrived)
   gives_same CancelledUnseen is (inr first) = first.1
 
-  same_gives : (fate : Fate) → IsFateOf a.entries told.key fate → TellsSame told fate
-      → GivesReply a.entries told.key told.call told.reply
-  same_gives Unnamed is same = absurd same
-  same_gives (Waits call) is same = absurd same
-  same_gives (RepliedTo call reply) is same =
-      inl (subst (λ c. HasReplied a.entries told.key c told.reply) same.0
-      (subst (λ r. HasReplied a.entries told.key call r) same.1 is))
-  same_gives CancelledUnseen is same = inr (is, same)
+  same_says : (fate : Fate) → IsFateOf a.entries told.key fate → TellsSame told fate
+      → IsSaid a told (kept_by fate) × (order_of (kept_by fate) ≡ 0)
+  same_says Unnamed is same = absurd same
+  same_says (Waits call) is same = absurd same
+  same_says (RepliedTo call reply) is same = (
+    subst (λ c. HasReplied a.entries told.key c told.reply) same.0
+        (subst (λ r. HasReplied a.entries told.key call r) same.1 is),
+    refl,
+  )
+  same_says CancelledUnseen is same = ((is, same), refl)
 
   -- what is said where the account doesn't give it
   abbrev IsSaidLast : Finding → Type 0
@@ -98,15 +100,18 @@ module _ (a : Account) (told : Told) (legal : Legal a) where
   -- ---- the findings
 
   module _ (fate : Fate) (is : IsFateOf a.entries told.key fate) where
-    pub kept : TellsSame told fate → IsFinding a told Kept
-    kept same = record { says = same_gives fate is same; first = λ other less. absurd (omega arith) }
+    pub kept : TellsSame told fate → IsFinding a told (kept_by fate)
+    kept same =
+        let says = same_says fate is same in
+        record { says = says.0; first = λ other less. absurd (omega (arith, less, says.1)) }
 
     pub of_other_epoch : (TellsSame told fate → ⊥) → (told.key.epoch ≡ a.epoch → ⊥)
         → IsFinding a told OtherEpoch
     of_other_epoch other differs = record { says = differs; first = first }
       where
         first : (v : Finding) → order_of v < 1 → IsSaid a told v → ⊥
-        first Kept less gives = other (gives_same fate is gives)
+        first Kept less has = other (gives_same fate is (inl has))
+        first KeptUnseen less unseen = other (gives_same fate is (inr unseen))
         first OtherEpoch less says = absurd (omega arith)
         first Impossible less says = absurd (omega arith)
         first OtherReply less says = absurd (omega arith)
@@ -120,7 +125,8 @@ module _ (a : Account) (told : Told) (legal : Legal a) where
     impossible other same never = record { says = never; first = first }
       where
         first : (v : Finding) → order_of v < 2 → IsSaid a told v → ⊥
-        first Kept less gives = other (gives_same fate is gives)
+        first Kept less has = other (gives_same fate is (inl has))
+        first KeptUnseen less unseen = other (gives_same fate is (inr unseen))
         first OtherEpoch less says = says same
         first Impossible less says = absurd (omega arith)
         first OtherReply less says = absurd (omega arith)
@@ -140,7 +146,8 @@ module _ (a : Account) (told : Told) (legal : Legal a) where
         rank = last.1
 
         first : (v : Finding) → order_of v < order_of finding → IsSaid a told v → ⊥
-        first Kept less gives = other (gives_same fate is gives)
+        first Kept less has = other (gives_same fate is (inl has))
+        first KeptUnseen less unseen = other (gives_same fate is (inr unseen))
         first OtherEpoch less says = says same
         first Impossible less never = never may
         first OtherReply less says = absurd (omega (arith, rank))

@@ -1,12 +1,13 @@
 -- A reply that is kept is had by its key, which has one; and the other way round where its request came with
 -- that call.
 use Rattle.std.specs.Prelude.{◌↔◌}
-use Rattle.rv_state.proofs.Words.{◌≡◌, ◌∙◌, ◌⊎◌, ap, arith, inl, inr, subst, sym, ℕ, Some}
+use Rattle.rv_state.proofs.Words.{◌≡◌, ◌∙◌, ap, arith, inl, inr, subst, sym, ℕ, Some}
 use Rattle.rv_state.proofs.Words.{Account, Call, Key, Reply, act_at, Arrive, arrives_once, Legal}
 use Rattle.rv_findings.specs.Fates.{GivesReply}
-use Rattle.rv_findings.specs.Findings.{IsFinding}
+use Rattle.rv_findings.specs.Findings.{IsFinding, IsKept}
+use Rattle.rv_findings.specs.declared.findings.Finding.{Finding}
 use Rattle.rv_findings.specs.declared.findings.Told.{Told}
-use Rattle.rv_findings.specs.declared.findings.Finding.TheVariants.{Kept}
+use Rattle.rv_findings.specs.declared.findings.Finding.TheVariants.{Kept, KeptUnseen}
 use Rattle.rv_rules.specs.Replies.{CancelledFirst, HasReply}
 use Rattle.rv_state.proofs.OneTold.{one_call, one_reply}
 use Rattle.rv_findings.specs.Laws.{CameWith, KeptIsTold, OneKept}
@@ -23,38 +24,54 @@ came_once a key p q c d legal first second =
     let at = arrives_once a p q key c d legal first second in
     one_call key c d (sym first ∙ ap (act_at a.entries) at ∙ second)
 
-came_or_not : (a : Account) (key : Key) (call : Call) (reply : Reply) → GivesReply a.entries key call reply
-    → CameWith a.entries key call ⊎ CancelledFirst a.entries key
-came_or_not a key call reply (inl has) =
-    inl (has.replies.place, has.replies.arrived ∙ ap (λ (c : Call). Some (Arrive key c)) has.with_call)
-came_or_not a key call reply (inr first) = inr first.0
+module _ (a : Account) (told : Told) (legal : Legal a) where
+  came : IsFinding a told Kept
+      ↔ (HasReply a.entries told.key told.reply × CameWith a.entries told.key told.call)
+  came = (
+    λ kept.
+        let its = kept.says.replies in (
+          inl its,
+          (its.place, its.arrived ∙ ap (λ (c : Call). Some (Arrive told.key c)) kept.says.with_call),
+        ),
+    λ has. record {
+      says = elim has.0 [
+        | inl own ↦ record {
+          replies = own;
+          with_call = came_once a told.key own.place has.1.0 own.call told.call legal own.arrived has.1.1;
+        }
+        | inr first ↦ absurd (first.0.not_arrived has.1.0 told.call has.1.1)
+      ];
+      first = λ other less. absurd (omega arith);
+    },
+  )
 
-gives_back : (a : Account) (key : Key) (call : Call) (reply : Reply) → Legal a
-    → HasReply a.entries key reply → CameWith a.entries key call ⊎ CancelledFirst a.entries key
-    → GivesReply a.entries key call reply
-gives_back a key call reply legal (inl has) (inl came) =
-    inl (record {
-      replies = has;
-      with_call = came_once a key has.place came.0 has.call call legal has.arrived came.1;
-    })
-gives_back a key call reply legal (inl has) (inr first) =
-    absurd (first.not_arrived has.place has.call has.arrived)
-gives_back a key call reply legal (inr first) came = inr first
-
-told_if : (a : Account) (told : Told) → IsFinding a told Kept → HasReply a.entries told.key told.reply
-told_if a told kept = gives_reply a told.key told.call told.reply kept.says
+  unseen : IsFinding a told KeptUnseen
+      ↔ (HasReply a.entries told.key told.reply × CancelledFirst a.entries told.key)
+  unseen = (
+    λ kept. (inr kept.says, kept.says.0),
+    λ has. record {
+      says = elim has.0 [
+        | inl own ↦ absurd (has.1.not_arrived own.place own.call own.arrived)
+        | inr first ↦ first
+      ];
+      first = λ other less. absurd (omega arith);
+    },
+  )
 
 pub kept_is_told : KeptIsTold
-kept_is_told a told legal = (
-  λ kept. (told_if a told kept, came_or_not a told.key told.call told.reply kept.says),
-  λ has. record {
-    says = gives_back a told.key told.call told.reply legal has.0 has.1;
-    first = λ other less. absurd (omega arith);
-  },
-)
+kept_is_told = record { came = came; unseen = unseen }
+
+told_if : (a : Account) (told : Told) (finding : Finding) → IsFinding a told finding → IsKept finding
+    → HasReply a.entries told.key told.reply
+told_if a told finding is (inl kept) =
+    let own : IsFinding a told Kept = subst (IsFinding a told) kept is in
+    inl own.says.replies
+told_if a told finding is (inr unseen) =
+    let own : IsFinding a told KeptUnseen = subst (IsFinding a told) unseen is in
+    inr own.says
 
 pub one_kept : OneKept
-one_kept a told other legal kept also same =
+one_kept a told other one also legal is its kept too same =
     one_reply a told.key other.reply told.reply legal
-    (subst (λ (k : Key). HasReply a.entries k other.reply) (sym same) (told_if a other also))
-    (told_if a told kept)
+    (subst (λ (k : Key). HasReply a.entries k other.reply) (sym same) (told_if a other also its too))
+    (told_if a told one is kept)

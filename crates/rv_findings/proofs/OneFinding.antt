@@ -1,15 +1,14 @@
 -- One finding alone is told: of those that come last no two are so at once.
-use Rattle.std.specs.Prelude.{◌<◌}
 use Rattle.std.proofs.lemmas.Bool.{cases_order}
 use Rattle.rv_state.proofs.Words.{◌≡◌, ◌∙◌, ap, arith, inl, inr, option_and_then, refl}
 use Rattle.rv_state.proofs.Words.{Account, key_in, Legal}
 use Rattle.rv_state.proofs.OneTold.{reply_or_waits}
 use Rattle.rv_findings.specs.Fates.{NamesNowhere, WaitsWith}
-use Rattle.rv_findings.specs.Findings.{CameOtherwise, GivesOther, IsFinding, IsSaid, order_of}
+use Rattle.rv_findings.specs.Findings.{CameOtherwise, GivesOther, IsSaid, order_of}
 use Rattle.rv_findings.specs.Laws.{OneFinding}
 use Rattle.rv_findings.specs.declared.findings.Told.{Told}
 use Rattle.rv_findings.specs.declared.findings.Finding.{Finding}
-use Rattle.rv_findings.specs.declared.findings.Finding.TheVariants.{Impossible, Kept, NoRecord}
+use Rattle.rv_findings.specs.declared.findings.Finding.TheVariants.{Impossible, Kept, KeptUnseen, NoRecord}
 use Rattle.rv_findings.specs.declared.findings.Finding.TheVariants.{NoRequest, OtherCall, OtherEpoch}
 use Rattle.rv_findings.specs.declared.findings.Finding.TheVariants.{OtherReply, Waiting}
 use Rattle.rv_findings.proofs.KeptTold.{came_once, gives_reply}
@@ -58,6 +57,7 @@ module _ (a : Account) (told : Told) (legal : Legal a) where
   by_reply : GivesOther a.entries told.key told.call told.reply → (y : Finding) → order_of y ≡ 3
       → IsSaid a told y → OtherReply ≡ y
   by_reply gives Kept last says = absurd (omega (arith, last))
+  by_reply gives KeptUnseen last says = absurd (omega (arith, last))
   by_reply gives OtherEpoch last says = absurd (omega (arith, last))
   by_reply gives Impossible last says = absurd (omega (arith, last))
   by_reply gives OtherReply last says = refl
@@ -69,6 +69,7 @@ module _ (a : Account) (told : Told) (legal : Legal a) where
   by_call : CameOtherwise a.entries told.key told.call → (y : Finding) → order_of y ≡ 3 → IsSaid a told y
       → OtherCall ≡ y
   by_call came Kept last says = absurd (omega (arith, last))
+  by_call came KeptUnseen last says = absurd (omega (arith, last))
   by_call came OtherEpoch last says = absurd (omega (arith, last))
   by_call came Impossible last says = absurd (omega (arith, last))
   by_call came OtherReply last says = absurd (reply_call says came)
@@ -80,6 +81,7 @@ module _ (a : Account) (told : Told) (legal : Legal a) where
   by_waiting : WaitsWith a.entries told.key told.call → (y : Finding) → order_of y ≡ 3 → IsSaid a told y
       → Waiting ≡ y
   by_waiting waits Kept last says = absurd (omega (arith, last))
+  by_waiting waits KeptUnseen last says = absurd (omega (arith, last))
   by_waiting waits OtherEpoch last says = absurd (omega (arith, last))
   by_waiting waits Impossible last says = absurd (omega (arith, last))
   by_waiting waits OtherReply last says = absurd (reply_waits says waits)
@@ -91,6 +93,7 @@ module _ (a : Account) (told : Told) (legal : Legal a) where
   by_nowhere : NamesNowhere a.entries told.key → (y : Finding) → order_of y ≡ 3 → IsSaid a told y
       → NoRequest ≡ y
   by_nowhere none Kept last says = absurd (omega (arith, last))
+  by_nowhere none KeptUnseen last says = absurd (omega (arith, last))
   by_nowhere none OtherEpoch last says = absurd (omega (arith, last))
   by_nowhere none Impossible last says = absurd (omega (arith, last))
   by_nowhere none OtherReply last says = absurd (reply_nowhere says none)
@@ -101,18 +104,36 @@ module _ (a : Account) (told : Told) (legal : Legal a) where
 
   -- ---- by both
 
-  at_none : (y : Finding) → order_of y ≡ 0 → Kept ≡ y
-  at_none Kept is = refl
-  at_none OtherEpoch is = absurd (omega (arith, is))
-  at_none Impossible is = absurd (omega (arith, is))
-  at_none OtherReply is = absurd (omega (arith, is))
-  at_none OtherCall is = absurd (omega (arith, is))
-  at_none Waiting is = absurd (omega (arith, is))
-  at_none NoRequest is = absurd (omega (arith, is))
-  at_none NoRecord is = absurd (omega (arith, is))
+  -- a request that came wasn't cancelled before
+  came_unseen : IsSaid a told Kept → IsSaid a told KeptUnseen → ⊥
+  came_unseen came unseen =
+      unseen.0.not_arrived came.replies.place came.replies.call came.replies.arrived
+
+  by_kept : IsSaid a told Kept → (y : Finding) → order_of y ≡ 0 → IsSaid a told y → Kept ≡ y
+  by_kept came Kept first says = refl
+  by_kept came KeptUnseen first says = absurd (came_unseen came says)
+  by_kept came OtherEpoch first says = absurd (omega (arith, first))
+  by_kept came Impossible first says = absurd (omega (arith, first))
+  by_kept came OtherReply first says = absurd (omega (arith, first))
+  by_kept came OtherCall first says = absurd (omega (arith, first))
+  by_kept came Waiting first says = absurd (omega (arith, first))
+  by_kept came NoRequest first says = absurd (omega (arith, first))
+  by_kept came NoRecord first says = absurd says
+
+  by_unseen : IsSaid a told KeptUnseen → (y : Finding) → order_of y ≡ 0 → IsSaid a told y → KeptUnseen ≡ y
+  by_unseen unseen Kept first says = absurd (came_unseen says unseen)
+  by_unseen unseen KeptUnseen first says = refl
+  by_unseen unseen OtherEpoch first says = absurd (omega (arith, first))
+  by_unseen unseen Impossible first says = absurd (omega (arith, first))
+  by_unseen unseen OtherReply first says = absurd (omega (arith, first))
+  by_unseen unseen OtherCall first says = absurd (omega (arith, first))
+  by_unseen unseen Waiting first says = absurd (omega (arith, first))
+  by_unseen unseen NoRequest first says = absurd (omega (arith, first))
+  by_unseen unseen NoRecord first says = absurd says
 
   at_one : (y : Finding) → order_of y ≡ 1 → OtherEpoch ≡ y
   at_one Kept is = absurd (omega (arith, is))
+  at_one KeptUnseen is = absurd (omega (arith, is))
   at_one OtherEpoch is = refl
   at_one Impossible is = absurd (omega (arith, is))
   at_one OtherReply is = absurd (omega (arith, is))
@@ -123,6 +144,7 @@ module _ (a : Account) (told : Told) (legal : Legal a) where
 
   at_two : (y : Finding) → order_of y ≡ 2 → Impossible ≡ y
   at_two Kept is = absurd (omega (arith, is))
+  at_two KeptUnseen is = absurd (omega (arith, is))
   at_two OtherEpoch is = absurd (omega (arith, is))
   at_two Impossible is = refl
   at_two OtherReply is = absurd (omega (arith, is))
@@ -132,7 +154,8 @@ module _ (a : Account) (told : Told) (legal : Legal a) where
   at_two NoRecord is = absurd (omega (arith, is))
 
   same_order : (x y : Finding) → IsSaid a told x → IsSaid a told y → order_of y ≡ order_of x → x ≡ y
-  same_order Kept y one other same = at_none y same
+  same_order Kept y one other same = by_kept one y same other
+  same_order KeptUnseen y one other same = by_unseen one y same other
   same_order OtherEpoch y one other same = at_one y same
   same_order Impossible y one other same = at_two y same
   same_order OtherReply y one other same = by_reply one y same other

@@ -16,7 +16,6 @@ use Rattle.rv_rules.specs.Replies.{RepliesAt, RepliesMet, RepliesUnmet, told_by}
 use Rattle.rv_rules.specs.Waiting.{EndsWait, HasElapsed}
 use Rattle.rv_resume.specs.Suiting.{EndsUnmet, SuitsCall, TellsReceipt}
 use Rattle.rv_text.specs.declared.version.Version.TheVariants.{One, Two}
-use Rattle.rv_findings.specs.Fates.{GivesReply}
 use Rattle.rv_findings.specs.Findings.{MayBeTold}
 use Rattle.rv_findings.specs.Laws.{GivenMayBeTold}
 

@@ -1,5 +1,5 @@
 -- What an account says of a reply that a client was told: the first of these that applies, of which the first
--- is that the account gives it.
+-- two are that the account gives it.
 use Rattle.std.specs.Prelude.{◌≡◌, ◌≢◌, ◌⊎◌, ◌<◌, ℕ, List, Some}
 use Rattle.rv_text.specs.declared.answer.Reply.{Reply}
 use Rattle.rv_text.specs.declared.answer.Reply.TheVariants.{Cancelled}
@@ -10,10 +10,12 @@ use Rattle.rv_account.specs.Account.{Account, act_at}
 use Rattle.rv_account.specs.declared.entry.Act.TheVariants.{Arrive}
 use Rattle.rv_account.specs.declared.entry.Entry.{Entry}
 use Rattle.rv_resume.specs.Suiting.{SuitsCall}
+use Rattle.rv_rules.specs.Replies.{CancelledFirst}
+use Rattle.rv_state.specs.Agreement.{HasReplied}
 use Rattle.rv_findings.specs.Fates.{GivesReply, NamesNowhere, WaitsWith}
 use Rattle.rv_findings.specs.declared.findings.Told.{Told}
 use Rattle.rv_findings.specs.declared.findings.Finding.{Finding}
-use Rattle.rv_findings.specs.declared.findings.Finding.TheVariants.{Impossible, Kept, NoRecord}
+use Rattle.rv_findings.specs.declared.findings.Finding.TheVariants.{Impossible, Kept, KeptUnseen, NoRecord}
 use Rattle.rv_findings.specs.declared.findings.Finding.TheVariants.{NoRequest, OtherCall, OtherEpoch}
 use Rattle.rv_findings.specs.declared.findings.Finding.TheVariants.{OtherReply, Waiting}
 
@@ -37,7 +39,8 @@ pub record GivesOther (entries : List Entry) (key : Key) (call : Call) (reply : 
 
 -- this is so of the reply
 abbrev pub IsSaid : Account → Told → Finding → Type 0
-IsSaid a told Kept = GivesReply a.entries told.key told.call told.reply
+IsSaid a told Kept = HasReplied a.entries told.key told.call told.reply
+IsSaid a told KeptUnseen = CancelledFirst a.entries told.key × (told.reply ≡ Cancelled)
 IsSaid a told OtherEpoch = told.key.epoch ≢ a.epoch
 IsSaid a told Impossible = ¬ MayBeTold told.call told.reply
 IsSaid a told OtherReply = GivesOther a.entries told.key told.call told.reply
@@ -49,6 +52,7 @@ IsSaid a told NoRecord = ⊥
 -- their order
 abbrev pub order_of : Finding → ℕ
 order_of Kept = 0
+order_of KeptUnseen = 0
 order_of OtherEpoch = 1
 order_of Impossible = 2
 order_of OtherReply = 3
@@ -61,3 +65,7 @@ order_of NoRecord = 3
 pub record IsFinding (a : Account) (told : Told) (finding : Finding) : Type 0 where
   pub says : IsSaid a told finding
   pub first : (other : Finding) → order_of other < order_of finding → ¬ IsSaid a told other
+
+-- a finding that tells of a reply which the account gives
+abbrev pub IsKept : Finding → Type 0
+IsKept finding = (finding ≡ Kept) ⊎ (finding ≡ KeptUnseen)

@@ -6,7 +6,8 @@ use Rattle.rv_findings.specs.declared.fate.Fate.{Fate}
 use Rattle.rv_findings.specs.declared.fate.Fate.TheVariants.{CancelledUnseen, RepliedTo, Unnamed, Waits}
 use Rattle.rv_findings.specs.declared.findings.Told.{Told}
 use Rattle.rv_findings.specs.declared.findings.Finding.{Finding}
-use Rattle.rv_findings.specs.declared.findings.Finding.TheVariants.{NoRequest, OtherCall, OtherReply, Waiting}
+use Rattle.rv_findings.specs.declared.findings.Finding.TheVariants.{Kept, KeptUnseen, NoRequest}
+use Rattle.rv_findings.specs.declared.findings.Finding.TheVariants.{OtherCall, OtherReply, Waiting}
 
 -- it was told that, with that call, or cancelled before it came
 abbrev pub TellsSame : Told → Fate → Type 0
@@ -14,6 +15,13 @@ TellsSame told Unnamed = ⊥
 TellsSame told (Waits call) = ⊥
 TellsSame told (RepliedTo call reply) = (call ≡ told.call) × (reply ≡ told.reply)
 TellsSame told CancelledUnseen = told.reply ≡ Cancelled
+
+-- the finding on a reply that is kept, by what became of its request
+abbrev pub kept_by : Fate → Finding
+kept_by Unnamed = Kept
+kept_by (Waits call) = Kept
+kept_by (RepliedTo call reply) = Kept
+kept_by CancelledUnseen = KeptUnseen
 
 -- the finding on what came with this call: this one where it is that of the reply
 abbrev pub IsByCall : Told → Call → Finding → Finding → Type 0

@@ -1,5 +1,5 @@
 -- What holds of replies that are kept, of findings, and of what a call may be told.
-use Rattle.std.specs.Prelude.{◌≡◌, ◌↔◌, ◌⊎◌, ℕ, List, Some}
+use Rattle.std.specs.Prelude.{◌≡◌, ◌↔◌, ℕ, List, Some}
 use Rattle.rv_text.specs.declared.call.Call.{Call}
 use Rattle.rv_text.specs.declared.message.Key.{Key}
 use Rattle.rv_text.specs.declared.answer.Reply.{Reply}
@@ -11,24 +11,25 @@ use Rattle.rv_rules.specs.Replies.{CancelledFirst, HasReply}
 use Rattle.rv_findings.specs.Fates.{GivesReply}
 use Rattle.rv_findings.specs.declared.findings.Told.{Told}
 use Rattle.rv_findings.specs.declared.findings.Finding.{Finding}
-use Rattle.rv_findings.specs.declared.findings.Finding.TheVariants.{Kept}
-use Rattle.rv_findings.specs.Findings.{IsFinding, MayBeTold}
+use Rattle.rv_findings.specs.declared.findings.Finding.TheVariants.{Kept, KeptUnseen}
+use Rattle.rv_findings.specs.Findings.{IsFinding, IsKept, MayBeTold}
 
 -- the request with this key came with this call
 abbrev pub CameWith : List Entry → Key → Call → Type 0
 CameWith entries key call = (place : ℕ) × (act_at entries place ≡ Some (Arrive key call))
 
--- a reply is kept exactly where it is that of its key in the account, and its request came with that call, or
--- was cancelled before it came
-abbrev pub KeptIsTold : Type 0
-KeptIsTold = (a : Account) (told : Told) → Legal a → IsFinding a told Kept
-    ↔ (HasReply a.entries told.key told.reply
-    × (CameWith a.entries told.key told.call ⊎ CancelledFirst a.entries told.key))
+-- a reply is kept exactly where it is that of its key in the account, and its request came with that call; or,
+-- which is told apart, was cancelled before it came
+pub record KeptIsTold : Type 0 where
+  pub came : (a : Account) (told : Told) → Legal a → IsFinding a told Kept
+      ↔ (HasReply a.entries told.key told.reply × CameWith a.entries told.key told.call)
+  pub unseen : (a : Account) (told : Told) → Legal a → IsFinding a told KeptUnseen
+      ↔ (HasReply a.entries told.key told.reply × CancelledFirst a.entries told.key)
 
 -- of one key one reply is kept
 abbrev pub OneKept : Type 0
-OneKept = (a : Account) (told other : Told) → Legal a → IsFinding a told Kept → IsFinding a other Kept
-    → told.key ≡ other.key → told.reply ≡ other.reply
+OneKept = (a : Account) (told other : Told) (one also : Finding) → Legal a → IsFinding a told one
+    → IsFinding a other also → IsKept one → IsKept also → told.key ≡ other.key → told.reply ≡ other.reply
 
 -- of a reply one thing is told
 abbrev pub OneFinding : Type 0

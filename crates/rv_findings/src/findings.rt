@@ -4,8 +4,8 @@ ghost use Rattle.rv_account.specs.Account.{Account};
 ghost use Rattle.rv_rules.specs.Legal.{Legal};
 ghost use Rattle.rv_text.specs.declared.answer.Reply.TheVariants.{Counted, Drained};
 ghost use Rattle.rv_findings.specs.Fates.{IsFateOf};
-ghost use Rattle.rv_findings.specs.Judging.{IsByCall, SaidInstead, TellsSame};
-ghost use Rattle.rv_findings.specs.Findings.{IsFinding};
+ghost use Rattle.rv_findings.specs.Judging.{IsByCall, SaidInstead, TellsSame, kept_by};
+ghost use Rattle.rv_findings.specs.Findings.{IsFinding, IsKept};
 
 use crate::fate::Fate;
 use crate::suits::may_tell;
@@ -25,9 +25,11 @@ pub struct Told {
 /// What an account says of it.
 #[derive(Clone, Copy, PartialEq, Eq)]
 pub enum Finding {
-    /// The account gives the key that reply, and its request came with that call, or was cancelled before it
-    /// came.
+    /// The account gives the key that reply, and its request came with that call.
     Kept,
+    /// The account gives the key that reply, by a cancel that came before its request: with which call it
+    /// would have come, the account doesn't tell.
+    KeptUnseen,
     /// The key is of another epoch.
     OtherEpoch,
     /// No request with that call is ever told that.
@@ -42,6 +44,15 @@ pub enum Finding {
     NoRequest,
     /// The line is no record of a reply.
     NoRecord,
+}
+
+impl Finding {
+    /// Whether it tells of a reply that the account gives.
+    pub fn is_kept(self) -> bool
+        ensures { IsTrue result ↔ IsKept self }
+    {
+        matches!(self, Finding::Kept | Finding::KeptUnseen)
+    }
 }
 
 /// Whether the reply is this one.
@@ -110,6 +121,18 @@ fn tells_same(told: &Told, fate: &Fate) -> bool
     }
 }
 
+// The finding on a reply that is kept, by what became of its request.
+fn kept_by(fate: &Fate) -> Finding
+    ensures { result ≡ kept_by fate.now }
+{
+    match fate {
+        Fate::Unnamed => Finding::Kept,
+        Fate::Waits { .. } => Finding::Kept,
+        Fate::RepliedTo { .. } => Finding::Kept,
+        Fate::CancelledUnseen => Finding::KeptUnseen,
+    }
+}
+
 // This, if the call that came is the one that was asked.
 fn by_call(told: &Told, call: &Call, same: Finding) -> Finding
     ensures { IsByCall told.now call.now same result }
@@ -139,7 +162,7 @@ pub fn judge(told: &Told, epoch: u64, fate: &Fate) -> Finding
         → IsFinding a told.now result }
 {
     if tells_same(told, fate) {
-        return Finding::Kept;
+        return kept_by(fate);
     }
     if told.key.epoch != epoch {
         return Finding::OtherEpoch;

@@ -2,7 +2,7 @@
 ghost use Rattle.std.specs.Prelude.{◌≡◌, ◌↔◌, IsTrue, filter, length};
 ghost use Rattle.std.specs.List.{All};
 ghost use Rattle.rv_findings.specs.Tallies.{is_finding, words_of};
-ghost use Rattle.rv_findings.specs.declared.findings.Finding.TheVariants.{Kept};
+ghost use Rattle.rv_findings.specs.Findings.{IsKept};
 
 use crate::findings::Finding;
 
@@ -15,9 +15,9 @@ pub fn count_of(findings: &[Finding], finding: Finding) -> usize
 
 /// Whether all are kept.
 pub fn are_kept(findings: &[Finding]) -> bool
-    ensures { IsTrue result ↔ All (λ finding. finding ≡ Kept) findings.now }
+    ensures { IsTrue result ↔ All IsKept findings.now }
 {
-    findings.iter().all(|finding| *finding == Finding::Kept)
+    findings.iter().all(|finding| finding.is_kept())
 }
 
 impl Finding {
@@ -27,6 +27,7 @@ impl Finding {
     {
         match self {
             Finding::Kept => "kept",
+            Finding::KeptUnseen => "kept, as a cancel tells it",
             Finding::OtherReply => "another reply",
             Finding::OtherCall => "another call",
             Finding::NoRequest => "no such request",

@@ -9,27 +9,44 @@ use Rattle.rv_rules.specs.Legal.{Legal}
 use Rattle.rv_rules.proofs.Places.{get-append_cases}
 use Rattle.rv_replies.specs.Standing.{HasNoted, IsLineFinding}
 use Rattle.rv_findings.specs.declared.findings.Finding.{Finding}
-use Rattle.rv_findings.specs.declared.findings.Finding.TheVariants.{Impossible, Kept, NoRecord}
+use Rattle.rv_findings.specs.declared.findings.Finding.TheVariants.{Impossible, Kept, KeptUnseen, NoRecord}
 use Rattle.rv_findings.specs.declared.findings.Finding.TheVariants.{NoRequest, OtherCall, OtherEpoch}
 use Rattle.rv_findings.specs.declared.findings.Finding.TheVariants.{OtherReply, Waiting}
+use Rattle.rv_findings.specs.declared.findings.Told.{Told}
 use Rattle.rv_replies.specs.declared.records.Line.{Line}
 use Rattle.rv_replies.specs.declared.records.Line.TheVariants as line
 use Rattle.rv_replies.specs.declared.records.Records.{Records}
 use Rattle.rv_inspect.specs.Report.{FindsFirst}
-use Rattle.rv_inspect.specs.Statuses.{TellsKept}
+use Rattle.rv_inspect.specs.Statuses.{IsLineKept, TellsKept}
+use Rattle.rv_findings.specs.Findings.{IsFinding, IsKept, order_of}
 
--- the finding on a line that is kept is that
-one_kept : (a : Account) (own : Line) (f : Finding) → IsLineFinding a own f → IsLineFinding a own Kept
-    → f ≡ Kept
-one_kept a (line.Told told) Kept is kept = refl
-one_kept a (line.Told told) OtherEpoch is kept = absurd (is.first Kept (omega arith) kept.says)
-one_kept a (line.Told told) Impossible is kept = absurd (is.first Kept (omega arith) kept.says)
-one_kept a (line.Told told) OtherReply is kept = absurd (is.first Kept (omega arith) kept.says)
-one_kept a (line.Told told) OtherCall is kept = absurd (is.first Kept (omega arith) kept.says)
-one_kept a (line.Told told) Waiting is kept = absurd (is.first Kept (omega arith) kept.says)
-one_kept a (line.Told told) NoRequest is kept = absurd (is.first Kept (omega arith) kept.says)
-one_kept a (line.Told told) NoRecord is kept = absurd (is.first Kept (omega arith) kept.says)
-one_kept a (line.Flawed flaw) f is kept = absurd (let no : ⊥ = cc in no)
+-- a line that is kept is found so
+no_later : (a : Account) (told : Told) (f : Finding) → IsFinding a told f → IsLineKept a (line.Told told)
+    → 0 < order_of f → ⊥
+no_later a told f is (inl kept) later = is.first Kept later kept.says
+no_later a told f is (inr unseen) later = is.first KeptUnseen later unseen.says
+
+kept_first : (a : Account) (told : Told) (f : Finding) → IsFinding a told f → IsLineKept a (line.Told told)
+    → IsKept f
+kept_first a told Kept is kept = inl refl
+kept_first a told KeptUnseen is kept = inr refl
+kept_first a told OtherEpoch is kept = absurd (no_later a told OtherEpoch is kept (omega arith))
+kept_first a told Impossible is kept = absurd (no_later a told Impossible is kept (omega arith))
+kept_first a told OtherReply is kept = absurd (no_later a told OtherReply is kept (omega arith))
+kept_first a told OtherCall is kept = absurd (no_later a told OtherCall is kept (omega arith))
+kept_first a told Waiting is kept = absurd (no_later a told Waiting is kept (omega arith))
+kept_first a told NoRequest is kept = absurd (no_later a told NoRequest is kept (omega arith))
+kept_first a told NoRecord is kept = absurd (no_later a told NoRecord is kept (omega arith))
+
+found_kept : (a : Account) (own : Line) (f : Finding) → IsLineFinding a own f → IsLineKept a own → IsKept f
+found_kept a (line.Told told) f is kept = kept_first a told f is kept
+found_kept a (line.Flawed flaw) f is (inl kept) = absurd (let no : ⊥ = cc in no)
+found_kept a (line.Flawed flaw) f is (inr kept) = absurd (let no : ⊥ = cc in no)
+
+-- and one that is found so is kept
+line_kept : (a : Account) (own : Line) (f : Finding) → IsLineFinding a own f → IsKept f → IsLineKept a own
+line_kept a own f is (inl kept) = inl (subst (IsLineFinding a own) kept is)
+line_kept a own f is (inr unseen) = inr (subst (IsLineFinding a own) unseen is)
 
 -- ---- the findings so far
 
@@ -56,32 +73,33 @@ finds_more r epoch count fs f finds last = record {
 
 -- ---- all findings
 
--- where each finding is that, each line is kept
+-- where each finding tells so, each line is kept
 each_kept : (r : Records) (epoch : ℕ) (fs : List Finding) (a : Account)
     → FindsFirst r epoch (length r.lines.items) fs → Legal a → a.epoch ≡ epoch → HasNoted r a
-    → All (λ f. f ≡ Kept) fs → (index : ℕ) (own : Line) → slice_get r.lines.items index ≡ Some own
-    → IsLineFinding a own Kept
+    → All IsKept fs → (index : ℕ) (own : Line) → slice_get r.lines.items index ≡ Some own
+    → IsLineKept a own
 each_kept r epoch fs a finds legal is noted all index own there =
     let less : index < length fs = subst (λ n. index < n) (sym finds.each)
     (slice_get_within r.lines.items index own there) in
-    subst (λ f. IsLineFinding a own f) (All-get_or (λ f. f ≡ Kept) fs index Kept less all)
+    line_kept a own (get_or fs index Kept)
     (finds.are a legal is noted index own (get_or fs index Kept) there (slice_get-get_or fs index Kept less))
+    (All-get_or IsKept fs index Kept less all)
 
--- and where each line is kept, each finding is that
+-- and where each line is kept, each finding tells so
 all_kept : (r : Records) (epoch : ℕ) (fs : List Finding) (a : Account)
     → FindsFirst r epoch (length r.lines.items) fs → Legal a → a.epoch ≡ epoch → HasNoted r a
-    → ((index : ℕ) (own : Line) → slice_get r.lines.items index ≡ Some own → IsLineFinding a own Kept)
-    → All (λ f. f ≡ Kept) fs
-all_kept r epoch fs a finds legal is noted each = All-from_get_or (λ f. f ≡ Kept) fs Kept (λ index less.
+    → ((index : ℕ) (own : Line) → slice_get r.lines.items index ≡ Some own → IsLineKept a own)
+    → All IsKept fs
+all_kept r epoch fs a finds legal is noted each = All-from_get_or IsKept fs Kept (λ index less.
     let inside : index < length r.lines.items = subst (λ n. index < n) finds.each less in
     elim (slice_get_cases r.lines.items index).1 [
-      | inl h ↦ one_kept a h.0 (get_or fs index Kept) (finds.are a legal is noted index h.0
+      | inl h ↦ found_kept a h.0 (get_or fs index Kept) (finds.are a legal is noted index h.0
           (get_or fs index Kept) h.2 (slice_get-get_or fs index Kept less)) (each index h.0 h.2)
       | inr h ↦ absurd (omega (arith, inside, h.0))
     ])
 
 pub kept_told : (r : Records) (epoch : ℕ) (fs : List Finding) (kept : Bool)
-    → FindsFirst r epoch (length r.lines.items) fs → (IsTrue kept ↔ All (λ f. f ≡ Kept) fs)
+    → FindsFirst r epoch (length r.lines.items) fs → (IsTrue kept ↔ All IsKept fs)
     → TellsKept r epoch kept
 kept_told r epoch fs kept finds tells a legal is noted = (
   λ yes. each_kept r epoch fs a finds legal is noted (tells.0 yes),

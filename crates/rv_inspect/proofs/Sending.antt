@@ -3,29 +3,39 @@ use Rattle.std.proofs.Common.{◌⊎◌, ℕ, List, Option, inl, inr, length}
 use Rattle.rv_findings.specs.declared.findings.Finding.{Finding}
 use Rattle.rv_frame.specs.declared.sink.Sink.{Sink}
 use Rattle.rv_inspect.specs.Lines.{count_lines}
-use Rattle.rv_inspect.specs.Report.{CountsDiffering, FindsFirst, ReportsAll, ReportsSome, SaysAll, SaysSome}
+use Rattle.rv_inspect.specs.Report.{CountsBeside, FindsFirst, ReportsAll, ReportsSome, SaysAll, SaysSome}
 use Rattle.rv_inspect.specs.Report.{StopsTaking, TookLines}
+use Rattle.rv_replies.specs.declared.records.Beside.TheVariants.{Differs, Repeats}
 use Rattle.rv_replies.specs.declared.records.Records.{Records}
 use Rattle.rv_run.specs.declared.fault.RunFault.{RunFault}
 use Rattle.rv_run.specs.declared.fault.RunFault.TheVariants.{NoMemory, ReadFault, TooLong, WriteFault}
 
-module _ (first : List (List ℕ)) (r : Records) (epoch : ℕ) (fs : List Finding) (d : ℕ)
+module _ (first : List (List ℕ)) (r : Records) (epoch : ℕ) (fs : List Finding) (d n : ℕ)
     (finds : FindsFirst r epoch (length r.lines.items) fs)
-    (counted : CountsDiffering r (length r.lines.items) d) where
-  all : (texts : List (List ℕ)) → SaysAll first r fs (count_lines fs d) texts
+    (differ : CountsBeside Differs r (length r.lines.items) d)
+    (repeat : CountsBeside Repeats r (length r.lines.items) n) where
+  all : (texts : List (List ℕ)) → SaysAll first r fs (count_lines fs d n) texts
       → ReportsAll first r epoch texts
-  all texts says = record { findings = fs; finds = finds; differing = d; counted = counted; says = says }
+  all texts says = record {
+    findings = fs;
+    finds = finds;
+    differing = d;
+    repeating = n;
+    differ = differ;
+    repeat = repeat;
+    says = says;
+  }
 
   some : (texts : List (List ℕ)) → SaysSome first r fs texts → ReportsSome first r epoch texts
   some texts says = record { findings = fs; finds = finds; says = says }
 
-  either : (texts : List (List ℕ)) → SaysAll first r fs (count_lines fs d) texts ⊎ SaysSome first r fs texts
+  either : (texts : List (List ℕ)) → SaysAll first r fs (count_lines fs d n) texts ⊎ SaysSome first r fs texts
       → ReportsAll first r epoch texts ⊎ ReportsSome first r epoch texts
   either texts (inl says) = inl (all texts says)
   either texts (inr says) = inr (some texts says)
 
   module _ {W : Type 0} (contents : W → Option (List ℕ)) (old new : Sink W) where
-    pub reports_took : TookLines contents (SaysAll first r fs (count_lines fs d)) old new
+    pub reports_took : TookLines contents (SaysAll first r fs (count_lines fs d n)) old new
         → TookLines contents (ReportsAll first r epoch) old new
     reports_took took = record {
       texts = took.texts;
@@ -35,7 +45,7 @@ module _ (first : List (List ℕ)) (r : Records) (epoch : ℕ) (fs : List Findin
     }
 
     pub reports_stop : (fault : RunFault)
-        → StopsTaking contents (SaysAll first r fs (count_lines fs d)) (SaysSome first r fs) old new fault
+        → StopsTaking contents (SaysAll first r fs (count_lines fs d n)) (SaysSome first r fs) old new fault
         → StopsTaking contents (ReportsAll first r epoch) (ReportsSome first r epoch) old new fault
     reports_stop ReadFault stops = stops
     reports_stop (WriteFault fault) stops = record {

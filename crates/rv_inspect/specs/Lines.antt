@@ -10,10 +10,12 @@ use Rattle.rv_findings.specs.Tallies.{is_finding, words_of}
 use Rattle.rv_findings.specs.declared.fate.Fate.{Fate}
 use Rattle.rv_findings.specs.declared.fate.Fate.TheVariants.{CancelledUnseen, RepliedTo, Unnamed, Waits}
 use Rattle.rv_findings.specs.declared.findings.Finding.{Finding}
-use Rattle.rv_findings.specs.declared.findings.Finding.TheVariants.{Impossible, Kept, NoRecord}
+use Rattle.rv_findings.specs.declared.findings.Finding.TheVariants.{Impossible, Kept, KeptUnseen, NoRecord}
 use Rattle.rv_findings.specs.declared.findings.Finding.TheVariants.{NoRequest, OtherCall, OtherEpoch}
 use Rattle.rv_findings.specs.declared.findings.Finding.TheVariants.{OtherReply, Waiting}
 use Rattle.rv_findings.specs.declared.findings.Told.{Told}
+use Rattle.rv_replies.specs.declared.records.Beside.{Beside}
+use Rattle.rv_replies.specs.declared.records.Beside.TheVariants.{Differs, Repeats}
 use Rattle.rv_text.specs.Bodies.{answer_text, message_text}
 use Rattle.rv_text.specs.declared.answer.Answer.TheVariants.{Replied}
 use Rattle.rv_text.specs.declared.answer.Reply.TheVariants.{Cancelled}
@@ -61,6 +63,7 @@ call_said key CancelledUnseen = None
 -- the body that stands behind the finding: the other reply's, or the other call's
 abbrev pub instead_said : Finding → Key → Fate → Option (List ℕ)
 instead_said Kept key fate = None
+instead_said KeptUnseen key fate = None
 instead_said OtherEpoch key fate = None
 instead_said Impossible key fate = None
 instead_said OtherReply key fate = reply_said key fate
@@ -85,10 +88,18 @@ SaysFate a told number finding text = (fate : Fate) × IsFateOf a.entries told.k
 abbrev pub differs_text : ℕ → ℕ → List ℕ
 differs_text number first = decimal number ++ (codes " differs from line " ++ decimal first)
 
--- that line, if there is such a first one
-abbrev pub differs_lines : ℕ → Option ℕ → List (List ℕ)
-differs_lines index None = []
-differs_lines index (Some first) = differs_text (index + 1) (first + 1) ∷ []
+-- it says the same as that one
+abbrev pub repeats_text : ℕ → ℕ → List ℕ
+repeats_text number first = decimal number ++ (codes " repeats line " ++ decimal first)
+
+abbrev pub beside_text : Beside → ℕ → ℕ → List ℕ
+beside_text Differs number first = differs_text number first
+beside_text Repeats number first = repeats_text number first
+
+-- the line on how it stands to the first one of its key, if there is one
+abbrev pub beside_lines : ℕ → Option (Beside × ℕ) → List (List ℕ)
+beside_lines index None = []
+beside_lines index (Some stands) = beside_text stands.0 (index + 1) (stands.1 + 1) ∷ []
 
 -- ---- the counts
 
@@ -100,10 +111,11 @@ count findings finding = decimal (length (filter (is_finding finding) findings))
 abbrev pub count_text : List Finding → Finding → List ℕ
 count_text findings finding = words_of finding ++ 32 ∷ count findings finding
 
--- that of each finding, and how many lines differ from the first one of their key
-abbrev pub count_lines : List Finding → ℕ → List (List ℕ)
-count_lines findings differing =
+-- that of each finding, and how many lines differ from the first one of their key, and repeat it
+abbrev pub count_lines : List Finding → ℕ → ℕ → List (List ℕ)
+count_lines findings differing repeating =
     count_text findings Kept
+    ∷ count_text findings KeptUnseen
     ∷ count_text findings OtherReply
     ∷ count_text findings OtherCall
     ∷ count_text findings NoRequest
@@ -112,4 +124,5 @@ count_lines findings differing =
     ∷ count_text findings Impossible
     ∷ count_text findings NoRecord
     ∷ (codes "differing " ++ decimal differing)
+    ∷ (codes "repeating " ++ decimal repeating)
     ∷ []

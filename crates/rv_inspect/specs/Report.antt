@@ -10,8 +10,10 @@ use Rattle.rv_findings.specs.declared.verdict.AccountFinding.{AccountFinding}
 use Rattle.rv_frame.specs.declared.sink.Sink.{Sink}
 use Rattle.rv_frame.specs.Sink.{SinkTakes, sink_failed}
 use Rattle.rv_lines.specs.Lines.{printed_lines}
-use Rattle.rv_replies.specs.Firsts.{DiffersFrom}
+use Rattle.rv_replies.specs.Firsts.{StandsBeside}
 use Rattle.rv_replies.specs.Standing.{HasNoted, IsLineFinding}
+use Rattle.rv_replies.specs.declared.records.Beside.{Beside}
+use Rattle.rv_replies.specs.declared.records.Beside.TheVariants.{Differs, Repeats}
 use Rattle.rv_replies.specs.declared.records.Line.{Line}
 use Rattle.rv_replies.specs.declared.records.Line.TheVariants as line
 use Rattle.rv_replies.specs.declared.records.Records.{Records}
@@ -19,7 +21,7 @@ use Rattle.rv_rules.specs.Counting.{NumberOf}
 use Rattle.rv_rules.specs.Legal.{Legal}
 use Rattle.rv_run.specs.declared.fault.RunFault.{RunFault}
 use Rattle.rv_run.specs.declared.fault.RunFault.TheVariants.{NoMemory, ReadFault, TooLong, WriteFault}
-use Rattle.rv_inspect.specs.Lines.{SaysFate, count_lines, differs_lines, finding_text, verdict_lines}
+use Rattle.rv_inspect.specs.Lines.{SaysFate, beside_lines, count_lines, finding_text, verdict_lines}
 
 -- ---- what is found of all lines
 
@@ -30,17 +32,17 @@ pub record FindsFirst (r : Records) (epoch : ℕ) (count : ℕ) (findings : List
       (finding : Finding) → slice_get r.lines.items index ≡ Some line
       → slice_get findings index ≡ Some finding → IsLineFinding a line finding
 
--- the line of this index, one of so many first ones, tells another reply than the first one of its key
-pub record Differs (lines : List Line) (n index : ℕ) : Type 0 where
+-- the line of this index, one of so many first ones, stands so to the first one of its key
+pub record Stands (how : Beside) (lines : List Line) (n index : ℕ) : Type 0 where
   pub inside : index < n
   pub told : Told
   pub first : ℕ
   pub there : slice_get lines index ≡ Some (line.Told told)
-  pub differs : DiffersFrom lines told (Some first)
+  pub beside : StandsBeside lines index told (Some (how, first))
 
 -- so many of the first lines of a record do, where it has noted some account
-pub record CountsDiffering (r : Records) (n count : ℕ) : Type 0 where
-  pub are : (a : Account) → HasNoted r a → NumberOf (Differs r.lines.items n) count
+pub record CountsBeside (how : Beside) (r : Records) (n count : ℕ) : Type 0 where
+  pub are : (a : Account) → HasNoted r a → NumberOf (Stands how r.lines.items n) count
 
 -- ---- what is printed of a line of a record
 
@@ -49,19 +51,19 @@ abbrev pub SaysFinding : Account → Line → ℕ → Finding → List ℕ → T
 SaysFinding a (line.Told told) number finding text = SaysFate a told number finding text
 SaysFinding a (line.Flawed flaw) number finding text = text ≡ finding_text number finding None
 
--- the first line of its key, if that tells another reply
-abbrev pub IsOther : List Line → Line → Option ℕ → Type 0
-IsOther lines (line.Told told) other = DiffersFrom lines told other
-IsOther lines (line.Flawed flaw) other = other ≡ None
+-- how the line with an index stands to the first one of its key, if it tells another reply or repeats it
+abbrev pub IsOther : List Line → ℕ → Line → Option (Beside × ℕ) → Type 0
+IsOther lines index (line.Told told) other = StandsBeside lines index told other
+IsOther lines index (line.Flawed flaw) other = other ≡ None
 
--- the texts are the line of the finding on the line with an index, and then that it differs, if it does
+-- the texts are the line of the finding on the line with an index, and then that it differs or repeats
 pub record SaysLine (a : Account) (lines : List Line) (index : ℕ) (own : Line) (finding : Finding)
     (texts : List (List ℕ)) : Type 0 where
   pub text : List ℕ
-  pub other : Option ℕ
+  pub other : Option (Beside × ℕ)
   pub says : SaysFinding a own (index + 1) finding text
-  pub differs : IsOther lines own other
-  pub texts_are : texts ≡ text ∷ differs_lines index other
+  pub beside : IsOther lines index own other
+  pub texts_are : texts ≡ text ∷ beside_lines index other
 
 -- ---- what is printed of a record
 
@@ -96,8 +98,10 @@ pub record ReportsAll (first : List (List ℕ)) (r : Records) (epoch : ℕ) (tex
   pub findings : List Finding
   pub finds : FindsFirst r epoch (length r.lines.items) findings
   pub differing : ℕ
-  pub counted : CountsDiffering r (length r.lines.items) differing
-  pub says : SaysAll first r findings (count_lines findings differing) texts
+  pub repeating : ℕ
+  pub differ : CountsBeside Differs r (length r.lines.items) differing
+  pub repeat : CountsBeside Repeats r (length r.lines.items) repeating
+  pub says : SaysAll first r findings (count_lines findings differing repeating) texts
 
 pub record ReportsSome (first : List (List ℕ)) (r : Records) (epoch : ℕ) (texts : List (List ℕ))
     : Type 0 where

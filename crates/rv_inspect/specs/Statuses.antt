@@ -1,19 +1,22 @@
 -- Which status tells what was found.
-use Rattle.std.specs.Prelude.{◌≡◌, ◌↔◌, IsTrue, true, Bool, ℕ, None, Option, Some, slice_get}
+use Rattle.std.specs.Prelude.{◌≡◌, ◌↔◌, ◌⊎◌, IsTrue, true, Bool, ℕ, None, Option, Some, slice_get}
 use Rattle.rv_account.specs.Account.{Account}
 use Rattle.rv_breaking.specs.declared.rule.Rule.{Rule}
 use Rattle.rv_findings.specs.Statuses.{status_by}
-use Rattle.rv_findings.specs.declared.findings.Finding.TheVariants.{Kept}
+use Rattle.rv_findings.specs.declared.findings.Finding.TheVariants.{Kept, KeptUnseen}
 use Rattle.rv_findings.specs.declared.verdict.AccountFinding.{AccountFinding}
 use Rattle.rv_replies.specs.Standing.{HasNoted, IsLineFinding}
 use Rattle.rv_replies.specs.declared.records.Line.{Line}
 use Rattle.rv_replies.specs.declared.records.Records.{Records}
 use Rattle.rv_rules.specs.Legal.{Legal}
 
+-- the account keeps the line
+abbrev pub IsLineKept : Account → Line → Type 0
+IsLineKept a line = IsLineFinding a line Kept ⊎ IsLineFinding a line KeptUnseen
+
 -- the account keeps each line of the record
 abbrev pub KeepsEach : Records → Account → Type 0
-KeepsEach r a = (index : ℕ) (line : Line) → slice_get r.lines.items index ≡ Some line
-    → IsLineFinding a line Kept
+KeepsEach r a = (index : ℕ) (line : Line) → slice_get r.lines.items index ≡ Some line → IsLineKept a line
 
 -- whether the legal account of this epoch, which the record has noted, keeps each line
 abbrev pub TellsKept : Records → ℕ → Bool → Type 0

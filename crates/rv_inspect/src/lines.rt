@@ -5,13 +5,14 @@ ghost use Rattle.rv_account.specs.Account.{Account};
 ghost use Rattle.rv_findings.specs.declared.findings.Told as replies;
 ghost use Rattle.rv_replies.specs.Standing.{HasNoted};
 ghost use Rattle.rv_replies.specs.declared.records.Line.TheVariants as kinds;
-ghost use Rattle.rv_inspect.specs.Lines.{SaysFate, call_said, count_lines, differs_text, fault_text};
+ghost use Rattle.rv_inspect.specs.Lines.{SaysFate, beside_text, call_said, count_lines, fault_text};
 ghost use Rattle.rv_inspect.specs.Lines.{finding_text, instead_said, reply_said, verdict_lines, verdict_text};
-ghost use Rattle.rv_inspect.specs.Texts.{IsLineText, IsOneText, first_counts, last_counts, next_counts};
+ghost use Rattle.rv_inspect.specs.Texts.{IsLineText, IsOneText, first_counts, kept_counts, last_counts};
+ghost use Rattle.rv_inspect.specs.Texts.{next_counts};
 
 use rv_breaking::Rule;
 use rv_findings::{AccountFinding, AccountVerdict, Fate, Finding, count_of};
-use rv_replies::{Flaw, Line, Records};
+use rv_replies::{Beside, Flaw, Line, Records};
 use rv_text::{Answer, Key, Message, NoMemory, Reply, encode_answer, encode_message};
 use std::alloc::Global;
 
@@ -63,32 +64,44 @@ fn fault_line(alloc: Global, place: usize, rule: &str) -> Result<String, NoMemor
     format!(in alloc; "fault {place} {rule}")
 }
 
-/// How many lines have each finding, and how many differ from the first one of their key: a line each, with
-/// LF between each two.
+/// How many lines have each finding, and how many differ from the first one of their key, and repeat it: a
+/// line each, with LF between each two.
 pub(crate) fn count_lines(
     alloc: Global,
     findings: &[Finding],
     differing: usize,
+    repeating: usize,
 ) -> Result<String, NoMemory>
-    ensures { IfOk result (λ s. IsOneText (count_lines findings.now differing) (string_bytes s)) }
+    ensures { IfOk result (λ s.
+        IsOneText (count_lines findings.now differing repeating) (string_bytes s)) }
 {
+    let kept = kept_counts(alloc, findings)?;
     let first = first_counts(alloc, findings)?;
     let next = next_counts(alloc, findings)?;
-    let last = last_counts(alloc, findings, differing)?;
-    format!(in alloc; "{first}\n{next}\n{last}")
+    let last = last_counts(alloc, findings, differing, repeating)?;
+    format!(in alloc; "{kept}\n{first}\n{next}\n{last}")
 }
 
-// How many lines are kept, tell another reply or another call, or of no such request.
+// How many lines are kept, by their request or by a cancel.
+fn kept_counts(alloc: Global, findings: &[Finding]) -> Result<String, NoMemory>
+    ensures { IfOk result (λ s. string_bytes s ≡ kept_counts findings.now) }
+{
+    let kept = count_of(findings, Finding::Kept);
+    let (words, unseen) = (
+        Finding::KeptUnseen.words(),
+        count_of(findings, Finding::KeptUnseen),
+    );
+    format!(in alloc; "kept {kept}\n{words} {unseen}")
+}
+
+// How many lines tell another reply or another call, or of no such request.
 fn first_counts(alloc: Global, findings: &[Finding]) -> Result<String, NoMemory>
     ensures { IfOk result (λ s. string_bytes s ≡ first_counts findings.now) }
 {
-    let kept = count_of(findings, Finding::Kept);
     let reply = count_of(findings, Finding::OtherReply);
     let call = count_of(findings, Finding::OtherCall);
     let none = count_of(findings, Finding::NoRequest);
-    format!(in alloc;
-        "kept {kept}\nanother reply {reply}\nanother call {call}\nno such request {none}"
-    )
+    format!(in alloc; "another reply {reply}\nanother call {call}\nno such request {none}")
 }
 
 // The same of those of which the request waits, or which are of another epoch or tell what can't be.
@@ -104,16 +117,21 @@ fn next_counts(alloc: Global, findings: &[Finding]) -> Result<String, NoMemory>
     format!(in alloc; "still waiting {waiting}\nanother epoch {epoch}\n{words} {never}")
 }
 
-// The same of those that are no record, and of those that differ from the first one of their key.
-fn last_counts(alloc: Global, findings: &[Finding], differing: usize) -> Result<String, NoMemory>
-    ensures { IfOk result (λ s. string_bytes s ≡ last_counts findings.now differing) }
+// The same of those that are no record, and of those that differ from the first one of their key or repeat it.
+fn last_counts(
+    alloc: Global,
+    findings: &[Finding],
+    differing: usize,
+    repeating: usize,
+) -> Result<String, NoMemory>
+    ensures { IfOk result (λ s. string_bytes s ≡ last_counts findings.now differing repeating) }
 {
     let flawed = count_of(findings, Finding::NoRecord);
-    format!(in alloc; "no record {flawed}\ndiffering {differing}")
+    format!(in alloc; "no record {flawed}\ndiffering {differing}\nrepeating {repeating}")
 }
 
 /// The lines on a line of a record, with LF between them: the finding, and whether it differs from the first
-/// one of its key.
+/// one of its key or repeats it.
 pub(crate) fn record_lines(
     alloc: Global,
     records: &Records,
@@ -124,27 +142,36 @@ pub(crate) fn record_lines(
     ensures { IfOk result (λ s. IsLineText records.now index finding (string_bytes s)) }
 {
     let line = finding_line(alloc, records, index, finding)?;
-    match records.differs_from(index) {
-        Some(first) => with_other(alloc, line.as_str(), index, first),
+    match records.beside_first(index) {
+        Some((how, first)) => with_other(alloc, line.as_str(), how, index, first),
         None => Ok(line),
     }
 }
 
-// A line, and behind it that the line of a record with an index differs from that one.
-fn with_other(alloc: Global, line: &str, index: usize, first: usize) -> Result<String, NoMemory>
+// A line, and after it how the line of a record with an index stands to that one.
+fn with_other(
+    alloc: Global,
+    line: &str,
+    how: Beside,
+    index: usize,
+    first: usize,
+) -> Result<String, NoMemory>
     ensures { IfOk result (λ s.
-        string_bytes s ≡ line.now ++ 10 ∷ differs_text (index + 1) (first + 1)) }
+        string_bytes s ≡ line.now ++ 10 ∷ beside_text how (index + 1) (first + 1)) }
 {
-    let other = differs_line(alloc, index, first)?;
+    let other = beside_line(alloc, how, index, first)?;
     format!(in alloc; "{line}\n{other}")
 }
 
-// The line which tells that a line of a record tells another reply than the first one of its key.
-fn differs_line(alloc: Global, index: usize, first: usize) -> Result<String, NoMemory>
-    ensures { IfOk result (λ s. string_bytes s ≡ differs_text (index + 1) (first + 1)) }
+// The line which tells how a line of a record stands to the first one of its key.
+fn beside_line(alloc: Global, how: Beside, index: usize, first: usize) -> Result<String, NoMemory>
+    ensures { IfOk result (λ s. string_bytes s ≡ beside_text how (index + 1) (first + 1)) }
 {
     let (number, other) = (index as u128 + 1, first as u128 + 1);
-    format!(in alloc; "{number} differs from line {other}")
+    match how {
+        Beside::Differs => format!(in alloc; "{number} differs from line {other}"),
+        Beside::Repeats => format!(in alloc; "{number} repeats line {other}"),
+    }
 }
 
 // The line of the finding on a line of a record, with what the account says in its place.
@@ -216,6 +243,7 @@ fn said_instead(
         Finding::OtherReply => reply_body(alloc, key, fate),
         Finding::OtherCall => call_body(alloc, key, fate),
         Finding::Kept => Ok(None),
+        Finding::KeptUnseen => Ok(None),
         Finding::OtherEpoch => Ok(None),
         Finding::Impossible => Ok(None),
         Finding::Waiting => Ok(None),

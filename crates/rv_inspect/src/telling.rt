@@ -1,9 +1,11 @@
 //! Prints what was found of an account and of a record, and gives the status that tells it.
-ghost use Rattle.std.specs.Prelude.{◌≡◌, ◌<◌, ◌≤◌, ◌+◌, ◌∷◌, ◌++◌, [], true, IfErr, IfOk, List, OnOk};
-ghost use Rattle.std.specs.Prelude.{length, option_map, ℕ};
-ghost use Rattle.rv_inspect.specs.Report.{BeginsBehind, BeginsReport, CountsDiffering, FindsFirst, IsReport};
+ghost use Rattle.std.specs.Prelude.{◌≡◌, ◌<◌, ◌≤◌, ◌+◌, ◌∷◌, ◌++◌, ◌↔◌, [], true, IfErr, IfOk, IsTrue};
+ghost use Rattle.std.specs.Prelude.{List, OnOk, length, option_map, ℕ};
+ghost use Rattle.rv_account.specs.Account.{Account};
+ghost use Rattle.rv_replies.specs.Standing.{HasNoted};
+ghost use Rattle.rv_inspect.specs.Report.{BeginsBehind, BeginsReport, CountsBeside, FindsFirst, IsReport};
 ghost use Rattle.rv_inspect.specs.Report.{ReportsAll, ReportsBehind, ReportsSome, SaysAll, SaysSome};
-ghost use Rattle.rv_inspect.specs.Report.{StopsTaking, TookLines};
+ghost use Rattle.rv_inspect.specs.Report.{Stands, StopsTaking, TookLines};
 ghost use Rattle.rv_inspect.specs.Statuses.{IsKeptBeside, TellsFound, TellsKept};
 ghost use Rattle.rv_inspect.specs.Texts.{IsOneText};
 
@@ -11,7 +13,7 @@ use crate::lines::{count_lines, record_lines, verdict_lines};
 use rv_breaking::Rule;
 use rv_findings::{AccountFinding, Finding, are_kept, status_of};
 use rv_frame::Sink;
-use rv_replies::Records;
+use rv_replies::{Beside, Records};
 use rv_run::{Output, RunFault};
 use rv_text::NoMemory;
 use std::alloc::{AllocError, Global};
@@ -102,7 +104,9 @@ fn tell_records<W: Write>(
         sink.old sink.new) }
 {
     let findings = findings_on(alloc, records, epoch)?;
-    let counts = count_lines(alloc, &findings, differing(records))?;
+    let differing = count_beside(records, Beside::Differs);
+    let repeating = count_beside(records, Beside::Repeats);
+    let counts = count_lines(alloc, &findings, differing, repeating)?;
     tell_lines(alloc, first, records, &findings, counts.as_str(), sink)?;
     Ok(are_kept(&findings))
 }
@@ -159,27 +163,50 @@ fn add(findings: &mut Vec<Finding>, finding: Finding) -> Result<(), NoMemory>
     }
 }
 
-// How many lines tell another reply than the first one of their key.
-fn differing(records: &Records) -> usize
-    ensures { CountsDiffering records.now (length records.now.lines.items) result }
+// How many lines stand so to the first one of their key.
+fn count_beside(records: &Records, how: Beside) -> usize
+    ensures { CountsBeside how records.now (length records.now.lines.items) result }
 {
     let mut count = 0;
     for index in 0..records.len() {
-        count = with_line(records, index, count);
+        count = with_line(records, how, index, count);
     }
     count
 }
 
-// So many of the lines before the one with an index, or one more if it too tells another reply.
-fn with_line(records: &Records, index: usize, count: usize) -> usize
+// So many of the lines before the one with an index, or one more if it too stands so.
+fn with_line(records: &Records, how: Beside, index: usize, count: usize) -> usize
     requires inside { index < length records.now.lines.items }
     requires few { count ≤ index }
     ensures few { result ≤ index + 1 }
-    ensures counted { CountsDiffering records.now index count
-        → CountsDiffering records.now (index + 1) result }
+    ensures counted { CountsBeside how records.now index count
+        → CountsBeside how records.now (index + 1) result }
 {
-    match records.differs_from(index) {
-        Some(_) => count + 1,
-        None => count,
+    if stands(records, how, index) {
+        count + 1
+    } else {
+        count
+    }
+}
+
+// Whether the line with an index stands so to the first one of its key.
+fn stands(records: &Records, how: Beside, index: usize) -> bool
+    requires { index < length records.now.lines.items }
+    ensures { (a : Account) → HasNoted records.now a
+        → (IsTrue result ↔ Stands how records.now.lines.items (index + 1) index) }
+{
+    match records.beside_first(index) {
+        Some(own) => is_alike(own.0, how),
+        None => false,
+    }
+}
+
+// Whether both are the same.
+fn is_alike(own: Beside, other: Beside) -> bool
+    ensures { IsTrue result ↔ (own ≡ other) }
+{
+    match own {
+        Beside::Differs => matches!(other, Beside::Differs),
+        Beside::Repeats => matches!(other, Beside::Repeats),
     }
 }

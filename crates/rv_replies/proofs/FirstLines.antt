@@ -1,13 +1,16 @@
 -- Which line is the first of its key, with one line more.
-use Rattle.rv_replies.proofs.Words.{◌++◌, ◌<◌, ◌≡◌, ◌⊎◌, ◌∙◌, ◌∷◌, [], List, None, Option, Some, ap, arith}
+use Rattle.rv_replies.proofs.Words.{◌++◌, ◌≡◌, ◌∙◌, ◌∷◌, [], List, None, Option, Some, ap, arith}
 use Rattle.rv_replies.proofs.Words.{inl, inr}
-use Rattle.rv_replies.proofs.Words.{length, none-some, refl, same_Some, slice_get, subst, sym, ℕ, Key}
+use Rattle.rv_replies.proofs.Words.{length, refl, same_Some, slice_get, subst, sym, ℕ, Key}
 use Rattle.std.proofs.Common.{◌&&◌, Bool, IsSome, cond, false, is_some, nat_eq, true, unwrap_or}
 use Rattle.std.proofs.lemmas.Bool.{false≢true}
 use Rattle.std.specs.Map.{lookup}
 use Rattle.rv_rules.proofs.Deciding.{key_or_other}
 use Rattle.rv_rules.proofs.Places.{get-append, get-append_cases, get-append_end, within}
-use Rattle.rv_replies.specs.Firsts.{DiffersFrom, IsFirstOf, IsNamedIfOther, KnowsFirsts, NotesFirst, first_in}
+use Rattle.rv_replies.specs.Firsts.{IsBeside, IsFirstOf, KnowsFirsts, NotesFirst, StandsBeside, first_in}
+use Rattle.rv_replies.specs.declared.records.Beside.{Beside}
+use Rattle.rv_text.specs.declared.answer.Reply.{Reply}
+use Rattle.rv_text.specs.declared.call.Call.{Call}
 use Rattle.rv_findings.specs.Names.{key_name}
 use Rattle.rv_findings.specs.declared.name.Name.{Name}
 use Rattle.rv_findings.specs.declared.findings.Told.{Told}
@@ -148,28 +151,40 @@ module _ (lines : List Line) (f : Firsts) (knows : KnowsFirsts lines f) (i : ℕ
   pub first_known : first_in f told.key ≡ None → ⊥
   first_known none = false≢true (sym (ap is_some none) ∙ knows.known i told there)
 
-  pub differs : (index : ℕ) (result : Option ℕ) → first_in f told.key ≡ Some index
-      → ((own : Told) → slice_get lines index ≡ Some (line.Told own) → IsNamedIfOther own told index result)
-      → DiffersFrom lines told result
-  differs index result is named =
-      let first = knows.first told.key index is in
+  -- how the line stands to it is known by what that one tells
+  pub stands : (first : ℕ) (result : Option (Beside × ℕ)) → first_in f told.key ≡ Some first
+      → ((own : Told) → slice_get lines first ≡ Some (line.Told own) → own.key ≡ told.key
+      → IsBeside told i own first result) → StandsBeside lines i told result
+  stands first result is beside =
+      let known = knows.first told.key first is in
       record {
-        first = index;
-        own = first.0;
-        is_first = first.1;
-        differs = named first.0 first.1.there;
+        first = first;
+        own = known.0;
+        is_first = known.1;
+        beside = beside known.0 known.1.there known.1.of_key;
       }
 
--- what is told of a line's reply is told of the reply that the line tells
-pub named_one : (lines : List Line) (index : ℕ) (own other told : Told) (result : Option ℕ)
-    → slice_get lines index ≡ Some (line.Told own) → slice_get lines index ≡ Some (line.Told other)
-    → IsNamedIfOther own told index result → IsNamedIfOther other told index result
-named_one lines index own other told result at again is =
-    subst (λ (t : Told). IsNamedIfOther t told index result)
+-- the line tells one reply
+pub beside_one : (lines : List Line) (first index : ℕ) (own other told : Told) (result : Option (Beside × ℕ))
+    → slice_get lines first ≡ Some (line.Told own) → slice_get lines first ≡ Some (line.Told other)
+    → (own.key ≡ told.key → IsBeside told index own first result) → other.key ≡ told.key
+    → IsBeside told index other first result
+beside_one lines first index own other told result at again is =
+    subst (λ (t : Told). t.key ≡ told.key → IsBeside told index t first result)
     (same_told own other (same_Some _ _ (sym at ∙ again))) is
 
-pub differs_one : (lines : List Line) (index : ℕ) (own other : Told) (result : Option ℕ)
+-- how a line stands is so of the reply that it tells
+pub stands_one : (lines : List Line) (index : ℕ) (own other : Told) (result : Option (Beside × ℕ))
     → slice_get lines index ≡ Some (line.Told own) → slice_get lines index ≡ Some (line.Told other)
-    → DiffersFrom lines own result → DiffersFrom lines other result
-differs_one lines index own other result at again is =
-    subst (λ (t : Told). DiffersFrom lines t result) (same_told own other (same_Some _ _ (sym at ∙ again))) is
+    → StandsBeside lines index own result → StandsBeside lines index other result
+stands_one lines index own other result at again is =
+    subst (λ (t : Told). StandsBeside lines index t result)
+    (same_told own other (same_Some _ _ (sym at ∙ again))) is
+
+-- two replies with one key, call and word are the same
+pub one_told : (own told : Told) → own.key ≡ told.key → own.call ≡ told.call → own.reply ≡ told.reply
+    → own ≡ told
+one_told own told key call reply =
+    let at : Key → Call → Reply → Told = λ k c r. record { key = k; call = c; reply = r } in
+    ap (λ (k : Key). at k own.call own.reply) key ∙ ap (λ (c : Call). at told.key c own.reply) call
+    ∙ ap (λ (r : Reply). at told.key told.call r) reply

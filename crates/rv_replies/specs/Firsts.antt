@@ -1,4 +1,4 @@
--- The first line of each key, and whether another one of it tells another reply.
+-- The first line of each key, and whether another one of it tells another reply, or says the same once more.
 use Rattle.std.specs.Prelude.{◌≡◌, ◌≢◌, ◌⊎◌, ◌≤◌, ℕ, List, Option, None, Some, IsSome, slice_get, unwrap_or}
 use Rattle.std.specs.Map.{lookup}
 use Rattle.rv_text.specs.declared.message.Key.{Key}
@@ -7,6 +7,8 @@ use Rattle.rv_findings.specs.declared.findings.Told.{Told}
 use Rattle.rv_replies.specs.declared.firsts.Firsts.{Firsts}
 use Rattle.rv_replies.specs.declared.records.Line.{Line}
 use Rattle.rv_replies.specs.declared.records.Line.TheVariants as line
+use Rattle.rv_replies.specs.declared.records.Beside.{Beside}
+use Rattle.rv_replies.specs.declared.records.Beside.TheVariants.{Differs, Repeats}
 
 -- the line of this index tells this of the key, and none before it tells of it
 pub record IsFirstOf (lines : List Line) (key : Key) (index : ℕ) (told : Told) : Type 0 where
@@ -15,17 +17,21 @@ pub record IsFirstOf (lines : List Line) (key : Key) (index : ℕ) (told : Told)
   pub least : (i : ℕ) (other : Told) → slice_get lines i ≡ Some (line.Told other) → other.key ≡ key
       → index ≤ i
 
--- the line of the one reply is told, where the other one differs
-abbrev pub IsNamedIfOther : Told → Told → ℕ → Option ℕ → Type 0
-IsNamedIfOther own told index result =
-    ((own.reply ≡ told.reply) × (result ≡ None)) ⊎ ((own.reply ≢ told.reply) × (result ≡ Some index))
+-- what a line that tells this is beside the first one of its key, which tells that: it tells another reply; or
+-- it says the same, request and reply, and isn't that line; or neither
+abbrev pub IsBeside : Told → ℕ → Told → ℕ → Option (Beside × ℕ) → Type 0
+IsBeside told index own first result =
+    ((own.reply ≢ told.reply) × (result ≡ Some (Differs, first)))
+    ⊎ ((own ≡ told) × (first ≢ index) × (result ≡ Some (Repeats, first)))
+    ⊎ ((own.reply ≡ told.reply) × (own ≡ told → first ≡ index) × (result ≡ None))
 
--- the first line of the reply's key is told, where that line tells another reply
-pub record DiffersFrom (lines : List Line) (told : Told) (result : Option ℕ) : Type 0 where
+-- what the line with an index, which tells this, is beside the first one of its key
+pub record StandsBeside (lines : List Line) (index : ℕ) (told : Told) (result : Option (Beside × ℕ))
+    : Type 0 where
   pub first : ℕ
   pub own : Told
   pub is_first : IsFirstOf lines told.key first own
-  pub differs : IsNamedIfOther own told first result
+  pub beside : IsBeside told index own first result
 
 -- the first line of the key, as it is known
 abbrev pub first_in : Firsts → Key → Option ℕ

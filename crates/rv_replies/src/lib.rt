@@ -9,4 +9,4 @@ mod records;
 mod telling;
 
 pub use reading::Flaw;
-pub use records::{Line, OutOfMemory, Records};
+pub use records::{Beside, Line, OutOfMemory, Records};

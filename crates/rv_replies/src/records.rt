@@ -3,7 +3,7 @@ ghost use Rattle.std.specs.Prelude.{◌≡◌, ◌<◌, ◌++◌, ◌==◌, ◌�
 ghost use Rattle.std.specs.Prelude.{◌↔◌, IsTrue, None, Some, option_map, slice_get};
 ghost use Rattle.rv_account.specs.Account.{Account, with_entry};
 ghost use Rattle.rv_rules.specs.Legal.{Legal};
-ghost use Rattle.rv_replies.specs.Firsts.{IsNamedIfOther};
+ghost use Rattle.rv_replies.specs.Firsts.{IsBeside};
 ghost use Rattle.rv_findings.specs.declared.findings.Told as replies;
 
 use crate::fates::Fates;
@@ -34,6 +34,15 @@ pub enum Line {
     Flawed(Flaw),
 }
 
+/// How a line of a record stands to the first one of its key.
+#[derive(Clone, Copy, PartialEq, Eq)]
+pub enum Beside {
+    /// It tells another reply.
+    Differs,
+    /// It says the same once more, request and reply.
+    Repeats,
+}
+
 /// A record of replies, and what became of their requests in an account that passes by. First it takes its
 /// lines, and then each entry. Memory grows with the record alone.
 #[derive(Drop)]
@@ -45,7 +54,7 @@ pub struct Records {
 
 impl Records {
     ghost use Rattle.rv_replies.specs.Known.{AsksAbout, HasPassedBy, IsAbout, fate_in};
-    ghost use Rattle.rv_replies.specs.Firsts.{DiffersFrom, NotesFirst};
+    ghost use Rattle.rv_replies.specs.Firsts.{NotesFirst, StandsBeside};
     ghost use Rattle.rv_replies.specs.Standing.{AddsLine, AsksNothing, IsLineFinding, HasNoted};
     ghost use Rattle.rv_findings.specs.declared.fate.Fate as fates;
     ghost use Rattle.rv_replies.specs.declared.records.Line.TheVariants as kinds;
@@ -155,39 +164,40 @@ impl Records {
         }
     }
 
-    /// The first line that tells of the same request as the line with an index, if it tells another reply.
-    pub fn differs_from(&self, index: usize) -> Option<usize>
+    /// The first line that tells of the same request as the line with an index, and how that line stands to
+    /// it, if it tells another reply or says the same once more.
+    pub fn beside_first(&self, index: usize) -> Option<(Beside, usize)>
         requires { index < length self.now.lines.items }
         ensures told { (a : Account) (told : replies.Told)
             → slice_get self.now.lines.items index ≡ Some (kinds.Told told) → HasNoted self.now a
-            → DiffersFrom self.now.lines.items told result }
+            → StandsBeside self.now.lines.items index told result }
         ensures flawed { (flaw : Flaw) → slice_get self.now.lines.items index ≡ Some (kinds.Flawed flaw)
             → result ≡ None }
     {
         match self.line(index) {
-            Line::Told(told) => self.other_reply(told),
+            Line::Told(told) => self.told_beside(told, index),
             Line::Flawed(_) => None,
         }
     }
 
-    // The same of a reply that a line tells.
-    fn other_reply(&self, told: &Told) -> Option<usize>
-        ensures { (a : Account) (i : ℕ) → slice_get self.now.lines.items i ≡ Some (kinds.Told told.now)
-            → HasNoted self.now a → DiffersFrom self.now.lines.items told.now result }
+    // The same of a reply that the line tells.
+    fn told_beside(&self, told: &Told, index: usize) -> Option<(Beside, usize)>
+        ensures { (a : Account) → slice_get self.now.lines.items index ≡ Some (kinds.Told told.now)
+            → HasNoted self.now a → StandsBeside self.now.lines.items index told.now result }
     {
         match self.firsts.get(&told.key) {
-            Some(first) => self.other_at(first, told),
+            Some(first) => self.beside_line(told, index, first),
             None => None,
         }
     }
 
-    // This line, if it tells another reply.
-    fn other_at(&self, line: usize, told: &Told) -> Option<usize>
-        ensures { (own : replies.Told) → slice_get self.now.lines.items line ≡ Some (kinds.Told own)
-            → IsNamedIfOther own told.now line result }
+    // The same beside this line.
+    fn beside_line(&self, told: &Told, index: usize, first: usize) -> Option<(Beside, usize)>
+        ensures { (own : replies.Told) → slice_get self.now.lines.items first ≡ Some (kinds.Told own)
+            → own.key ≡ told.now.key → IsBeside told.now index own first result }
     {
-        match self.told_at(line) {
-            Some(own) => line_if_other(own, told, line),
+        match self.told_at(first) {
+            Some(own) => compared(told, index, own, first),
             None => None,
         }
     }
@@ -230,13 +240,15 @@ impl Records {
     }
 }
 
-// The line of a reply, if that is another one.
-fn line_if_other(own: &Told, told: &Told, line: usize) -> Option<usize>
-    ensures { IsNamedIfOther own.now told.now line result }
+// How the line with an index, which tells this, stands to the first one, which tells that.
+fn compared(told: &Told, index: usize, own: &Told, first: usize) -> Option<(Beside, usize)>
+    ensures { own.now.key ≡ told.now.key → IsBeside told.now index own.now first result }
 {
-    if is_same_reply(&own.reply, &told.reply) {
-        None
-    } else {
-        Some(line)
+    if !is_same_reply(&own.reply, &told.reply) {
+        return Some((Beside::Differs, first));
     }
+    if first != index && own.call.is_same(&told.call) {
+        return Some((Beside::Repeats, first));
+    }
+    None
 }

@@ -1,6 +1,6 @@
 -- The lines of whole lines and of what follows them.
 use Rattle.std.proofs.Common.{◌≡◌, ◌≢◌, ◌∷◌, ◌++◌, ◌∙◌, ◌==◌, ℕ, List, [], cond, true, false}
-use Rattle.std.proofs.Common.{append_assoc, ap, inl, inr, refl, subst, sym}
+use Rattle.std.proofs.Common.{append-nil, append_assoc, ap, inl, inr, refl, subst, sym}
 use Rattle.std.specs.List.{onto_first}
 use Rattle.rv_lines.specs.Lines.{lines}
 use Rattle.rv_lines.proofs.Cutting.{Lacks, lines_cut, lines_last}
@@ -41,7 +41,7 @@ lines_behind (x ∷ front) rest =
     ]
 
 -- the lines of whole lines and of what follows
-lines_more : (whole rest : List ℕ) → AreWholeLines whole → lines (whole ++ rest) ≡ lines whole ++ lines rest
+pub lines_more : (whole rest : List ℕ) → AreWholeLines whole → lines (whole ++ rest) ≡ lines whole ++ lines rest
 lines_more whole rest (inl none) = subst (λ w. lines (w ++ rest) ≡ lines w ++ lines rest) (sym none) refl
 lines_more whole rest (inr some) =
     subst (λ w. lines (w ++ rest) ≡ lines w ++ lines rest) (sym some.1)
@@ -54,6 +54,14 @@ module _ (whole : List ℕ) (are : AreWholeLines whole) (line : List ℕ) (lacks
   -- one line more
   pub line_more : lines (whole ++ (line ++ 10 ∷ [])) ≡ lines whole ++ line ∷ []
   line_more = lines_more whole (line ++ 10 ∷ []) are ∙ ap (λ l. lines whole ++ l) (lines_cut line [] lacks)
+
+-- whole lines and whole lines
+pub whole_append : (front more : List ℕ) → AreWholeLines front → AreWholeLines more
+    → AreWholeLines (front ++ more)
+whole_append front more are (inl none) =
+    subst (λ (l : List ℕ). AreWholeLines (front ++ l)) (sym none) (subst AreWholeLines (sym (append-nil front)) are)
+whole_append front more are (inr some) =
+    inr (front ++ some.0, ap (λ l. front ++ l) some.1 ∙ sym (append_assoc front some.0 (10 ∷ [])))
 
 pub last_line : (piece : List ℕ) → piece ≢ [] → Lacks 10 piece → lines piece ≡ piece ∷ []
 last_line [] some lacks = absurd (some refl)

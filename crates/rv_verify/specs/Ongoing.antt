@@ -62,6 +62,10 @@ pub record HasGoneOn (until : Until) (before : List (List ℕ)) (bytes : List �
   pub no_fault : HadNoFault until (before ++ lines run.more) (length before)
       (good_lines why (before ++ lines run.more))
 
+-- it read on up to the first fault, if there was one
+abbrev pub HasReadOn : List (List ℕ) → List ℕ → OngoingAudit → Records → Option (List ℕ) → Pause → Type 0
+HasReadOn before bytes o r left why = HasGoneOn far.Fault before bytes o r left why
+
 -- what is told of the bytes is so, and the record has noted what passed of them
 abbrev pub IsFoundOfBytes : List ℕ → Records → AccountFinding → Type 0
 IsFoundOfBytes bytes r found = IsToldOfBytes bytes found × IsNotedOfBytes bytes found r

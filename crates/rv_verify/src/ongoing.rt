@@ -1,13 +1,14 @@
 //! Audits an account as it comes, also while it grows.
 ghost use Rattle.std.specs.Prelude.{◌≡◌, ◌≢◌, ◌↔◌, ◌∷◌, ◌++◌, [], ℕ, List, Some, IfOk, IsTrue, OnOk};
+ghost use Rattle.rv_findings.specs.declared.verdict.AccountVerdict.TheVariants as verdict;
 ghost use Rattle.rv_replies.specs.declared.records.Records as records;
 ghost use Rattle.rv_lines.specs.Lines.{lines};
 ghost use Rattle.rv_verify.specs.Ends.{AreWholeLines};
 ghost use Rattle.rv_verify.specs.Noting.{HasNotedOf};
 ghost use Rattle.rv_verify.specs.Verdicts.{IsVerdictOn};
-ghost use Rattle.rv_verify.specs.Ongoing.{CanGoOn, HasGoneOn, HasReadPart, IsFoundOfBytes};
+ghost use Rattle.rv_verify.specs.Ongoing.{CanGoOn, HasGoneOn, HasReadOn, HasReadPart, IsFoundOfBytes};
 ghost use Rattle.rv_verify.specs.Ongoing.{IsFoundOfLines};
-ghost use Rattle.rv_verify.specs.Stages.{AreNew, HasReadLines, entries_of};
+ghost use Rattle.rv_verify.specs.Stages.{AreNew, HasFault, HasReadLines, entries_of};
 
 use crate::fault::VerifyFault;
 use crate::parts::{NextPart, more_of_line};
@@ -70,7 +71,7 @@ impl OngoingAudit {
         ensures lines { records.new.lines ≡ records.old.lines }
         ensures read { (before : List (List ℕ)) (bytes : List ℕ)
             → HasReadPart before self.old records.old → B.remaining reader.old ≡ Some bytes
-            → IfOk result (HasGoneOn Until.Fault before (self.old.piece.items ++ bytes) self.new records.new
+            → IfOk result (HasReadOn before (self.old.piece.items ++ bytes) self.new records.new
             (B.remaining reader.new)) }
         ensures none_kept { IfOk result (λ why. why ≡ Pause.Fault → self.new.piece.items ≡ []) }
     {
@@ -177,6 +178,7 @@ impl OngoingAudit {
     pub fn break_off(self) -> AccountFinding
         ensures found { (read : List (List ℕ)) (r : records.Records) → HasReadLines read self.stage r
             → IsFoundOfLines read r result }
+        ensures fault { HasFault self.stage → result.verdict ≢ verdict.Legal }
         ensures torn { IsTrue result.torn ↔ (self.piece.items ≢ []) }
     {
         let mut audit = self;
@@ -192,6 +194,7 @@ fn finding_on(stage: &mut Stage, torn: bool) -> AccountFinding
         → IsVerdictOn read result.verdict }
     ensures noted { (read : List (List ℕ)) (r : records.Records) → HasReadLines read stage.old r
         → HasNotedOf read result.epoch r }
+    ensures fault { HasFault stage.old → result.verdict ≢ verdict.Legal }
 {
     AccountFinding {
         epoch: stage.epoch(),

@@ -1,5 +1,6 @@
 //! How far the lines of an account were read, from the first one on.
-ghost use Rattle.std.specs.Prelude.{◌≡◌, ◌↔◌, ◌∷◌, ◌++◌, [], ℕ, List, None, Some, IfOk, IsTrue, OnOk};
+ghost use Rattle.std.specs.Prelude.{◌≡◌, ◌≢◌, ◌↔◌, ◌∷◌, ◌++◌, [], ℕ, List, None, Some, IfOk, IsTrue, OnOk};
+ghost use Rattle.rv_findings.specs.declared.verdict.AccountVerdict.TheVariants as verdict;
 ghost use Rattle.rv_replies.specs.declared.records.Records as records;
 ghost use Rattle.rv_verify.specs.Noting.{HasNotedOf};
 ghost use Rattle.rv_verify.specs.Stages.{AreNew, CanTakeLine, HasFault, HasReadLines, HasReadNoting};
@@ -97,6 +98,7 @@ impl Stage {
     pub(crate) fn verdict(&mut self) -> AccountVerdict
         ensures told { (lines : List (List ℕ)) (r : records.Records) → HasReadLines lines self.old r
             → IsVerdictOn lines result }
+        ensures fault { HasFault self.old → result ≢ verdict.Legal }
     {
         if let Some(number) = self.bad {
             return AccountVerdict::BadLine(number);

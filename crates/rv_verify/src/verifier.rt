@@ -1,10 +1,11 @@
 //! An account that is followed line by line, as far as it is legal and has room.
-ghost use Rattle.std.specs.Prelude.{◌≡◌, ◌<◌, ◌≤◌, ◌∷◌, ◌++◌, [], ℕ, List, None, Err};
+ghost use Rattle.std.specs.Prelude.{◌≡◌, ◌≢◌, ◌<◌, ◌≤◌, ◌∷◌, ◌++◌, [], ℕ, List, None, Err};
 ghost use Rattle.std.specs.Prelude.{IfOk, IsSome, OnOk};
 ghost use Rattle.rv_text.specs.Limits.{FitsIdentifier};
 ghost use Rattle.rv_text.specs.Members.{max_identifier};
 ghost use Rattle.rv_account.specs.Limits.{max_moment};
 ghost use Rattle.rv_account.specs.declared.entry.Entry as entries;
+ghost use Rattle.rv_findings.specs.declared.verdict.AccountVerdict.TheVariants as verdict;
 ghost use Rattle.rv_machine.specs.Machines.{IsWhole, state_in};
 ghost use Rattle.rv_resume.specs.Resuming.{CanResume};
 ghost use Rattle.rv_lines.specs.Entries.{IsNoNext};
@@ -139,6 +140,7 @@ impl Verifier {
     /// The verdict on the lines that were read. Of a verifier that stopped it is told once.
     pub(crate) fn verdict(&mut self) -> AccountVerdict
         ensures told { (lines : List (List ℕ)) → HasRead lines self.old → IsVerdictOn lines result }
+        ensures fault { IsSome self.old.stop → result ≢ verdict.Legal }
     {
         let place = self.machine.length();
         match self.stop.take() {

@@ -1,7 +1,8 @@
 -- By what became of the request each finding is that of its account.
-use Rattle.std.proofs.Common.{◌≡◌, ◌∙◌, Bool, false, sym}
+use Rattle.std.proofs.Common.{◌≡◌, ◌∙◌, Bool, false, subst, sym}
 use Rattle.std.proofs.lemmas.Bool.{false≢true}
 use Rattle.std.specs.Prelude.{IsTrue}
+use Rattle.rv_findings.specs.Findings.{IsFinding}
 use Rattle.rv_findings.proofs.Judged.{impossible, is_instead, kept, of_other_epoch}
 use Rattle.rv_findings.proofs.findings.judge.Goals as goal
 
@@ -10,7 +11,8 @@ not_true b is holds = false≢true (sym is ∙ holds)
 
 pub returns-then-tells_same : goal.returns-then-tells_same
 returns-then-tells_same c a legal epoch is =
-    kept a c.args.told.now legal c.args.fate.now is (c.tells_same.ensures.0 c.if-tells_same.true)
+    subst (IsFinding a c.args.told.now) (sym c.kept_by.ensures)
+    (kept a c.args.told.now legal c.args.fate.now is (c.tells_same.ensures.0 c.if-tells_same.true))
 
 pub returns-then-told-epoch : goal.returns-then-told-epoch
 returns-then-told-epoch c a legal epoch is =

@@ -1,10 +1,10 @@
--- None of no lines differs, and a line more does or doesn't.
+-- None of no lines stands so, and a line more does or doesn't.
 use Rattle.std.proofs.Common.{arith}
 use Rattle.rv_inspect.proofs.Counted.{none_counted}
-use Rattle.rv_inspect.proofs.telling.differing.Goals as goal
+use Rattle.rv_inspect.proofs.telling.count_beside.Goals as goal
 
 pub loop-index-init : goal.loop-index-init
-loop-index-init c = record { few = omega arith; are = none_counted c.args.records.now }
+loop-index-init c = record { few = omega arith; are = none_counted c.args.how c.args.records.now }
 
 pub loop-index-preserved : goal.loop-index-preserved
 loop-index-preserved c = record {
