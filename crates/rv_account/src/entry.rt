@@ -1,9 +1,13 @@
 //! Entries: hellos, requests, cancels and ticks as they are recorded.
-ghost use Rattle.std.specs.Prelude.{◌≡◌, IfOk};
+ghost use Rattle.std.specs.Prelude.{◌≡◌, ◌↔◌, IfOk, IsTrue};
+ghost use Rattle.rv_account.specs.Limits.{FitsAct, FitsEntry};
 
 use crate::partners::Partners;
-use rv_text::{Call, Key, NoMemory, Version};
+use rv_text::{Call, Key, NoMemory, Version, fits_identifier};
 use std::alloc::Global;
+
+// The greatest moment, 2^62.
+const MAX_MOMENT: u64 = 4_611_686_018_427_387_904;
 
 /// What an entry records.
 #[derive(PartialEq, Eq, Drop)]
@@ -53,6 +57,22 @@ impl Act {
         }
     }
 
+    /// Whether every number and the item are within their limits, and the wait of a swap is not `Now`.
+    pub fn fits(&self) -> bool
+        ensures { IsTrue result ↔ FitsAct self.now }
+    {
+        match self {
+            Act::Hello {
+                client,
+                incarnation,
+                ..
+            } => { fits_identifier(*client) && fits_identifier(*incarnation) }
+            Act::Arrive { key, call } => key.fits() && call.fits(),
+            Act::Cancel { key } => key.fits(),
+            Act::Tick => true,
+        }
+    }
+
     // A copy. Fails only if memory for the item of its call was refused.
     fn copy(&self, alloc: Global) -> Result<Act, NoMemory>
         ensures { IfOk result (λ act. act ≡ self.now) }
@@ -78,6 +98,13 @@ impl Act {
 }
 
 impl Entry {
+    /// Whether its moment is at most 2^62, and its act is within its limits.
+    pub fn fits(&self) -> bool
+        ensures { IsTrue result ↔ FitsEntry self.now }
+    {
+        self.moment <= MAX_MOMENT && self.act.fits()
+    }
+
     // A copy. Fails only if memory was refused.
     pub(crate) fn copy(&self, alloc: Global) -> Result<Entry, NoMemory>
         ensures { IfOk result (λ entry. entry ≡ self.now) }

@@ -1,6 +1,6 @@
 -- What a reader must agree with: all that the laws and the public contracts cite.
 pub mod Ruling
 pub mod Laws
--- What private clauses, proofs and the crate above cite.
+-- What private clauses and proofs cite, here and in the crates above.
 pub mod Walking
 pub mod Rooming

@@ -135,7 +135,8 @@ impl HubDesk {
         &self.entries
     }
 
-    /// Whether a request of the client waits for which no connection does. It takes constant time on average.
+    /// Whether a request of the client waits for which no connection does. It takes time logarithmic in the
+    /// number of clients.
     pub fn is_unheard(&self, client: u64) -> bool
         ensures { IsTrue result ↔ IsUnheard (state_in self.now.machine) (hearers_of self.now.hearers) client }
     {

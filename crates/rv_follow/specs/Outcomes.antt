@@ -1,5 +1,5 @@
 -- What becomes of an entry that was written before.
-use Rattle.std.specs.Prelude.{◌≡◌, Option, Some}
+use Rattle.std.specs.Prelude.{◌≡◌, [], Option, Some}
 use Rattle.rv_text.specs.declared.answer.Reply.{Reply}
 use Rattle.rv_account.specs.declared.entry.Act.{Act}
 use Rattle.rv_account.specs.declared.entry.Act.TheVariants.{Arrive, Cancel, Hello, Tick}
@@ -46,11 +46,12 @@ pub record PassesRoom (s : State) (e : Entry) : Type 0 where
   pub follows : FollowsState s e
   pub beyond : ¬ StaysInRoom (state_after s e)
 
--- memory was refused, which the entry may want; the state stays
+-- memory was refused, which the entry may want; the state stays, and nobody is listed
 pub record WantedMemory (old new : Machine) (e : Entry) : Type 0 where
   pub follows : FollowsInRoom (state_in old) e
   pub wants : ¬ NeedsNoMemory (state_in old) e.act
   pub stays : state_in new ≡ state_in old
+  pub none : new.settled.items ≡ []
 
 -- what is told of the entry is so
 abbrev pub IsFollowed : Machine → Machine → Entry → Followed → Type 0

@@ -27,8 +27,8 @@ pub enum Followed {
 }
 
 /// Follows an entry that was written before, whatever limits its step had, and lists whom it settles. Unless
-/// it is done, the state stays; and all stays where memory wasn't refused. A tick, and a cancel of what
-/// waits, take no memory.
+/// it is done, the state stays; and all stays where memory wasn't refused, else nobody is listed. A tick, and
+/// a cancel of what waits, take no memory. [`Entry::fits`] tells whether the entry is within its limits.
 pub fn follow(machine: &mut Machine, entry: Entry) -> Followed
     requires ready { IsWhole machine.old }
     requires resumes { CanResume (state_in machine.old) }

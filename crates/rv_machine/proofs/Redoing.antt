@@ -2,7 +2,7 @@
 -- but for want of memory.
 use Rattle.std.proofs.Common.{◌≡◌, ◌≢◌, ◌⊎◌, ◌<◌, ◌≤◌, ◌+◌, ◌∙◌, ℕ, zero, suc, Option, Some, None, inl, inr}
 use Rattle.std.proofs.Common.{subst}
-use Rattle.std.proofs.Common.{sym, ap, arith, cond, is_some}
+use Rattle.std.proofs.Common.{sym, ap, arith, cond, is_some, []}
 use Rattle.std.specs.FinMap.{insert, len, len-insert}
 use Rattle.std.specs.Cmp.{nat_cmp_total}
 use Rattle.rv_text.specs.declared.call.Call.{Call}
@@ -288,6 +288,12 @@ module _ (old new : Machine) (moment : ℕ) (m : Message) (made : Heard) (on : M
   pub heard_stays : (r : Refusal) → made.said ≡ said.Refused r → state_in new ≡ state_in old
   heard_stays r is = elim its_move [
     | inl lacks ↦ hears.after ∙ ap (λ (x : Move). x.after) lacks
+    | inr does ↦ absurd (does.1 r (sym (ap (λ (x : Move). x.answer) does.2) ∙ refused_by r is))
+  ]
+
+  pub heard_none : (r : Refusal) → made.said ≡ said.Refused r → new.settled.items ≡ []
+  heard_none r is = elim its_move [
+    | inl lacks ↦ hears.settles ∙ ap (λ (x : Move). keys_settled x.settles) lacks
     | inr does ↦ absurd (does.1 r (sym (ap (λ (x : Move). x.answer) does.2) ∙ refused_by r is))
   ]
 

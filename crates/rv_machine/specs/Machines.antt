@@ -80,8 +80,9 @@ pub record LiesThere (there : OpenPlace) : Type 0 where
   pub item : List ℕ
   pub has : there.item ≡ Some item
 
--- the open places rise, all below the number of entries; who waits and the clients that wait are the same;
--- moments and entries are within their limits
+-- the open places rise, all below the number of entries; who waits and the clients that wait are the same,
+-- and where nobody waits a put's item lies; the moment, and the entries with one for each that waits, are
+-- within their limits
 pub record IsConsistent (s : State) : Type 0 where
   pub rise : PlacesRise s.open_places
   pub below : StandBelow s.open_places s.length
@@ -94,7 +95,8 @@ pub record IsConsistent (s : State) : Type 0 where
   pub time : s.moment ≤ max_moment
   pub space : s.length + count_waiting s.open_places ≤ most_counted
 
--- and the machine has room to list whoever waits among those that a step settles
+-- the machine's state is so, the most clients are those of a state to resume from, and there is room to list
+-- whoever waits among those that a step settles
 pub record IsWhole (m : Machine) : Type 0 where
   pub consistent : IsConsistent (state_in m)
   pub most : m.clients.most ≡ most_known

@@ -46,7 +46,7 @@ pub record TakesNoRoom (s : State) (m : Message) (move : Move) : Type 0 where
   pub room : length move.entries + waiting_count move.after ≤ waiting_count s
   pub hello : IsHello m → move.entries ≡ []
 
--- so does each move for the message, whenever it is heard
+-- no move for the message takes room, whenever it is heard
 abbrev pub NeedsNoRoom : StepLimits → State → Message → Type 0
 NeedsNoRoom limits s m = (moment : ℕ) (move : Move) → StateNextAtUnder limits s moment m move
     → TakesNoRoom s m move

@@ -32,8 +32,7 @@ pub record MadeNothing (made : Heard) : Type 0 where
   pub in_memory : made.said ≢ Refused NoMemory
 
 -- one move of the state for a message at a moment, under limits: it made this entry, this is said, and just
--- these keys are
--- listed as settled
+-- these keys are listed as settled
 pub record IsHearing (limits : StepLimits) (old new : Machine) (moment : ℕ) (m : Message) (made : Heard) :
     Type 0
   where

@@ -1,5 +1,5 @@
 //! Entries that were written before: what one did is done again.
-ghost use Rattle.std.specs.Prelude.{◌≡◌, ◌≤◌, true, false};
+ghost use Rattle.std.specs.Prelude.{◌≡◌, ◌≤◌, [], true, false};
 ghost use Rattle.rv_text.specs.Limits.{FitsMessage};
 ghost use Rattle.rv_account.specs.Limits.{FitsAct};
 ghost use Rattle.rv_rules.specs.Steps.{max_moment};
@@ -16,7 +16,7 @@ use rv_text::Message;
 impl Machine {
     /// Does again what an entry did that was written before, of this moment and act, whatever limits its step
     /// had, and lists whom it settles. Tells whether it was done: only want of memory keeps it from that, and
-    /// then the state stays. A tick, and a cancel of what waits, take none.
+    /// then the state stays and nobody is listed. A tick, and a cancel of what waits, take none.
     pub fn redo(&mut self, moment: u64, act: Act) -> bool
         requires ready { IsWhole self.old }
         requires numbered { AreNumbered (state_in self.old) }
@@ -27,6 +27,7 @@ impl Machine {
         ensures numbered { AreNumbered (state_in self.new) }
         ensures done { result ≡ true → IsRedone self.old self.new moment act }
         ensures stays { result ≡ false → state_in self.new ≡ state_in self.old }
+        ensures none { result ≡ false → self.new.settled.items ≡ [] }
         ensures spare { NeedsNoMemory (state_in self.old) act → result ≡ true }
     {
         match act {
@@ -62,6 +63,7 @@ impl Machine {
         ensures numbered { AreNumbered (state_in self.new) }
         ensures done { result ≡ true → IsRedone self.old self.new moment (act_of message) }
         ensures stays { result ≡ false → state_in self.new ≡ state_in self.old }
+        ensures none { result ≡ false → self.new.settled.items ≡ [] }
         ensures spare { NeedsNoMemory (state_in self.old) (act_of message) → result ≡ true }
     {
         let heard = self.hear(&Limits::widest(), moment, message);

@@ -1,5 +1,5 @@
 //! The state of a machine as such: a copy of it, and a machine that goes on from one.
-ghost use Rattle.std.specs.Prelude.{◌≡◌, IfErr, IfOk};
+ghost use Rattle.std.specs.Prelude.{◌≡◌, IfErr, IfOk, []};
 ghost use Rattle.rv_resume.specs.Resuming.{CanResume};
 ghost use Rattle.rv_machine.specs.Machines.{IsWhole, state_in};
 ghost use Rattle.rv_machine.specs.Numbering.{AreNumbered};
@@ -9,7 +9,7 @@ use crate::machine::Machine;
 use rv_open::OpenTable;
 use rv_resume::Snapshot;
 use rv_rules::MOST_KNOWN;
-use rv_session::Clients;
+use rv_session::ReturnedClients;
 use rv_text::NoMemory;
 use std::alloc::Global;
 
@@ -40,6 +40,7 @@ impl Machine {
         ensures state { IfOk result (λ m. state_in m ≡ state) }
         ensures ready { IfOk result IsWhole }
         ensures numbered { IfOk result (λ m. AreNumbered (state_in m)) }
+        ensures settled { IfOk result (λ m. m.settled.items ≡ []) }
         ensures fits { IfOk result (λ _. CanResume state) }
         ensures err { IfErr result (IsWhyNot state) }
     {
@@ -58,10 +59,12 @@ impl Machine {
         ensures state { IfOk result (λ m. state_in m ≡ state) }
         ensures ready { IfOk result IsWhole }
         ensures numbered { IfOk result (λ m. AreNumbered (state_in m)) }
+        ensures settled { IfOk result (λ m. m.settled.items ≡ []) }
     {
         let (epoch, moment, length, places, clients) = state.into_parts();
-        let clients = Clients::from_states(alloc, epoch, MOST_KNOWN, clients)?;
-        let table = OpenTable::resume(alloc, &clients, places)?;
+        let clients = ReturnedClients::from_states(alloc, epoch, MOST_KNOWN, clients)?;
+        let opened = OpenTable::resume(alloc, clients, places)?;
+        let (table, clients) = opened;
         let settled = Vec::with_capacity(alloc, table.waiting())?;
         Ok(Machine {
             moment,

@@ -1,5 +1,5 @@
 //! Steps: a machine opens; each step is a tick at a moment that is handed in, and then a message is heard.
-ghost use Rattle.std.specs.Prelude.{◌≡◌, ◌≤◌, None, IfErr, IfOk};
+ghost use Rattle.std.specs.Prelude.{◌≡◌, ◌≤◌, None, IfErr, IfOk, []};
 ghost use Rattle.rv_text.specs.Limits.{FitsMessage};
 ghost use Rattle.rv_rules.specs.Steps.{capped_moment, max_moment};
 ghost use Rattle.rv_state.specs.State.{opening};
@@ -53,11 +53,12 @@ fn outcome(made: Result<Option<Entry>, Refusal>, said: Said) -> Heard
 }
 
 impl Machine {
-    /// The machine of an empty account. Fails only if memory was refused.
+    /// The machine of an empty account, which has settled nothing yet. Fails only if memory was refused.
     pub fn open(alloc: Global, epoch: u64, now: u64) -> Result<Machine, NoMemory>
         ensures state { IfOk result (λ m. state_in m ≡ opening epoch (capped_moment now)) }
         ensures ready { IfOk result IsWhole }
         ensures numbered { IfOk result (λ m. AreNumbered (state_in m)) }
+        ensures settled { IfOk result (λ m. m.settled.items ≡ []) }
     {
         Ok(Machine {
             moment: now.min(MAX_MOMENT),

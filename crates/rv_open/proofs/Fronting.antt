@@ -7,13 +7,15 @@ use Rattle.std.specs.Ordering.{nat_cmp}
 use Rattle.std.proofs.lemmas.List.{length-append}
 use Rattle.std.proofs.lemmas.Option.{slice_get_within}
 use Rattle.rv_text.specs.declared.call.Side.{Side}
+use Rattle.rv_session.specs.Claims.{Claiming}
+use Rattle.rv_session.specs.ClientOrder.{is_above}
 use Rattle.rv_session.specs.declared.client.ClientState.{ClientState}
 use Rattle.rv_account.specs.Calls.{opposite}
 use Rattle.rv_state.specs.State.{OpenPlace, same_side}
 use Rattle.rv_state.proofs.SideLines.{same_side_is}
 use Rattle.rv_state.proofs.Words.{none-some}
 use Rattle.rv_open.specs.OpenMap.{StandBelow, facing, line_in, most_counted}
-use Rattle.rv_open.specs.Reopening.{MayReopen, MayResume}
+use Rattle.rv_open.specs.Reopening.{ClaimsUpTo, MayReopen, MayResume}
 
 -- the one behind a front stands at its length
 at_end : {X : Type 0} (front rest : List X) (x : X) → slice_get (front ++ x ∷ rest) (length front) ≡ Some x
@@ -66,10 +68,24 @@ module _ (front rest : List OpenPlace) (one : OpenPlace) (clients : FinMap nat_c
       length-append front (one ∷ rest) in
       omega (arith, whole, may.few)
 
-  pub reopens : MayReopen front one clients
+-- so may one whose duty can still be made, where those of the front alone were made
+module _ (front rest : List OpenPlace) (one : OpenPlace) (claims : Claiming)
+    (may : MayResume (front ++ one ∷ rest) claims.table.clients)
+    (last : (place : ℕ) → StandBelow front place → is_above claims.last place ≡ true) where
+  pub reopens : MayReopen front one claims
   reopens = record {
-    few = fewer;
+    few = fewer front rest one claims.table.clients may;
     stands = may.stand (length front) one (at_end front rest one);
-    below = stands_before;
-    alone = faces_none (opposite one.side) refl;
+    below = stands_before front rest one claims.table.clients may;
+    alone = faces_none front rest one claims.table.clients may (opposite one.side) refl;
+    unclaimed = last one.place (stands_before front rest one claims.table.clients may);
   }
+
+-- one more is laid behind the front: whatever all stand below is above what was made
+pub claimed_below : (front : List OpenPlace) (one : OpenPlace) (before after : Option ℕ)
+    → ((place : ℕ) → StandBelow front place → is_above before place ≡ true)
+    → ClaimsUpTo before one.place after
+    → (place : ℕ) → StandBelow (front ++ one ∷ []) place → is_above after place ≡ true
+claimed_below front one before after last more place below =
+    more place (below (length front) one (at_end front [] one))
+    (last place (λ i x at. below i x (in_front front (one ∷ []) i x at)))

@@ -1,9 +1,14 @@
 -- The tables of what is open, where one that was open before is open again.
 use Rattle.std.proofs.Common.{◌≡◌, ◌<◌, ◌≤◌, ◌++◌, ◌∷◌, ◌∙◌, ◌+◌, ◌^◌, ℕ, List, [], Bool, true, false, cond}
 use Rattle.std.proofs.Common.{Option, Some, None, is_some, length, refl, sym, ap, arith}
-use Rattle.std.specs.Prelude.{filter, option_map}
+use Rattle.std.proofs.lemmas.Bool.Decides.{nat_tests}
+use Rattle.std.specs.Prelude.{filter, option_and_then, option_map}
 use Rattle.std.specs.FinMap.{FinMap}
 use Rattle.std.specs.Ordering.{nat_cmp}
+use Rattle.std.specs.Option.{option_or}
+use Rattle.std.specs.Prelude.{nat_lt}
+use Rattle.rv_session.specs.Claims.{Claiming, if_above}
+use Rattle.rv_session.specs.ClientOrder.{is_above}
 use Rattle.rv_session.specs.declared.client.ClientState.{ClientState}
 use Rattle.rv_session.specs.OwedDuty.{OwedDuty}
 use Rattle.rv_due.specs.Deadlines.{Deadlines}
@@ -12,7 +17,7 @@ use Rattle.rv_waiters.specs.Laying.{LaidOn}
 use Rattle.rv_waiters.specs.Views.{Waiters}
 use Rattle.rv_open.specs.OpenMap.{count_waiting, duty_at, with_limit}
 use Rattle.rv_open.specs.Indexed.{AreIndexed}
-use Rattle.rv_open.specs.Reopening.{MayReopen, StandsOpen, duty_of_waiter}
+use Rattle.rv_open.specs.Reopening.{CanBeClaimed, ClaimsUpTo, MayReopen, StandsOpen, duty_of_waiter}
 use Rattle.rv_open.proofs.Firsts.{count_owed}
 use Rattle.rv_open.proofs.Laying.{counted_more, laid_index}
 
@@ -31,9 +36,9 @@ one_more false = omega arith
 
 -- who waits is counted
 pub counts : (all : List OpenPlace) (old : Waiters) (waiting count : ℕ) (due : Deadlines) (one : OpenPlace)
-    (clients : FinMap nat_cmp ClientState) (duty : Option OwedDuty) → AreIndexed all old waiting due
-    → MayReopen all one clients → count ≡ cond (is_some duty) 1 0 → waiting + count < 2 ^ 64
-counts all old waiting count due one clients duty is may count_is =
+    (claims : Claiming) (duty : Option OwedDuty) → AreIndexed all old waiting due
+    → MayReopen all one claims → count ≡ cond (is_some duty) 1 0 → waiting + count < 2 ^ 64
+counts all old waiting count due one claims duty is may count_is =
     let fewer : count_waiting all ≤ length all = fewer_left (λ (o : OpenPlace). is_some o.waiter) all in
     let most = one_more (is_some duty) in
     omega (arith, fewer, most, count_is, is.counted, may.few)
@@ -50,13 +55,13 @@ owed_there one clients stands = by_waiter one.waiter refl
         ap (option_map (λ place. record { place = place; client = w.key.client })) (stands.awaited w is)
 
 pub reopened : (all : List OpenPlace) (old new : Waiters) (waiting count : ℕ) (due after : Deadlines)
-    (one : OpenPlace) (clients : FinMap nat_cmp ClientState) (duty : Option OwedDuty)
+    (one : OpenPlace) (claims : Claiming) (duty : Option OwedDuty)
     → AreIndexed all old waiting due
-    → MayReopen all one clients → duty ≡ duty_of_waiter clients one.waiter
+    → MayReopen all one claims → duty ≡ duty_of_waiter claims.table.clients one.waiter
     → LaidOn old new one.side one.place duty → count ≡ cond (is_some duty) 1 0
     → after ≡ with_limit one.limit one.place due → AreIndexed (all ++ one ∷ []) new (waiting + count) after
-reopened all old new waiting count due after one clients duty is may duty_is laid count_is after_is =
-    let owed : duty ≡ duty_at one = duty_is ∙ owed_there one clients may.stands in
+reopened all old new waiting count due after one claims duty is may duty_is laid count_is after_is =
+    let owed : duty ≡ duty_at one = duty_is ∙ owed_there one claims.table.clients may.stands in
     let counted : count ≡ cond (is_some {T = Waiter} one.waiter) 1 0 =
     count_is ∙ ap (λ b. cond b 1 0) (count_owed one duty (sym owed)) in
     laid_index all old waiting due one is may.below new laid.waits
@@ -65,3 +70,40 @@ reopened all old new waiting count due after one clients duty is may duty_is lai
     (ap (λ n. n + count) is.counted ∙ ap (λ n. count_waiting all + n) counted
     ∙ sym (counted_more all old waiting due one is may.below))
     after_is
+
+-- ---- duties that are made
+
+-- the duty of who waits at the place can be made
+pub can_claim : (one : OpenPlace) (claims : Claiming) → StandsOpen one claims.table.clients
+    → is_above claims.last one.place ≡ true → CanBeClaimed claims one.waiter
+can_claim one claims stands above = by_waiter one.waiter refl
+  where
+    by_waiter : (w : Option Waiter) → one.waiter ≡ w → CanBeClaimed claims w
+    by_waiter None is = tt
+    by_waiter (Some w) is =
+        ap (option_and_then (if_above claims.last)) (stands.awaited w is)
+        ∙ ap (λ (b : Bool). cond b (Some one.place) None) above
+        ∙ sym (stands.awaited w is)
+
+is_less : (x y : ℕ) → x < y → nat_lt x y ≡ true
+is_less x y less = grind (arith, nat_tests)
+
+-- what was made is of the place, if it was
+pub claims_up_to : (one : OpenPlace) (clients : FinMap nat_cmp ClientState) → StandsOpen one clients
+    → (before after : Option ℕ) (duty : Option OwedDuty) → duty ≡ duty_of_waiter clients one.waiter
+    → after ≡ option_or (option_map (λ (d : OwedDuty). d.place) duty) before
+    → ClaimsUpTo before one.place after
+claims_up_to one clients stands before after duty duty_is is other less above =
+    ap (λ (o : Option ℕ). is_above o other) (is ∙ ap (λ (d : Option OwedDuty).
+    option_or (option_map (λ (x : OwedDuty). x.place) d) before) (duty_is ∙ owed_there one clients stands))
+    ∙ by_waiter one.waiter
+  where
+    by_waiter : (w : Option Waiter) → is_above (option_or (option_map (λ (x : OwedDuty). x.place)
+        (option_map (λ (x : Waiter). record { place = one.place; client = x.key.client }) w)) before) other
+        ≡ true
+    by_waiter None = above
+    by_waiter (Some w) = is_less one.place other less
+
+-- nothing was made: the last one stays
+pub claims_none : (before : Option ℕ) (place : ℕ) → ClaimsUpTo before place before
+claims_none before place other less above = above

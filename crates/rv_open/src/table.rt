@@ -2,6 +2,7 @@
 ghost use Rattle.std.specs.Prelude.{◌≡◌, ◌<◌, [], ◌∷◌, ◌++◌, None, Some, IsSome, IfOk, IfSome, IfNone, OnOk};
 ghost use Rattle.std.specs.Prelude.{OnErr, cond, is_some, length, option_map, slice_get};
 ghost use Rattle.std.specs.FinMap.{get};
+ghost use Rattle.std.specs.Option.{option_or};
 ghost use Rattle.rv_account.specs.Calls.{opposite};
 ghost use Rattle.rv_text.specs.Calls.{side_of, wait_of};
 ghost use Rattle.rv_text.specs.Limits.{FitsQueue, FitsSide};
@@ -11,11 +12,11 @@ ghost use Rattle.rv_open.specs.OpenMap.{IsFirstDue, NeverDue, with_limit, all_bu
 ghost use Rattle.rv_open.specs.OpenMap.{first_behind};
 ghost use Rattle.rv_open.specs.Indexed.{ClosesPlace, ClosesDue, ClosesFirst, MayPark, ParksPlace, WaitsIn};
 ghost use Rattle.rv_waiters.specs.Meeting.{HasRoomOn, MakesRoomFor};
-ghost use Rattle.rv_open.specs.Reopening.{MayReopen, MayResume, duty_of_waiter};
+ghost use Rattle.rv_open.specs.Reopening.{CanBeClaimed, ClaimsUpTo, MayReopen, MayResume, duty_of_waiter};
 
 use crate::opens::OpenMap;
 use rv_due::Due;
-use rv_session::{Clients, Duty, OpenPlace, Place, Waiter};
+use rv_session::{Claims, Clients, Duty, OpenPlace, Place, ReturnedClients, Waiter};
 use rv_text::{Call, Key, NoMemory, Side};
 use rv_waiters::{Arrived, Waiters};
 use std::alloc::Global;
@@ -131,10 +132,16 @@ fn owing(duty: &Option<Duty>) -> usize
 }
 
 // The duty that is owed to who waits, if somebody does.
-fn owed(clients: &Clients, waiter: Option<Waiter>) -> Option<Duty>
-    ensures { result ≡ duty_of_waiter clients.now.clients waiter }
+fn owed(claims: &mut Claims, waiter: Option<Waiter>) -> Option<Duty>
+    requires { CanBeClaimed claims.old waiter }
+    ensures duty { result ≡ duty_of_waiter claims.old.table.clients waiter }
+    ensures last { claims.new.last ≡ option_or (option_map (λ d. d.place) result) claims.old.last }
+    ensures table { claims.new.table ≡ claims.old.table }
 {
-    clients.owed(waiter?.key.client)
+    match waiter {
+        Some(waiter) => claims.claim(waiter.key.client),
+        None => None,
+    }
 }
 
 // The duty of an arrival that met nobody, if it came back.
@@ -166,19 +173,21 @@ impl OpenTable {
         })
     }
 
-    /// The tables of what was open before, the oldest first, and of the duties that their clients are owed.
-    /// Fails only if memory was refused.
+    /// The tables of what was open before, the oldest first, and of the duties that their clients are owed,
+    /// each of which is made once. The clients come out again. Fails only if memory was refused.
     pub fn resume(
         alloc: Global,
-        clients: &Clients,
+        clients: ReturnedClients,
         places: Vec<OpenPlace>,
-    ) -> Result<OpenTable, NoMemory>
-        requires { MayResume places.items clients.now.clients }
-        ensures { IfOk result (λ table. table ≡ places.items) }
+    ) -> Result<(OpenTable, Clients), NoMemory>
+        requires { MayResume places.items clients.clients }
+        ensures table { IfOk result (λ made. made.0 ≡ places.items) }
+        ensures clients { IfOk result (λ made. made.1 ≡ clients) }
     {
         let mut table = OpenTable::empty(alloc)?;
-        match table.reopen_all(clients, places) {
-            Ok(()) => Ok(table),
+        let mut claims = clients.claims();
+        match table.reopen_all(&mut claims, places) {
+            Ok(()) => Ok((table, claims.done())),
             Err(refused) => {
                 drop(table);
                 Err(refused)
@@ -187,27 +196,31 @@ impl OpenTable {
     }
 
     // All that was open before is open in a table of nothing. Fails only if memory was refused.
-    fn reopen_all(&mut self, clients: &Clients, places: Vec<OpenPlace>) -> Result<(), NoMemory>
+    fn reopen_all(&mut self, claims: &mut Claims, places: Vec<OpenPlace>) -> Result<(), NoMemory>
         requires nothing { self.old ≡ [] }
-        requires may { MayResume places.items clients.now.clients }
-        ensures { OnOk result (self.new ≡ places.items) }
+        requires may { MayResume places.items claims.old.table.clients }
+        requires unclaimed { claims.old.last ≡ None }
+        ensures opened { OnOk result (self.new ≡ places.items) }
+        ensures table { claims.new.table ≡ claims.old.table }
     {
         for opened in places {
-            self.reopen(clients, opened)?;
+            self.reopen(claims, opened)?;
         }
         Ok(())
     }
 
     // One more that was open before is open, behind all others. Fails only if memory was refused.
-    fn reopen(&mut self, clients: &Clients, opened: OpenPlace) -> Result<(), NoMemory>
-        requires { MayReopen self.old opened clients.now.clients }
+    fn reopen(&mut self, claims: &mut Claims, opened: OpenPlace) -> Result<(), NoMemory>
+        requires { MayReopen self.old opened claims.old }
         ensures ok { OnOk result (self.new ≡ self.old ++ opened ∷ []) }
         ensures err { OnErr result (self.new ≡ self.old) }
+        ensures last { ClaimsUpTo claims.old.last opened.place claims.new.last }
+        ensures table { claims.new.table ≡ claims.old.table }
     {
         let (place, side, waiter) = (opened.place, opened.side, opened.waiter);
         self.waiters.reserve_on(side)?;
         lay(&mut self.opens, &mut self.due, opened)?;
-        let duty = owed(clients, waiter);
+        let duty = owed(claims, waiter);
         self.waiting += owing(&duty);
         self.waiters.lay(side, place, duty);
         Ok(())

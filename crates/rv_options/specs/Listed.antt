@@ -1,4 +1,4 @@
--- The options and the flag of `host`, as the code lists them.
+-- The options of a command, as a table of the code lists them: those of `host`, and those of `verify`.
 use Rattle.std.specs.Prelude.{Some, length}
 use Rattle.clap.specs.Walk.{texts}
 use Rattle.clap.specs.Words.{Rule, new_rule}

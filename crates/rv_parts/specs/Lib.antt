@@ -5,7 +5,8 @@ pub mod Events
 pub mod Runs
 pub mod Headline
 pub mod Laws
--- What only private clauses and proofs cite.
+-- What private clauses and proofs cite, here and in the crate above, whose model's invariant stands in
+-- `Parts`.
 pub mod Processes
 pub mod Table
 pub mod Sound

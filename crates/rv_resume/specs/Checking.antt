@@ -1,6 +1,5 @@
 -- What is asked of the parts of a state one by one: each open place with its client's session, each client
--- with
--- its open place.
+-- with its open place.
 use Rattle.std.specs.Prelude.{◌≡◌, ◌≢◌, ◌<◌, ◌≤◌, ◌+◌, ℕ, List, Option, Some, None, filter, is_some}
 use Rattle.std.specs.Prelude.{length}
 use Rattle.std.specs.Prelude.{slice_get}
@@ -40,7 +39,7 @@ state_by epoch moment length opens clients =
       clients = map_of clients;
     }
 
--- that client is known, with such a session
+-- the client of who waits at the open place is known, and that request is the last of its session
 pub record IsLastAmong (epoch : ℕ) (clients : List (ℕ × ClientState)) (there : OpenPlace) (w : Waiter) :
     Type 0
   where

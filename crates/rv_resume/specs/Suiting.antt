@@ -1,6 +1,5 @@
 -- Which replies a call may get in a session of a version: by Java's calls, as `told_alone` and `told_with`
--- tell
--- them, whatever else there is.
+-- tell them, whatever else there is.
 use Rattle.std.specs.Prelude.{◌≡◌, ◌⊎◌, ◌≤◌, ℕ, zero, suc, List, length}
 use Rattle.rv_text.specs.declared.answer.Reply.{Reply}
 use Rattle.rv_text.specs.declared.answer.Reply.TheVariants as reply

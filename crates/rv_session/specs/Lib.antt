@@ -8,5 +8,6 @@ pub mod Clients
 pub mod ClientStandings
 pub mod ClientMeanings
 pub mod ClientOrder
+pub mod Claims
 -- The map that entries are; and what only the invariants of the tables and proofs cite.
 pub mod Entries

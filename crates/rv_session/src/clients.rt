@@ -20,9 +20,10 @@ use std::ops::Bound;
 /// The clients of an epoch, which contracts see as a map from clients to their [`ClientState`]s, beside the
 /// most that there can be.
 ///
-/// Only [`admit`](Clients::admit), [`states`](Clients::states) and [`from_states`](Clients::from_states) take
-/// memory, and what a call replaces is freed. `states` and `from_states` read all clients. Each other call
-/// takes time at most logarithmic in the number of clients, whatever numbers they have.
+/// Only [`admit`](Clients::admit), [`states`](Clients::states) and
+/// [`from_states`](crate::ReturnedClients::from_states) take memory, and what a call replaces is freed.
+/// `states` and `from_states` read all clients. Each other call takes time at most logarithmic in the number
+/// of clients, whatever numbers they have.
 #[derive(Drop)]
 pub struct Clients {
     epoch: u64,
@@ -98,9 +99,9 @@ impl Clients {
         }
     }
 
-    /// The table of an epoch, for at most so many clients, with these, which must stand in the order of their
-    /// numbers. It fails only if memory was refused.
-    pub fn from_states(
+    // The table of an epoch, for at most so many clients, with these, which must stand in the order of their
+    // numbers. It fails only if memory was refused.
+    pub(crate) fn from_states(
         alloc: Global,
         epoch: u64,
         most: usize,
@@ -194,16 +195,6 @@ impl Clients {
             Some(state) => state.standing(key),
             None => KeyStanding::Refused(Refusal::NoSession),
         }
-    }
-
-    /// The duty to settle the client's request, if it waits. It is for whoever makes the tables of a state
-    /// anew: each duty of the state must be made once.
-    pub fn owed(&self, client: u64) -> Option<Duty>
-        ensures { result ≡ option_map (λ place. record { place = place; client = client })
-            (place_awaited self.now.clients client) }
-    {
-        let place = self.get(client)?.waiting()?;
-        Some(Duty::new(place, client))
     }
 
     /// Opens the session of an incarnation and a version of a client that isn't known, in which nothing was

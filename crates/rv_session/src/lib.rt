@@ -3,6 +3,7 @@
 //! unless it is laid aside.
 #![tactic(auto)]
 
+mod claims;
 mod client;
 mod clients;
 mod duty;
@@ -12,6 +13,7 @@ mod session;
 mod sessions;
 mod standing;
 
+pub use claims::{Claims, ReturnedClients};
 pub use client::{ClientState, LastRequest};
 pub use clients::Clients;
 pub use duty::{Duty, Parked};

@@ -60,7 +60,7 @@ pub record IsMoveTo (a b : Account) (move : Move) : Type 0 where
   pub state : state_of b ≡ move.after
   pub settles : SettlesEach a.entries move.entries move.settles
 
--- each step of a legal account is a move of its state
+-- a step from the first account to the second is a move of the first one's state
 pub record MovesToUnder (limits : StepLimits) (a b : Account) (now : ℕ) (m : Message) (answer : Answer) :
     Type 0 where
   pub move : Move
@@ -68,27 +68,30 @@ pub record MovesToUnder (limits : StepLimits) (a b : Account) (now : ℕ) (m : M
   pub answers : answer ≡ move.answer
   pub is : IsMoveTo a b move
 
+-- so is each step of a legal account
 abbrev pub StepsMoveUnder : StepLimits → Type 0
 StepsMoveUnder limits = (a b : Account) (now : ℕ) (m : Message) (answer : Answer) → Legal a
     → NextUnder limits a now m b answer → MovesToUnder limits a b now m answer
 
--- and each move of its state is a step of the account, which so has one
+-- a move of the account's state is a step of the account, which so has one
 pub record StepsToUnder (limits : StepLimits) (a : Account) (now : ℕ) (m : Message) (move : Move) : Type 0
   where
     pub after : Account
     pub next : NextUnder limits a now m after move.answer
     pub is : IsMoveTo a after move
 
+-- so is each move of the state of a legal account
 abbrev pub MovesStepUnder : StepLimits → Type 0
 MovesStepUnder limits = (a : Account) (now : ℕ) (m : Message) (move : Move) → Legal a
     → StateNextUnder limits (state_of a) now m move → StepsToUnder limits a now m move
 
--- whatever the state, there is a move for each moment and message, where no growth is refused
+-- the state has a move for the moment and the message that isn't for want of memory
 pub record HasMoveUnder (limits : StepLimits) (s : State) (now : ℕ) (m : Message) : Type 0 where
   pub move : Move
   pub moves : StateNextUnder limits s now m move
   pub in_memory : move.answer ≢ Refused NoMemory
 
+-- each state has, for each moment and message
 abbrev pub MovesExistUnder : StepLimits → Type 0
 MovesExistUnder limits = (s : State) (now : ℕ) (m : Message) → HasMoveUnder limits s now m
 
@@ -97,8 +100,8 @@ abbrev pub OneFuture : Type 0
 OneFuture = (a b : Account) (e : Entry) → Legal a → Legal b → state_of a ≡ state_of b
     → MayFollow a e ↔ MayFollow b e
 
--- the second account goes on as the first does: by a step with the same answer, the same entries, the same
--- that they settle, and the same state after
+-- the second account goes on as the first does, by a step with the same answer and the same entries, which
+-- settle the same and lead to the same state
 pub record GoesOnAlikeUnder (limits : StepLimits) (a b after : Account) (now : ℕ) (m : Message)
     (answer : Answer) : Type 0 where
   pub after_there : Account
@@ -111,7 +114,7 @@ pub record GoesOnAlikeUnder (limits : StepLimits) (a b after : Account) (now : �
   pub settles_there : SettlesEach b.entries more told
   pub same : state_of after_there ≡ state_of after
 
--- and each step of the one is a step of the other
+-- so does the second of two legal accounts with one state by each step of the first
 abbrev pub StepsAlikeUnder : StepLimits → Type 0
 StepsAlikeUnder limits = (a b after : Account) (now : ℕ) (m : Message) (answer : Answer) → Legal a → Legal b
     → state_of a ≡ state_of b → NextUnder limits a now m after answer

@@ -1,19 +1,14 @@
 //! Machines made anew behind a line: of the state before it, and by following the entries that it made.
-ghost use Rattle.std.specs.Prelude.{◌↔◌, IsTrue};
-ghost use Rattle.rv_account.specs.Limits.{FitsAct, FitsEntry};
 ghost use Rattle.rv_steps.specs.Ready.{CanFollow, IsReady};
 
 use crate::steps::{Made, answer_line};
-use rv_account::{Act, Entry};
+use rv_account::Entry;
 use rv_follow::{Followed, follow};
 use rv_machine::Machine;
 use rv_resume::Snapshot;
 use rv_rules::Limits;
-use rv_text::{Key, NoMemory, fits_identifier};
+use rv_text::{Key, NoMemory};
 use std::alloc::Global;
-
-// The greatest moment, 2^62.
-const MAX_MOMENT: u64 = 4_611_686_018_427_387_904;
 
 /// Answers a line, and puts a machine made anew in the place of the one that heard it, where that is wanted.
 /// None if no such machine can be made, or if it settles others.
@@ -93,31 +88,8 @@ fn is_done(machine: &mut Machine, entry: Entry) -> bool
     requires { CanFollow machine.old }
     ensures { CanFollow machine.new }
 {
-    if !entry_fits(&entry) {
+    if !entry.fits() {
         return false;
     }
     matches!(follow(machine, entry), Followed::Done)
-}
-
-// Whether an entry is within its limits.
-fn entry_fits(entry: &Entry) -> bool
-    ensures { IsTrue result ↔ FitsEntry entry.now }
-{
-    entry.moment <= MAX_MOMENT && act_fits(&entry.act)
-}
-
-// Whether an act is.
-fn act_fits(act: &Act) -> bool
-    ensures { IsTrue result ↔ FitsAct act.now }
-{
-    match act {
-        Act::Hello {
-            client,
-            incarnation,
-            ..
-        } => fits_identifier(*client) && fits_identifier(*incarnation),
-        Act::Arrive { key, call } => key.fits() && call.fits(),
-        Act::Cancel { key } => key.fits(),
-        Act::Tick => true,
-    }
 }

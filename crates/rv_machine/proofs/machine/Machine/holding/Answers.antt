@@ -27,17 +27,17 @@ resume-requires c =
 
 pub returns-clause-ready : goal.returns-clause-ready
 returns-clause-ready c =
-    let clients = c.in_ok-clients.ensures in
-    let table = c.in_ok-table.ensures in
+    let clients = c.in_ok-opened.ensures.clients ∙ c.in_ok-clients.ensures in
+    let table = c.in_ok-opened.ensures.table in
     let parts : state_by c.into_parts-epoch.result.0 c.into_parts-epoch.result.1 c.into_parts-epoch.result.2
     c.into_parts-epoch.result.3.items c.into_parts-epoch.result.4.items ≡ c.args.state =
     sym c.into_parts-epoch.ensures.parts in
     let is : record {
-      epoch = c.in_ok-clients.clients.epoch;
+      epoch = c.in_ok-opened.opened.1.epoch;
       moment = c.into_parts-epoch.result.1;
       length = c.into_parts-epoch.result.2;
-      open_places = c.in_ok-table.table;
-      clients = c.in_ok-clients.clients.clients;
+      open_places = c.in_ok-opened.opened.0;
+      clients = c.in_ok-opened.opened.1.clients;
     } ≡ c.args.state = (λ i. record {
       epoch = (clients i).epoch;
       moment = c.into_parts-epoch.result.1;

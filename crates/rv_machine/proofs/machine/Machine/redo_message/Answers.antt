@@ -1,12 +1,18 @@
 -- Under the widest limits a message that goes on is heard, or lacks memory.
 use Rattle.std.proofs.Common.{sym, subst}
 use Rattle.rv_machine.specs.declared.machine.Said.{Said}
-use Rattle.rv_machine.proofs.Redoing.{Accepts, heard_redone, heard_spares, heard_stays}
+use Rattle.rv_machine.proofs.Redoing.{Accepts, heard_none, heard_redone, heard_spares, heard_stays}
 use Rattle.rv_machine.proofs.machine.Machine.redo_message.Goals as goal
 
 pub returns-in-Refused-clause-stays : goal.returns-in-Refused-clause-stays
 returns-in-Refused-clause-stays c is =
     heard_stays c.args.self.now c.hear-heard.new.self c.args.moment c.args.message c.hear-heard.result
+    c.requires.goes_on
+    c.widest.result c.widest.ensures c.hear-heard.ensures.hears c.in-Refused.field-0 c.in-Refused.is
+
+pub returns-in-Refused-clause-none : goal.returns-in-Refused-clause-none
+returns-in-Refused-clause-none c is =
+    heard_none c.args.self.now c.hear-heard.new.self c.args.moment c.args.message c.hear-heard.result
     c.requires.goes_on
     c.widest.result c.widest.ensures c.hear-heard.ensures.hears c.in-Refused.field-0 c.in-Refused.is
 
