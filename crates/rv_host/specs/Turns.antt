@@ -17,5 +17,5 @@ TurnsOver contents old new =
     RunsWith contents old.traffic (device_in old.account) new.traffic (device_in new.account)
 
 -- a file is kept exactly where the hub waits until lines are written
-abbrev pub KeepsAccount : {W : Type 0} → Shell W → Type 0
-KeepsAccount shell = IsTrue shell.traffic.engine.hub.has_journal ↔ IsSome shell.account
+abbrev pub HasItsAccount : {W : Type 0} → Shell W → Type 0
+HasItsAccount shell = IsTrue shell.traffic.engine.hub.has_journal ↔ IsSome shell.account

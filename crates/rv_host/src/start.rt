@@ -1,6 +1,8 @@
 //! The start of a server: its address, its account, its limits, and what it says of them.
 ghost use Rattle.std.specs.Prelude.{◌≡◌, ◌↔◌, IfOk, IsSome, IsTrue};
-ghost use Rattle.rv_host.specs.Turns.{KeepsAccount};
+ghost use Rattle.rv_engine.specs.Engines.{engine_state};
+ghost use Rattle.rv_engine.specs.EngineRuns.{BeginsStored};
+ghost use Rattle.rv_host.specs.Turns.{HasItsAccount};
 ghost use Rattle.rv_options.specs.Numbers.{Fits};
 ghost use Rattle.rv_options.specs.Options.{FitOptions};
 ghost use Rattle.rv_options.specs.declared.number.HostNumber.TheVariants as number;
@@ -41,7 +43,8 @@ pub(crate) fn begin(
     mut report: HostReport,
 ) -> Result<Shell<File>, HostEnd>
     requires { FitOptions options.now }
-    ensures kept { IfOk result KeepsAccount }
+    ensures kept { IfOk result HasItsAccount }
+    ensures begins { IfOk result (λ shell. BeginsStored (engine_state shell.traffic.engine)) }
 {
     let epoch = options.epoch.epoch(wall_clock(rt));
     let ground = ground_of(rt, options, epoch)?;
@@ -224,6 +227,7 @@ fn engine_of(
 ) -> Result<Engine, HostEnd>
     requires { Fits number.Epoch epoch }
     ensures journal { IfOk result (λ engine. IsTrue engine.hub.has_journal ↔ IsSome options.now.account) }
+    ensures begins { IfOk result (λ engine. BeginsStored (engine_state engine)) }
 {
     let Some(limits) = Limits::new(
         MOST_ENTRIES,
@@ -233,14 +237,15 @@ fn engine_of(
         return Err(HostEnd::Limits);
     };
     let machine = Machine::open(rt.alloc(), epoch, 0)?;
-    Ok(Engine::new(
+    let engine = Engine::new(
         rt.alloc(),
         machine,
         limits,
         DEFAULT_PATIENCE,
         options.account.is_some(),
         connections,
-    )?)
+    )?;
+    Ok(engine)
 }
 
 // The limit of open files.
