@@ -1,9 +1,8 @@
 -- Over every run the device took the lines of a front of the entries, and the hub was told of no more.
-use Rattle.std.proofs.Common.{◌≡◌, ◌≤◌, ◌+◌, ◌-◌, ◌∙◌, ◌++◌, ◌∷◌, ℕ, List, [], Some, All, Bool, true, ap}
+use Rattle.std.proofs.Common.{◌≡◌, ◌≤◌, ◌+◌, ◌-◌, ◌∙◌, ◌++◌, ◌∷◌, ℕ, List, [], true, ap}
 use Rattle.std.proofs.Common.{append-nil, append_assoc, arith, length, length-append, refl, subst, sym}
 use Rattle.std.proofs.lemmas.List.Elements.{All-weaker}
 use Rattle.rv_account.specs.declared.entry.Entry.{Entry}
-use Rattle.rv_account.specs.Account.{Account}
 use Rattle.rv_connection.specs.Traffic.{AnswerByte, Traffic}
 use Rattle.rv_desk.specs.View.{DeskState, DeskTerms}
 use Rattle.rv_hub.specs.HubRuns.{AddsEntries, TookEvent, made_in, run_deeds}

@@ -1,5 +1,5 @@
 -- Of what is written a hub knows what it is told, and no more.
-use Rattle.std.proofs.Common.{◌≡◌, ◌≤◌, ◌∙◌, ◌+◌, ◌⊎◌, ◌∷◌, ℕ, suc, List, [], None, Some, true, ap, arith}
+use Rattle.std.proofs.Common.{◌≡◌, ◌≤◌, ◌∙◌, ◌⊎◌, ◌∷◌, ℕ, suc, List, [], None, Some, true, ap, arith}
 use Rattle.std.proofs.Common.{inl, inr, length, refl, subst, sym}
 use Rattle.std.specs.Prelude.{All, slice_get}
 use Rattle.rv_account.specs.declared.entry.Entry.{Entry}
@@ -7,10 +7,10 @@ use Rattle.rv_text.specs.declared.answer.Answer.{Answer}
 use Rattle.rv_text.specs.declared.answer.Answer.TheVariants as answer
 use Rattle.rv_hearers.specs.declared.tables.Hearing.{Hearing}
 use Rattle.rv_desk.specs.View.{DeskState, DeskTerms, begun}
-use Rattle.rv_desk.specs.Deeds.{AnswersOrWaits, Deed, Does, DoesAll, settled_by}
+use Rattle.rv_desk.specs.Deeds.{AnswersOrWaits, Deed, Does, DoesAll}
 use Rattle.rv_desk.specs.Deeds.{Asked, Closed, Elapsed, EndedInput, Lacked, Left, Lost, Opened, ReadNothing}
 use Rattle.rv_desk.specs.Deeds.{Told, TookIn, Wrote}
-use Rattle.rv_desk.specs.Order.{IsOwnDeed, IsStride, IsTurn, RunsStrides, TellsEach, TellsOneHearer}
+use Rattle.rv_desk.specs.Order.{IsOwnDeed, IsStride, RunsStrides, TellsEach, TellsOneHearer}
 use Rattle.rv_desk.specs.Order.{TellsStillWaiting}
 use Rattle.rv_hub.specs.declared.events.HubEvent.{HubEvent}
 use Rattle.rv_hub.specs.declared.events.HubEvent.TheVariants as event

@@ -1,5 +1,5 @@
 -- Lines that are written behind a gathering.
-use Rattle.std.proofs.Common.{◌≡◌, ◌∙◌, ◌++◌, ◌-◌, ℕ, List, [], ap, append-nil, arith, length, refl, subst}
+use Rattle.std.proofs.Common.{◌≡◌, ◌∙◌, ◌-◌, ℕ, List, [], ap, append-nil, arith, length, refl, subst}
 use Rattle.std.proofs.Common.{drop, sym}
 use Rattle.std.proofs.lemmas.List.{length-drop}
 use Rattle.rv_account.specs.declared.entry.Entry.{Entry}

@@ -179,7 +179,7 @@ pub record HasWorked {W : Type 0} (before after : Sink W) : Type 0 where
 
 -- the device took a part alone of the lines that are gathered, and has failed, or had before: then it took
 -- none. They are gathered still, and no entry more is stored
-pub record BreaksOff {W : Type 0} (contents : W → Option (List ℕ)) (old : EngineState) (before : Sink W)
+pub record WritesInPart {W : Type 0} (contents : W → Option (List ℕ)) (old : EngineState) (before : Sink W)
     (sent : ℕ) (new : EngineState) (after : Sink W) : Type 0
   where
     pub gathers : Gathers old new
@@ -201,6 +201,6 @@ pub record StoresSome {W : Type 0} (contents : W → Option (List ℕ)) (old : E
 abbrev pub IsNotTold : {W : Type 0} → (W → Option (List ℕ)) → EngineState → Sink W → EngineFault → EngineState
     → Sink W → Type 0
 IsNotTold contents old before (fault.NotWritten why) new after =
-    BreaksOff contents old before why.sent new after
+    WritesInPart contents old before why.sent new after
 IsNotTold contents old before fault.NoMemory new after = StoresSome contents old before new after
 IsNotTold contents old before (fault.Refused why) new after = ⊥

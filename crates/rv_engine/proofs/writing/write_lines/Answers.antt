@@ -1,17 +1,18 @@
 -- What is written behind a gathering.
-use Rattle.std.proofs.Common.{◌≡◌, ◌<◌, ◌∙◌, ℕ, List, [], ap, arith, length, refl, subst, sym, take}
+use Rattle.std.proofs.Common.{◌≡◌, ◌∙◌, ℕ, List, [], ap, arith, length, subst, sym}
 use Rattle.rv_frame.specs.Sink.{SinkTakes}
 use Rattle.rv_hub.specs.declared.parts.HubParts.{HubParts}
 use Rattle.rv_hub.specs.Hubs.{hub_terms}
 use Rattle.rv_engine.specs.declared.parts.EngineParts.{EngineParts}
 use Rattle.rv_engine.specs.Engines.{EngineState, engine_state}
-use Rattle.rv_engine.specs.Handing.{BreaksOff, StoresSome, TellsWritten, all_gone}
+use Rattle.rv_engine.specs.Handing.{WritesInPart, StoresSome, TellsWritten, all_gone}
 use Rattle.rv_engine.proofs.Written.{all_lines, all_stored, gone_is, stores_some}
 use Rattle.rv_engine.proofs.writing.write_lines.Goals as goal
 
 pub returns-in-Err-clause-not_told : goal.returns-in-Err-clause-not_told
 returns-in-Err-clause-not_told g c =
-    subst (λ (e : EngineParts). BreaksOff g.W.Write.contents (engine_state c.args.parts.now) c.args.file.now
+    subst (λ (e : EngineParts). WritesInPart g.W.Write.contents (engine_state c.args.parts.now)
+    c.args.file.now
     c.in-Err.why.sent (engine_state e) c.write_gathered.new.file) (sym c.in-Err.ensures.same) (record {
       gathers = c.catch_up.ensures.gathers;
       takes = c.in-Err.ensures.part;
