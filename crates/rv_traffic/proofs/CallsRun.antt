@@ -1,20 +1,20 @@
 -- A call is a run of the engine, and so are calls one behind another.
 use Rattle.std.proofs.Common.{ℕ, ◌≡◌, ◌∷◌, ◌++◌, ◌∙◌, Bool, List, [], None, Option, Some, ap, append-nil}
-use Rattle.std.proofs.Common.{append_assoc, arith, false, inl, length}
+use Rattle.std.proofs.Common.{append_assoc, arith, false, inl}
 use Rattle.std.proofs.Common.{inr, refl, subst, sym, true}
 use Rattle.rv_desk.specs.View.{DeskTerms}
 use Rattle.rv_hub.specs.declared.events.HubEvent.{HubEvent}
 use Rattle.rv_engine.specs.Engines.{EngineState, engine_state}
-use Rattle.rv_engine.specs.EngineRuns.{ChangesLooks, EngineDeed, GatheredLines, HandedOn, Looked, NotTaken}
+use Rattle.rv_engine.specs.EngineRuns.{EngineDeed, GatheredLines, HandedOn, Looked, NotTaken}
 use Rattle.rv_engine.specs.EngineRuns.{RunsEngine, StoredLines, bytes_written}
-use Rattle.rv_engine.specs.Handing.{Gathers, LooksAt, TellsWritten, all_gone, unwritten}
+use Rattle.rv_engine.specs.Handing.{TellsWritten, all_gone, unwritten}
 use Rattle.rv_traffic.specs.declared.outcomes.Reading.{Reading}
 use Rattle.rv_traffic.specs.declared.outcomes.Reading.TheVariants as reading
 use Rattle.rv_traffic.specs.declared.outcomes.Writing.{Writing}
 use Rattle.rv_traffic.specs.declared.outcomes.Writing.TheVariants as writing
 use Rattle.rv_hub.specs.Hubs.{hub_terms}
 use Rattle.rv_traffic.specs.declared.traffic.Switchboard.{Switchboard}
-use Rattle.rv_traffic.specs.Calls.{Attaches, Hands, ReadsOne, TellsGone, WritesOne}
+use Rattle.rv_traffic.specs.Calls.{Attaches, Hands, ReadsOne, WritesOne}
 use Rattle.rv_traffic.specs.CallRuns.{EndsAreRuns, EventsAreRuns, GatheringsAreRuns, OnlyCalls}
 use Rattle.rv_traffic.specs.CallRuns.{LooksAreRuns, ReadRoundsAreRuns, RefusalsAreRuns, RunsAreJoined}
 use Rattle.rv_traffic.specs.CallRuns.{RunsBehind, WriteRoundsAreRuns}

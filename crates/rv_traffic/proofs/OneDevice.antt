@@ -1,5 +1,5 @@
 -- Runs over one device, one behind another.
-use Rattle.std.proofs.Common.{◌∷◌, ◌≡◌, ◌∙◌, ◌++◌, ◌≤◌, ℕ, Bool, List, [], None, Option, Some, ap, append-nil}
+use Rattle.std.proofs.Common.{◌∷◌, ◌≡◌, ◌∙◌, ◌++◌, ℕ, Bool, List, [], None, Option, Some, ap, append-nil}
 use Rattle.std.proofs.Common.{append_assoc, drop, false, inl, inr, refl, subst, sym, take, true, ◌⊎◌}
 use Rattle.std.proofs.KnownBytes.{Appends-trans}
 use Rattle.std.proofs.lemmas.Bool.{false≢true}

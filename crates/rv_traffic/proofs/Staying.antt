@@ -1,5 +1,5 @@
 -- What a turn leaves as it is: the round, and all other sockets.
-use Rattle.std.proofs.Common.{◌≡◌, ◌∙◌, ◌⊎◌, ℕ, Bool, List, None, Option, Some, ap, inl, inr, refl, slice_set}
+use Rattle.std.proofs.Common.{◌≡◌, ◌∙◌, ℕ, Bool, List, None, Option, Some, ap, inl, inr, slice_set}
 use Rattle.std.proofs.Common.{subst, sym}
 use Rattle.std.proofs.lemmas.List.{set-get_or}
 use Rattle.rv_desk.specs.View.{DeskTerms}

@@ -1,7 +1,7 @@
 -- What is read of a connection.
-use Rattle.std.proofs.Common.{◌≡◌, ◌∙◌, ◌++◌, ◌⊎◌, ℕ, Bool, IsSome, List, [], None, Option, Some, ap}
+use Rattle.std.proofs.Common.{◌≡◌, ◌∙◌, ◌++◌, ℕ, Bool, IsSome, List, [], None, Option, Some, ap}
 use Rattle.std.proofs.Common.{append-nil}
-use Rattle.std.proofs.Common.{◌<◌, ◌≤◌, arith, drop, inl, inr, length, refl, subst, sym}
+use Rattle.std.proofs.Common.{◌<◌, arith, drop, inl, inr, length, refl, subst, sym}
 use Rattle.std.proofs.lemmas.List.{drop_all, length-drop, set-get_or}
 use Rattle.std.proofs.lemmas.Bool.{false≢true}
 use Rattle.std.proofs.lemmas.Option.{same_Some}
