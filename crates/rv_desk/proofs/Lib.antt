@@ -21,3 +21,4 @@ pub mod Unheard
 pub mod Listing
 pub mod OneBook
 pub mod Others
+pub mod Waited

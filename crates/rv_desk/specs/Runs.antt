@@ -1,9 +1,11 @@
 -- What the deeds of a desk are of the account: steps of messages and time alone, one after another.
-use Rattle.std.specs.Prelude.{ℕ, ◌≡◌, ◌≢◌, ◌≤◌, ◌⊎◌, List, [], ◌∷◌, ◌++◌, Contains, None, flat_map}
+use Rattle.std.specs.Prelude.{ℕ, ◌≡◌, ◌≢◌, ◌≤◌, ◌⊎◌, List, [], ◌∷◌, ◌++◌, Contains, IsSome, None, Some}
+use Rattle.std.specs.Prelude.{flat_map}
 use Rattle.rv_text.specs.declared.message.Message.{Message}
 use Rattle.rv_account.specs.declared.entry.Entry.{Entry}
 use Rattle.rv_rules.specs.StepLimits.{StepLimits}
 use Rattle.rv_state.specs.State.{State}
+use Rattle.rv_connection.specs.Traffic.{Traffic}
 use Rattle.rv_state.specs.Moves.{Move, StateNextAtUnder, ticked_at}
 use Rattle.rv_desk.specs.View.{DeskState, DeskTerms}
 use Rattle.rv_desk.specs.Deeds.{Deed, DoesAll, entries_of_deed, told_in_deeds}
@@ -42,6 +44,14 @@ OthersStay = (terms : DeskTerms) (old new : DeskState) (connection : ℕ) (piece
     (count : ℕ)
     → IsTurn terms old connection piece deeds count new → (other : ℕ) → other ≢ connection
     → StaysOrTold old (told_in_deeds deeds) other new
+
+-- and one that was closed so had waited, before the turn: its answer was due, and memory was refused to that
+abbrev pub OthersWaited : Type 0
+OthersWaited = (terms : DeskTerms) (old new : DeskState) (connection : ℕ) (piece : List ℕ) (deeds : List Deed)
+    (count : ℕ)
+    → IsTurn terms old connection piece deeds count new → (other : ℕ) → other ≢ connection
+    → (wire : Traffic) → old.open_wires.wires other ≡ Some wire → new.open_wires.wires other ≡ None
+    → IsSome (old.hears other)
 
 -- whoever was among those that changed still is, and whoever isn't has the same bytes
 pub record ListsChanged (s t : DeskState) : Type 0 where

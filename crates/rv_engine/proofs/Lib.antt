@@ -5,3 +5,5 @@ pub mod Through
 pub mod Sure
 pub mod Written
 pub mod Running
+pub mod Telling
+pub mod Stored

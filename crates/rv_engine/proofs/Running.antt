@@ -17,10 +17,10 @@ use Rattle.rv_engine.specs.declared.events.EngineFault.TheVariants as fault
 use Rattle.rv_engine.specs.Engines.{EngineState}
 use Rattle.rv_engine.specs.Handing.{GathersFront, entries_kept, entry_lines}
 use Rattle.rv_engine.specs.EngineRuns.{AccountsAreKept, EngineDeed, EnginesAreRuns}
-use Rattle.rv_engine.specs.EngineRuns.{HandedOn, Looked}
+use Rattle.rv_engine.specs.EngineRuns.{GatheredLines, HandedOn, Looked}
 use Rattle.rv_engine.specs.EngineRuns.{HandsOnNext, IsAllWritten, NotTaken}
 use Rattle.rv_engine.specs.EngineRuns.{RunsEngine}
-use Rattle.rv_engine.specs.EngineRuns.{WrittenAreCounted, WroteLines, answers_in, bytes_written}
+use Rattle.rv_engine.specs.EngineRuns.{StoredLines, WrittenAreCounted, answers_in, bytes_written}
 use Rattle.rv_engine.proofs.Gathered.{gathers_all, gathers_behind, gathers_shift, gathers_then, kept_append}
 use Rattle.rv_engine.proofs.Gathered.{lines_append}
 
@@ -72,14 +72,22 @@ engines_are_runs journal terms (NotTaken what fault.NoMemory ∷ deeds) s t (bet
     }
 engines_are_runs journal terms (NotTaken what (fault.NotWritten why) ∷ deeds) s t (between, does, later) =
     absurd does
-engines_are_runs journal terms (WroteLines bytes ∷ deeds) s t (between, does, later) =
+engines_are_runs journal terms (GatheredLines ∷ deeds) s t (between, does, later) =
     let more = engines_are_runs journal terms deeds between t later in
     record {
       hub = subst (λ (h : DeskState). RunsHub journal terms h (answers_in deeds) t.hub) does.hub more.hub;
+      account = gathers_then s.left (rest_of journal deeds) between.left t.left s.lines between.lines
+          (bytes_written deeds ++ t.lines) does.gathers more.account;
+    }
+engines_are_runs journal terms (StoredLines bytes entries ∷ deeds) s t (between, does, later) =
+    let more = engines_are_runs journal terms deeds between t later in
+    record {
+      hub = subst (λ (h : DeskState). RunsHub journal terms h (answers_in deeds) t.hub) does.writes.hub
+          more.hub;
       account = subst (λ (l : List ℕ). GathersFront (s.left ++ rest_of journal deeds) s.lines t.left l)
           (sym (append_assoc bytes (bytes_written deeds) t.lines))
           (gathers_then s.left (rest_of journal deeds) between.left t.left s.lines (bytes ++ between.lines)
-          (bytes ++ (bytes_written deeds ++ t.lines)) does.gathers
+          (bytes ++ (bytes_written deeds ++ t.lines)) does.writes.gathers
           (gathers_shift (between.left ++ rest_of journal deeds) t.left bytes between.lines
           (bytes_written deeds ++ t.lines) more.account));
     }
@@ -108,7 +116,7 @@ from_written terms deeds s t runs all =
     (bytes_written deeds ++ t.lines)) all.left is)
 
 -- the account has grown by all entries
-longer : (terms : DeskTerms) (answers : List HubAnswer) (s t : DeskState) → RunsHub true terms s answers t
+pub longer : (terms : DeskTerms) (answers : List HubAnswer) (s t : DeskState) → RunsHub true terms s answers t
     → t.book.length ≡ s.book.length + length (made_in answers)
 longer terms answers s t runs =
     let is = hubs_are_runs true terms answers s t runs in

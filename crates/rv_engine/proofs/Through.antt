@@ -12,7 +12,7 @@ use Rattle.rv_engine.specs.declared.events.EngineFault.{EngineFault}
 use Rattle.rv_engine.specs.declared.events.EngineFault.TheVariants as fault
 use Rattle.rv_engine.specs.Engines.{EngineState}
 use Rattle.rv_engine.specs.Handing.{AddsLooks, Gathers, GathersFront, HandsOn, IsRefused, LooksAt, SameLooks}
-use Rattle.rv_engine.specs.Handing.{entries_kept, entry_lines, unwritten}
+use Rattle.rv_engine.specs.Handing.{TellsStored, entries_kept, entry_lines, unwritten}
 use Rattle.rv_engine.proofs.Gathered.{lines_append}
 
 -- a gathering changes nothing of what is to be written
@@ -38,8 +38,10 @@ pub handed_through : (journal : Bool) (terms : DeskTerms) (old mid : EngineState
     → HandsOn journal terms mid handed what made given new
     → HandsOn journal terms old handed what made given new
 handed_through journal terms old mid handed what made given new gathers does = record {
+  tells = subst (λ (n : ℕ). TellsStored what n) gathers.stored does.tells;
   takes = subst (λ (h : DeskState). TakesEvent journal terms h handed what made given new.hub) gathers.hub
       does.takes;
+  stored = does.stored ∙ gathers.stored;
   gathers = subst (λ (l : List ℕ). GathersFront (entries_kept journal made) l new.left new.lines)
       (unwritten_same old mid gathers) does.gathers;
   piece = does.piece;
@@ -54,6 +56,7 @@ refused_through old mid what (fault.Refused why) new gathers none is = record {
   hub = is.hub ∙ ap begun gathers.hub;
   left = is.left;
   lines = is.lines ∙ unwritten_same old mid gathers;
+  stored = is.stored ∙ gathers.stored;
   looks = record {
     looks = is.looks.looks ∙ gathers.looks.looks;
     round = is.looks.round ∙ gathers.looks.round;
@@ -67,16 +70,32 @@ refused_through old mid what fault.NoMemory new gathers none is =
 refused_through old mid what (fault.NotWritten why) new gathers none is = absurd is
 
 -- each field of a state that is written out
-pub state_is : (s : EngineState) (hub : DeskState) (room : ℕ) → s.hub ≡ hub → s.lines ≡ [] → s.left ≡ []
-    → s.looks ≡ [] → s.round ≡ [] → s.room ≡ room
-    → s ≡ record { hub = hub; lines = []; left = []; looks = []; round = []; room = room }
-state_is s hub room at_hub lines left looks round at_room =
+pub state_is : (s : EngineState) (hub : DeskState) (stored room : ℕ) → s.hub ≡ hub → s.lines ≡ []
+    → s.left ≡ [] → s.stored ≡ stored → s.looks ≡ [] → s.round ≡ [] → s.room ≡ room
+    → s ≡ record { hub = hub; lines = []; left = []; stored = stored; looks = []; round = []; room = room }
+state_is s hub stored room at_hub lines left at_stored looks round at_room =
     ap (λ (x : DeskState). record s { hub = x }) at_hub
     ∙ ap (λ (x : List ℕ). record s { hub = hub; lines = x }) lines
     ∙ ap (λ (x : List Entry). record s { hub = hub; lines = []; left = x }) left
-    ∙ ap (λ (x : List ℕ). record s { hub = hub; lines = []; left = []; looks = x }) looks
-    ∙ ap (λ (x : List ℕ). record s { hub = hub; lines = []; left = []; looks = []; round = x }) round
-    ∙ ap (λ (x : ℕ). record s { hub = hub; lines = []; left = []; looks = []; round = []; room = x }) at_room
+    ∙ ap (λ (x : ℕ). record s { hub = hub; lines = []; left = []; stored = x }) at_stored
+    ∙ ap (λ (x : List ℕ). record s { hub = hub; lines = []; left = []; stored = stored; looks = x }) looks
+    ∙ ap (λ (x : List ℕ). record s {
+      hub = hub;
+      lines = [];
+      left = [];
+      stored = stored;
+      looks = [];
+      round = x;
+    }) round
+    ∙ ap (λ (x : ℕ). record s {
+      hub = hub;
+      lines = [];
+      left = [];
+      stored = stored;
+      looks = [];
+      round = [];
+      room = x;
+    }) at_room
 
 -- all entries are gathered
 pub all_gathered : (same entries : List Entry) → same ≡ entries → drop (length same) entries ≡ []

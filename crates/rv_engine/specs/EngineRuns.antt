@@ -1,21 +1,27 @@
 -- Calls of an engine, one after another: of the hub the run of exactly the events that were handed on, and of
 -- the account the lines of all entries that these made, in order.
-use Rattle.std.specs.Prelude.{ℕ, ◌≡◌, ◌≤◌, ◌+◌, Bool, true, List, [], ◌∷◌, ◌++◌, length}
+use Rattle.std.specs.Prelude.{ℕ, ◌≡◌, ◌≤◌, ◌+◌, Bool, true, List, [], ◌∷◌, ◌++◌, Some, length}
+use Rattle.std.specs.List.{All}
 use Rattle.rv_account.specs.declared.entry.Entry.{Entry}
 use Rattle.rv_account.specs.Account.{Account}
 use Rattle.rv_account.specs.Limits.{max_moment}
 use Rattle.rv_rules.specs.StepLimits.{AreStepLimits}
 use Rattle.rv_lines.specs.Lines.{printed_lines}
 use Rattle.rv_lines.specs.Written.{account_lines}
+use Rattle.rv_connection.specs.History.{given_bytes}
+use Rattle.rv_connection.specs.Traffic.{AnswerByte, Traffic, bytes_of}
 use Rattle.rv_desk.specs.View.{DeskTerms}
 use Rattle.rv_hub.specs.declared.events.HubEvent.{HubEvent}
+use Rattle.rv_hub.specs.EventDeeds.{all_deeds}
+use Rattle.rv_hub.specs.HandedOut.{ArePublic}
 use Rattle.rv_hub.specs.HubRuns.{AddsEntries, HubAnswer, IsHubAccount, RefusedEvent, RunsHub, TookEvent}
-use Rattle.rv_hub.specs.HubRuns.{made_in}
+use Rattle.rv_hub.specs.HubRuns.{made_in, run_deeds}
+use Rattle.rv_hub.specs.Pasts.{HasPast, Past, past_after}
 use Rattle.rv_engine.specs.declared.events.EngineFault.{EngineFault}
 use Rattle.rv_engine.specs.declared.events.EngineFault.TheVariants as fault
 use Rattle.rv_engine.specs.Engines.{EngineState}
-use Rattle.rv_engine.specs.Handing.{GathersFront, HandsOn, IsRefused, WritesLines, entries_kept}
-use Rattle.rv_engine.specs.Handing.{gathered_count, unwritten}
+use Rattle.rv_engine.specs.Handing.{Gathers, GathersFront, HandsOn, IsRefused, StoresLines, entries_kept}
+use Rattle.rv_engine.specs.Handing.{entry_lines, gathered_count, unwritten}
 
 -- what came of an event, or of lines
 pub data EngineDeed : Type 0 where
@@ -23,8 +29,10 @@ pub data EngineDeed : Type 0 where
   HandedOn : (handed : ℕ) (what : HubEvent) (made : List Entry) (given : ℕ) → EngineDeed
   -- it wasn't taken
   NotTaken : (what : HubEvent) (why : EngineFault) → EngineDeed
-  -- lines were gathered, and these were written
-  WroteLines : (bytes : List ℕ) → EngineDeed
+  -- lines of entries were gathered
+  GatheredLines : EngineDeed
+  -- the device took all lines that are gathered, which are these bytes, and so of so many entries in all
+  StoredLines : (bytes : List ℕ) (entries : ℕ) → EngineDeed
   -- others are to be looked at
   Looked : EngineDeed
 
@@ -33,12 +41,14 @@ pub record ChangesLooks (s t : EngineState) : Type 0 where
   pub hub : t.hub ≡ s.hub
   pub lines : t.lines ≡ s.lines
   pub left : t.left ≡ s.left
+  pub stored : t.stored ≡ s.stored
 
 abbrev pub DoesDeed : Bool → DeskTerms → EngineState → EngineDeed → EngineState → Type 0
 DoesDeed journal terms s (HandedOn handed what made given) t = HandsOn journal terms s handed what made given
     t
 DoesDeed journal terms s (NotTaken what why) t = IsRefused s what why t
-DoesDeed journal terms s (WroteLines bytes) t = WritesLines s bytes t
+DoesDeed journal terms s GatheredLines t = Gathers s t
+DoesDeed journal terms s (StoredLines bytes entries) t = StoresLines s bytes entries t
 DoesDeed journal terms s Looked t = ChangesLooks s t
 
 abbrev pub RunsEngine : Bool → DeskTerms → EngineState → List EngineDeed → EngineState → Type 0
@@ -53,15 +63,17 @@ answers_in (HandedOn handed what made given ∷ deeds) = TookEvent handed what m
 answers_in (NotTaken what (fault.Refused why) ∷ deeds) = RefusedEvent ∷ answers_in deeds
 answers_in (NotTaken what fault.NoMemory ∷ deeds) = answers_in deeds
 answers_in (NotTaken what (fault.NotWritten why) ∷ deeds) = answers_in deeds
-answers_in (WroteLines bytes ∷ deeds) = answers_in deeds
+answers_in (GatheredLines ∷ deeds) = answers_in deeds
+answers_in (StoredLines bytes entries ∷ deeds) = answers_in deeds
 answers_in (Looked ∷ deeds) = answers_in deeds
 
--- all bytes that were written, in order
+-- all bytes of lines that the device took, in order
 abbrev pub bytes_written : List EngineDeed → List ℕ
 bytes_written [] = []
 bytes_written (HandedOn handed what made given ∷ deeds) = bytes_written deeds
 bytes_written (NotTaken what why ∷ deeds) = bytes_written deeds
-bytes_written (WroteLines bytes ∷ deeds) = bytes ++ bytes_written deeds
+bytes_written (GatheredLines ∷ deeds) = bytes_written deeds
+bytes_written (StoredLines bytes entries ∷ deeds) = bytes ++ bytes_written deeds
 bytes_written (Looked ∷ deeds) = bytes_written deeds
 
 -- the hub behind a run is that of the events that were handed on, in order; and of the entries that were left
@@ -107,6 +119,56 @@ AccountsAreKept = (terms : DeskTerms) (deeds : List EngineDeed) (s t : EngineSta
     → AreStepLimits terms.limits → RunsEngine true terms s deeds t → IsAllWritten s
     → t.hub.now ≤ max_moment → IsHubAccount a s.hub
     → KeepsAccount a (bytes_written deeds) t (made_in (answers_in deeds))
+
+-- ---- what is told as written was stored
+
+-- an engine of which all is written, and the hub told of no more
+pub record BeginsStored (s : EngineState) : Type 0 where
+  pub all : IsAllWritten s
+  pub stored : s.stored ≡ s.hub.book.length
+  pub told : s.hub.open_wires.written ≤ s.hub.book.length
+
+-- what the device took are the lines of a front of these entries, in order, and so many are stored; and the
+-- hub was told of no more
+pub record AreStored (s : EngineState) (made : List Entry) (bytes : List ℕ) (t : EngineState) : Type 0 where
+  pub front : List Entry
+  pub behind : List Entry
+  pub parts : made ≡ front ++ behind
+  pub lines : bytes ≡ entry_lines front
+  pub count : t.stored ≡ s.hub.book.length + length front
+  pub told : t.hub.open_wires.written ≤ t.stored
+
+abbrev pub ToldIsStored : Type 0
+ToldIsStored = (terms : DeskTerms) (deeds : List EngineDeed) (s t : EngineState)
+    → RunsEngine true terms s deeds t → BeginsStored s
+    → AreStored s (made_in (answers_in deeds)) (bytes_written deeds) t
+
+-- what left of a connection, and what may leave, are the first bytes of its answers, of those alone that rest
+-- on entries that are stored
+pub record LeavesStored (stored : ℕ) (past : Past) (wire : Traffic) : Type 0 where
+  pub left : List ℕ
+  pub sent : length left ≡ past.sent
+  pub front : List AnswerByte
+  pub parts : given_bytes past.answers ≡ front ++ wire.behind
+  pub rests : All (λ b. b.rests_on ≤ stored) front
+  pub leaves : bytes_of front ≡ left ++ wire.ready
+
+-- and each answer is public in the account of the entries that it rests on
+pub record LeftIsPublic (a : Account) (made : List Entry) (past : Past) (n : ℕ) (t : EngineState) : Type 0
+  where
+    pub after : Account
+    pub adds : AddsEntries a made after
+    pub public : ArePublic after past
+    pub leaves : (wire : Traffic) → t.hub.open_wires.wires n ≡ Some wire → LeavesStored t.stored past wire
+
+abbrev pub LeftIsStored : Type 0
+LeftIsStored = (terms : DeskTerms) (deeds : List EngineDeed) (s t : EngineState) (a : Account)
+    → AreStepLimits terms.limits → RunsEngine true terms s deeds t → BeginsStored s
+    → t.hub.now ≤ max_moment → IsHubAccount a s.hub
+    → (run : RunsHub true terms s.hub (answers_in deeds) t.hub)
+    → (n : ℕ) (past : Past) → HasPast s.hub n past → ArePublic a past
+    → LeftIsPublic a (made_in (answers_in deeds)) (past_after n past s.hub.book.length
+    (all_deeds (run_deeds true terms (answers_in deeds) s.hub t.hub run))) n t
 
 -- ---- want of memory
 

@@ -14,6 +14,9 @@ pub record EngineState : Type 0 where
   pub lines : List ℕ
   -- the entries of the last event of which no line is gathered yet
   pub left : List Entry
+  -- of how many entries the device took the lines, where an account is kept: those that there were at first
+  -- count as well
+  pub stored : ℕ
   -- the connections to look at in the next round, and those of this round that are left
   pub looks : List ℕ
   pub round : List ℕ
@@ -25,6 +28,7 @@ engine_state e = record {
   hub = hub_state e.hub;
   lines = string_bytes e.lines;
   left = drop e.gathered e.hub.desk.entries.items;
+  stored = e.stored;
   looks = e.looks.numbers.items;
   round = e.round.numbers.items;
   room = length e.looks.flags.items;

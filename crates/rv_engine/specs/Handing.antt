@@ -4,7 +4,7 @@ use Rattle.std.specs.Prelude.{length}
 use Rattle.std.specs.Prelude.{None, Option, Some, map, take}
 use Rattle.rv_account.specs.declared.entry.Entry.{Entry}
 use Rattle.rv_frame.specs.declared.sink.Sink.{Sink}
-use Rattle.rv_frame.specs.Sink.{SinkTakes}
+use Rattle.rv_frame.specs.Sink.{SinkTakes, sink_failed}
 use Rattle.rv_lines.specs.Lines.{printed_lines}
 use Rattle.rv_lines.specs.Written.{entry_text}
 use Rattle.rv_desk.specs.View.{DeskTerms, begun}
@@ -38,6 +38,16 @@ IsNoOpening (event.Took connection count) = Unit {0}
 IsNoOpening (event.Written entries) = Unit {0}
 IsNoOpening event.Passed = Unit {0}
 
+-- the hub is told that no more entries are written than are stored
+abbrev pub TellsStored : HubEvent → ℕ → Type 0
+TellsStored event.Opened stored = Unit {0}
+TellsStored (event.Came connection piece) stored = Unit {0}
+TellsStored (event.Ended connection) stored = Unit {0}
+TellsStored (event.Gone connection) stored = Unit {0}
+TellsStored (event.Took connection count) stored = Unit {0}
+TellsStored (event.Written entries) stored = entries ≤ stored
+TellsStored event.Passed stored = Unit {0}
+
 -- ---- the account
 
 -- the lines of entries, as they are written for an account
@@ -61,7 +71,7 @@ pub record GathersFront (entries : List Entry) (before : List ℕ) (left : List 
     pub parts : entries ≡ front ++ left
     pub gathered : lines ≡ before ++ entry_lines front
 
--- how many entries have their line gathered or written
+-- how many entries have their line gathered or stored
 abbrev pub gathered_count : EngineState → ℕ
 gathered_count s = s.hub.book.length - length s.left
 
@@ -89,14 +99,18 @@ pub record LooksAt (old : EngineState) (numbers : List ℕ) (new : EngineState) 
 pub record Gathers (old new : EngineState) : Type 0 where
   pub gathers : GathersFront old.left old.lines new.left new.lines
   pub hub : new.hub ≡ old.hub
+  pub stored : new.stored ≡ old.stored
   pub looks : SameLooks old new
 
--- the event was handed on, once all lines of earlier entries were gathered, and the hub took it. Of the
--- entries that it made the lines are gathered too, or they are left; and each that changed is to be looked at
+-- the event was handed on, once all lines of earlier entries were gathered, and the hub took it: that entries
+-- are written only of those that are stored. Of the entries that it made the lines are gathered too, or they
+-- are left; and each that changed is to be looked at
 pub record HandsOn (journal : Bool) (terms : DeskTerms) (old : EngineState) (handed : ℕ) (what : HubEvent)
     (made : List Entry) (given : ℕ) (new : EngineState) : Type 0
   where
+    pub tells : TellsStored what old.stored
     pub takes : TakesEvent journal terms old.hub handed what made given new.hub
+    pub stored : new.stored ≡ old.stored
     pub gathers : GathersFront (entries_kept journal made) (unwritten old) new.left new.lines
     pub piece : TakesPiece what given new.hub
     pub listed : ListsChanged (begun old.hub) new.hub
@@ -114,6 +128,7 @@ pub record RefusedByHub (old : EngineState) (what : HubEvent) (why : EventRefusa
   pub hub : new.hub ≡ begun old.hub
   pub left : new.left ≡ []
   pub lines : new.lines ≡ unwritten old
+  pub stored : new.stored ≡ old.stored
   pub looks : SameLooks old new
 
 -- why an event isn't taken
@@ -130,9 +145,20 @@ pub record WritesLines (old : EngineState) (bytes : List ℕ) (new : EngineState
   pub hub : new.hub ≡ old.hub
   pub looks : SameLooks old new
 
--- all lines are gathered and written
+-- the device took all lines that are gathered, which are these bytes: so many entries are stored
+pub record StoresLines (old : EngineState) (bytes : List ℕ) (entries : ℕ) (new : EngineState) : Type 0 where
+  pub writes : WritesLines old bytes new
+  pub gone : new.lines ≡ []
+  pub entries_are : entries ≡ gathered_count new
+  pub stored : new.stored ≡ entries
+
+-- the device took all lines that are gathered
+abbrev pub lines_gone : EngineState → EngineState
+lines_gone s = record s { lines = []; stored = gathered_count s }
+
+-- all lines are gathered, and the device took them
 abbrev pub all_gone : EngineState → EngineState
-all_gone s = record s { lines = []; left = [] }
+all_gone s = record s { lines = []; left = []; stored = s.hub.book.length }
 
 -- the hub is told of all its entries
 abbrev pub written_event : EngineState → HubEvent
@@ -146,13 +172,35 @@ TellsWritten journal terms old now made (Some given) new =
     (old.hub.open_wires.written < old.hub.book.length)
     × HandsOn journal terms old now (written_event old) made given new
 
--- why the hub isn't told: the device took a part alone of the lines that were gathered, which are gathered
--- still; or it took them all, but memory was refused to others
+-- no write to the device failed, now or before
+pub record HasWorked {W : Type 0} (before after : Sink W) : Type 0 where
+  pub worked : sink_failed before ≡ false
+  pub works : sink_failed after ≡ false
+
+-- the device took a part alone of the lines that are gathered, and has failed, or had before: then it took
+-- none. They are gathered still, and no entry more is stored
+pub record WritesInPart {W : Type 0} (contents : W → Option (List ℕ)) (old : EngineState) (before : Sink W)
+    (sent : ℕ) (new : EngineState) (after : Sink W) : Type 0
+  where
+    pub gathers : Gathers old new
+    pub takes : SinkTakes contents before after (take sent new.lines)
+    pub failed : sink_failed after ≡ true
+    pub refused : sink_failed before ≡ true → sent ≡ 0
+
+-- the device took all lines that were gathered, but memory was refused to others
+pub record StoresSome {W : Type 0} (contents : W → Option (List ℕ)) (old : EngineState) (before : Sink W)
+    (new : EngineState) (after : Sink W) : Type 0
+  where
+    pub some : 0 < length new.left
+    pub bytes : List ℕ
+    pub takes : SinkTakes contents before after bytes
+    pub stores : StoresLines old bytes (gathered_count new) new
+    pub works : HasWorked before after
+
+-- why the hub isn't told
 abbrev pub IsNotTold : {W : Type 0} → (W → Option (List ℕ)) → EngineState → Sink W → EngineFault → EngineState
     → Sink W → Type 0
 IsNotTold contents old before (fault.NotWritten why) new after =
-    Gathers old new × SinkTakes contents before after (take why.sent new.lines)
-IsNotTold contents old before fault.NoMemory new after =
-    (0 < length new.left) × (new.lines ≡ []) × (bytes : List ℕ) × SinkTakes contents before after bytes
-    × WritesLines old bytes new
+    WritesInPart contents old before why.sent new after
+IsNotTold contents old before fault.NoMemory new after = StoresSome contents old before new after
 IsNotTold contents old before (fault.Refused why) new after = ⊥

@@ -51,8 +51,8 @@ impl Engine {
     ghost use Rattle.rv_hub.specs.Hubs.{hub_terms};
     ghost use Rattle.rv_engine.specs.Engines.{engine_state};
     ghost use Rattle.rv_hub.specs.Events.{EventCan};
-    ghost use Rattle.rv_engine.specs.Handing.{Gathers, HandsOn, IsNoOpening, IsNotTold, IsRefused, LooksAt};
-    ghost use Rattle.rv_engine.specs.Handing.{TellsWritten, all_gone, told_hub, unwritten};
+    ghost use Rattle.rv_engine.specs.Handing.{Gathers, HandsOn, HasWorked, IsNoOpening, IsNotTold, IsRefused};
+    ghost use Rattle.rv_engine.specs.Handing.{LooksAt, TellsWritten, all_gone, told_hub, unwritten};
 
     /// An engine over a machine, with the limits of each step. A request that waits is told so when it has
     /// waited `patience` milliseconds for a frame, at least 1. Only connections below `room` are listed.
@@ -78,6 +78,7 @@ impl Engine {
           };
           lines = [];
           left = [];
+          stored = (state_in machine).length;
           looks = [];
           round = [];
           room = room;
@@ -90,6 +91,7 @@ impl Engine {
         let round = LookList::new(alloc, room)?;
         let hub = Hub::new(alloc, machine, limits, patience, has_account)?;
         let gathered = hub.entries().len();
+        let stored = hub.machine().length();
         Ok(Engine {
             parts: EngineParts {
                 alloc,
@@ -97,6 +99,7 @@ impl Engine {
                 has_account,
                 lines: String::new(alloc),
                 gathered,
+                stored,
                 looks,
                 round,
             },
@@ -143,6 +146,7 @@ impl Engine {
     ) -> Result<Option<usize>, EngineFault>
         ensures written { OnOk result (SinkTakes W.contents file.old file.new
             (unwritten (engine_state self.old))) }
+        ensures works { OnOk result (HasWorked file.old file.new) }
         ensures tells { IfOk result (λ told. TellsWritten self.old.hub.has_journal (hub_terms self.old.hub)
             (all_gone (engine_state self.old)) now self.new.hub.desk.entries.items told
             (engine_state self.new)) }
@@ -178,6 +182,7 @@ impl Engine {
         ensures hub { self.new.hub ≡ self.old.hub }
         ensures lines { (engine_state self.new).lines ≡ (engine_state self.old).lines }
         ensures left { (engine_state self.new).left ≡ (engine_state self.old).left }
+        ensures stored { (engine_state self.new).stored ≡ (engine_state self.old).stored }
     {
         handing::look_at(&mut self.parts, number);
     }

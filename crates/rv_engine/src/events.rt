@@ -1,6 +1,6 @@
 //! What a shell tells an engine, and why an event isn't taken.
-ghost use Rattle.std.specs.Prelude.{◌≡◌};
-ghost use Rattle.rv_engine.specs.Handing.{told_hub};
+ghost use Rattle.std.specs.Prelude.{◌≡◌, ℕ};
+ghost use Rattle.rv_engine.specs.Handing.{TellsStored, told_hub};
 
 use rv_frame::WriteFault;
 use rv_hearers::ConnectionNumber;
@@ -39,9 +39,10 @@ pub enum EngineFault {
     NotWritten(WriteFault),
 }
 
-// The same event, as the hub is told.
+// The same event, as the hub is told. None says that entries are written.
 pub(crate) fn hub_event<'a>(event: LinkEvent<'a>) -> HubEvent<'a>
-    ensures { result ≡ told_hub event.entry }
+    ensures same { result ≡ told_hub event.entry }
+    ensures tells { (stored : ℕ) → TellsStored result stored }
 {
     match event {
         LinkEvent::Opened => HubEvent::Opened,

@@ -4,7 +4,7 @@ ghost use Rattle.std.specs.Bool.{OnFalse, OnTrue};
 ghost use Rattle.rv_hub.specs.Hubs.{hub_terms};
 ghost use Rattle.rv_engine.specs.Engines.{IsEngine, engine_state};
 ghost use Rattle.rv_hub.specs.Events.{EventCan};
-ghost use Rattle.rv_engine.specs.Handing.{Gathers, HandsOn, IsNoOpening, IsRefused, LooksAt};
+ghost use Rattle.rv_engine.specs.Handing.{Gathers, HandsOn, IsNoOpening, IsRefused, LooksAt, TellsStored};
 
 use crate::events::EngineFault;
 use crate::gathering::{gather, gather_kept};
@@ -52,6 +52,7 @@ pub(crate) fn try_to_catch_up(parts: &mut EngineParts) -> bool
 fn hand_over(parts: &mut EngineParts, now: u64, event: HubEvent<'_>) -> Result<usize, EngineFault>
     requires sound { IsEngine parts.old }
     requires none_left { (engine_state parts.old).left ≡ [] }
+    requires tells { TellsStored event (engine_state parts.old).stored }
     ensures sound { IsEngine parts.new }
     ensures takes { IfOk result (λ given. HandsOn parts.old.hub.has_journal (hub_terms parts.old.hub)
         (engine_state parts.old) now event.entry parts.new.hub.desk.entries.items given
@@ -81,6 +82,7 @@ pub(crate) fn hand_sure(parts: &mut EngineParts, now: u64, event: HubEvent<'_>) 
     requires none_left { (engine_state parts.old).left ≡ [] }
     requires can { EventCan (engine_state parts.old).hub event }
     requires no_opening { IsNoOpening event }
+    requires tells { TellsStored event (engine_state parts.old).stored }
     ensures sound { IsEngine parts.new }
     ensures takes { HandsOn parts.old.hub.has_journal (hub_terms parts.old.hub) (engine_state parts.old) now
         event.entry parts.new.hub.desk.entries.items result (engine_state parts.new) }
@@ -99,7 +101,8 @@ pub(crate) fn hand_on(
     now: u64,
     event: HubEvent<'_>,
 ) -> Result<usize, EngineFault>
-    requires { IsEngine parts.old }
+    requires sound { IsEngine parts.old }
+    requires tells { TellsStored event (engine_state parts.old).stored }
     ensures sound { IsEngine parts.new }
     ensures takes { IfOk result (λ given. HandsOn parts.old.hub.has_journal (hub_terms parts.old.hub)
         (engine_state parts.old) now event.entry parts.new.hub.desk.entries.items given
@@ -124,6 +127,7 @@ pub(crate) fn look_at(parts: &mut EngineParts, number: ConnectionNumber)
     ensures hub { parts.new.hub ≡ parts.old.hub }
     ensures lines { (engine_state parts.new).lines ≡ (engine_state parts.old).lines }
     ensures left { (engine_state parts.new).left ≡ (engine_state parts.old).left }
+    ensures stored { (engine_state parts.new).stored ≡ (engine_state parts.old).stored }
 {
     parts.looks.add(number);
 }

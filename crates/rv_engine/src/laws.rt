@@ -1,6 +1,6 @@
 //! Laws of an engine's calls: each contract is one, and no body does anything.
-ghost use Rattle.rv_engine.specs.EngineRuns.{AccountsAreKept, EnginesAreRuns, HandsOnNext};
-ghost use Rattle.rv_engine.specs.EngineRuns.{WrittenAreCounted};
+ghost use Rattle.rv_engine.specs.EngineRuns.{AccountsAreKept, EnginesAreRuns, HandsOnNext, LeftIsStored};
+ghost use Rattle.rv_engine.specs.EngineRuns.{ToldIsStored, WrittenAreCounted};
 
 /// The hub behind an engine's calls is that of the events that were handed on, in order, and the lines of all
 /// entries that these made are written or gathered, in order, but of those that are left.
@@ -16,6 +16,18 @@ pub fn written_are_counted()
 /// Behind the lines of a legal account, what is written and what isn't yet are those of a legal account.
 pub fn accounts_are_kept()
     ensures { AccountsAreKept }
+{}
+
+/// Over every run of an engine that keeps an account the device took the lines of the first entries, in
+/// order, and the hub was told of no more than these.
+pub fn told_is_stored()
+    ensures { ToldIsStored }
+{}
+
+/// So each byte that left a connection is of an answer that rests on entries alone whose lines the device
+/// took, and that is public in their account.
+pub fn left_is_stored()
+    ensures { LeftIsStored }
 {}
 
 /// Where no entry is left the next event is handed on.

@@ -14,6 +14,8 @@ pub struct EngineParts {
     pub(crate) lines: String,
     // Of how many entries of the last event the lines are gathered.
     pub(crate) gathered: usize,
+    // Of how many entries the device took the lines, or those that there were at first.
+    pub(crate) stored: usize,
     // Those to look at in the next round, and those of this round that are left.
     pub(crate) looks: LookList,
     pub(crate) round: LookList,

@@ -1,10 +1,10 @@
 //! Writes the lines of an account.
-ghost use Rattle.std.specs.Prelude.{◌≡◌, [], IfErr, IfOk, OnErr, OnOk, take};
-ghost use Rattle.rv_frame.specs.Sink.{SinkTakes};
+ghost use Rattle.std.specs.Prelude.{◌≡◌, [], IfErr, IfOk, OnErr, OnOk, take, true};
+ghost use Rattle.rv_frame.specs.Sink.{SinkTakes, sink_failed};
 ghost use Rattle.rv_hub.specs.Hubs.{hub_terms};
 ghost use Rattle.rv_engine.specs.Engines.{IsEngine, engine_state};
-ghost use Rattle.rv_engine.specs.Handing.{IsNotTold, TellsWritten, all_gone};
-ghost use Rattle.rv_engine.specs.Handing.{unwritten};
+ghost use Rattle.rv_engine.specs.Handing.{HasWorked, IsNotTold, TellsWritten, all_gone, gathered_count};
+ghost use Rattle.rv_engine.specs.Handing.{lines_gone, unwritten};
 
 use crate::events::EngineFault;
 use crate::handing::{catch_up, hand_sure, is_caught_up};
@@ -13,26 +13,6 @@ use rv_frame::{Sink, WriteFault};
 use rv_hub::HubEvent;
 use std::io::Write;
 
-// Writes the lines that are gathered, which are gathered no longer.
-fn write_gathered<W: Write>(parts: &mut EngineParts, file: &mut Sink<W>) -> Result<(), WriteFault>
-    requires { IsEngine parts.old }
-    ensures sound { IsEngine parts.new }
-    ensures written { OnOk result (SinkTakes W.contents file.old file.new (engine_state parts.old).lines) }
-    ensures gone { OnOk result (engine_state parts.new ≡ record (engine_state parts.old) { lines = [] }) }
-    ensures part { IfErr result (λ why. SinkTakes W.contents file.old file.new
-        (take why.sent (engine_state parts.old).lines)) }
-    ensures same { OnErr result (parts.new ≡ parts.old) }
-    ensures hub { parts.new.hub ≡ parts.old.hub }
-{
-    match file.write_all(parts.lines.as_bytes()) {
-        Ok(()) => {
-            parts.lines.clear();
-            Ok(())
-        }
-        Err(why) => Err(why),
-    }
-}
-
 // How many entries the hub has made.
 fn entry_count(parts: &EngineParts) -> usize
     ensures { result ≡ (engine_state parts.now).hub.book.length }
@@ -40,10 +20,45 @@ fn entry_count(parts: &EngineParts) -> usize
     parts.hub.machine().length()
 }
 
+// How many entries have their line gathered or stored.
+#[tactic(auto, using(crate::proofs::Written::count_is))]
+fn count_gathered(parts: &EngineParts) -> usize
+    requires { IsEngine parts.now }
+    ensures { result ≡ gathered_count (engine_state parts.now) }
+{
+    let left = parts.hub.entries().len() - parts.gathered;
+    entry_count(parts).saturating_sub(left)
+}
+
+// Writes the lines that are gathered, which then are stored, and gathered no longer.
+fn write_gathered<W: Write>(parts: &mut EngineParts, file: &mut Sink<W>) -> Result<(), WriteFault>
+    requires { IsEngine parts.old }
+    ensures sound { IsEngine parts.new }
+    ensures written { OnOk result (SinkTakes W.contents file.old file.new (engine_state parts.old).lines) }
+    ensures works { OnOk result (HasWorked file.old file.new) }
+    ensures gone { OnOk result (engine_state parts.new ≡ lines_gone (engine_state parts.old)) }
+    ensures part { IfErr result (λ why. SinkTakes W.contents file.old file.new
+        (take why.sent (engine_state parts.old).lines)) }
+    ensures failed { OnErr result (sink_failed file.new ≡ true) }
+    ensures refused { IfErr result (λ why. sink_failed file.old ≡ true → why.sent ≡ 0) }
+    ensures same { OnErr result (parts.new ≡ parts.old) }
+    ensures hub { parts.new.hub ≡ parts.old.hub }
+{
+    match file.write_all(parts.lines.as_bytes()) {
+        Ok(()) => {
+            parts.stored = count_gathered(parts);
+            parts.lines.clear();
+            Ok(())
+        }
+        Err(why) => Err(why),
+    }
+}
+
 // Tells the hub that all its entries are written, where it knows of fewer.
 fn tell_written(parts: &mut EngineParts, now: u64) -> Option<usize>
     requires sound { IsEngine parts.old }
     requires none_left { (engine_state parts.old).left ≡ [] }
+    requires stored { (engine_state parts.old).stored ≡ (engine_state parts.old).hub.book.length }
     ensures sound { IsEngine parts.new }
     ensures tells { TellsWritten parts.old.hub.has_journal (hub_terms parts.old.hub) (engine_state parts.old)
         now parts.new.hub.desk.entries.items result (engine_state parts.new) }
@@ -67,6 +82,7 @@ pub(crate) fn write_lines<W: Write>(
     ensures sound { IsEngine parts.new }
     ensures written { OnOk result (SinkTakes W.contents file.old file.new
         (unwritten (engine_state parts.old))) }
+    ensures works { OnOk result (HasWorked file.old file.new) }
     ensures tells { IfOk result (λ told. TellsWritten parts.old.hub.has_journal (hub_terms parts.old.hub)
         (all_gone (engine_state parts.old)) now parts.new.hub.desk.entries.items told
         (engine_state parts.new)) }

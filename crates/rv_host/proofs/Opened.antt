@@ -1,8 +1,11 @@
 -- A machine without entries, whose state can be resumed from.
-use Rattle.std.proofs.Common.{◌≡◌, ◌≤◌, ℕ, arith, subst, sym}
+use Rattle.std.proofs.Common.{[], ◌≡◌, ◌≤◌, ℕ, arith, refl, subst, sym}
 use Rattle.rv_account.specs.Limits.{max_moment}
 use Rattle.rv_rules.specs.Steps.{capped_moment}
 use Rattle.rv_state.specs.State.{opening}
+use Rattle.rv_desk.specs.View.{DeskState}
+use Rattle.rv_engine.specs.Engines.{EngineState}
+use Rattle.rv_engine.specs.EngineRuns.{BeginsStored}
 use Rattle.rv_machine.specs.Machines.{state_in}
 use Rattle.rv_machine.specs.declared.machine.Machine.{Machine}
 use Rattle.rv_resume.specs.Resuming.{CanResume}
@@ -17,3 +20,11 @@ pub opened_resumes : (machine : Machine) (epoch : ℕ) → Fits number.Epoch epo
     → state_in machine ≡ opening epoch (capped_moment 0) → CanResume (state_in machine)
 opened_resumes machine epoch fits is =
     subst CanResume (sym is) (openings_resume epoch (capped_moment 0) (fits.0, fits.1) (within 0))
+
+-- all of a new engine is written, and stored
+pub begins_new : (s : EngineState) (hub : DeskState) (stored room : ℕ)
+    → s ≡ record { hub = hub; lines = []; left = []; stored = stored; looks = []; round = []; room = room }
+    → stored ≡ hub.book.length → hub.open_wires.written ≤ hub.book.length → BeginsStored s
+begins_new s hub stored room is same told =
+    subst BeginsStored (sym is)
+    (record { all = record { lines = refl; left = refl }; stored = same; told = told })

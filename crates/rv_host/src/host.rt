@@ -12,6 +12,7 @@ use crate::shell::Shell;
 use crate::start::begin;
 use os::errno;
 use rv_options::{HostFault, HostOptions, read_host};
+use std::fs::File;
 use std::io;
 use std::io::Write;
 
@@ -63,7 +64,7 @@ fn serve(rt: &HostRuntime, options: &HostOptions<'_>) -> u8
 }
 
 // Serves to the end, which is told.
-fn go_on(rt: &HostRuntime, options: &HostOptions<'_>, shell: &mut Shell) -> u8 {
+fn go_on(rt: &HostRuntime, options: &HostOptions<'_>, shell: &mut Shell<File>) -> u8 {
     match shell.serve(rt) {
         Ok(()) => 0,
         Err(end) => {

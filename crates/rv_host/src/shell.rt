@@ -1,4 +1,7 @@
 //! The shell of a server: what the poll tells is handed to the traffic of its sockets, turn by turn.
+ghost use Rattle.std.specs.Prelude.{◌≡◌, IfOk};
+ghost use Rattle.rv_traffic.specs.CallRuns.{OnlyCalls, RunsOnDevice};
+
 use crate::door::{Accepted, Door};
 use crate::fault::HostEnd;
 use crate::journal::Journal;
@@ -6,6 +9,7 @@ use crate::overdue::TimeLimits;
 use crate::report::{FaultKind, HostReport};
 use crate::status::StatusDesk;
 use libc::net::{IPPROTO_TCP, SO_KEEPALIVE, SOL_SOCKET, TCP_USER_TIMEOUT, setsockopt};
+use mio::event::Event;
 use mio::net::TcpStream;
 use mio::{Events, Interest, Poll, Token};
 use rv_engine::{Engine, EngineFault};
@@ -14,6 +18,7 @@ use rv_links::Links;
 use rv_options::HostOptions;
 use rv_traffic::Switchboard;
 use std::io;
+use std::io::Write;
 use std::os::fd::AsRawFd;
 use std::time::{Clock, Duration};
 
@@ -45,6 +50,69 @@ fn keep_alive(stream: &TcpStream) {
     let _ = unsafe { setsockopt(number, IPPROTO_TCP, TCP_USER_TIMEOUT, &value, 4) };
 }
 
+// Writes what was gathered of an account to its file, and tells the hub.
+fn write_to<S: Drop, W: Write>(
+    traffic: &mut Switchboard<S>,
+    now: u64,
+    journal: &mut Journal<W>,
+) -> Result<(), HostEnd>
+    ensures over { RunsOnDevice W.contents traffic.old journal.old.file traffic.new journal.new.file }
+{
+    let count = traffic.engine().lines().len() as u64;
+    match traffic.write_lines(now, &mut journal.file) {
+        Err(EngineFault::NotWritten(fault)) => Err(HostEnd::Account(fault)),
+        _ => {
+            journal.bytes = journal.bytes.saturating_add(count);
+            Ok(())
+        }
+    }
+}
+
+// The poll told of a connection's socket.
+fn heed_one(traffic: &mut Switchboard<TcpStream>, event: &Event)
+    ensures { OnlyCalls traffic.old traffic.new }
+{
+    let is_over = event.is_error();
+    let is_readable = event.is_readable() || event.is_read_closed() || is_over;
+    let is_writable = event.is_writable() || event.is_write_closed() || is_over;
+    traffic.heed(event.token().0, is_readable, is_writable);
+}
+
+// The poll told that something may be done.
+#[tactic(auto, using(crate::proofs::Turning::none_called))]
+fn heed_event(
+    door: &mut Door,
+    status: &mut Option<StatusDesk>,
+    traffic: &mut Switchboard<TcpStream>,
+    event: &Event,
+)
+    ensures { OnlyCalls traffic.old traffic.new }
+{
+    if event.token() == LISTENER {
+        door.knock();
+        return;
+    }
+    if event.token() == STATUS_LISTENER {
+        knock(status);
+        return;
+    }
+    heed_one(traffic, event);
+}
+
+// Takes in all that the poll told.
+fn heed_all(
+    events: &Events,
+    door: &mut Door,
+    status: &mut Option<StatusDesk>,
+    traffic: &mut Switchboard<TcpStream>,
+)
+    ensures { OnlyCalls traffic.old traffic.new }
+{
+    for event in events.iter() {
+        heed_event(door, status, traffic, event);
+    }
+}
+
 // The poll told that someone waits at the status address.
 fn knock(status: &mut Option<StatusDesk>) {
     if let Some(desk) = status {
@@ -54,13 +122,13 @@ fn knock(status: &mut Option<StatusDesk>) {
 
 /// A server's poll, listeners and account, over the traffic of its sockets.
 #[derive(Drop)]
-pub(crate) struct Shell {
+pub(crate) struct Shell<W> {
     start: Duration,
     poll: Poll,
     events: Events,
     door: Door,
     pub(crate) traffic: Switchboard<TcpStream>,
-    pub(crate) account: Option<Journal>,
+    pub(crate) account: Option<Journal<W>>,
     pub(crate) status: Option<StatusDesk>,
     pub(crate) report: HostReport,
     // At most so many connections are open.
@@ -77,9 +145,9 @@ pub(crate) struct Shell {
 /// A shell without its engine: where it is asked, what it keeps, a poll that tells who comes, and room for
 /// sockets.
 #[derive(Drop)]
-pub(crate) struct ShellParts {
+pub(crate) struct ShellParts<W> {
     doors: ShellDoors,
-    account: Option<Journal>,
+    account: Option<Journal<W>>,
     // How many connections there may be.
     connections: usize,
     start: Duration,
@@ -113,14 +181,16 @@ fn watching(rt: &HostRuntime, doors: &mut ShellDoors) -> io::Result<Poll> {
     Ok(poll)
 }
 
-impl ShellParts {
+impl<W: Drop> ShellParts<W> {
     /// A poll that tells of these doors, and room for so many sockets.
     pub(crate) fn new(
         rt: &HostRuntime,
         mut doors: ShellDoors,
-        account: Option<Journal>,
+        account: Option<Journal<W>>,
         connections: usize,
-    ) -> Result<ShellParts, HostEnd> {
+    ) -> Result<ShellParts<W>, HostEnd>
+        ensures account { IfOk result (λ parts. parts.account ≡ account) }
+    {
         Ok(ShellParts {
             start: rt.monotonic()?,
             poll: watching(rt, &mut doors)?,
@@ -133,14 +203,17 @@ impl ShellParts {
     }
 }
 
-impl Shell {
+impl<W: Drop> Shell<W> {
     /// A shell that has not turned yet.
     pub(crate) fn new(
-        parts: ShellParts,
+        parts: ShellParts<W>,
         engine: Engine,
         report: HostReport,
         options: &HostOptions<'_>,
-    ) -> Shell {
+    ) -> Shell<W>
+        ensures account { result.account ≡ parts.account }
+        ensures engine { result.traffic.engine ≡ engine }
+    {
         Shell {
             start: parts.start,
             poll: parts.poll,
@@ -162,16 +235,11 @@ impl Shell {
         }
     }
 
-    /// Serves until it can't go on.
-    pub(crate) fn serve(&mut self, rt: &HostRuntime) -> Result<(), HostEnd> {
-        for _ in 0..u64::MAX {
-            self.turn(rt)?;
-        }
-        Ok(())
-    }
-
     // The milliseconds since the start. A clock that fails stands still.
-    fn now(&mut self, rt: &HostRuntime) -> u64 {
+    fn now(&mut self, rt: &HostRuntime) -> u64
+        ensures traffic { self.new.traffic ≡ self.old.traffic }
+        ensures account { self.new.account ≡ self.old.account }
+    {
         match rt.monotonic() {
             Ok(since) => {
                 let passed = since.saturating_sub(self.start).as_millis();
@@ -184,32 +252,20 @@ impl Shell {
         }
     }
 
-    // One turn: all that came is taken, and then the answers go out.
-    fn turn(&mut self, rt: &HostRuntime) -> Result<(), HostEnd> {
-        let before = self.now(rt);
-        let wait = self.wait(before);
-        self.poll
-            .poll(&mut self.events, Some(Duration::from_millis(wait)))?;
-        let now = self.now(rt);
-        self.heed();
-        if self.traffic.catch_up() {
-            self.traffic.pass(now);
-        }
-        self.accept(now);
-        self.read_all(now);
-        self.write_account(now)?;
-        self.write_all(now);
-        self.look_over(rt, now);
-        self.show_status(rt, now);
-        Ok(())
-    }
-
     // For how many milliseconds the poll may wait.
-    fn wait(&mut self, now: u64) -> u64 {
+    fn wait(&mut self, now: u64) -> u64
+        ensures runs { OnlyCalls self.old.traffic self.new.traffic }
+        ensures account { self.new.account ≡ self.old.account }
+    {
         if !self.traffic.catch_up() {
             self.report.note(FaultKind::Behind);
             return MEMORY_AGAIN;
         }
+        self.time_to_wait(now)
+    }
+
+    // The same, where no line is left.
+    fn time_to_wait(&self, now: u64) -> u64 {
         let may_accept = self.traffic.links().len() < self.connections;
         if !self.is_quiet() || (may_accept && self.door.is_asked(now)) {
             return 0;
@@ -238,58 +294,101 @@ impl Shell {
         engine.is_quiet() && engine.hub().written() >= engine.hub().machine().length() as u64
     }
 
+    // Waits until something is to be done, and gives the moment.
+    fn poll(&mut self, rt: &HostRuntime) -> Result<u64, HostEnd>
+        ensures runs { OnlyCalls self.old.traffic self.new.traffic }
+        ensures account { self.new.account ≡ self.old.account }
+    {
+        let before = self.now(rt);
+        let wait = self.wait(before);
+        self.poll
+            .poll(&mut self.events, Some(Duration::from_millis(wait)))?;
+        Ok(self.now(rt))
+    }
+
     // Takes in what the poll tells.
-    fn heed(&mut self) {
-        for event in self.events.iter() {
-            if event.token() == LISTENER {
-                self.door.knock();
-            } else if event.token() == STATUS_LISTENER {
-                knock(&mut self.status);
-            } else {
-                let is_over = event.is_error();
-                let is_readable = event.is_readable() || event.is_read_closed() || is_over;
-                let is_writable = event.is_writable() || event.is_write_closed() || is_over;
-                self.traffic.heed(event.token().0, is_readable, is_writable);
+    fn heed(&mut self)
+        ensures runs { OnlyCalls self.old.traffic self.new.traffic }
+        ensures account { self.new.account ≡ self.old.account }
+    {
+        heed_all(
+            &self.events,
+            &mut self.door,
+            &mut self.status,
+            &mut self.traffic,
+        );
+    }
+
+    // Time goes on, where no line is left.
+    fn elapse(&mut self, now: u64)
+        ensures runs { OnlyCalls self.old.traffic self.new.traffic }
+        ensures account { self.new.account ≡ self.old.account }
+    {
+        if !self.traffic.catch_up() {
+            return;
+        }
+        self.traffic.pass(now);
+    }
+
+    // Whether one more may be asked for.
+    #[tactic(auto, using(crate::proofs::Turning::none_called))]
+    fn may_accept(&mut self, now: u64) -> bool
+        ensures runs { OnlyCalls self.old.traffic self.new.traffic }
+        ensures account { self.new.account ≡ self.old.account }
+    {
+        if self.traffic.links().len() >= self.connections || !self.door.is_asked(now) {
+            return false;
+        }
+        self.traffic.catch_up()
+    }
+
+    // Takes in what came of asking for one.
+    #[tactic(auto, using(crate::proofs::Turning::none_called))]
+    fn take_in(&mut self, now: u64, accepted: Accepted)
+        ensures runs { OnlyCalls self.old.traffic self.new.traffic }
+        ensures account { self.new.account ≡ self.old.account }
+    {
+        match accepted {
+            Accepted::Stream(stream) => {
+                self.opened = self.opened.saturating_add(1);
+                self.open(now, stream);
             }
+            Accepted::Nobody => {}
+            Accepted::NoDescriptor => self.report.note(FaultKind::NoDescriptor),
+            Accepted::Failed => self.report.note(FaultKind::NotAccepted),
         }
     }
 
-    // Writes what was gathered of the account, and tells the hub.
-    fn write_account(&mut self, now: u64) -> Result<(), HostEnd> {
-        let count = self.traffic.engine().lines().len() as u64;
-        let Some(journal) = &mut self.account else {
-            return Ok(());
-        };
-        match self.traffic.write_lines(now, &mut journal.file) {
-            Err(EngineFault::NotWritten(fault)) => Err(HostEnd::Account(fault)),
-            _ => {
-                journal.bytes = journal.bytes.saturating_add(count);
-                Ok(())
-            }
+    // Asks for one connection, if one may be, and gives whether one was asked for.
+    fn accept_one(&mut self, now: u64) -> bool
+        ensures runs { OnlyCalls self.old.traffic self.new.traffic }
+        ensures account { self.new.account ≡ self.old.account }
+    {
+        if !self.may_accept(now) {
+            return false;
         }
+        let accepted = self.door.accept(now);
+        self.take_in(now, accepted);
+        true
     }
 
     // Accepts those that wait, up to a number.
-    fn accept(&mut self, now: u64) {
-        for _ in 0..EVENTS {
-            let is_full = self.traffic.links().len() >= self.connections;
-            if is_full || !self.door.is_asked(now) || !self.traffic.catch_up() {
+    fn accept(&mut self, now: u64)
+        ensures runs { OnlyCalls self.old.traffic self.new.traffic }
+        ensures account { self.new.account ≡ self.old.account }
+    {
+        for _turn in 0..EVENTS {
+            if !self.accept_one(now) {
                 break;
-            }
-            match self.door.accept(now) {
-                Accepted::Stream(stream) => {
-                    self.opened = self.opened.saturating_add(1);
-                    self.open(now, stream);
-                }
-                Accepted::Nobody => {}
-                Accepted::NoDescriptor => self.report.note(FaultKind::NoDescriptor),
-                Accepted::Failed => self.report.note(FaultKind::NotAccepted),
             }
         }
     }
 
     // Opens a connection that was accepted.
-    fn open(&mut self, now: u64, mut stream: TcpStream) {
+    fn open(&mut self, now: u64, mut stream: TcpStream)
+        ensures runs { OnlyCalls self.old.traffic self.new.traffic }
+        ensures account { self.new.account ≡ self.old.account }
+    {
         let _ = stream.set_nodelay(true);
         keep_alive(&stream);
         let Ok(opened) = self.traffic.open(now) else {
@@ -301,9 +400,10 @@ impl Shell {
             self.traffic.turn_away(now, opened);
             return;
         }
-        if !self.traffic.attach(now, opened, stream) {
-            self.report.note(FaultKind::NotOpened);
+        if self.traffic.attach(now, opened, stream) {
+            return;
         }
+        self.report.note(FaultKind::NotOpened);
     }
 
     // The poll tells of a socket from now on, by the number of its connection.
@@ -316,15 +416,93 @@ impl Shell {
     }
 
     // Reads once from each that is looked at.
-    fn read_all(&mut self, now: u64) {
+    fn read_all(&mut self, now: u64)
+        ensures runs { OnlyCalls self.old.traffic self.new.traffic }
+        ensures account { self.new.account ≡ self.old.account }
+    {
         let faults = self.traffic.read_round(now);
         self.report.note_all(FaultKind::Link, faults.broken);
         self.report.note_all(FaultKind::NotOpened, faults.no_memory);
     }
 
     // Writes once to each that is looked at.
-    fn write_all(&mut self, now: u64) {
+    fn write_all(&mut self, now: u64)
+        ensures runs { OnlyCalls self.old.traffic self.new.traffic }
+        ensures account { self.new.account ≡ self.old.account }
+    {
         let broken = self.traffic.write_round(now);
         self.report.note_all(FaultKind::Link, broken);
+    }
+
+    // Takes all that came.
+    fn take_all(&mut self, now: u64)
+        ensures runs { OnlyCalls self.old.traffic self.new.traffic }
+        ensures account { self.new.account ≡ self.old.account }
+    {
+        self.heed();
+        self.elapse(now);
+        self.accept(now);
+        self.read_all(now);
+    }
+
+    // Sends all that may leave, and looks after all connections.
+    fn send_all(&mut self, rt: &HostRuntime, now: u64)
+        ensures runs { OnlyCalls self.old.traffic self.new.traffic }
+        ensures account { self.new.account ≡ self.old.account }
+    {
+        self.write_all(now);
+        self.look_over(rt, now);
+        self.show_status(rt, now);
+    }
+}
+
+impl<W: Write + Drop> Shell<W> {
+    ghost use Rattle.rv_host.specs.Turns.{TurnsOver};
+
+    /// Serves until it can't go on.
+    pub(crate) fn serve(&mut self, rt: &HostRuntime) -> Result<(), HostEnd>
+        ensures turns { TurnsOver W.contents self.old self.new }
+    {
+        for _turn in 0..u64::MAX {
+            match self.turn(rt) {
+                Ok(()) => {}
+                Err(end) => return Err(end),
+            }
+        }
+        Ok(())
+    }
+
+    // One turn: all that came is taken, and then the answers go out.
+    fn turn(&mut self, rt: &HostRuntime) -> Result<(), HostEnd>
+        ensures turns { TurnsOver W.contents self.old self.new }
+    {
+        match self.poll(rt) {
+            Ok(now) => self.go_through(rt, now),
+            Err(end) => Err(end),
+        }
+    }
+
+    // The turn at a moment.
+    fn go_through(&mut self, rt: &HostRuntime, now: u64) -> Result<(), HostEnd>
+        ensures turns { TurnsOver W.contents self.old self.new }
+    {
+        self.take_all(now);
+        match self.write_account(now) {
+            Ok(()) => {
+                self.send_all(rt, now);
+                Ok(())
+            }
+            Err(end) => Err(end),
+        }
+    }
+
+    // Writes what was gathered of the account, if one is kept, and tells the hub.
+    fn write_account(&mut self, now: u64) -> Result<(), HostEnd>
+        ensures turns { TurnsOver W.contents self.old self.new }
+    {
+        match &mut self.account {
+            Some(journal) => write_to(&mut self.traffic, now, journal),
+            None => Ok(()),
+        }
     }
 }

@@ -1,4 +1,8 @@
 //! The start of a server: its address, its account, its limits, and what it says of them.
+ghost use Rattle.std.specs.Prelude.{◌≡◌, ◌↔◌, IfOk, IsSome, IsTrue};
+ghost use Rattle.rv_engine.specs.Engines.{engine_state};
+ghost use Rattle.rv_engine.specs.EngineRuns.{BeginsStored};
+ghost use Rattle.rv_host.specs.Turns.{HasItsAccount};
 ghost use Rattle.rv_options.specs.Numbers.{Fits};
 ghost use Rattle.rv_options.specs.Options.{FitOptions};
 ghost use Rattle.rv_options.specs.declared.number.HostNumber.TheVariants as number;
@@ -37,8 +41,10 @@ pub(crate) fn begin(
     rt: &HostRuntime,
     options: &HostOptions<'_>,
     mut report: HostReport,
-) -> Result<Shell, HostEnd>
+) -> Result<Shell<File>, HostEnd>
     requires { FitOptions options.now }
+    ensures kept { IfOk result HasItsAccount }
+    ensures begins { IfOk result (λ shell. BeginsStored (engine_state shell.traffic.engine)) }
 {
     let epoch = options.epoch.epoch(wall_clock(rt));
     let ground = ground_of(rt, options, epoch)?;
@@ -58,11 +64,13 @@ pub(crate) fn begin(
 struct Ground {
     listener: TcpListener,
     status: Option<TcpListener>,
-    account: Option<Journal>,
+    account: Option<Journal<File>>,
 }
 
 // The addresses and the file that the words name.
-fn ground_of(rt: &HostRuntime, options: &HostOptions<'_>, epoch: u64) -> Result<Ground, HostEnd> {
+fn ground_of(rt: &HostRuntime, options: &HostOptions<'_>, epoch: u64) -> Result<Ground, HostEnd>
+    ensures account { IfOk result (λ ground. IsSome ground.account ↔ IsSome options.now.account) }
+{
     Ok(Ground {
         listener: listening(rt, options.listen)?,
         status: status_of(rt, options)?,
@@ -97,7 +105,9 @@ fn open_doors(
     ground: Ground,
     epoch: u64,
     descriptors: Descriptors,
-) -> Result<ShellParts, HostEnd> {
+) -> Result<ShellParts<File>, HostEnd>
+    ensures account { IfOk result (λ parts. parts.account ≡ ground.account) }
+{
     tell_start(rt, options, report, &ground.listener, epoch, descriptors)?;
     let doors = ShellDoors {
         status: status_desk(rt, options, report, ground.status)?,
@@ -169,7 +179,9 @@ fn account_of(
     rt: &HostRuntime,
     options: &HostOptions<'_>,
     epoch: u64,
-) -> Result<Option<Journal>, HostEnd> {
+) -> Result<Option<Journal<File>>, HostEnd>
+    ensures account { IfOk result (λ account. IsSome account ↔ IsSome options.now.account) }
+{
     let Some(path) = options.account else {
         return Ok(None);
     };
@@ -184,7 +196,14 @@ fn account_of(
 }
 
 // The account of an epoch, begun in an open file. What the system had against a write it still tells.
-fn begun(rt: &HostRuntime, path: &str, file: File, epoch: u64) -> Result<Option<Journal>, HostEnd> {
+fn begun(
+    rt: &HostRuntime,
+    path: &str,
+    file: File,
+    epoch: u64,
+) -> Result<Option<Journal<File>>, HostEnd>
+    ensures some { IfOk result IsSome }
+{
     match begin_account(rt.alloc(), file, epoch) {
         Ok(journal) => Ok(Some(journal)),
         Err(HostEnd::Account(_)) => Err(named(rt, path, io::Error::from_raw_os_error(errno()))),
@@ -207,6 +226,8 @@ fn engine_of(
     connections: usize,
 ) -> Result<Engine, HostEnd>
     requires { Fits number.Epoch epoch }
+    ensures journal { IfOk result (λ engine. IsTrue engine.hub.has_journal ↔ IsSome options.now.account) }
+    ensures begins { IfOk result (λ engine. BeginsStored (engine_state engine)) }
 {
     let Some(limits) = Limits::new(
         MOST_ENTRIES,
@@ -216,14 +237,15 @@ fn engine_of(
         return Err(HostEnd::Limits);
     };
     let machine = Machine::open(rt.alloc(), epoch, 0)?;
-    Ok(Engine::new(
+    let engine = Engine::new(
         rt.alloc(),
         machine,
         limits,
         DEFAULT_PATIENCE,
         options.account.is_some(),
         connections,
-    )?)
+    )?;
+    Ok(engine)
 }
 
 // The limit of open files.

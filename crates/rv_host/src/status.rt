@@ -1,4 +1,6 @@
 //! The status address: its listener, who asks there, and what they are told.
+ghost use Rattle.std.specs.Prelude.{◌≡◌};
+
 use crate::door::{Accepted, Door};
 use crate::fault::HostEnd;
 use crate::report::{FaultKind, HostReport};
@@ -203,10 +205,13 @@ impl StatusDesk {
     }
 }
 
-impl Shell {
+impl<W: Drop> Shell<W> {
     /// The turn of the status address, behind all others. Its lists have room, so that no memory is refused
     /// to them.
-    pub(crate) fn show_status(&mut self, rt: &HostRuntime, now: u64) {
+    pub(crate) fn show_status(&mut self, rt: &HostRuntime, now: u64)
+        ensures traffic { self.new.traffic ≡ self.old.traffic }
+        ensures account { self.new.account ≡ self.old.account }
+    {
         self.learn(now);
         let Some(desk) = &mut self.status else {
             return;
@@ -216,7 +221,10 @@ impl Shell {
     }
 
     // Once a second takes in what is known.
-    fn learn(&mut self, now: u64) {
+    fn learn(&mut self, now: u64)
+        ensures traffic { self.new.traffic ≡ self.old.traffic }
+        ensures account { self.new.account ≡ self.old.account }
+    {
         let numbers = match &self.status {
             Some(desk) if desk.next_second <= now => self.numbers(now),
             _ => return,

@@ -1,34 +1,52 @@
 //! Connections that are idle, stall, or hold too much.
+ghost use Rattle.std.specs.Prelude.{◌≡◌};
+ghost use Rattle.rv_traffic.specs.CallRuns.{OnlyCalls};
+
 use crate::overdue::overdue;
 use crate::report::FaultKind;
 use crate::shell::{LOOK_OVER, Shell};
 use rv_hearers::ConnectionNumber;
 
-impl Shell {
+impl<W: Drop> Shell<W> {
     /// Once a second ends those that are idle or stall, and tells faults; at once who holds most, if all
     /// hold too much.
-    pub(crate) fn look_over(&mut self, rt: &HostRuntime, now: u64) {
+    pub(crate) fn look_over(&mut self, rt: &HostRuntime, now: u64)
+        ensures runs { OnlyCalls self.old.traffic self.new.traffic }
+        ensures account { self.new.account ≡ self.old.account }
+    {
         self.make_room(now);
         if now < self.looked_over.saturating_add(LOOK_OVER) {
             return;
         }
         self.looked_over = now;
+        self.look_over_all(now);
+        self.report.tell(rt, now);
+    }
+
+    // Ends all whose time is over.
+    fn look_over_all(&mut self, now: u64)
+        ensures runs { OnlyCalls self.old.traffic self.new.traffic }
+        ensures account { self.new.account ≡ self.old.account }
+    {
         for number in 0..self.traffic.links().room() {
             self.look_over_one(now, number);
         }
-        self.report.tell(rt, now);
     }
 
     // Ends a connection whose time is over. Where lines of the account are left nobody is read or written to,
     // so nobody's time is.
-    fn look_over_one(&mut self, now: u64, number: ConnectionNumber) {
+    fn look_over_one(&mut self, now: u64, number: ConnectionNumber)
+        ensures runs { OnlyCalls self.old.traffic self.new.traffic }
+        ensures account { self.new.account ≡ self.old.account }
+    {
         if !self.traffic.catch_up() {
             return;
         }
-        if let Some(kind) = self.overdue(now, number) {
-            self.report.note(kind);
-            self.traffic.give_up(now, number);
-        }
+        let Some(kind) = self.overdue(now, number) else {
+            return;
+        };
+        self.report.note(kind);
+        self.traffic.give_up(now, number);
     }
 
     // Why a connection is to be ended by time, if it is.
@@ -39,14 +57,15 @@ impl Shell {
         overdue(wire, heard, moved, now, self.limits)
     }
 
-    // Closes those that hold most, until all hold at most what they may. Where lines of the account are left
-    // the hub can't be told, and nothing more comes.
-    fn make_room(&mut self, now: u64) {
-        for _ in 0..self.connections {
-            if self.total() <= self.memory || !self.traffic.catch_up() {
+    // Closes those that hold most, until all hold at most what they may.
+    fn make_room(&mut self, now: u64)
+        ensures runs { OnlyCalls self.old.traffic self.new.traffic }
+        ensures account { self.new.account ≡ self.old.account }
+    {
+        for _place in 0..self.connections {
+            if !self.close_largest(now) {
                 break;
             }
-            self.close_largest(now);
         }
     }
 
@@ -59,8 +78,29 @@ impl Shell {
             .saturating_add(pending)
     }
 
-    // Closes the connection that holds most.
-    fn close_largest(&mut self, now: u64) {
+    // Closes the connection that holds most, where all hold more than they may, and gives whether one was
+    // closed. Where lines of the account are left the hub can't be told, and nothing more comes.
+    #[tactic(auto, using(crate::proofs::Turning::none_called))]
+    fn close_largest(&mut self, now: u64) -> bool
+        ensures runs { OnlyCalls self.old.traffic self.new.traffic }
+        ensures account { self.new.account ≡ self.old.account }
+    {
+        if self.total() <= self.memory {
+            return false;
+        }
+        if !self.traffic.catch_up() {
+            return false;
+        }
+        let Some(number) = self.largest() else {
+            return false;
+        };
+        self.report.note(FaultKind::MostHeld);
+        self.traffic.give_up(now, number);
+        true
+    }
+
+    // The connection that holds most, if one holds anything.
+    fn largest(&self) -> Option<ConnectionNumber> {
         let mut largest = None;
         let mut most = 0;
         for number in 0..self.traffic.links().room() {
@@ -70,10 +110,7 @@ impl Shell {
                 largest = Some(number);
             }
         }
-        if let Some(number) = largest {
-            self.report.note(FaultKind::MostHeld);
-            self.traffic.give_up(now, number);
-        }
+        largest
     }
 
     // How many bytes are held of a connection.

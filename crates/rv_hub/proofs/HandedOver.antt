@@ -13,6 +13,7 @@ use Rattle.rv_text.specs.declared.answer.Refusal.TheVariants.{BadText, NoMemory,
 use Rattle.rv_text.specs.declared.answer.Reply.{Reply}
 use Rattle.rv_text.specs.declared.answer.Reply.TheVariants.{Cancelled}
 use Rattle.rv_text.specs.Bodies.{answer_text}
+use Rattle.rv_text.specs.Limits.{FitsAnswer, FitsRefusal}
 use Rattle.rv_session.specs.declared.client.LastRequest.{LastRequest}
 use Rattle.rv_session.specs.declared.client.LastRequest.TheVariants.{CancelledUnseen, Fresh, RepliedTo, Waits}
 use Rattle.rv_account.specs.declared.entry.Entry.{Entry}
@@ -25,9 +26,11 @@ use Rattle.rv_state.specs.Agreement.{BecameOf}
 use Rattle.rv_state.specs.Moves.{answer_told, told_again}
 use Rattle.rv_state.specs.State.{State}
 use Rattle.rv_state.proofs.StateLaws.{states_agree}
+use Rattle.rv_resume.specs.Resuming.{CanResume}
+use Rattle.rv_waiting.proofs.WaitingLaws.{moves_answer, old_fits, told_fits}
 use Rattle.rv_connection.specs.History.{Given}
 use Rattle.rv_desk.specs.View.{DeskState, DeskTerms, begun}
-use Rattle.rv_desk.specs.Deeds.{Deed, Does, DoesAll, entries_of_deed, rests_on}
+use Rattle.rv_desk.specs.Deeds.{Deed, Does, DoesAll, Stepped, entries_of_deed, rests_on}
 use Rattle.rv_desk.specs.Deeds.{Asked, Closed, Elapsed, EndedInput, Lacked, Left, Lost, Opened, ReadNothing}
 use Rattle.rv_desk.specs.Deeds.{Told, TookIn, Wrote}
 use Rattle.rv_desk.specs.Telling.{IsToldAgain}
@@ -45,11 +48,12 @@ use Rattle.rv_hub.proofs.StepReplies.{TellsReply, next_tells, refused_differs, r
 -- ---- one answer
 
 -- an answer that rests on all entries, of which each reply stands there
-public_at : (entries : List Entry) (count : ℕ) (said : Answer) → count ≡ length entries
+public_at : (entries : List Entry) (count : ℕ) (said : Answer) → FitsAnswer said → count ≡ length entries
     → ((key : Key) (reply : Reply) → said ≡ answer.Replied key reply → HasReply entries key reply)
     → IsPublic entries (record { body = answer_text said; rests_on = count })
-public_at entries count said same tells = record {
+public_at entries count said fits same tells = record {
   said = said;
+  fits = fits;
   body_is = refl;
   within = omega arith;
   replies = λ key reply is.
@@ -57,10 +61,12 @@ public_at entries count said same tells = record {
       subst (λ l. HasReply l key reply) (sym (ap (λ n. take n entries) same ∙ all)) (tells key reply is);
 }
 
-public_refused : (entries : List Entry) (count : ℕ) (refusal : Refusal) → count ≤ length entries
+public_refused : (entries : List Entry) (count : ℕ) (refusal : Refusal) → FitsRefusal refusal
+    → count ≤ length entries
     → IsPublic entries (record { body = answer_text (answer.Refused refusal); rests_on = count })
-public_refused entries count refusal within = record {
+public_refused entries count refusal fits within = record {
   said = answer.Refused refusal;
+  fits = fits;
   body_is = refl;
   within = within;
   replies = λ key reply is. absurd (refused_differs refusal key reply is);
@@ -70,6 +76,7 @@ public_on : (entries more : List Entry) (given : Given) → IsPublic entries giv
     → IsPublic (entries ++ more) given
 public_on entries more given is = record {
   said = is.said;
+  fits = is.fits;
   body_is = is.body_is;
   within = (let within = is.within in let long = length-append entries more in omega arith);
   replies = λ key reply same. subst (λ l. HasReply l key reply)
@@ -86,19 +93,20 @@ rests_within NoMemory count = omega arith
 rests_within _ count = omega arith
 
 -- the answer to a step, unless its request waits
-said_public : (entries : List Entry) (count : ℕ) (past : Past) (said : Answer) → count ≡ length entries
+said_public : (entries : List Entry) (count : ℕ) (past : Past) (said : Answer) → FitsAnswer said
+    → count ≡ length entries
     → ((key : Key) (reply : Reply) → said ≡ answer.Replied key reply → HasReply entries key reply)
     → All (IsPublic entries) past.answers → All (IsPublic entries) (with_said past count said).answers
-said_public entries count past (answer.Waiting key) same tells all = all
-said_public entries count past (answer.Replied key reply) same tells all =
+said_public entries count past (answer.Waiting key) fits same tells all = all
+said_public entries count past (answer.Replied key reply) fits same tells all =
     All-push (IsPublic entries) past.answers _ all
-    (public_at entries count (answer.Replied key reply) same tells)
-said_public entries count past (answer.Welcome epoch client incarnation version) same tells all =
+    (public_at entries count (answer.Replied key reply) fits same tells)
+said_public entries count past (answer.Welcome epoch client incarnation version) fits same tells all =
     All-push (IsPublic entries) past.answers _ all
-    (public_at entries count (answer.Welcome epoch client incarnation version) same tells)
-said_public entries count past (answer.Refused refusal) same tells all =
+    (public_at entries count (answer.Welcome epoch client incarnation version) fits same tells)
+said_public entries count past (answer.Refused refusal) fits same tells all =
     let within = rests_within refusal count in
-    All-push (IsPublic entries) past.answers _ all (public_refused entries _ refusal (omega arith))
+    All-push (IsPublic entries) past.answers _ all (public_refused entries _ refusal fits (omega arith))
 
 -- ---- whoever waited
 
@@ -125,6 +133,28 @@ told_tells a s key said is told other reply =
           (λ same. absurd (refused_differs (OldIncarnation told.session.incarnation) other reply same))
     ]
 
+-- what it is told is within the limits
+told_answers : (s : State) (key : Key) (said : Answer) → CanResume s → IsToldAgain s key said
+    → FitsAnswer said
+told_answers s key said resumes told =
+    elim told.told [
+      | inl own ↦
+          subst (λ a. FitsAnswer a) (sym own.2)
+          (told_fits s key told.session resumes told.there told.epoch told.fits.3 own.0 own.1)
+      | inr old ↦ subst (λ a. FitsAnswer a) (sym old.1)
+          (old_fits s key.client told.session resumes told.there)
+    ]
+
+-- so is the answer to a step
+asked_answers : (terms : DeskTerms) (s t : DeskState) (a : Account) (n : ℕ) (body : List ℕ) (step : Stepped)
+    (said : Answer) → AreStepLimits terms.limits → s.now ≤ max_moment → IsHubAccount a s
+    → Does terms s (Asked n body step said) t → FitsAnswer said
+asked_answers terms s t a n body step said limits time is does =
+    subst (λ x. FitsAnswer x) (sym does.steps.said_is)
+    (moves_answer terms.limits s.book s.now step.message does.steps.move limits is.resumes is.none_due
+    is.later
+    time does.is.2 does.steps.moves).fits
+
 -- ---- each deed
 
 -- the answers behind a deed, if it is of this connection
@@ -133,36 +163,37 @@ Behind a past count deed =
     All (IsPublic (a.entries ++ entries_of_deed deed)) (past_by past count deed).answers
 
 own_public : (terms : DeskTerms) (deed : Deed) (s t : DeskState) (a : Account) (past : Past) (count : ℕ)
-    → Does terms s deed t → s.now ≤ max_moment → IsHubAccount a s
+    → AreStepLimits terms.limits → Does terms s deed t → s.now ≤ max_moment → IsHubAccount a s
     → count ≡ length (a.entries ++ entries_of_deed deed)
     → All (IsPublic (a.entries ++ entries_of_deed deed)) past.answers → Behind a past count deed
 unfolding Behind
-own_public terms (Elapsed moment entries settled) s t a past count does time is same all = all
-own_public terms (Opened connection) s t a past count does time is same all =
+own_public terms (Elapsed moment entries settled) s t a past count limits does time is same all = all
+own_public terms (Opened connection) s t a past count limits does time is same all =
     All-nil (IsPublic (a.entries ++ []))
-own_public terms (TookIn connection bytes) s t a past count does time is same all = all
-own_public terms (EndedInput connection) s t a past count does time is same all = all
-own_public terms (Left connection bytes) s t a past count does time is same all = all
-own_public terms (Wrote entries) s t a past count does time is same all = all
-own_public terms (Asked connection body step said) s t a past count does time is same all =
+own_public terms (TookIn connection bytes) s t a past count limits does time is same all = all
+own_public terms (EndedInput connection) s t a past count limits does time is same all = all
+own_public terms (Left connection bytes) s t a past count limits does time is same all = all
+own_public terms (Wrote entries) s t a past count limits does time is same all = all
+own_public terms (Asked connection body step said) s t a past count limits does time is same all =
     let rules = by_rules terms s t a connection body step said time is does in
-    said_public (a.entries ++ step.entries) count _ said same
+    said_public (a.entries ++ step.entries) count _ said
+    (asked_answers terms s t a connection body step said limits time is does) same
     (λ key reply told. subst (λ l. HasReply l key reply) rules.2.entries
     (next_tells terms.limits a rules.0 s.now step.message said key reply rules.1 told)) all
-own_public terms (ReadNothing connection body) s t a past count does time is same all =
+own_public terms (ReadNothing connection body) s t a past count limits does time is same all =
     All-push (IsPublic (a.entries ++ [])) past.answers _ all
-    (public_refused (a.entries ++ []) 0 BadText (omega arith))
-own_public terms (Lacked connection body step) s t a past count does time is same all =
+    (public_refused (a.entries ++ []) 0 BadText tt (omega arith))
+own_public terms (Lacked connection body step) s t a past count limits does time is same all =
     let entries = entries_of_deed (Lacked connection body step) in
     All-push (IsPublic (a.entries ++ entries)) past.answers _ all
-    (public_refused (a.entries ++ entries) 0 NoMemory (omega arith))
-own_public terms (Lost connection body step) s t a past count does time is same all = all
-own_public terms (Told connection key said) s t a past count does time is same all =
+    (public_refused (a.entries ++ entries) 0 NoMemory tt (omega arith))
+own_public terms (Lost connection body step) s t a past count limits does time is same all = all
+own_public terms (Told connection key said) s t a past count limits does time is same all =
     All-push (IsPublic (a.entries ++ [])) past.answers _ all
-    (public_at (a.entries ++ []) count said same
+    (public_at (a.entries ++ []) count said (told_answers s.book key said is.resumes does.told) same
     (λ other reply told. subst (λ l. HasReply l other reply) (sym (append-nil a.entries))
     (told_tells a s key said is does.told other reply told)))
-own_public terms (Closed connection) s t a past count does time is same all = all
+own_public terms (Closed connection) s t a past count limits does time is same all = all
 
 either_public : (entries : List Entry) (own : Bool) (now past : Past) → All (IsPublic entries) now.answers
     → All (IsPublic entries) past.answers → All (IsPublic entries) (cond own now past).answers
@@ -179,17 +210,18 @@ entries_counted a s made is =
     omega arith
 
 deed_public : (terms : DeskTerms) (deed : Deed) (s t : DeskState) (a : Account) (n : ℕ) (past : Past)
-    → Does terms s deed t → s.now ≤ max_moment → IsHubAccount a s → ArePublic a past
+    → AreStepLimits terms.limits → Does terms s deed t → s.now ≤ max_moment → IsHubAccount a s
+    → ArePublic a past
     → All (IsPublic (a.entries ++ entries_of_deed deed))
     (cond (is_deed_of n deed) (past_by past (s.book.length + length (entries_of_deed deed)) deed)
     past).answers
 unfolding Behind
-deed_public terms deed s t a n past does time is all =
+deed_public terms deed s t a n past limits does time is all =
     let made = entries_of_deed deed in
     let count = s.book.length + length made in
     let older = all_on a.entries made past.answers all in
     either_public (a.entries ++ made) (is_deed_of n deed) (past_by past count deed) past
-    (own_public terms deed s t a past count does time is (entries_counted a s made is) older) older
+    (own_public terms deed s t a past count limits does time is (entries_counted a s made is) older) older
 
 -- ---- deeds, one after another
 
@@ -209,7 +241,7 @@ deeds_tell terms (deed ∷ deeds) s t a limits (mid, does, more) time is n past 
     let now = cond (is_deed_of n deed) (past_by past (s.book.length + length made) deed) past in
     let one : ArePublic first.after now =
     subst (λ es. All (IsPublic es) now.answers) (sym first.adds.entries)
-    (deed_public terms deed s mid a n past does (omega arith) is all) in
+    (deed_public terms deed s mid a n past limits does (omega arith) is all) in
     let whole = deeds_tell terms deeds mid t first.after limits more time first.is n now one in
     let entries : first.after.entries ++ rest ≡ a.entries ++ (made ++ rest) =
     ap (λ es. es ++ rest) first.adds.entries ∙ append_assoc a.entries made rest in

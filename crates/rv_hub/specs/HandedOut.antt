@@ -5,6 +5,7 @@ use Rattle.rv_text.specs.declared.answer.Answer.{Answer}
 use Rattle.rv_text.specs.declared.answer.Answer.TheVariants.{Replied}
 use Rattle.rv_text.specs.declared.answer.Reply.{Reply}
 use Rattle.rv_text.specs.Bodies.{answer_text}
+use Rattle.rv_text.specs.Limits.{FitsAnswer}
 use Rattle.rv_account.specs.declared.entry.Entry.{Entry}
 use Rattle.rv_account.specs.Account.{Account}
 use Rattle.rv_account.specs.Limits.{max_moment}
@@ -18,10 +19,11 @@ use Rattle.rv_hub.specs.HubRuns.{AddsEntries, DoesEvents, IsHubAccount}
 use Rattle.rv_hub.specs.Pasts.{Past, past_after}
 use Rattle.rv_hub.specs.Turns.{made_by}
 
--- what was given to a frame is an answer's text, and rests on some of the entries; and if the answer is a
--- reply, it is the reply of its key in the account of just those entries
+-- what was given to a frame is the text of an answer within its limits, and rests on some of the entries; and
+-- if the answer is a reply, it is the reply of its key in the account of just those entries
 pub record IsPublic (entries : List Entry) (given : Given) : Type 0 where
   pub said : Answer
+  pub fits : FitsAnswer said
   pub body_is : given.body ≡ answer_text said
   pub within : given.rests_on ≤ length entries
   pub replies : (key : Key) (reply : Reply) → said ≡ Replied key reply

@@ -51,8 +51,8 @@ pub fn frames_are_answered()
     ensures events { FramesAreAnswered }
 {}
 
-/// Each answer that a connection was given is public, and so is what was handed out: a reply is the one
-/// that its key has among the entries that it rests on.
+/// Each answer that a connection was given is public, and so is what was handed out: it is within its limits,
+/// and a reply is the one that its key has among the entries that it rests on.
 pub fn handed_out_is_public()
     ensures deeds { DeedsTellPublicly }
     ensures events { HandedOutIsPublic }

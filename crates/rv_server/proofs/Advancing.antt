@@ -15,7 +15,7 @@ use Rattle.rv_locked.specs.Asking.{Cover, GetsStamps}
 use Rattle.rv_server.specs.Progress.{AnswersFrame, Out, Progress, StopsAtFrame, out}
 use Rattle.rv_server.specs.Reading.{FailsAtSink, ReadsOn, ReadsOut, TakesFrame}
 use Rattle.rv_locked.specs.Stamps.{Numbered, added_entries}
-use Rattle.rv_locked.specs.FrameStamps.{AreFor, IsFor}
+use Rattle.rv_locked.specs.FrameStamps.{AreFor, IsFor, IsWaiting}
 use Rattle.rv_server.specs.AnsweredFrames.{AnsweredFrame, AreAnsweredFrames, IsAnsweredFrame, stamps_of}
 use Rattle.rv_server.specs.Works.{AreForNext, Connection, Listed, StopsBetween, Worked, Works, connection}
 use Rattle.rv_server.specs.Works.{max_frames, nothing}
@@ -232,14 +232,17 @@ module _ {R W : Type 0} (remaining : R → Option (List ℕ)) (contents : W → 
     worked = worked_to before mid listed old took.0 number source [] took.0.frames so_far few took.1 refl;
   }
   stops_reading before mid listed old new number source (WriteFault sent) so_far few took failed = record {
-    none = λ _. record {
-      more = [];
-      end = new.end;
-      pending = [];
-      few = inl refl;
-      worked = worked_out before mid listed old new number source _ so_far few took.1;
-    };
-    some = λ some. absurd (omega (arith, some, took.0));
+    how = inr (record {
+      none = took.0;
+      stops = record {
+        more = [];
+        end = new.end;
+        pending = [];
+        few = inl refl;
+        worked = worked_out before mid listed old new number source _ so_far few took.1;
+      };
+      waited = All-nil (λ (stamp : Numbered). IsWaiting stamp.1.said);
+    });
     failed = failed;
   }
   stops_reading before mid listed old new number source TooLong so_far few took failed = absurd took
@@ -326,13 +329,7 @@ module _ {R W : Type 0} (remaining : R → Option (List ℕ)) (contents : W → 
       → Works remaining contents before (connection source after.sink after.share) listed' (Some fault)
   stops_frame before mid listed listed' old new number body source after (WriteFault sent) so_far few reads
       (inl broke) = record {
-        none = λ is. between before mid listed listed' old new number body source after broke.frame.stamps
-            so_far
-            few reads broke.items broke.stamps
-            (subst (λ (n : ℕ). SinkTakes contents mid.sink after.sink
-            (take n (frame_bytes broke.frame.answer)))
-            is broke.written);
-        some = λ _. record {
+        how = inl (record {
           frame = broke.frame;
           is = subst (λ (n : ℕ). IsAnsweredFrame n broke.frame) (sym (as_many before mid listed listed' old
               number
@@ -350,15 +347,17 @@ module _ {R W : Type 0} (remaining : R → Option (List ℕ)) (contents : W → 
               (stopped_at before mid listed listed' old new number body source after broke.frame.stamps _
               so_far
               (omega (arith, few)) reads broke.items broke.stamps broke.written);
-        };
+        });
         failed = broke.failed;
       }
   stops_frame before mid listed listed' old new number body source after (WriteFault sent) so_far few reads
       (inr fails) = record {
-        none = λ _. between before mid listed listed' old new number body source after fails.waited.got so_far
-            few
-            reads fails.items fails.waited.gets fails.none_written;
-        some = λ some. absurd (omega (arith, some, fails.none));
+        how = inr (record {
+          none = fails.none;
+          stops = between before mid listed listed' old new number body source after fails.waited.got so_far
+              few reads fails.items fails.waited.gets fails.none_written;
+          waited = fails.waited.waited;
+        });
         failed = fails.failed;
       }
   stops_frame before mid listed listed' old new number body source after NoMemory so_far few reads lacks =

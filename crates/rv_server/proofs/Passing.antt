@@ -1,15 +1,18 @@
 -- What is said of a sink holds of another one whose contents are the same, up to what it was given up with.
-use Rattle.std.proofs.Common.{inl, ◌≡◌, ◌∙◌, [], ℕ, List, None, Option, Some, ap, arith, refl, subst, sym}
+use Rattle.std.proofs.Common.{inl, inr, ◌≡◌, ◌∙◌, [], ℕ, List, None, Option, Some, ap, arith, refl, subst}
+use Rattle.std.proofs.Common.{sym}
 use Rattle.std.proofs.Common.{true}
 use Rattle.std.specs.Io.Buffered.{writer_buffer, writer_contents, writer_inner}
 use Rattle.std.specs.Io.KnownBytes.{Appends, Keeps}
 use Rattle.std.specs.declared.io.buffered.BufWriter.{BufWriter}
 use Rattle.std.proofs.KnownBytes.{Appends-kept}
+use Rattle.std.proofs.lemmas.List.Elements.{All-nil}
 use Rattle.rv_frame.specs.Cut.{End, Open}
 use Rattle.rv_frame.specs.Sink.{SinkTakes, sink_contents, sink_device, sink_failed}
 use Rattle.rv_frame.specs.declared.sink.Sink.{Sink}
 use Rattle.rv_frame.specs.declared.source.Source.{Source}
 use Rattle.rv_server.specs.Sending.{IsFirstFault, held_behind}
+use Rattle.rv_locked.specs.FrameStamps.{IsWaiting}
 use Rattle.rv_locked.specs.Stamps.{Numbered}
 use Rattle.rv_server.specs.Works.{AnswerBreaksOff, Listed, StopsBetween, Worked, Works, connection}
 use Rattle.rv_server.specs.declared.fault.WorkFault.{WorkFault}
@@ -77,8 +80,14 @@ module _ {R V W : Type 0} (remaining : R → Option (List ℕ)) (contents : V �
   works_along None works = (worked_along _ _ _ _ works.0, works.1)
   works_along (Some ReadFault) works = (works.0, worked_along _ _ _ _ works.1, works.2)
   works_along (Some (WriteFault sent)) fails = record {
-    none = λ is. between_along (fails.none is);
-    some = λ some. breaks_along sent (fails.some some);
+    how = elim fails.how [
+      | inl breaks ↦ inl (breaks_along sent breaks)
+      | inr flush ↦ inr (record {
+        none = flush.none;
+        stops = between_along flush.stops;
+        waited = flush.waited;
+      })
+    ];
     failed = failed;
   }
   works_along (Some CutFrame) works = (works.0, worked_along _ _ _ _ works.1, works.2, works.3)
@@ -91,14 +100,17 @@ module _ {R V W : Type 0} (remaining : R → Option (List ℕ)) (contents : V �
       → Works remaining contents' (connection source old' share) (connection source' new' share') list
       (Some (WriteFault 0))
   unsent works = record {
-    none = λ _. record {
-      more = [];
-      end = Open [];
-      pending = [];
-      few = inl refl;
-      worked = worked_along _ _ _ _ works.0;
-    };
-    some = λ some. absurd (omega (arith, some));
+    how = inr (record {
+      none = refl;
+      stops = record {
+        more = [];
+        end = Open [];
+        pending = [];
+        few = inl refl;
+        worked = worked_along _ _ _ _ works.0;
+      };
+      waited = All-nil (λ (stamp : Numbered). IsWaiting stamp.1.said);
+    });
     failed = failed;
   }
 

@@ -1,6 +1,7 @@
 -- What stands after a worker read a connection to its end, or stopped.
 use Rattle.std.specs.Prelude.{ℕ, ◌≡◌, ◌≢◌, ◌⊎◌, ◌+◌, ◌<◌, ◌≤◌, ◌∷◌, ◌++◌, [], List, Option, None, Some}
 use Rattle.std.specs.Prelude.{map, length, take, true}
+use Rattle.std.specs.List.{All}
 use Rattle.rv_frame.specs.Cut.{Bad, Cut, End, Open, frame_bytes, row_bytes}
 use Rattle.rv_frame.specs.Sink.{SinkTakes, sink_failed}
 use Rattle.rv_frame.specs.Source.{SourceGives, SourceHasEnded, source_failed}
@@ -12,7 +13,7 @@ use Rattle.rv_server.specs.declared.fault.WorkFault.TheVariants.{TooLong, WriteF
 use Rattle.rv_locked.specs.declared.item.Item.{Item}
 use Rattle.rv_server.specs.declared.served.Served.{Served}
 use Rattle.rv_locked.specs.Stamps.{Covers, Numbered, Stamped, added_entries, shown_stamps}
-use Rattle.rv_locked.specs.FrameStamps.{AreFor}
+use Rattle.rv_locked.specs.FrameStamps.{AreFor, IsWaiting}
 use Rattle.rv_server.specs.AnsweredFrames.{AnsweredFrame, AreAnsweredFrames, IsAnsweredFrame, stamps_of}
 
 -- the most frames of a connection
@@ -74,7 +75,7 @@ module _ {R W : Type 0} (remaining : R → Option (List ℕ)) (contents : W → 
   abbrev pub WorkedOut : Connection R W → Connection R W → Listed → End → Type 0
   WorkedOut before after list end = Worked before after list [] end [] []
 
-  -- the answer of the next frame went out in part
+  -- the answer of the next frame went out in part, or not at all
   pub record AnswerBreaksOff (before after : Connection R W) (list : Listed) (sent : ℕ) : Type 0 where
     pub frame : AnsweredFrame
     pub is : IsAnsweredFrame (length list.items) frame
@@ -93,10 +94,17 @@ module _ {R W : Type 0} (remaining : R → Option (List ℕ)) (contents : W → 
     pub few : (pending ≡ []) ⊎ (length list.items < max_frames)
     pub worked : Worked before after list more end pending []
 
-  -- sending failed: of the next frame's answer so many bytes were written, and not all
+  -- a flush failed, before a read or before a pause: what was got for the next frame stands for an answer
+  -- that waits
+  pub record FlushFails (before after : Connection R W) (list : Listed) (sent : ℕ) : Type 0 where
+    pub none : sent ≡ 0
+    pub stops : StopsBetween before after list
+    pub waited : All (λ (stamp : Numbered). IsWaiting stamp.1.said) stops.pending
+
+  -- sending failed: the next frame was answered, and of its answer so many bytes went out, and not all; or a
+  -- flush did
   pub record SendingFails (before after : Connection R W) (list : Listed) (sent : ℕ) : Type 0 where
-    pub none : sent ≡ 0 → StopsBetween before after list
-    pub some : 0 < sent → AnswerBreaksOff before after list sent
+    pub how : AnswerBreaksOff before after list sent ⊎ FlushFails before after list sent
     pub failed : sink_failed after.sink ≡ true
 
   -- what stands by the fault, if there is one

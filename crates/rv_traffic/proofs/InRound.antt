@@ -1,12 +1,12 @@
 -- Turns of a round, as far as they are taken.
-use Rattle.std.proofs.Common.{◌≡◌, ◌≢◌, ◌<◌, ◌+◌, ◌∙◌, ◌++◌, ℕ, List, [], ◌∷◌, None, Option, ap, append-nil}
-use Rattle.std.proofs.Common.{append_assoc, arith, length, length-append, map, refl, subst, suc, sym, zero}
+use Rattle.std.proofs.Common.{◌≡◌, ◌≢◌, ◌<◌, ◌∙◌, ◌++◌, ℕ, List, [], ◌∷◌, None, Option, ap, append-nil}
+use Rattle.std.proofs.Common.{append_assoc, arith, length, length-append, map, subst, suc, sym, zero}
 use Rattle.std.proofs.lemmas.List.{get_or-set_other, length-map}
 use Rattle.std.specs.Prelude.{AllPairs, Contains}
 use Rattle.rv_engine.specs.Engines.{EngineState}
 use Rattle.rv_links.specs.declared.link.Socket.{Socket}
 use Rattle.rv_links.specs.Table.{ChangesOne, link_at}
-use Rattle.rv_traffic.specs.Rounds.{GoesRound, TakesNext, TakesTurns, Turn, round_begun}
+use Rattle.rv_traffic.specs.Rounds.{GoesRound, TakesTurns, Turn, round_begun}
 use Rattle.rv_traffic.specs.Views.{TrafficState}
 use Rattle.rv_traffic.proofs.Staying.{StaysBut}
 

@@ -6,3 +6,4 @@ pub mod Staying
 pub mod InRound
 pub mod Counted
 pub mod CallsRun
+pub mod OneDevice

@@ -1,5 +1,5 @@
 -- What a turn leaves as it is: the round, and all other sockets.
-use Rattle.std.proofs.Common.{◌≡◌, ◌∙◌, ◌⊎◌, ℕ, Bool, List, None, Option, Some, ap, inl, inr, refl, slice_set}
+use Rattle.std.proofs.Common.{◌≡◌, ◌∙◌, ℕ, Bool, List, None, Option, Some, ap, inl, inr, slice_set}
 use Rattle.std.proofs.Common.{subst, sym}
 use Rattle.std.proofs.lemmas.List.{set-get_or}
 use Rattle.rv_desk.specs.View.{DeskTerms}
@@ -81,12 +81,12 @@ module _ {S : Type 0} where
 
   -- ---- a write
 
-  unsent_keeps : (contents : S → Option (List ℕ)) (n : ℕ) (old new : TrafficState S)
-      → SendsNothing contents n old new → ChangesOne old.table n new.table
-  unsent_keeps contents n old new is =
+  unsent_keeps : (contents : S → Option (List ℕ)) (now n : ℕ) (old new : TrafficState S)
+      → SendsNothing contents now n old new → ChangesOne old.table n new.table
+  unsent_keeps contents now n old new is =
       elim is.why [
         | inl none ↦ same_one old.table new.table n none.1
-        | inr changes ↦ changes.1.others
+        | inr changes ↦ changes.so.others
       ]
 
   pub writes_keep : (contents : S → Option (List ℕ)) (journal : Bool) (terms : DeskTerms) (now n : ℕ)
@@ -94,7 +94,7 @@ module _ {S : Type 0} where
       → WritesOne contents journal terms now n old what new → StaysBut old n new
   writes_keep contents journal terms now n old writing.Nothing new is = record {
     round = ap (λ (e : EngineState). e.round) is.engine;
-    others = unsent_keeps contents n old new is;
+    others = unsent_keeps contents now n old new is;
   }
   writes_keep contents journal terms now n old writing.Sent new is = record {
     round = is.hands.hands.looks.round;

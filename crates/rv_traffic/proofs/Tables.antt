@@ -1,14 +1,13 @@
 -- The socket of one number, and what is told of it.
-use Rattle.std.proofs.Common.{◌≡◌, ◌∙◌, ◌++◌, ◌⊎◌, ℕ, Bool, List, [], None, Option, Some, ap, false, inl, inr}
+use Rattle.std.proofs.Common.{◌≡◌, ◌∙◌, ℕ, Bool, List, [], None, Option, Some, ap, false}
 use Rattle.std.proofs.Common.{refl}
-use Rattle.std.proofs.Common.{IsSome, slice_set, subst, sym, true}
+use Rattle.std.proofs.Common.{IsSome, slice_set, subst}
 use Rattle.std.proofs.lemmas.List.{set-get_or, set-set}
 use Rattle.std.specs.Io.KnownBytes.{Consumes, Keeps}
 use Rattle.rv_wires.specs.Connections.{HasWire}
 use Rattle.rv_desk.specs.View.{DeskState, DeskTerms}
 use Rattle.rv_account.specs.declared.entry.Entry.{Entry}
 use Rattle.rv_hub.specs.declared.events.HubEvent.{HubEvent}
-use Rattle.rv_hub.specs.declared.events.HubEvent.TheVariants as event
 use Rattle.rv_hub.specs.declared.parts.HubParts.{HubParts}
 use Rattle.rv_hub.specs.Hubs.{hub_terms}
 use Rattle.rv_engine.specs.Engines.{EngineState}

@@ -1,7 +1,8 @@
 -- What is read of a connection.
-use Rattle.std.proofs.Common.{◌≡◌, ◌∙◌, ◌++◌, ◌⊎◌, ℕ, Bool, IsSome, List, [], None, Option, Some, ap}
+use Rattle.std.proofs.Common.{◌≡◌, ◌∙◌, ◌++◌, ℕ, Bool, IsSome, List, [], None, Option, Some, ap}
 use Rattle.std.proofs.Common.{append-nil}
-use Rattle.std.proofs.Common.{drop, inl, inr, refl, subst, sym}
+use Rattle.std.proofs.Common.{◌<◌, arith, drop, inl, inr, length, refl, subst, sym}
+use Rattle.std.proofs.lemmas.List.{drop_all, length-drop, set-get_or}
 use Rattle.std.proofs.lemmas.Bool.{false≢true}
 use Rattle.std.proofs.lemmas.Option.{same_Some}
 use Rattle.std.specs.Io.KnownBytes.{Consumes}
@@ -19,6 +20,15 @@ use Rattle.rv_traffic.specs.Calls.{ChangesLink, GaveEnd, GivesUp, Hands, IsReada
 use Rattle.rv_traffic.specs.Calls.{MayBeOffered, NoneCame, Offers, OffersPiece, ReadsOne, SameFlags}
 use Rattle.rv_traffic.specs.Views.{IsPieceOf, TrafficState}
 use Rattle.rv_traffic.proofs.Tables.{consumes_none, none_changed, one_then}
+
+-- some of it wasn't taken
+pub some_left : (bytes : List ℕ) (given count : ℕ) → drop count bytes ≡ drop given bytes
+    → count < length bytes → given < length bytes
+some_left bytes given count same some =
+    let one = length-drop count bytes in
+    let other = length-drop given bytes in
+    let lengths = ap length same in
+    omega (arith, one, other, lengths, some)
 
 module _ {S : Type 0} where
   -- what is pending was offered
@@ -206,6 +216,7 @@ module _ {S : Type 0} where
           what = is.what;
           piece = is.piece;
           given = is.given;
+          some = is.some;
           between = is.between;
           hands = subst (λ (e : EngineState). Hands journal terms e now is.what is.given is.between.engine)
               same is.hands;
@@ -296,16 +307,47 @@ module _ {S : Type 0} where
         link = rest_kept old.table new.table n bytes given count there none same pends others;
       }
 
+  pends_none : (o : Option (Socket S)) → PendsSlot o (pending_of o ++ []) o
+  pends_none None = refl
+  pends_none (Some link) = (
+    link,
+    record {
+      stream = refl;
+      pending = sym (append-nil link.pending.items);
+      readable = refl;
+      writable = refl;
+      heard = refl;
+      moved = refl;
+    },
+    refl,
+  )
+
+  -- all of it was taken
+  pub kept_whole : (journal : Bool) (terms : DeskTerms) (now n : ℕ) (bytes : List ℕ) (old : TrafficState S)
+      (engine : EngineState) (what : HubEvent) (made : List Entry) (given count : ℕ)
+      → HandsOn journal terms old.engine now what made given engine → IsSome (link_at old.table n)
+      → pending_of (link_at old.table n) ≡ [] → IsPieceOf what n bytes
+      → drop count bytes ≡ drop given bytes → count ≡ length bytes
+      → KeepsUntaken journal terms now n bytes old (record { engine = engine; table = old.table })
+  kept_whole journal terms now n bytes old engine what made given count does there none piece same all =
+      keeps_made journal terms now n bytes old (record { engine = engine; table = old.table }) what made given
+      count does there none piece same
+      (subst (λ (l : List ℕ). PendsSlot (link_at old.table n) (pending_of (link_at old.table n) ++ l)
+      (link_at old.table n)) (sym (drop_all count bytes (omega (arith, all))))
+      (pends_none (link_at old.table n))) (sym (set-get_or old.table n None))
+
   -- or the connection is given up
   pub loses_made : (journal : Bool) (terms : DeskTerms) (now n : ℕ) (bytes : List ℕ)
       (old between new : TrafficState S) (what : HubEvent) (made : List Entry) (given : ℕ)
+      → given < length bytes
       → HandsOn journal terms old.engine now what made given between.engine → IsPieceOf what n bytes
       → ChangesOne old.table n between.table → GivesUp journal terms now n between new
       → LosesRest journal terms now n bytes old new
-  loses_made journal terms now n bytes old between new what made given does piece others gives = record {
+  loses_made journal terms now n bytes old between new what made given some does piece others gives = record {
     what = what;
     piece = piece;
     given = given;
+    some = some;
     between = between;
     hands = record { made = made; hands = does };
     others = others;

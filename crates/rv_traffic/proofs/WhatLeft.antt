@@ -1,8 +1,8 @@
 -- What is written to a connection.
 use Rattle.std.proofs.Common.{◌≡◌, ◌<◌, ◌≤◌, ℕ, IsSome, List, None, Option, Some, arith, false, length}
-use Rattle.std.proofs.Common.{nat_eq}
+use Rattle.std.proofs.Common.{◌∷◌, [], inl, inr, nat_eq, true}
 use Rattle.std.proofs.Common.{option_map, refl, suc, subst, sym, take, zero}
-use Rattle.std.proofs.lemmas.Bool.{false≢true}
+use Rattle.std.proofs.lemmas.Bool.{eqb-true, false≢true}
 use Rattle.rv_links.specs.declared.link.Socket.{Socket}
 use Rattle.rv_links.specs.declared.link.WriteOutcome.TheVariants as output
 use Rattle.rv_links.specs.Table.{ChangesOne, IsWritable, WritesSlot, link_at, rested}
@@ -13,6 +13,12 @@ use Rattle.rv_traffic.proofs.Tables.{keeps_same}
 some_count : (count : ℕ) → nat_eq count 0 ≡ false → 0 < count
 some_count zero is = absurd (false≢true (sym is))
 some_count (suc n) is = omega arith
+
+pub none_ready : (ready : List ℕ) → nat_eq (length ready) 0 ≡ true → ready ≡ []
+none_ready [] is = refl
+none_ready (b ∷ ready) is =
+    let zero_long : suc (length ready) ≡ 0 = eqb-true (length (b ∷ ready)) 0 is in
+    absurd (omega (arith, zero_long))
 
 pub some_ready : (ready : List ℕ) → nat_eq (length ready) 0 ≡ false → 0 < length ready
 some_ready ready is = some_count (length ready) is
@@ -58,33 +64,34 @@ module _ {S : Type 0} where
       }
 
   pub took_none : (contents : S → Option (List ℕ)) (now : ℕ) (old new : List (Option (Socket S))) (n : ℕ)
-      (ready : List ℕ) → IsSome (link_at old n)
+      (ready : List ℕ) → IsSome (link_at old n) → 0 < length ready
       → WritesSlot contents now (link_at old n) ready output.Nothing (link_at new n) → ChangesOne old n new
-      → ChangesLink old n (TookNone contents) new
-  took_none contents now old new n ready there writes others = at (link_at old n) refl there writes
+      → ChangesLink old n (TookNone contents now ready) new
+  took_none contents now old new n ready there some_bytes writes others = at (link_at old n) refl there writes
     where
       at : (o : Option (Socket S)) → link_at old n ≡ o → IsSome o
           → WritesSlot contents now o ready output.Nothing (link_at new n)
-          → ChangesLink old n (TookNone contents) new
+          → ChangesLink old n (TookNone contents now ready) new
       at None is some none = absurd (false≢true some)
       at (Some link) is some (after, wrote, is_new) = record {
         link = link;
         after = after;
         there = is;
-        changes = record { keeps = wrote.takes; rest = wrote.rest };
+        changes = record { keeps = wrote.takes; rest = wrote.rest; why = inr (some_bytes, wrote) };
         is = is_new;
         others = others;
       }
 
   -- nothing was there to leave
   pub rested_none : (contents : S → Option (List ℕ)) (old new : List (Option (Socket S))) (n now : ℕ)
-      → IsSome (link_at old n) → link_at new n ≡ option_map (λ link. rested link now) (link_at old n)
-      → ChangesOne old n new → ChangesLink old n (TookNone contents) new
-  rested_none contents old new n now there rests others = at (link_at old n) refl there rests
+      (ready : List ℕ) → ready ≡ [] → IsSome (link_at old n)
+      → link_at new n ≡ option_map (λ link. rested link now) (link_at old n)
+      → ChangesOne old n new → ChangesLink old n (TookNone contents now ready) new
+  rested_none contents old new n now ready none_left there rests others = at (link_at old n) refl there rests
     where
       at : (o : Option (Socket S)) → link_at old n ≡ o → IsSome o
           → link_at new n ≡ option_map (λ link. rested link now) o
-          → ChangesLink old n (TookNone contents) new
+          → ChangesLink old n (TookNone contents now ready) new
       at None is some none = absurd (false≢true some)
       at (Some link) is some is_new = record {
         link = link;
@@ -93,6 +100,7 @@ module _ {S : Type 0} where
         changes = record {
           keeps = keeps_same (contents link.stream);
           rest = record { pending = refl; readable = refl; heard = refl };
+          why = inl (none_left, refl);
         };
         is = is_new;
         others = others;

@@ -1,69 +1,136 @@
 -- What calls do to the engine is a run of it, one behind another too, so that the laws of an engine's runs,
 -- and of a hub's, hold of a whole turn of a server.
-use Rattle.std.specs.Prelude.{ℕ, Bool, List, Option}
+use Rattle.std.specs.Prelude.{ℕ, ◌≡◌, ◌++◌, Bool, List, [], None, Option, Some, false, true}
 use Rattle.rv_account.specs.declared.entry.Entry.{Entry}
 use Rattle.rv_desk.specs.View.{DeskTerms}
 use Rattle.rv_frame.specs.declared.sink.Sink.{Sink}
+use Rattle.rv_frame.specs.Sink.{SinkTakes, sink_failed}
 use Rattle.rv_hub.specs.declared.events.HubEvent.{HubEvent}
 use Rattle.rv_engine.specs.declared.events.EngineFault.{EngineFault}
-use Rattle.rv_engine.specs.Engines.{EngineState}
-use Rattle.rv_engine.specs.EngineRuns.{ChangesLooks, EngineDeed, RunsEngine}
-use Rattle.rv_engine.specs.Handing.{Gathers, HandsOn, IsNotTold, IsRefused, TellsWritten, all_gone}
+use Rattle.rv_hub.specs.Hubs.{hub_terms}
+use Rattle.rv_engine.specs.Engines.{EngineState, engine_state}
+use Rattle.rv_engine.specs.EngineRuns.{ChangesLooks, EngineDeed, RunsEngine, bytes_written}
+use Rattle.rv_engine.specs.Handing.{Gathers, HandsOn, HasWorked, IsNotTold, IsRefused, TellsWritten}
+use Rattle.rv_engine.specs.Handing.{all_gone, unwritten}
 use Rattle.rv_traffic.specs.declared.outcomes.ReadFaults.{ReadFaults}
 use Rattle.rv_traffic.specs.Calls.{TellsGone}
 use Rattle.rv_traffic.specs.Rounds.{ReadsRound, WritesRound}
-use Rattle.rv_traffic.specs.Views.{TrafficState}
+use Rattle.rv_traffic.specs.declared.traffic.Switchboard.{Switchboard}
+use Rattle.rv_traffic.specs.Views.{SameTerms, TrafficState}
 
--- one engine is behind some deeds of the other
-pub record RunsBehind (journal : Bool) (terms : DeskTerms) (s t : EngineState) : Type 0 where
-  pub deeds : List EngineDeed
-  pub runs : RunsEngine journal terms s deeds t
+-- one engine is behind some deeds of the other, in which the device took these lines
+pub record RunsBehind (journal : Bool) (terms : DeskTerms) (s : EngineState) (bytes : List ℕ)
+    (t : EngineState) : Type 0
+  where
+    pub deeds : List EngineDeed
+    pub runs : RunsEngine journal terms s deeds t
+    pub bytes_are : bytes_written deeds ≡ bytes
+
+-- so is the engine behind sockets, where the device took nothing
+pub record OnlyCalls {S : Type 0} (old new : Switchboard S) : Type 0 where
+  pub terms : SameTerms old new
+  pub runs : RunsBehind old.engine.hub.has_journal (hub_terms old.engine.hub) (engine_state old.engine) []
+      (engine_state new.engine)
 
 -- calls one behind another are one run
 abbrev pub RunsAreJoined : Type 0
-RunsAreJoined = (journal : Bool) (terms : DeskTerms) (s t u : EngineState) → RunsBehind journal terms s t
-    → RunsBehind journal terms t u → RunsBehind journal terms s u
+RunsAreJoined = (journal : Bool) (terms : DeskTerms) (s t u : EngineState) (first second : List ℕ)
+    → RunsBehind journal terms s first t → RunsBehind journal terms t second u
+    → RunsBehind journal terms s (first ++ second) u
 
 abbrev pub EventsAreRuns : Type 0
 EventsAreRuns = (journal : Bool) (terms : DeskTerms) (s t : EngineState) (now : ℕ) (what : HubEvent)
     (made : List Entry) (given : ℕ) → HandsOn journal terms s now what made given t
-    → RunsBehind journal terms s t
+    → RunsBehind journal terms s [] t
 
 abbrev pub RefusalsAreRuns : Type 0
 RefusalsAreRuns = (journal : Bool) (terms : DeskTerms) (s t : EngineState) (what : HubEvent)
-    (why : EngineFault) → IsRefused s what why t → RunsBehind journal terms s t
+    (why : EngineFault) → IsRefused s what why t → RunsBehind journal terms s [] t
 
 abbrev pub LooksAreRuns : Type 0
 LooksAreRuns = (journal : Bool) (terms : DeskTerms) (s t : EngineState) → ChangesLooks s t
-    → RunsBehind journal terms s t
+    → RunsBehind journal terms s [] t
 
 abbrev pub GatheringsAreRuns : Type 0
 GatheringsAreRuns = (journal : Bool) (terms : DeskTerms) (s t : EngineState) → Gathers s t
-    → RunsBehind journal terms s t
+    → RunsBehind journal terms s [] t
 
 -- a connection is given up
 abbrev pub EndsAreRuns : Type 0
 EndsAreRuns = (journal : Bool) (terms : DeskTerms) (s t : EngineState) (now number : ℕ)
-    → TellsGone journal terms s now number t → RunsBehind journal terms s t
+    → TellsGone journal terms s now number t → RunsBehind journal terms s [] t
 
 abbrev pub ReadRoundsAreRuns : {S : Type 0} → (S → Option (List ℕ)) → Type 0
 ReadRoundsAreRuns {S} remaining = (journal : Bool) (terms : DeskTerms) (now : ℕ) (old new : TrafficState S)
     (faults : ReadFaults) → ReadsRound remaining journal terms now old faults new
-    → RunsBehind journal terms old.engine new.engine
+    → RunsBehind journal terms old.engine [] new.engine
 
 abbrev pub WriteRoundsAreRuns : {S : Type 0} → (S → Option (List ℕ)) → Type 0
 WriteRoundsAreRuns {S} contents = (journal : Bool) (terms : DeskTerms) (now : ℕ) (old new : TrafficState S)
     (broken : ℕ) → WritesRound contents journal terms now old broken new
-    → RunsBehind journal terms old.engine new.engine
+    → RunsBehind journal terms old.engine [] new.engine
 
 -- all lines of the account are written, and the hub is told so where it knew of fewer
 abbrev pub WrittenLinesAreRuns : Type 0
 WrittenLinesAreRuns = (journal : Bool) (terms : DeskTerms) (s t : EngineState) (now : ℕ) (made : List Entry)
     (told : Option ℕ) → TellsWritten journal terms (all_gone s) now made told t
-    → RunsBehind journal terms s t
+    → RunsBehind journal terms s (unwritten s) t
+
+-- ---- over one device
+
+-- a run in which the device took the lines, and then these bytes, with which it failed: first ones of the
+-- lines that aren't written. One that hasn't failed took each line whole, and one that had takes none
+pub record RunsOver {W : Type 0} (contents : W → Option (List ℕ)) (journal : Bool) (terms : DeskTerms)
+    (s : EngineState) (before : Sink W) (t : EngineState) (after : Sink W) : Type 0
+  where
+    pub bytes : List ℕ
+    pub runs : RunsBehind journal terms s bytes t
+    pub torn : List ℕ
+    pub more : List ℕ
+    pub torn_is : unwritten t ≡ torn ++ more
+    pub takes : SinkTakes contents before after (bytes ++ torn)
+    pub whole : sink_failed after ≡ false → torn ≡ []
+    pub stays : sink_failed before ≡ true → (bytes ≡ []) × (torn ≡ []) × (sink_failed after ≡ true)
+
+-- a run in which the device took nothing leaves it as it was
+abbrev pub OthersAreOver : {W : Type 0} → (W → Option (List ℕ)) → Type 0
+OthersAreOver {W} contents = (journal : Bool) (terms : DeskTerms) (s t : EngineState) (sink : Sink W)
+    → RunsBehind journal terms s [] t → RunsOver contents journal terms s sink t sink
+
+-- runs over one device, one behind another, are one
+abbrev pub OversAreJoined : {W : Type 0} → (W → Option (List ℕ)) → Type 0
+OversAreJoined {W} contents = (journal : Bool) (terms : DeskTerms) (s t u : EngineState)
+    (before between after : Sink W)
+    → RunsOver contents journal terms s before t between → RunsOver contents journal terms t between u after
+    → RunsOver contents journal terms s before u after
+
+-- the lines of the account are written to it
+abbrev pub WrittenLinesAreOver : {W : Type 0} → (W → Option (List ℕ)) → Type 0
+WrittenLinesAreOver {W} contents = (journal : Bool) (terms : DeskTerms) (s t : EngineState)
+    (before after : Sink W) (now : ℕ) (made : List Entry) (told : Option ℕ)
+    → SinkTakes contents before after (unwritten s) → HasWorked before after
+    → TellsWritten journal terms (all_gone s) now made told t
+    → RunsOver contents journal terms s before t after
 
 -- or they aren't all written
-abbrev pub UnwrittenLinesAreRuns : {W : Type 0} → (W → Option (List ℕ)) → Type 0
-UnwrittenLinesAreRuns {W} contents = (journal : Bool) (terms : DeskTerms) (s t : EngineState)
+abbrev pub UnwrittenLinesAreOver : {W : Type 0} → (W → Option (List ℕ)) → Type 0
+UnwrittenLinesAreOver {W} contents = (journal : Bool) (terms : DeskTerms) (s t : EngineState)
     (before after : Sink W) (why : EngineFault) → IsNotTold contents s before why t after
-    → RunsBehind journal terms s t
+    → RunsOver contents journal terms s before t after
+
+-- an engine behind sockets, over a device
+pub record RunsOnDevice {S W : Type 0} (contents : W → Option (List ℕ)) (old : Switchboard S) (before :
+    Sink W)
+    (new : Switchboard S) (after : Sink W) : Type 0
+  where
+    pub terms : SameTerms old new
+    pub over : RunsOver contents old.engine.hub.has_journal (hub_terms old.engine.hub)
+        (engine_state old.engine) before (engine_state new.engine) after
+
+-- over the device of its account, if one is kept; else no line is written
+abbrev pub RunsWith : {S W : Type 0} → (W → Option (List ℕ)) → Switchboard S → Option (Sink W)
+    → Switchboard S → Option (Sink W) → Type 0
+RunsWith contents old None new None = OnlyCalls old new
+RunsWith contents old None new (Some after) = ⊥
+RunsWith contents old (Some before) new None = ⊥
+RunsWith contents old (Some before) new (Some after) = RunsOnDevice contents old before new after

@@ -12,8 +12,9 @@ use Rattle.rv_engine.specs.Engines.{EngineState}
 use Rattle.rv_engine.specs.Handing.{Gathers, HandsOn, LooksAt}
 use Rattle.rv_links.specs.declared.link.Socket.{Socket}
 use Rattle.rv_links.specs.Reading.{KeepsOutput}
-use Rattle.rv_links.specs.Writing.{KeepsInput}
-use Rattle.rv_links.specs.Table.{ChangesOne, IsFreshSlot, IsWritable, link_at, pending_of}
+use Rattle.rv_links.specs.declared.link.WriteOutcome.TheVariants as output
+use Rattle.rv_links.specs.Writing.{KeepsInput, WritesOnce}
+use Rattle.rv_links.specs.Table.{ChangesOne, IsFreshSlot, IsWritable, link_at, pending_of, rested}
 use Rattle.rv_traffic.specs.declared.outcomes.Reading.{Reading}
 use Rattle.rv_traffic.specs.declared.outcomes.Reading.TheVariants as reading
 use Rattle.rv_traffic.specs.declared.outcomes.Writing.{Writing}
@@ -91,6 +92,7 @@ pub record LooksLater (old : EngineState) (number : ℕ) (new : EngineState) : T
   pub hub : new.hub ≡ mid.hub
   pub lines : new.lines ≡ mid.lines
   pub left : new.left ≡ mid.left
+  pub stored : new.stored ≡ mid.stored
 
 -- the hub is told that a connection is gone, or that is done later
 abbrev pub TellsGone : Bool → DeskTerms → EngineState → ℕ → ℕ → EngineState → Type 0
@@ -178,13 +180,14 @@ pub record KeepsUntaken {S : Type 0} (journal : Bool) (terms : DeskTerms) (now n
     pub link : ChangesLink old.table number (λ link after. (after.stream ≡ link.stream)
         × (after.pending.items ≡ drop given bytes) × SameFlags link after) new.table
 
--- or memory was refused to the others: the connection is given up
+-- or memory was refused to the others, of which there are some: the connection is given up
 pub record LosesRest {S : Type 0} (journal : Bool) (terms : DeskTerms) (now number : ℕ) (bytes : List ℕ)
     (old new : TrafficState S) : Type 0
   where
     pub what : HubEvent
     pub piece : IsPieceOf what number bytes
     pub given : ℕ
+    pub some : given < length bytes
     pub between : TrafficState S
     pub hands : Hands journal terms old.engine now what given between.engine
     pub others : ChangesOne old.table number between.table
@@ -261,21 +264,25 @@ pub record Sends {S : Type 0} (contents : S → Option (List ℕ)) (journal : Bo
     pub hands : Hands journal terms old.engine now (event.Took number count) given new.engine
     pub link : ChangesLink old.table number (TookSome contents now (take count wire.ready)) new.table
 
--- the socket took none
-pub record TookNone {S : Type 0} (contents : S → Option (List ℕ)) (link after : Socket S) : Type 0 where
-  pub keeps : Keeps (contents link.stream) (contents after.stream)
-  pub rest : KeepsInput link after
+-- the socket took none of these bytes: there were none at this moment, or a write at it took none
+pub record TookNone {S : Type 0} (contents : S → Option (List ℕ)) (now : ℕ) (ready : List ℕ)
+    (link after : Socket S) : Type 0
+  where
+    pub keeps : Keeps (contents link.stream) (contents after.stream)
+    pub rest : KeepsInput link after
+    pub why : ((ready ≡ []) × (after ≡ rested link now))
+        ⊎ ((0 < length ready) × WritesOnce contents now link ready output.Nothing after)
 
 -- nothing is written or told: the connection is closed and has no socket, or it is open, and its socket took
--- none
-pub record SendsNothing {S : Type 0} (contents : S → Option (List ℕ)) (number : ℕ) (old new :
-    TrafficState S) :
-    Type 0
+-- none of what may leave
+pub record SendsNothing {S : Type 0} (contents : S → Option (List ℕ)) (now number : ℕ)
+    (old new : TrafficState S) : Type 0
   where
     pub engine : new.engine ≡ old.engine
     pub why : ((link_at old.table number ≡ None) × (new.table ≡ old.table)
         × (old.engine.hub.open_wires.wires number ≡ None))
-        ⊎ (IsConnected old.engine.hub number × ChangesLink old.table number (TookNone contents) new.table)
+        ⊎ HasWire old.engine.hub.open_wires number
+        (λ wire. ChangesLink old.table number (TookNone contents now wire.ready) new.table)
 
 -- bytes were ready, and a write to its socket failed: the connection is given up
 pub record FailsToWrite {S : Type 0} (journal : Bool) (terms : DeskTerms) (now number : ℕ)
@@ -294,7 +301,8 @@ pub record ClosesSocket {S : Type 0} (number : ℕ) (old new : TrafficState S) :
 -- what comes of one connection's turn to be written to
 abbrev pub WritesOne : {S : Type 0} → (S → Option (List ℕ)) → Bool → DeskTerms → ℕ → ℕ → TrafficState S
     → Writing → TrafficState S → Type 0
-WritesOne contents journal terms now number old writing.Nothing new = SendsNothing contents number old new
+WritesOne contents journal terms now number old writing.Nothing new =
+    SendsNothing contents now number old new
 WritesOne contents journal terms now number old writing.Sent new =
     Sends contents journal terms now number old new
 WritesOne contents journal terms now number old writing.Closed new = ClosesSocket number old new

@@ -1,8 +1,8 @@
 //! Laws of calls: each contract is one, and no body does anything.
 ghost use Rattle.rv_traffic.specs.CallRuns.{EndsAreRuns, EventsAreRuns, GatheringsAreRuns, LooksAreRuns};
-ghost use Rattle.rv_traffic.specs.CallRuns.{ReadRoundsAreRuns, RefusalsAreRuns, RunsAreJoined};
-ghost use Rattle.rv_traffic.specs.CallRuns.{UnwrittenLinesAreRuns};
-ghost use Rattle.rv_traffic.specs.CallRuns.{WriteRoundsAreRuns, WrittenLinesAreRuns};
+ghost use Rattle.rv_traffic.specs.CallRuns.{OthersAreOver, OversAreJoined, ReadRoundsAreRuns};
+ghost use Rattle.rv_traffic.specs.CallRuns.{RefusalsAreRuns, RunsAreJoined, UnwrittenLinesAreOver};
+ghost use Rattle.rv_traffic.specs.CallRuns.{WriteRoundsAreRuns, WrittenLinesAreOver, WrittenLinesAreRuns};
 
 use std::io::{Read, Write};
 
@@ -18,5 +18,13 @@ pub fn calls_are_runs<S: Read + Write>()
     ensures read_rounds { ReadRoundsAreRuns S.remaining }
     ensures write_rounds { WriteRoundsAreRuns S.contents }
     ensures written_lines { WrittenLinesAreRuns }
-    ensures unwritten_lines { UnwrittenLinesAreRuns S.contents }
+{}
+
+/// So is a whole turn over one device: it takes the lines of the account in order, each whole, but for the
+/// last where it fails.
+pub fn turns_are_runs<W: Write>()
+    ensures joined { OversAreJoined W.contents }
+    ensures others { OthersAreOver W.contents }
+    ensures written_lines { WrittenLinesAreOver W.contents }
+    ensures unwritten_lines { UnwrittenLinesAreOver W.contents }
 {}

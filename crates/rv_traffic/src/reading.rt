@@ -59,6 +59,9 @@ fn offer_piece<S: Read + Drop>(
     let piece = traffic.links.piece();
     let taken = traffic.engine.hand(now, LinkEvent::Came(number, piece));
     let count = at_most(taken, piece);
+    if count == piece.len() {
+        return Reading::Offered;
+    }
     match traffic.links.keep(number, count) {
         Ok(()) => Reading::Offered,
         Err(_) => {

@@ -4,7 +4,8 @@ ghost use Rattle.rv_frame.specs.Sink.{SinkTakes};
 ghost use Rattle.rv_hub.specs.Hubs.{hub_terms};
 ghost use Rattle.rv_hub.specs.declared.events.HubEvent.TheVariants as event;
 ghost use Rattle.rv_engine.specs.Engines.{engine_state};
-ghost use Rattle.rv_engine.specs.Handing.{HandsOn, IsNotTold, IsRefused, TellsWritten, all_gone, unwritten};
+ghost use Rattle.rv_engine.specs.Handing.{HandsOn, HasWorked, IsNotTold, IsRefused, TellsWritten, all_gone};
+ghost use Rattle.rv_engine.specs.Handing.{unwritten};
 
 use crate::accepting::Opened;
 use crate::outcomes::ReadFaults;
@@ -24,6 +25,7 @@ pub struct Switchboard<S> {
 
 impl<S: Drop> Switchboard<S> {
     ghost use Rattle.rv_traffic.specs.Calls.{GivesUp};
+    ghost use Rattle.rv_traffic.specs.CallRuns.{OnlyCalls};
     ghost use Rattle.rv_traffic.specs.Views.{SameTerms, traffic_state};
 
     /// An engine whose connections have no sockets yet.
@@ -54,6 +56,7 @@ impl<S: Drop> Switchboard<S> {
         ensures gives_up { GivesUp self.old.engine.hub.has_journal (hub_terms self.old.engine.hub) now number
             (traffic_state self.old) (traffic_state self.new) }
         ensures terms { SameTerms self.old self.new }
+        ensures runs { OnlyCalls self.old self.new }
     {
         giving_up::give_up(self, now, number);
     }
@@ -66,6 +69,7 @@ impl<S: Drop> Switchboard<S> {
     ghost use Rattle.rv_traffic.specs.Calls.{Attaches, GivesUp, Hands};
     ghost use Rattle.std.specs.Option.{option_map};
     ghost use Rattle.rv_links.specs.Table.{ChangesOne, heeded, link_at};
+    ghost use Rattle.rv_traffic.specs.CallRuns.{OnlyCalls, RunsOver};
     ghost use Rattle.rv_traffic.specs.Views.{SameTerms, traffic_state};
 
     /// A connection is opened at a moment: it gives its number, under which a socket is to be put, or why
@@ -78,6 +82,7 @@ impl<S: Drop> Switchboard<S> {
             (engine_state self.new.engine)) }
         ensures links { self.new.links ≡ self.old.links }
         ensures terms { SameTerms self.old self.new }
+        ensures runs { OnlyCalls self.old self.new }
     {
         match self.engine.tell(now, LinkEvent::Opened) {
             Ok(number) => Ok(Opened { number }),
@@ -91,6 +96,7 @@ impl<S: Drop> Switchboard<S> {
         ensures attaches { Attaches self.old.engine.hub.has_journal (hub_terms self.old.engine.hub) now
             opened.number stream (traffic_state self.old) result (traffic_state self.new) }
         ensures terms { SameTerms self.old self.new }
+        ensures runs { OnlyCalls self.old self.new }
     {
         let Opened { number } = opened;
         accepting::attach(self, now, number, stream)
@@ -101,6 +107,7 @@ impl<S: Drop> Switchboard<S> {
         ensures gives_up { GivesUp self.old.engine.hub.has_journal (hub_terms self.old.engine.hub) now
             opened.number (traffic_state self.old) (traffic_state self.new) }
         ensures terms { SameTerms self.old self.new }
+        ensures runs { OnlyCalls self.old self.new }
     {
         let Opened { number } = opened;
         self.give_up(now, number);
@@ -116,6 +123,8 @@ impl<S: Drop> Switchboard<S> {
         ensures hub { self.new.engine.hub ≡ self.old.engine.hub }
         ensures lines { (engine_state self.new.engine).lines ≡ (engine_state self.old.engine).lines }
         ensures left { (engine_state self.new.engine).left ≡ (engine_state self.old.engine).left }
+        ensures stored { (engine_state self.new.engine).stored ≡ (engine_state self.old.engine).stored }
+        ensures runs { OnlyCalls self.old self.new }
     {
         self.links.heed(number, is_readable, is_writable);
         self.engine.look_at(number);
@@ -128,6 +137,7 @@ impl<S: Drop> Switchboard<S> {
             (engine_state self.old.engine) now event.Passed given (engine_state self.new.engine) }
         ensures links { self.new.links ≡ self.old.links }
         ensures terms { SameTerms self.old self.new }
+        ensures runs { OnlyCalls self.old self.new }
     {
         self.engine.hand(now, LinkEvent::Passed);
     }
@@ -139,6 +149,7 @@ impl<S: Drop> Switchboard<S> {
         ensures yes { OnTrue result ((engine_state self.new.engine).left ≡ []) }
         ensures no { OnFalse result (0 < length (engine_state self.new.engine).left) }
         ensures links { self.new.links ≡ self.old.links }
+        ensures runs { OnlyCalls self.old self.new }
     {
         self.engine.catch_up()
     }
@@ -151,6 +162,7 @@ impl<S: Drop> Switchboard<S> {
     ) -> Result<Option<usize>, EngineFault>
         ensures written { OnOk result (SinkTakes W.contents file.old file.new
             (unwritten (engine_state self.old.engine))) }
+        ensures works { OnOk result (HasWorked file.old file.new) }
         ensures tells { IfOk result (λ told. TellsWritten self.old.engine.hub.has_journal
             (hub_terms self.old.engine.hub) (all_gone (engine_state self.old.engine)) now
             self.new.engine.hub.desk.entries.items told (engine_state self.new.engine)) }
@@ -158,6 +170,9 @@ impl<S: Drop> Switchboard<S> {
             why (engine_state self.new.engine) file.new) }
         ensures links { self.new.links ≡ self.old.links }
         ensures terms { SameTerms self.old self.new }
+        ensures runs { RunsOver W.contents self.old.engine.hub.has_journal
+            (hub_terms self.old.engine.hub) (engine_state self.old.engine) file.old
+            (engine_state self.new.engine) file.new }
     {
         self.engine.write_lines(now, file)
     }
@@ -165,6 +180,7 @@ impl<S: Drop> Switchboard<S> {
 
 impl<S: Read + Drop> Switchboard<S> {
     ghost use Rattle.rv_traffic.specs.Rounds.{ReadsRound};
+    ghost use Rattle.rv_traffic.specs.CallRuns.{OnlyCalls};
     ghost use Rattle.rv_traffic.specs.Views.{SameTerms, traffic_state};
 
     /// Reads once from each that is to be looked at, at a moment: all of them are to be written to. What is
@@ -173,6 +189,7 @@ impl<S: Read + Drop> Switchboard<S> {
         ensures reads { ReadsRound S.remaining self.old.engine.hub.has_journal
             (hub_terms self.old.engine.hub) now (traffic_state self.old) result (traffic_state self.new) }
         ensures terms { SameTerms self.old self.new }
+        ensures runs { OnlyCalls self.old self.new }
     {
         rounds::read_round(self, now)
     }
@@ -180,6 +197,7 @@ impl<S: Read + Drop> Switchboard<S> {
 
 impl<S: Write + Drop> Switchboard<S> {
     ghost use Rattle.rv_traffic.specs.Rounds.{WritesRound};
+    ghost use Rattle.rv_traffic.specs.CallRuns.{OnlyCalls};
     ghost use Rattle.rv_traffic.specs.Views.{SameTerms, traffic_state};
 
     /// Writes once to each that is to be looked at, at a moment, which then is only if it can be read or
@@ -189,6 +207,7 @@ impl<S: Write + Drop> Switchboard<S> {
         ensures writes { WritesRound S.contents self.old.engine.hub.has_journal
             (hub_terms self.old.engine.hub) now (traffic_state self.old) result (traffic_state self.new) }
         ensures terms { SameTerms self.old self.new }
+        ensures runs { OnlyCalls self.old self.new }
     {
         rounds::write_round(self, now)
     }

@@ -9,5 +9,6 @@ returns-clause-gathers c = record {
       c.args.parts.now.gathered c.gather.result (string_bytes c.args.parts.now.lines)
       (string_bytes c.gather.new.lines) c.entries.ensures c.gather.ensures.lines;
   hub = refl;
+  stored = refl;
   looks = record { looks = refl; round = refl; room = refl };
 }

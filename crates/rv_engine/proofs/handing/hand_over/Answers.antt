@@ -7,7 +7,9 @@ use Rattle.rv_engine.proofs.handing.hand_over.Goals as goal
 
 pub returns-in-Ok-clause-takes : goal.returns-in-Ok-clause-takes
 returns-in-Ok-clause-takes c = record {
+  tells = c.requires.tells;
   takes = c.in-Ok.ensures.takes;
+  stored = refl;
   gathers = gathers_made c.args.parts.now.hub.has_journal c.args.parts.now.has_account
       c.handle.new.self.desk.entries.items c.entries-made.result.now (engine_state c.args.parts.now).left
       c.gather_kept-parts.result (string_bytes c.args.parts.now.lines)

@@ -1,20 +1,24 @@
 -- What is written behind a gathering.
-use Rattle.std.proofs.Common.{◌≡◌, ◌<◌, ◌∙◌, ℕ, List, [], ap, arith, length, refl, subst, sym, take}
+use Rattle.std.proofs.Common.{◌≡◌, ◌∙◌, ℕ, List, [], ap, arith, length, subst, sym}
 use Rattle.rv_frame.specs.Sink.{SinkTakes}
 use Rattle.rv_hub.specs.declared.parts.HubParts.{HubParts}
 use Rattle.rv_hub.specs.Hubs.{hub_terms}
 use Rattle.rv_engine.specs.declared.parts.EngineParts.{EngineParts}
 use Rattle.rv_engine.specs.Engines.{EngineState, engine_state}
-use Rattle.rv_engine.specs.Handing.{Gathers, TellsWritten, WritesLines, all_gone}
-use Rattle.rv_engine.proofs.Written.{all_lines, gone_is, wrote_some}
+use Rattle.rv_engine.specs.Handing.{WritesInPart, StoresSome, TellsWritten, all_gone}
+use Rattle.rv_engine.proofs.Written.{all_lines, all_stored, gone_is, stores_some}
 use Rattle.rv_engine.proofs.writing.write_lines.Goals as goal
 
 pub returns-in-Err-clause-not_told : goal.returns-in-Err-clause-not_told
 returns-in-Err-clause-not_told g c =
-    subst (λ (e : EngineParts). Gathers (engine_state c.args.parts.now) (engine_state e)
-    × SinkTakes g.W.Write.contents c.args.file.now c.write_gathered.new.file
-    (take c.in-Err.why.sent (engine_state e).lines)) (sym c.in-Err.ensures.same)
-    (c.catch_up.ensures.gathers, c.in-Err.ensures.part)
+    subst (λ (e : EngineParts). WritesInPart g.W.Write.contents (engine_state c.args.parts.now)
+    c.args.file.now
+    c.in-Err.why.sent (engine_state e) c.write_gathered.new.file) (sym c.in-Err.ensures.same) (record {
+      gathers = c.catch_up.ensures.gathers;
+      takes = c.in-Err.ensures.part;
+      failed = c.in-Err.ensures.failed;
+      refused = c.in-Err.ensures.refused;
+    })
 
 pub returns-then-not-is_caught_up-clause-not_told : goal.returns-then-not-is_caught_up-clause-not_told
 returns-then-not-is_caught_up-clause-not_told g c =
@@ -23,15 +27,19 @@ returns-then-not-is_caught_up-clause-not_told g c =
     let gone = c.in_default.ensures.gone in
     let same : length (engine_state c.write_gathered.new.parts).left ≡ length mid.left =
     ap (λ (x : EngineState). length x.left) gone in
-    subst (λ (x : EngineState). (0 < length x.left) × (x.lines ≡ []) × (bytes : List ℕ)
-    × SinkTakes g.W.Write.contents c.args.file.now c.write_gathered.new.file bytes
-    × WritesLines old bytes x) (sym gone) (
-      omega (arith, same, c.if-not-is_caught_up.ensures.no),
-      refl,
-      mid.lines,
-      c.in_default.ensures.written,
-      wrote_some old mid c.catch_up.ensures.gathers,
-    )
+    subst (λ (x : EngineState). StoresSome g.W.Write.contents old c.args.file.now x
+    c.write_gathered.new.file) (sym gone) (record {
+      some = omega (arith, same, c.if-not-is_caught_up.ensures.no);
+      bytes = mid.lines;
+      takes = c.in_default.ensures.written;
+      stores = stores_some old mid c.catch_up.ensures.gathers;
+      works = c.in_default.ensures.works;
+    })
+
+pub tell_written-requires-clause-stored : goal.tell_written-requires-clause-stored
+tell_written-requires-clause-stored g c =
+    all_stored (engine_state c.catch_up.new.parts) (engine_state c.write_gathered.new.parts)
+    c.in_default.ensures.gone c.if-not-is_caught_up.ensures.yes
 
 pub returns-clause-written : goal.returns-clause-written
 returns-clause-written g c =

@@ -14,6 +14,7 @@ returns-then-not-catch_up-clause-told c = inr (record {
   hub = ap hub_state c.look_at.ensures.hub;
   lines = c.look_at.ensures.lines;
   left = c.look_at.ensures.left;
+  stored = c.look_at.ensures.stored;
 })
 
 pub returns-then-not-is_open-clause-told : goal.returns-then-not-is_open-clause-told
@@ -25,6 +26,7 @@ returns-then-not-is_open-clause-told c = inr (record {
   hub = ap hub_state c.look_at-then-not-is_open.ensures.hub;
   lines = c.look_at-then-not-is_open.ensures.lines;
   left = c.look_at-then-not-is_open.ensures.left;
+  stored = c.look_at-then-not-is_open.ensures.stored;
 })
 
 pub returns-clause-told : goal.returns-clause-told

@@ -1,6 +1,6 @@
 -- By what came of each.
 use Rattle.rv_traffic.proofs.CallsRun.{events_run, gatherings_run, gone_run, looks_run}
-use Rattle.rv_traffic.proofs.CallsRun.{read_rounds_run, refusals_run, runs_join, unwritten_lines_run}
+use Rattle.rv_traffic.proofs.CallsRun.{read_rounds_run, refusals_run, runs_join}
 use Rattle.rv_traffic.proofs.CallsRun.{write_rounds_run, written_lines_run}
 use Rattle.rv_traffic.proofs.laws.calls_are_runs.Goals as goal
 
@@ -30,6 +30,3 @@ returns-clause-write_rounds g c = write_rounds_run g.S.Write.contents
 
 pub returns-clause-written_lines : goal.returns-clause-written_lines
 returns-clause-written_lines g c = written_lines_run
-
-pub returns-clause-unwritten_lines : goal.returns-clause-unwritten_lines
-returns-clause-unwritten_lines g c = unwritten_lines_run g.S.Write.contents

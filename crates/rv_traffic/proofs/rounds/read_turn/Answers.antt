@@ -14,6 +14,7 @@ returns-clause-reads g c = record {
       hub = ap hub_state c.look_at.ensures.hub;
       lines = c.look_at.ensures.lines;
       left = c.look_at.ensures.left;
+      stored = c.look_at.ensures.stored;
     };
     table = refl;
   };

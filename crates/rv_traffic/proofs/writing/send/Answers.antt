@@ -2,10 +2,11 @@
 use Rattle.std.proofs.Common.{◌<◌, ◌≤◌, ◌∙◌, ℕ, List, inr, length, refl, subst, sym}
 use Rattle.rv_hub.specs.Hubs.{hub_terms}
 use Rattle.rv_engine.specs.Engines.{engine_state}
+use Rattle.rv_traffic.specs.Calls.{ChangesLink, TookNone}
 use Rattle.rv_traffic.specs.Views.{traffic_state}
 use Rattle.rv_traffic.proofs.Tables.{gives_up_then}
-use Rattle.rv_traffic.proofs.WhatLeft.{broken_writable, rested_none, some_ready, took_none, took_ready}
-use Rattle.rv_traffic.proofs.WhatLeft.{took_within}
+use Rattle.rv_traffic.proofs.WhatLeft.{broken_writable, none_ready, rested_none, some_ready, took_none}
+use Rattle.rv_traffic.proofs.WhatLeft.{took_ready, took_within}
 use Rattle.rv_traffic.proofs.writing.send.Goals as goal
 
 pub hand-requires-clause-can : goal.hand-requires-clause-can
@@ -19,14 +20,19 @@ hand-requires-clause-can g c =
     }
 
 pub returns-then-is_empty-clause-writes : goal.returns-then-is_empty-clause-writes
-returns-then-is_empty-clause-writes g c = record {
-  engine = refl;
-  why = inr (
-    c.requires.is_open,
-    rested_none g.S.Write.contents c.args.traffic.now.links.table.items c.rest.new.self.table.items
-        c.args.number c.args.now c.requires.there c.rest.ensures.rests c.rest.ensures.others,
-  );
-}
+returns-then-is_empty-clause-writes g c =
+    let is = c.ready_of-ready.ensures c.requires.is_open.wire c.requires.is_open.there in
+    record {
+      engine = refl;
+      why = inr (record {
+        wire = c.requires.is_open.wire;
+        there = c.requires.is_open.there;
+        so = rested_none g.S.Write.contents c.args.traffic.now.links.table.items c.rest.new.self.table.items
+            c.args.number c.args.now c.requires.is_open.wire.ready
+            (sym is ∙ none_ready _ (sym c.is_empty.ensures ∙ c.if-is_empty.true)) c.requires.there
+            c.rest.ensures.rests c.rest.ensures.others;
+      });
+    }
 
 pub returns-in-Took-clause-writes : goal.returns-in-Took-clause-writes
 returns-in-Took-clause-writes g c =
@@ -47,15 +53,21 @@ returns-in-Took-clause-writes g c =
     }
 
 pub returns-in-Nothing-clause-writes : goal.returns-in-Nothing-clause-writes
-returns-in-Nothing-clause-writes g c = record {
-  engine = refl;
-  why = inr (
-    c.requires.is_open,
-    took_none g.S.Write.contents c.args.now c.args.traffic.now.links.table.items c.write.new.self.table.items
-        c.args.number c.ready_of-ready.result.now c.requires.there c.in-Nothing.ensures.writes
-        c.write.ensures.others,
-  );
-}
+returns-in-Nothing-clause-writes g c =
+    let is = c.ready_of-ready.ensures c.requires.is_open.wire c.requires.is_open.there in
+    record {
+      engine = refl;
+      why = inr (record {
+        wire = c.requires.is_open.wire;
+        there = c.requires.is_open.there;
+        so = subst (λ (l : List ℕ). ChangesLink c.args.traffic.now.links.table.items c.args.number
+            (TookNone g.S.Write.contents c.args.now l) c.write.new.self.table.items) is
+            (took_none g.S.Write.contents c.args.now c.args.traffic.now.links.table.items
+            c.write.new.self.table.items c.args.number c.ready_of-ready.result.now c.requires.there
+            (some_ready _ (sym c.is_empty.ensures ∙ c.if-is_empty.false)) c.in-Nothing.ensures.writes
+            c.write.ensures.others);
+      });
+    }
 
 pub returns-in-Broken-clause-writes : goal.returns-in-Broken-clause-writes
 returns-in-Broken-clause-writes g c =

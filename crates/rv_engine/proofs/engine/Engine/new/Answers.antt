@@ -1,5 +1,8 @@
 -- No line is gathered, no entry left, and no connection listed.
 use Rattle.std.proofs.Common.{◌∙◌, ap, arith, length, sym}
+use Rattle.rv_desk.specs.View.{DeskState}
+use Rattle.rv_machine.specs.Machines.{state_in}
+use Rattle.rv_machine.specs.declared.machine.Machine.{Machine}
 use Rattle.rv_engine.proofs.Through.{all_gathered, state_is}
 use Rattle.rv_engine.proofs.engine.Engine.new.Goals as goal
 
@@ -19,7 +22,10 @@ invariant_of-result c = record {
 
 pub returns-clause-state : goal.returns-clause-state
 returns-clause-state c =
-    state_is _ _ c.args.room c.in_ok-hub.ensures.state c.new-4.ensures.bytes
+    state_is _ _ _ c.args.room c.in_ok-hub.ensures.state c.new-4.ensures.bytes
     (all_gathered c.entries-gathered.result.now c.in_ok-hub.hub.desk.entries.items
-    c.entries-gathered.ensures) c.in_ok-looks.ensures.none c.in_ok-round.ensures.none
+    c.entries-gathered.ensures)
+    (c.length-stored.ensures ∙ ap (λ (m : Machine). (state_in m).length) c.machine.ensures
+    ∙ ap (λ (s : DeskState). s.book.length) c.in_ok-hub.ensures.state) c.in_ok-looks.ensures.none
+    c.in_ok-round.ensures.none
     c.in_ok-looks.ensures.room

@@ -1,0 +1,6 @@
+-- One call behind the other.
+use Rattle.rv_traffic.proofs.CallsRun.{calls_join}
+use Rattle.rv_host.proofs.shell.Shell.look_over_one.Goals as goal
+
+pub returns-clause-runs : goal.returns-clause-runs
+returns-clause-runs g c = calls_join _ _ _ c.catch_up.ensures.runs c.give_up.ensures.runs

@@ -1,0 +1,21 @@
+-- What a server's turn does to the engine behind its sockets, and to the file of its account.
+use Rattle.std.specs.Prelude.{◌↔◌, IsSome, IsTrue, List, None, Option, Some, ℕ}
+use Rattle.rv_frame.specs.declared.sink.Sink.{Sink}
+use Rattle.rv_traffic.specs.CallRuns.{RunsWith}
+use Rattle.rv_host.specs.declared.journal.Journal.{Journal}
+use Rattle.rv_host.specs.declared.shell.Shell.{Shell}
+
+-- the device of an account, if one is kept
+abbrev pub device_in : {W : Type 0} → Option (Journal W) → Option (Sink W)
+device_in None = None
+device_in (Some journal) = Some journal.file
+
+-- the calls of a turn, joined, over the one device of the account: the lines that the hub is told of went
+-- there
+abbrev pub TurnsOver : {W : Type 0} → (W → Option (List ℕ)) → Shell W → Shell W → Type 0
+TurnsOver contents old new =
+    RunsWith contents old.traffic (device_in old.account) new.traffic (device_in new.account)
+
+-- a file is kept exactly where the hub waits until lines are written
+abbrev pub HasItsAccount : {W : Type 0} → Shell W → Type 0
+HasItsAccount shell = IsTrue shell.traffic.engine.hub.has_journal ↔ IsSome shell.account
