@@ -33,6 +33,8 @@ PARTS = [
     ("\ufeff".encode(), 3), ("\U0010ffff".encode(), 4), (b'\\"', 1), (b"\\\\", 1), (b"\\/", 1), (b"\\b", 1), (b"\\f", 1), (b"\\n", 1),
     (b"\\r", 1), (b"\\t", 1), (b"\\u0000", 1), (b"\\u001F", 1), (b"\\u007f", 1), (b"\\u0022", 1), (b"\\u005c", 1), (b"\\u00e9", 2),
     (b"\\u20AC", 3), (b"\\uFFFF", 3), (b"\\ud83d\\ude00", 4), (b"\\uD83D\\uDE00", 4), (b"\\udbff\\udfff", 4)]
+# Those that stand for themselves.
+PLAIN = [part for part, _ in PARTS if part[:1] != b"\\"]
 # The parts by which a text has no reading.
 BREAKS = [
     *(bytes([control]) for control in range(0x20)), b"\\x", b"\\u", b"\\u12", b"\\u12g4", b"\\u 123", b"\\U0041", b"\\'", b"\\0", b"\\a", b"\\",
@@ -54,7 +56,7 @@ def good_value(chance: random.Random, name: str) -> bytes:
     if name == "item":
         return good_text(chance)
     if name == "texts":
-        return list_of([good_text(chance) for _ in range(chance.choice([0, 1, 2, 3, 15, 16]))])
+        return list_of(good_texts(chance, chance.choice([0, 1, 2, 3, 15, 16, chance.randint(0, MAX_DRAIN)])))
     if name == "wait" and chance.random() < 0.6:
         return chance.choice(WAITS)
     least, most = LIMITS[name]
@@ -73,6 +75,13 @@ def good_text(chance: random.Random) -> bytes:
     if chance.random() < 0.5:
         return quoted(b"a" * chance.choice([0, 1, 1, 2, 5, 30]))
     return quoted(b"".join(part for part, _ in chance.choices(PARTS, k=chance.choice([1, 2, 3, 5, 20]))))
+
+
+def good_texts(chance: random.Random, count: int) -> list[bytes]:
+    """So many texts that items may have: in half of the lists none has an escape."""
+    if chance.random() < 0.5:
+        return [good_text(chance) for _ in range(count)]
+    return [quoted(b"".join(chance.choices(PLAIN, k=chance.choice([0, 1, 1, 2, 5, 20])))) for _ in range(count)]
 
 
 def sized_text(chance: random.Random, size: int) -> bytes:
@@ -101,8 +110,8 @@ def any_number(chance: random.Random) -> bytes:
 
 def any_list(chance: random.Random) -> bytes:
     """A list of texts, at its limit or past it, among which other values stand now and then."""
-    count = chance.choice([0, 1, 2, 15, 16, 16, 17, 17, 17, 18])
-    values = [good_text(chance) for _ in range(count)]
+    count = chance.choice([0, 1, 2, 15, 16, 16, 17, 17, 17, 18, chance.randint(0, MAX_DRAIN + 1)])
+    values = good_texts(chance, count)
     if values and chance.random() < 0.2:
         values[chance.randrange(count)] = chance.choice([any_number, other_value, bad_text, long_text])(chance)
     return list_of(values)

@@ -13,7 +13,7 @@ use Rattle.serde_json.specs.declared.value.Value.{Value}
 use Rattle.serde_json.specs.Find.{get_member, as_number, as_u64, as_str, as_array}
 use Rattle.rv_json.specs.declared.members.Members.{Members as Object}
 use Rattle.rv_json.specs.declared.members.Members.TheVariants.{Flat, Tree}
-use Rattle.rv_json.specs.Flat.{seen}
+use Rattle.rv_json.specs.Flat.{flat_members, seen}
 use Rattle.rv_json.specs.declared.fault.TextFault.{TextFault}
 use Rattle.rv_json.specs.declared.fault.TextFault.TheVariants as fault
 
@@ -52,6 +52,11 @@ text_among name members = option_and_then as_str (get_member name members)
 
 abbrev pub item_among : Members → Option (List ℕ)
 item_among = text_among (codes "item")
+
+-- only an item among flat members is copied: that of a map is taken out as it is
+abbrev pub CopiesItem : Object → Type 0
+CopiesItem (Flat fields) = ¬ (item_among (flat_members fields.now) ≡ None)
+CopiesItem (Tree map) = ⊥
 
 -- the members without that of this name; a map has each name once
 abbrev pub without : List ℕ → Members → Members

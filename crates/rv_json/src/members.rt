@@ -4,7 +4,7 @@ ghost use Rattle.serde_json.specs.Find.{get_member, as_str, as_u64, as_number};
 ghost use Rattle.rv_json.specs.Flat.{seen, plain_data};
 ghost use Rattle.serde_json.specs.View.{view, items_view, members_view};
 ghost use Rattle.rv_json.specs.Finding.{Finds, FindsAmong, FindsSeenAmong, texts_in, whole_among, text_among};
-ghost use Rattle.rv_json.specs.Finding.{few_of, few_in, texts_of, texts_among, item_among, without, Leaves};
+ghost use Rattle.rv_json.specs.Finding.{few_of, few_in, texts_of, texts_among, item_among, CopiesItem, without, Leaves};
 ghost use Rattle.rv_json.specs.declared.fault.TextFault.TheVariants as fault;
 
 use crate::fault::TextFault;
@@ -97,11 +97,11 @@ fn take_member(map: &mut Map<String, Value>, name: &str) -> Option<Value>
 }
 
 /// The text of the member `item`: of flat members a copy, of others taken out. [`TextFault::NotMessage`]
-/// comes only if no text stands there; [`TextFault::NoMemory`] only if one does, and a growth was refused.
-/// Flat members stay as they are; of others all stay but `item`.
+/// comes only if no text stands there; [`TextFault::NoMemory`] only if one of flat members does, and a
+/// growth was refused. Flat members stay as they are; of others all stay but `item`.
 pub fn take_item(alloc: Global, members: &mut Members) -> Result<Item, TextFault>
     ensures found { FindsAmong members.old result item_among }
-    ensures sure { result ≡ Err fault.NoMemory → ¬ (item_among (seen members.old) ≡ None) }
+    ensures sure { result ≡ Err fault.NoMemory → CopiesItem members.old }
     ensures left { Leaves (codes "item") members.old members.new }
 {
     match members {
