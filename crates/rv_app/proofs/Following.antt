@@ -1,6 +1,8 @@
--- An account that grows: whole lines of its bytes were read, and all of them are legal, up to the first fault.
+-- An account that grows: whole lines of its bytes were read, and all of them are legal, up to the first
+-- fault.
 use Rattle.std.proofs.Common.{◌≡◌, ◌≢◌, ◌-◌, ◌++◌, ◌∙◌, ℕ, List, [], Option, Some, ap, append-nil}
-use Rattle.std.proofs.Common.{append_assoc, arith, false, true, inl, inr, length, refl, subst, sym, take, IfSome, None}
+use Rattle.std.proofs.Common.{append_assoc, arith, false, true, inl, inr, length, refl, subst, sym, take}
+use Rattle.std.proofs.Common.{IfSome, None}
 use Rattle.std.proofs.lemmas.Bool.{cases_lt}
 use Rattle.std.proofs.lemmas.List.{take-append-le}
 use Rattle.rv_findings.specs.declared.verdict.AccountFinding.{AccountFinding}
@@ -14,7 +16,7 @@ use Rattle.rv_verify.specs.Verdicts.{TellsLegalAccount}
 use Rattle.rv_verify.specs.declared.ongoing.OngoingAudit.{OngoingAudit}
 use Rattle.rv_verify.specs.declared.ongoing.Pause.TheVariants as pause
 use Rattle.rv_verify.proofs.Joining.{lines_more, whole_append}
-use Rattle.rv_app.specs.Verifying.{IsFirstFault}
+use Rattle.rv_app.specs.Verifying.{EndsAtFault}
 
 -- the front of the bytes was read, and is legal; a piece is kept, and so much is ahead
 pub record SoFar (bytes : List ℕ) (o : OngoingAudit) (r : Records) (left : Option (List ℕ)) : Type 0 where
@@ -98,7 +100,7 @@ module _ {bytes : List ℕ} {o : OngoingAudit} {r : Records} {left : Option (Lis
   -- at a fault
   at_fault : Goes pause.Fault → (found : AccountFinding) → (found.torn ≡ true → new.piece.items ≢ [])
       → ((read : List (List ℕ)) (r : Records) → HasReadLines read new.stage r → IsFoundOfLines read r found)
-      → (HasFault new.stage → found.verdict ≢ verdict.Legal) → IsFirstFault bytes after found
+      → (HasFault new.stage → found.verdict ≢ verdict.Legal) → EndsAtFault bytes after found
   at_fault gone found torn is broken = record {
     front = so_far.front ++ more gone;
     rest = gone.rest;
@@ -118,5 +120,5 @@ module _ {bytes : List ℕ} {o : OngoingAudit} {r : Records} {left : Option (Lis
   pub ends_at : (why : pause.the_data) → why ≡ pause.Fault → Goes why → (found : AccountFinding)
       → (found.torn ≡ true → new.piece.items ≢ [])
       → ((read : List (List ℕ)) (r : Records) → HasReadLines read new.stage r → IsFoundOfLines read r found)
-      → (HasFault new.stage → found.verdict ≢ verdict.Legal) → IsFirstFault bytes after found
+      → (HasFault new.stage → found.verdict ≢ verdict.Legal) → EndsAtFault bytes after found
   ends_at why same gone = at_fault (subst Goes same gone)

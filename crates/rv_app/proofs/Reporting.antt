@@ -24,7 +24,8 @@ module _ {W : Type 0} (contents : W → Option (List ℕ)) (r : Option Records) 
             inl (record { found = found; is = refl; rule = rule; tells = tells; took = took })
         by (Err fault) tells took = tt
 
-    pub stops : IfErr result (StopsTaking contents (IsReport found rule r) (BeginsReport found rule r) old new)
+    pub stops : IfErr result (StopsTaking contents (IsReport found rule r) (BeginsReport found rule r) old
+        new)
         → IfErr result (StopsReporting contents (λ other. other ≡ found) r old new)
     stops part = by result part
       where

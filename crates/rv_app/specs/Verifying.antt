@@ -1,5 +1,6 @@
 -- What `rv verify` tells of the bytes of an input and of a record beside it.
-use Rattle.std.specs.Prelude.{◌≡◌, ◌≢◌, ◌⊎◌, ◌-◌, ◌++◌, true, false, Bool, ℕ, List, None, Option, Some, length}
+use Rattle.std.specs.Prelude.{◌≡◌, ◌≢◌, ◌⊎◌, ◌-◌, ◌++◌, true, false, Bool, ℕ, List, None, Option, Some}
+use Rattle.std.specs.Prelude.{length}
 use Rattle.rv_breaking.specs.declared.rule.Rule.{Rule}
 use Rattle.rv_findings.specs.declared.verdict.AccountFinding.{AccountFinding}
 use Rattle.rv_findings.specs.declared.verdict.AccountVerdict.TheVariants as verdict
@@ -14,7 +15,7 @@ use Rattle.rv_verify.specs.Ongoing.{AreLegalUpTo, IsFoundOfBytes, IsFoundOfLines
 
 -- of an account that grows, the lines up to the first that is bad, or whose entry isn't followed; the record
 -- has noted what passed of them
-pub record IsFirstFault (bytes : List ℕ) (r : Records) (found : AccountFinding) : Type 0 where
+pub record EndsAtFault (bytes : List ℕ) (r : Records) (found : AccountFinding) : Type 0 where
   pub front : List ℕ
   pub rest : List ℕ
   pub parts : bytes ≡ front ++ rest
@@ -26,7 +27,7 @@ pub record IsFirstFault (bytes : List ℕ) (r : Records) (found : AccountFinding
 
 -- what is found of an input's bytes: as they grow, or of all
 abbrev pub IsFoundIn : Bool → List ℕ → Records → AccountFinding → Type 0
-IsFoundIn true bytes r found = IsFirstFault bytes r found
+IsFoundIn true bytes r found = EndsAtFault bytes r found
 IsFoundIn false bytes r found = IsFoundOfBytes bytes r found
 
 -- the record, if one is named
@@ -34,11 +35,11 @@ abbrev pub beside : {A : Type 0} → Option A → Records → Option Records
 beside None r = None
 beside (Some name) r = Some r
 
-module _ {W : Type 0} (contents : W → Option (List ℕ)) (IsFound : AccountFinding → Type 0) (r : Option Records)
-    (old new : Sink W) where
+module _ {W : Type 0} (contents : W → Option (List ℕ)) (IsFound : AccountFinding → Type 0)
+    (r : Option Records) (old new : Sink W) where
   -- the sink took exactly the report on what is found, with a rule at a closed place or none, and the status
   -- tells that
-  pub record ReportsAll (status : ℕ) : Type 0 where
+  pub record ReportsFound (status : ℕ) : Type 0 where
     pub found : AccountFinding
     pub is : IsFound found
     pub rule : Option Rule
@@ -47,10 +48,10 @@ module _ {W : Type 0} (contents : W → Option (List ℕ)) (IsFound : AccountFin
 
   -- or the status is 1 and it took nothing: the file couldn't be opened once more
   abbrev pub Reports : ℕ → Type 0
-  Reports status = ReportsAll status ⊎ ((status ≡ 1) × (new ≡ old))
+  Reports status = ReportsFound status ⊎ ((status ≡ 1) × (new ≡ old))
 
   -- the telling of what is found stopped for this fault
-  pub record StopsAt (fault : RunFault) : Type 0 where
+  pub record StopsReportAt (fault : RunFault) : Type 0 where
     pub found : AccountFinding
     pub is : IsFound found
     pub rule : Option Rule
@@ -58,4 +59,4 @@ module _ {W : Type 0} (contents : W → Option (List ℕ)) (IsFound : AccountFin
 
   -- or nothing went out
   abbrev pub StopsReporting : RunFault → Type 0
-  StopsReporting fault = (new ≡ old) ⊎ StopsAt fault
+  StopsReporting fault = (new ≡ old) ⊎ StopsReportAt fault

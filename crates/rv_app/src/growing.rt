@@ -1,7 +1,7 @@
 //! Audits an account as its file grows.
 ghost use Rattle.std.specs.Prelude.{◌≡◌, ◌↔◌, false, IfOk, IfSome, IsTrue};
 ghost use Rattle.rv_app.specs.Progress.{IsProgressDue};
-ghost use Rattle.rv_app.specs.Verifying.{IsFirstFault};
+ghost use Rattle.rv_app.specs.Verifying.{EndsAtFault};
 ghost use Rattle.rv_verify.specs.Stages.{AreNew};
 
 use crate::verify::{buffered, run_fault};
@@ -30,7 +30,7 @@ pub(crate) fn follow<T: Wait + time::Clock, F: Read + Drop>(
     records: &mut Records,
 ) -> Result<AccountFinding, RunFault>
     requires { AreNew records.old }
-    ensures first { IfSome (F.remaining file) (λ bytes. IfOk result (IsFirstFault bytes records.new)) }
+    ensures first { IfSome (F.remaining file) (λ bytes. IfOk result (EndsAtFault bytes records.new)) }
     ensures whole { IfOk result (λ found. found.torn ≡ false) }
     ensures lines { records.new.lines ≡ records.old.lines }
 {

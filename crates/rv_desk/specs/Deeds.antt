@@ -8,6 +8,8 @@ use Rattle.rv_text.specs.declared.answer.Answer.TheVariants as answer
 use Rattle.rv_text.specs.declared.answer.Refusal.TheVariants.{BadText, NoMemory}
 use Rattle.rv_text.specs.Bodies.{IsMessageBody, answer_text}
 use Rattle.rv_account.specs.declared.entry.Entry.{Entry}
+-- how many entries an answer to a step rests on
+pub use Rattle.rv_rules.specs.Resting.{rests_on}
 use Rattle.rv_state.specs.Moves.{Move, StateNextAtUnder, ticked_at}
 use Rattle.rv_connection.specs.Traffic.{IsDue, Traffic}
 use Rattle.rv_connection.specs.Steps.{AnswersBy, TakesIn, input_ended, left_by, taken}
@@ -76,11 +78,6 @@ pub record WaitsNow (patience : ℕ) (old : DeskState) (connection : ℕ) (body 
     pub hears : SetsHearing old.hears connection (Some (record { key = key; until = old.now + patience }))
         new.hears
     pub rest : new ≡ record old { open_wires = new.open_wires; changed = new.changed; hears = new.hears }
-
--- the answer to a step rests on all entries so far, but for want of memory, which rests on none
-abbrev pub rests_on : Answer → ℕ → ℕ
-rests_on (answer.Refused NoMemory) length = 0
-rests_on _ length = length
 
 -- by the answer
 abbrev pub AnswersOrWaits : DeskTerms → DeskState → ℕ → List ℕ → Answer → DeskState → Type 0

@@ -4,7 +4,7 @@ use Rattle.std.specs.Prelude.{◌↔◌}
 use Rattle.rv_state.proofs.Words.{◌≡◌, ◌∙◌, ap, arith, inl, inr, subst, sym, ℕ, Some}
 use Rattle.rv_state.proofs.Words.{Account, Call, Key, Reply, act_at, Arrive, arrives_once, Legal}
 use Rattle.rv_findings.specs.Fates.{GivesReply}
-use Rattle.rv_findings.specs.Findings.{IsFinding, IsKept}
+use Rattle.rv_findings.specs.Findings.{IsFinding, IsKeptFinding}
 use Rattle.rv_findings.specs.declared.findings.Finding.{Finding}
 use Rattle.rv_findings.specs.declared.findings.Told.{Told}
 use Rattle.rv_findings.specs.declared.findings.Finding.TheVariants.{Kept, KeptUnseen}
@@ -61,7 +61,7 @@ module _ (a : Account) (told : Told) (legal : Legal a) where
 pub kept_is_told : KeptIsTold
 kept_is_told = record { came = came; unseen = unseen }
 
-told_if : (a : Account) (told : Told) (finding : Finding) → IsFinding a told finding → IsKept finding
+told_if : (a : Account) (told : Told) (finding : Finding) → IsFinding a told finding → IsKeptFinding finding
     → HasReply a.entries told.key told.reply
 told_if a told finding is (inl kept) =
     let own : IsFinding a told Kept = subst (IsFinding a told) kept is in

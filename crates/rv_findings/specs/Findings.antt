@@ -67,5 +67,5 @@ pub record IsFinding (a : Account) (told : Told) (finding : Finding) : Type 0 wh
   pub first : (other : Finding) → order_of other < order_of finding → ¬ IsSaid a told other
 
 -- a finding that tells of a reply which the account gives
-abbrev pub IsKept : Finding → Type 0
-IsKept finding = (finding ≡ Kept) ⊎ (finding ≡ KeptUnseen)
+abbrev pub IsKeptFinding : Finding → Type 0
+IsKeptFinding finding = (finding ≡ Kept) ⊎ (finding ≡ KeptUnseen)

@@ -12,14 +12,14 @@ use Rattle.rv_findings.specs.Fates.{GivesReply}
 use Rattle.rv_findings.specs.declared.findings.Told.{Told}
 use Rattle.rv_findings.specs.declared.findings.Finding.{Finding}
 use Rattle.rv_findings.specs.declared.findings.Finding.TheVariants.{Kept, KeptUnseen}
-use Rattle.rv_findings.specs.Findings.{IsFinding, IsKept, MayBeTold}
+use Rattle.rv_findings.specs.Findings.{IsFinding, IsKeptFinding, MayBeTold}
 
 -- the request with this key came with this call
 abbrev pub CameWith : List Entry → Key → Call → Type 0
 CameWith entries key call = (place : ℕ) × (act_at entries place ≡ Some (Arrive key call))
 
--- a reply is kept exactly where it is that of its key in the account, and its request came with that call; or,
--- which is told apart, was cancelled before it came
+-- a reply is kept exactly where it is that of its key in the account, and its request came with that call;
+-- or, which is told apart, was cancelled before it came
 pub record KeptIsTold : Type 0 where
   pub came : (a : Account) (told : Told) → Legal a → IsFinding a told Kept
       ↔ (HasReply a.entries told.key told.reply × CameWith a.entries told.key told.call)
@@ -29,7 +29,8 @@ pub record KeptIsTold : Type 0 where
 -- of one key one reply is kept
 abbrev pub OneKept : Type 0
 OneKept = (a : Account) (told other : Told) (one also : Finding) → Legal a → IsFinding a told one
-    → IsFinding a other also → IsKept one → IsKept also → told.key ≡ other.key → told.reply ≡ other.reply
+    → IsFinding a other also → IsKeptFinding one → IsKeptFinding also → told.key ≡ other.key
+    → told.reply ≡ other.reply
 
 -- of a reply one thing is told
 abbrev pub OneFinding : Type 0

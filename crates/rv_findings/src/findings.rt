@@ -5,7 +5,7 @@ ghost use Rattle.rv_rules.specs.Legal.{Legal};
 ghost use Rattle.rv_text.specs.declared.answer.Reply.TheVariants.{Counted, Drained};
 ghost use Rattle.rv_findings.specs.Fates.{IsFateOf};
 ghost use Rattle.rv_findings.specs.Judging.{IsByCall, SaidInstead, TellsSame, kept_by};
-ghost use Rattle.rv_findings.specs.Findings.{IsFinding, IsKept};
+ghost use Rattle.rv_findings.specs.Findings.{IsFinding, IsKeptFinding};
 
 use crate::fate::Fate;
 use crate::suits::may_tell;
@@ -49,7 +49,7 @@ pub enum Finding {
 impl Finding {
     /// Whether it tells of a reply that the account gives.
     pub fn is_kept(self) -> bool
-        ensures { IsTrue result ↔ IsKept self }
+        ensures { IsTrue result ↔ IsKeptFinding self }
     {
         matches!(self, Finding::Kept | Finding::KeptUnseen)
     }

@@ -2,7 +2,7 @@
 ghost use Rattle.std.specs.Prelude.{◌≡◌, ◌↔◌, IsTrue, filter, length};
 ghost use Rattle.std.specs.List.{All};
 ghost use Rattle.rv_findings.specs.Tallies.{is_finding, words_of};
-ghost use Rattle.rv_findings.specs.Findings.{IsKept};
+ghost use Rattle.rv_findings.specs.Findings.{IsKeptFinding};
 
 use crate::findings::Finding;
 
@@ -15,7 +15,7 @@ pub fn count_of(findings: &[Finding], finding: Finding) -> usize
 
 /// Whether all are kept.
 pub fn are_kept(findings: &[Finding]) -> bool
-    ensures { IsTrue result ↔ All IsKept findings.now }
+    ensures { IsTrue result ↔ All IsKeptFinding findings.now }
 {
     findings.iter().all(|finding| finding.is_kept())
 }

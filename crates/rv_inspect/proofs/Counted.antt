@@ -12,7 +12,7 @@ use Rattle.rv_replies.specs.declared.records.Line.TheVariants as line
 use Rattle.rv_replies.specs.declared.records.Records.{Records}
 use Rattle.rv_rules.specs.Counting.{NumberOf}
 use Rattle.rv_rules.proofs.Counting.{number_push, same_number}
-use Rattle.rv_inspect.specs.Report.{CountsBeside, Stands}
+use Rattle.rv_inspect.specs.Report.{CountsBeside, StandsSo}
 use Rattle.rv_inspect.proofs.SameLine.{same_told}
 
 pub none_counted : (how : Beside) (r : Records) → CountsBeside how r 0 0
@@ -28,7 +28,7 @@ none_counted how r = record {
 -- ---- one line more
 
 module _ (how : Beside) (lines : List Line) (n m : ℕ) where
-  at_other : (r k l : ℕ) → r < l → Stands how lines k r → Stands how lines l r
+  at_other : (r k l : ℕ) → r < l → StandsSo how lines k r → StandsSo how lines l r
   at_other r k l less below = record {
     inside = less;
     told = below.told;
@@ -37,9 +37,9 @@ module _ (how : Beside) (lines : List Line) (n m : ℕ) where
     beside = below.beside;
   }
 
-  pub more_below : Stands how lines (n + 1) n → NumberOf (Stands how lines n) m
-      → NumberOf (Stands how lines (n + 1)) (m + 1)
-  more_below here count = number_push (Stands how lines n) (Stands how lines (n + 1)) m n count
+  pub more_below : StandsSo how lines (n + 1) n → NumberOf (StandsSo how lines n) m
+      → NumberOf (StandsSo how lines (n + 1)) (m + 1)
+  more_below here count = number_push (StandsSo how lines n) (StandsSo how lines (n + 1)) m n count
       (λ r below. below.inside) (λ r. (
         (λ below. elim (cases_lt r n) [
           | inl less ↦ inl (at_other r (n + 1) n less below)
@@ -47,19 +47,19 @@ module _ (how : Beside) (lines : List Line) (n m : ℕ) where
         ]),
         (λ either. elim either [
           | inl below ↦ at_other r n (n + 1) (omega (arith, below.inside)) below
-          | inr is ↦ subst (Stands how lines (n + 1)) (sym is) here
+          | inr is ↦ subst (StandsSo how lines (n + 1)) (sym is) here
         ]),
       ))
 
-  pub same_below : (Stands how lines (n + 1) n → ⊥) → NumberOf (Stands how lines n) m
-      → NumberOf (Stands how lines (n + 1)) m
-  same_below none count = same_number (Stands how lines n) (Stands how lines (n + 1)) m (λ r. (
+  pub same_below : (StandsSo how lines (n + 1) n → ⊥) → NumberOf (StandsSo how lines n) m
+      → NumberOf (StandsSo how lines (n + 1)) m
+  same_below none count = same_number (StandsSo how lines n) (StandsSo how lines (n + 1)) m (λ r. (
     (λ below. at_other r n (n + 1) (omega (arith, below.inside)) below),
     (λ below. elim (cases_lt r n) [
       | inl less ↦ at_other r (n + 1) n less below
       | inr last ↦
           let at : r ≡ n = omega (arith, last, below.inside) in
-          absurd (none (subst (Stands how lines (n + 1)) at below))
+          absurd (none (subst (StandsSo how lines (n + 1)) at below))
     ]),
   )) count
 
@@ -93,7 +93,7 @@ one_beside lines index told x y one other =
 module _ (how : Beside) (lines : List Line) (n : ℕ) (o : Option (Beside × ℕ))
     (told : (own : Told) → slice_get lines n ≡ Some (line.Told own) → StandsBeside lines n own o) where
   by_line : ((flaw : Flaw) → slice_get lines n ≡ Some (line.Flawed flaw) → o ≡ None) → (first : ℕ)
-      → o ≡ Some (how, first) → (own : Line) → slice_get lines n ≡ Some own → Stands how lines (n + 1) n
+      → o ≡ Some (how, first) → (own : Line) → slice_get lines n ≡ Some own → StandsSo how lines (n + 1) n
   by_line flawed first is (line.Told own) there = record {
     inside = omega arith;
     told = own;
@@ -107,12 +107,13 @@ module _ (how : Beside) (lines : List Line) (n : ℕ) (o : Option (Beside × ℕ
   -- so, where that was told
   pub stands_so : n < length lines
       → ((flaw : Flaw) → slice_get lines n ≡ Some (line.Flawed flaw) → o ≡ None)
-      → (first : ℕ) → o ≡ Some (how, first) → Stands how lines (n + 1) n
+      → (first : ℕ) → o ≡ Some (how, first) → StandsSo how lines (n + 1) n
   stands_so inside flawed first is = elim (slice_get_cases lines n).1 [
     | inl h ↦ by_line flawed first is h.0 h.2
     | inr h ↦ absurd (omega (arith, inside, h.0))
   ]
 
   -- and no other way
-  pub told_so : (here : Stands how lines (n + 1) n) → o ≡ Some (how, here.first)
-  told_so here = one_beside lines n here.told o (Some (how, here.first)) (told here.told here.there) here.beside
+  pub told_so : (here : StandsSo how lines (n + 1) n) → o ≡ Some (how, here.first)
+  told_so here = one_beside lines n here.told o (Some (how, here.first)) (told here.told here.there)
+      here.beside

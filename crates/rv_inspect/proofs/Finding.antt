@@ -18,7 +18,7 @@ use Rattle.rv_replies.specs.declared.records.Line.TheVariants as line
 use Rattle.rv_replies.specs.declared.records.Records.{Records}
 use Rattle.rv_inspect.specs.Report.{FindsFirst}
 use Rattle.rv_inspect.specs.Statuses.{IsLineKept, TellsKept}
-use Rattle.rv_findings.specs.Findings.{IsFinding, IsKept, order_of}
+use Rattle.rv_findings.specs.Findings.{IsFinding, IsKeptFinding, order_of}
 
 -- a line that is kept is found so
 no_later : (a : Account) (told : Told) (f : Finding) → IsFinding a told f → IsLineKept a (line.Told told)
@@ -27,7 +27,7 @@ no_later a told f is (inl kept) later = is.first Kept later kept.says
 no_later a told f is (inr unseen) later = is.first KeptUnseen later unseen.says
 
 kept_first : (a : Account) (told : Told) (f : Finding) → IsFinding a told f → IsLineKept a (line.Told told)
-    → IsKept f
+    → IsKeptFinding f
 kept_first a told Kept is kept = inl refl
 kept_first a told KeptUnseen is kept = inr refl
 kept_first a told OtherEpoch is kept = absurd (no_later a told OtherEpoch is kept (omega arith))
@@ -38,13 +38,15 @@ kept_first a told Waiting is kept = absurd (no_later a told Waiting is kept (ome
 kept_first a told NoRequest is kept = absurd (no_later a told NoRequest is kept (omega arith))
 kept_first a told NoRecord is kept = absurd (no_later a told NoRecord is kept (omega arith))
 
-found_kept : (a : Account) (own : Line) (f : Finding) → IsLineFinding a own f → IsLineKept a own → IsKept f
+found_kept : (a : Account) (own : Line) (f : Finding) → IsLineFinding a own f → IsLineKept a own
+    → IsKeptFinding f
 found_kept a (line.Told told) f is kept = kept_first a told f is kept
 found_kept a (line.Flawed flaw) f is (inl kept) = absurd (let no : ⊥ = cc in no)
 found_kept a (line.Flawed flaw) f is (inr kept) = absurd (let no : ⊥ = cc in no)
 
 -- and one that is found so is kept
-line_kept : (a : Account) (own : Line) (f : Finding) → IsLineFinding a own f → IsKept f → IsLineKept a own
+line_kept : (a : Account) (own : Line) (f : Finding) → IsLineFinding a own f → IsKeptFinding f
+    → IsLineKept a own
 line_kept a own f is (inl kept) = inl (subst (IsLineFinding a own) kept is)
 line_kept a own f is (inr unseen) = inr (subst (IsLineFinding a own) unseen is)
 
@@ -76,21 +78,21 @@ finds_more r epoch count fs f finds last = record {
 -- where each finding tells so, each line is kept
 each_kept : (r : Records) (epoch : ℕ) (fs : List Finding) (a : Account)
     → FindsFirst r epoch (length r.lines.items) fs → Legal a → a.epoch ≡ epoch → HasNoted r a
-    → All IsKept fs → (index : ℕ) (own : Line) → slice_get r.lines.items index ≡ Some own
+    → All IsKeptFinding fs → (index : ℕ) (own : Line) → slice_get r.lines.items index ≡ Some own
     → IsLineKept a own
 each_kept r epoch fs a finds legal is noted all index own there =
     let less : index < length fs = subst (λ n. index < n) (sym finds.each)
     (slice_get_within r.lines.items index own there) in
     line_kept a own (get_or fs index Kept)
     (finds.are a legal is noted index own (get_or fs index Kept) there (slice_get-get_or fs index Kept less))
-    (All-get_or IsKept fs index Kept less all)
+    (All-get_or IsKeptFinding fs index Kept less all)
 
 -- and where each line is kept, each finding tells so
 all_kept : (r : Records) (epoch : ℕ) (fs : List Finding) (a : Account)
     → FindsFirst r epoch (length r.lines.items) fs → Legal a → a.epoch ≡ epoch → HasNoted r a
     → ((index : ℕ) (own : Line) → slice_get r.lines.items index ≡ Some own → IsLineKept a own)
-    → All IsKept fs
-all_kept r epoch fs a finds legal is noted each = All-from_get_or IsKept fs Kept (λ index less.
+    → All IsKeptFinding fs
+all_kept r epoch fs a finds legal is noted each = All-from_get_or IsKeptFinding fs Kept (λ index less.
     let inside : index < length r.lines.items = subst (λ n. index < n) finds.each less in
     elim (slice_get_cases r.lines.items index).1 [
       | inl h ↦ found_kept a h.0 (get_or fs index Kept) (finds.are a legal is noted index h.0
@@ -99,7 +101,7 @@ all_kept r epoch fs a finds legal is noted each = All-from_get_or IsKept fs Kept
     ])
 
 pub kept_told : (r : Records) (epoch : ℕ) (fs : List Finding) (kept : Bool)
-    → FindsFirst r epoch (length r.lines.items) fs → (IsTrue kept ↔ All IsKept fs)
+    → FindsFirst r epoch (length r.lines.items) fs → (IsTrue kept ↔ All IsKeptFinding fs)
     → TellsKept r epoch kept
 kept_told r epoch fs kept finds tells a legal is noted = (
   λ yes. each_kept r epoch fs a finds legal is noted (tells.0 yes),

@@ -134,7 +134,8 @@ module _ (fs : List Finding) (d n : ℕ) where
       (append_assoc (codes "\nno such request ") (count fs NoRequest) x))))
 
   kept_on : (x : List ℕ) → kept_counts fs ++ x
-      ≡ codes "kept " ++ (count fs Kept ++ ((10 ∷ words_of KeptUnseen ++ 32 ∷ []) ++ (count fs KeptUnseen ++ x)))
+      ≡ codes "kept " ++ (count fs Kept ++ ((10 ∷ words_of KeptUnseen ++ 32 ∷ []) ++ (count fs KeptUnseen ++
+      x)))
   kept_on x =
       let last : List ℕ = 10 ∷ words_of KeptUnseen ++ 32 ∷ [] in
       behind (codes "kept ") (count fs Kept ++ (last ++ count fs KeptUnseen)) x _

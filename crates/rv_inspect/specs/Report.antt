@@ -33,7 +33,7 @@ pub record FindsFirst (r : Records) (epoch : ℕ) (count : ℕ) (findings : List
       → slice_get findings index ≡ Some finding → IsLineFinding a line finding
 
 -- the line of this index, one of so many first ones, stands so to the first one of its key
-pub record Stands (how : Beside) (lines : List Line) (n index : ℕ) : Type 0 where
+pub record StandsSo (how : Beside) (lines : List Line) (n index : ℕ) : Type 0 where
   pub inside : index < n
   pub told : Told
   pub first : ℕ
@@ -42,7 +42,7 @@ pub record Stands (how : Beside) (lines : List Line) (n index : ℕ) : Type 0 wh
 
 -- so many of the first lines of a record do, where it has noted some account
 pub record CountsBeside (how : Beside) (r : Records) (n count : ℕ) : Type 0 where
-  pub are : (a : Account) → HasNoted r a → NumberOf (Stands how r.lines.items n) count
+  pub are : (a : Account) → HasNoted r a → NumberOf (StandsSo how r.lines.items n) count
 
 -- ---- what is printed of a line of a record
 

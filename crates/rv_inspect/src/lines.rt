@@ -117,7 +117,7 @@ fn next_counts(alloc: Global, findings: &[Finding]) -> Result<String, NoMemory>
     format!(in alloc; "still waiting {waiting}\nanother epoch {epoch}\n{words} {never}")
 }
 
-// The same of those that are no record, and of those that differ from the first one of their key or repeat it.
+// The same of those that are no record, that differ from the first one of their key, or that repeat it.
 fn last_counts(
     alloc: Global,
     findings: &[Finding],

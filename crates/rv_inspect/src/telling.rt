@@ -5,7 +5,7 @@ ghost use Rattle.rv_account.specs.Account.{Account};
 ghost use Rattle.rv_replies.specs.Standing.{HasNoted};
 ghost use Rattle.rv_inspect.specs.Report.{BeginsBehind, BeginsReport, CountsBeside, FindsFirst, IsReport};
 ghost use Rattle.rv_inspect.specs.Report.{ReportsAll, ReportsBehind, ReportsSome, SaysAll, SaysSome};
-ghost use Rattle.rv_inspect.specs.Report.{Stands, StopsTaking, TookLines};
+ghost use Rattle.rv_inspect.specs.Report.{StandsSo, StopsTaking, TookLines};
 ghost use Rattle.rv_inspect.specs.Statuses.{IsKeptBeside, TellsFound, TellsKept};
 ghost use Rattle.rv_inspect.specs.Texts.{IsOneText};
 
@@ -193,7 +193,7 @@ fn with_line(records: &Records, how: Beside, index: usize, count: usize) -> usiz
 fn stands(records: &Records, how: Beside, index: usize) -> bool
     requires { index < length records.now.lines.items }
     ensures { (a : Account) → HasNoted records.now a
-        → (IsTrue result ↔ Stands how records.now.lines.items (index + 1) index) }
+        → (IsTrue result ↔ StandsSo how records.now.lines.items (index + 1) index) }
 {
     match records.beside_first(index) {
         Some(own) => is_alike(own.0, how),

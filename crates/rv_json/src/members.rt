@@ -4,7 +4,8 @@ ghost use Rattle.serde_json.specs.Find.{get_member, as_str, as_u64, as_number};
 ghost use Rattle.rv_json.specs.Flat.{seen, plain_data};
 ghost use Rattle.serde_json.specs.View.{view, items_view, members_view};
 ghost use Rattle.rv_json.specs.Finding.{Finds, FindsAmong, FindsSeenAmong, texts_in, whole_among, text_among};
-ghost use Rattle.rv_json.specs.Finding.{few_of, few_in, texts_of, texts_among, item_among, CopiesItem, without, Leaves};
+ghost use Rattle.rv_json.specs.Finding.{few_of, few_in, texts_of, texts_among, item_among, without};
+ghost use Rattle.rv_json.specs.Finding.{CopiesItem, Leaves};
 ghost use Rattle.rv_json.specs.declared.fault.TextFault.TheVariants as fault;
 
 use crate::fault::TextFault;

@@ -17,8 +17,8 @@ pub record IsFirstOf (lines : List Line) (key : Key) (index : ℕ) (told : Told)
   pub least : (i : ℕ) (other : Told) → slice_get lines i ≡ Some (line.Told other) → other.key ≡ key
       → index ≤ i
 
--- what a line that tells this is beside the first one of its key, which tells that: it tells another reply; or
--- it says the same, request and reply, and isn't that line; or neither
+-- what a line that tells this is beside the first one of its key, which tells that: it tells another reply;
+-- or it says the same, request and reply, and isn't that line; or neither
 abbrev pub IsBeside : Told → ℕ → Told → ℕ → Option (Beside × ℕ) → Type 0
 IsBeside told index own first result =
     ((own.reply ≢ told.reply) × (result ≡ Some (Differs, first)))

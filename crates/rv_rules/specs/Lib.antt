@@ -7,6 +7,7 @@ pub mod Replies
 pub mod StepLimits
 pub mod Reach
 pub mod Steps
+pub mod Resting
 pub mod Limits
 pub mod Order
 pub mod Lines

@@ -41,7 +41,8 @@ lines_behind (x ∷ front) rest =
     ]
 
 -- the lines of whole lines and of what follows
-pub lines_more : (whole rest : List ℕ) → AreWholeLines whole → lines (whole ++ rest) ≡ lines whole ++ lines rest
+pub lines_more : (whole rest : List ℕ) → AreWholeLines whole
+    → lines (whole ++ rest) ≡ lines whole ++ lines rest
 lines_more whole rest (inl none) = subst (λ w. lines (w ++ rest) ≡ lines w ++ lines rest) (sym none) refl
 lines_more whole rest (inr some) =
     subst (λ w. lines (w ++ rest) ≡ lines w ++ lines rest) (sym some.1)
@@ -59,7 +60,8 @@ module _ (whole : List ℕ) (are : AreWholeLines whole) (line : List ℕ) (lacks
 pub whole_append : (front more : List ℕ) → AreWholeLines front → AreWholeLines more
     → AreWholeLines (front ++ more)
 whole_append front more are (inl none) =
-    subst (λ (l : List ℕ). AreWholeLines (front ++ l)) (sym none) (subst AreWholeLines (sym (append-nil front)) are)
+    subst (λ (l : List ℕ). AreWholeLines (front ++ l)) (sym none)
+    (subst AreWholeLines (sym (append-nil front)) are)
 whole_append front more are (inr some) =
     inr (front ++ some.0, ap (λ l. front ++ l) some.1 ∙ sym (append_assoc front some.0 (10 ∷ [])))
 

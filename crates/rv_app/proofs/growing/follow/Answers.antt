@@ -8,7 +8,8 @@ pub loop-init : goal.loop-init
 loop-init g c = record {
   ready = c.new-audit.ensures.ready;
   lines = refl;
-  read = begins c.new-audit.result c.args.records.now (g.F.Read.remaining c.args.file) _ c.in_ok-reader.ensures
+  read = begins c.new-audit.result c.args.records.now (g.F.Read.remaining c.args.file) _
+      c.in_ok-reader.ensures
       c.new-audit.ensures.piece (c.new-audit.ensures.read c.args.records.now c.requires);
 }
 

@@ -6,4 +6,5 @@ use Rattle.rv_inspect.proofs.lines.count_lines.Goals as goal
 
 pub returns : goal.returns
 returns c = IfOk-weaker c.format.result _ _ (λ s is. counts_printed c.args.findings.now c.args.differing
-    c.args.repeating _ _ _ _ (string_bytes s) c.in_ok-kept.ensures c.in_ok-first.ensures c.in_ok-next.ensures c.in_ok-last.ensures is) c.format.ensures.ok
+    c.args.repeating _ _ _ _ (string_bytes s) c.in_ok-kept.ensures c.in_ok-first.ensures c.in_ok-next.ensures
+    c.in_ok-last.ensures is) c.format.ensures.ok

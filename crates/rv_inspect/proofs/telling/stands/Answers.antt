@@ -9,7 +9,8 @@ pub returns-in-Some : goal.returns-in-Some
 returns-in-Some c a noted =
     let lines = c.args.records.now.lines.items in (
       λ yes. stands_so c.args.how lines c.args.index c.beside_first.result
-          (λ own there. c.beside_first.ensures.told a own there noted) c.requires c.beside_first.ensures.flawed
+          (λ own there. c.beside_first.ensures.told a own there noted) c.requires
+          c.beside_first.ensures.flawed
           c.in-Some.own.1 (c.in-Some.is ∙ ap (λ b. Some (b, c.in-Some.own.1)) (c.is_alike.ensures.0 yes)),
       λ here. c.is_alike.ensures.1 (ap (λ p. p.0) (same_Some _ _ (sym c.in-Some.is
           ∙ told_so c.args.how lines c.args.index c.beside_first.result
