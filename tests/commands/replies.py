@@ -118,18 +118,18 @@ def by_records():
     words, account, kept = ["ACCOUNT", "--replies", "RECORD"], joined(ACCOUNT), joined(KEPT)
     lines, printed = joined(line for line, _ in TOLD), [text for _, texts in TOLD for text in texts]
     all_kept = ["1 kept", "2 kept", "3 kept, as a cancel tells it", *counted(2, 1)]
-    yield "each finding", run(words, account, lines), (["legal", *printed, *counted(3, 4, 2, 1, 1, 1, 1, 3, 6)], "", 6)
+    yield "each finding", run(words, account, lines), (["legal", *printed, *counted(3, 3, 4, 3, 1, 1, 1, 1, 3, 6, 2)], "", 6)
     yield "a record that is kept", run(words, account, kept), (["legal", *all_kept], "", 0)
     yield "its last line without LF", run(words, account, kept[:-1]), (["legal", *all_kept], "", 0)
     yield "an empty record", run(words, account, ""), (["legal", *counted()], "", 0)
     yield "a torn end", run(words, account + "0 -", kept), (["legal", "torn end", *all_kept], "", 3)
     yield "a torn end and a line that isn't kept", run(words, account + "0 -", GIVEN[:-1]), (
-        ["legal", "torn end", "1 no record", *counted(0, 0, 0, 0, 0, 0, 0, 1)], "", 6)
+        ["legal", "torn end", "1 no record", *counted(0, 0, 0, 0, 0, 0, 0, 0, 1)], "", 6)
     yield "a fault behind the replies", run(words, account + "0 - tick\n", kept), (["fault 6 M3", *all_kept], "", 1)
     yield "a fault before a reply", run(words, joined([*ACCOUNT[:4], "0 - tick", *ACCOUNT[4:]]), TAKEN), (
-        ["fault 3 M3", "1 no such request", *counted(0, 0, 0, 1)], "", 1)
+        ["fault 3 M3", "1 no such request", *counted(0, 0, 0, 0, 1)], "", 1)
     yield "a bad line before a reply", run(words, joined([*ACCOUNT[:4], "x", *ACCOUNT[4:]]), TAKEN), (
-        ["bad line 5", "1 no such request", *counted(0, 0, 0, 1)], "", 1)
+        ["bad line 5", "1 no such request", *counted(0, 0, 0, 0, 1)], "", 1)
     yield "no epoch", run(words, "x\n", kept), (["bad line 1"], "", 1)
     yield "a pipe", run(["-", "--replies", "RECORD"], "", kept, input=account), (["legal", *all_kept], "", 0)
     yield "no record named", run(["ACCOUNT"], account, kept), (["legal"], "", 0)

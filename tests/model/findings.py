@@ -7,7 +7,8 @@ from tests.model.texts import KEY, NoReading, demand, members_of, read_json, rea
 
 # A reply by a cancel that came before its request: with which call that would have come nobody knows.
 UNSEEN = "kept, as a cancel tells it"
-FINDINGS = ("kept", UNSEEN, "another reply", "another call", "no such request", "still waiting", "another epoch",
+KEPT = ("kept", UNSEEN)
+FINDINGS = (*KEPT, "another reply", "another call", "no such request", "still waiting", "another epoch",
             "a reply that this call can't have", "no record")
 # What a call may be told that met somebody, or looked; and what it is told at once if nobody was there.
 MET = {"put": ("done",), "transfer": ("received",), "take": ("item",), "drain": ("drained",), "swap": ("swapped",),
@@ -107,4 +108,4 @@ def lines_said(account, lines):
             printed.append(f"{number} repeats line {first}")
     printed += [f"{finding} {found.count(finding)}" for finding in FINDINGS]
     printed += [f"differing {differing}", f"repeating {repeating}"]
-    return printed, found, not differing and set(found) <= {"kept", UNSEEN}
+    return printed, found, not differing and set(found) <= set(KEPT)

@@ -15,7 +15,7 @@ from itertools import islice, takewhile, zip_longest
 from tests.model.account import Account, Call, Cancel, Request, arrivals, reply
 from tests.model.audits import MOST_SECONDS, is_past
 from tests.model.calls import KINDS
-from tests.model.findings import FINDINGS, lines_said, may_be_told, read_told, told_of
+from tests.model.findings import FINDINGS, KEPT, lines_said, may_be_told, read_told, told_of
 from tests.model.lines import account_text, read_entry, read_head
 from tests.model.spoilt import AccountScript, make_text
 from tests.model.tables import table_audit
@@ -244,7 +244,7 @@ def told_wrongly(pair, found):
     """A changed line that is called kept, or a right one that isn't, beside the whole account; None where there is none."""
     is_wrong = dict.fromkeys(pair.wrong)
     lines = zip(lines_of(pair.record), found)
-    return next((line for line, finding in lines if (line in is_wrong) == (finding == "kept")), None) if pair.whole else None
+    return next((line for line, finding in lines if (line in is_wrong) == (finding in KEPT)), None) if pair.whole else None
 
 
 def outcome(program, pair):
