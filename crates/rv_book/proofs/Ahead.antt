@@ -40,7 +40,6 @@ module _ (book : BookState) (e : Entry) (ahead : IsAhead book e) where
 
   pub may_keep : MayKeep book.machine book.kept e
   may_keep = record {
-    ready = ahead.whole;
     fits = (ahead.fits.entries (length a.entries) e (get-append_end a.entries e)).1;
     settled = subst (λ (l : List Key). AreKnown (state_of_machine book) book.kept.replies l)
         (sym ahead.settles)
@@ -76,8 +75,6 @@ module _ (book : BookState) (e : Entry) (ahead : IsAhead book e) where
   recorded_sound stored table is room keeps = record {
     legal = subst Legal (sym is) (Legal-with_entry a e ahead.legal ahead.follows);
     fits = subst FitsAccount (sym is) ahead.fits;
-    whole = ahead.whole;
-    numbered = ahead.numbered;
     stands = subst (λ (x : Account). IsStateOf x (state_of_machine book)) (sym is)
         (subst (IsStateOf (with_entry a e)) (sym ahead.after) (stated a s e comes));
     kept = subst (λ (x : Account). AreKept x.entries (state_of_machine book).clients table.replies) (sym is)

@@ -31,8 +31,7 @@ use Rattle.rv_state.proofs.KnownClients.{has_client}
 use Rattle.rv_state.proofs.Leading.{IsMoveTo}
 use Rattle.rv_state.proofs.StepsBoth.{next_at_from}
 use Rattle.rv_kept.specs.Keeping.{AreKept, client_of}
-use Rattle.rv_machine.specs.Machines.{IsWhole, Says, keys_settled, state_in}
-use Rattle.rv_machine.specs.Numbering.{AreNumbered}
+use Rattle.rv_machine.specs.Machines.{Says, keys_settled, state_in}
 use Rattle.rv_machine.specs.Needing.{IsHello, act_of}
 use Rattle.rv_machine.specs.Stepping.{IsHearing}
 use Rattle.rv_machine.specs.declared.machine.Machine.{Machine}
@@ -151,7 +150,7 @@ module _ (book : BookState) (moment : ℕ) (quiet : IsQuiet book moment) (m : Me
 
   -- ---- the book with the machine behind it
 
-  module _ (new : Machine) (whole : IsWhole new) (numbered : AreNumbered (state_in new)) (made : HeardOf)
+  module _ (new : Machine) (made : HeardOf)
       (limits : StepLimits) (is_book : limits ≡ book_limits)
       (under : IsHearing limits book.machine new moment m made) where
     abbrev heard : IsHearing book_limits book.machine new moment m made
@@ -172,8 +171,6 @@ module _ (book : BookState) (moment : ℕ) (quiet : IsQuiet book moment) (m : Me
       still_sound = record {
         legal = quiet.sound.legal;
         fits = quiet.sound.fits;
-        whole = whole;
-        numbered = numbered;
         stands = subst (IsStateOf a) (sym still) quiet.sound.stands;
         kept = subst (λ (t : State). AreKept a.entries t.clients book.kept.replies) (sym still)
             quiet.sound.kept;
@@ -271,8 +268,6 @@ module _ (book : BookState) (moment : ℕ) (quiet : IsQuiet book moment) (m : Me
         settles = heard.settles
             ∙ ap keys_settled (entered.settles ∙ ap (λ (x : Following). x.settles) follows_so);
         fits = account_fits;
-        whole = whole;
-        numbered = numbered;
         kept = quiet.sound.kept;
         room =
             let enough = room.entries moment move heard.moves in

@@ -17,8 +17,7 @@ use Rattle.rv_state.specs.State.{State, opening, waiting_count}
 use Rattle.rv_state.proofs.Agreed.{agreed}
 use Rattle.rv_state.proofs.WhoWaits.{tells_waiting}
 use Rattle.rv_kept.specs.Table.{KeptTable}
-use Rattle.rv_machine.specs.Machines.{IsWhole, state_in}
-use Rattle.rv_machine.specs.Numbering.{AreNumbered}
+use Rattle.rv_machine.specs.Machines.{state_in}
 use Rattle.rv_machine.specs.declared.machine.Machine.{Machine}
 use Rattle.rv_book.specs.Tables.{IsSound}
 
@@ -45,13 +44,11 @@ module _ (epoch opened : ℕ) (identifier : FitsIdentifier epoch) (time : opened
   }
 
   pub opened_sound : (stored : Stored) (m : Machine) (table : KeptTable)
-      → stored.account ≡ empty_account epoch opened → state_in m ≡ opening epoch opened → IsWhole m
-      → AreNumbered (state_in m) → IsSound (record { account = stored; machine = m; kept = table })
-  opened_sound stored m table is holds whole numbered = record {
+      → stored.account ≡ empty_account epoch opened → state_in m ≡ opening epoch opened
+      → IsSound (record { account = stored; machine = m; kept = table })
+  opened_sound stored m table is holds = record {
     legal = subst Legal (sym is) legal;
     fits = subst FitsAccount (sym is) fits;
-    whole = whole;
-    numbered = numbered;
     stands = subst (λ (x : Account). IsStateOf x (state_in m)) (sym is)
         (subst (IsStateOf (empty_account epoch opened)) (sym holds) state);
     kept = λ client session there. absurd (none-some session

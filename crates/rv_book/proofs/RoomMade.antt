@@ -41,8 +41,6 @@ pub roomier_sound : (book : BookState) → IsSound book → (stored : Stored) (t
 roomier_sound book sound stored table same more replies = record {
   legal = subst Legal (sym same) sound.legal;
   fits = subst FitsAccount (sym same) sound.fits;
-  whole = sound.whole;
-  numbered = sound.numbered;
   stands = subst (λ (x : Account). IsStateOf x (state_of_machine book)) (sym same) sound.stands;
   kept = subst (λ (x : Account). AreKept x.entries (state_of_machine book).clients table.replies) (sym same)
       (subst (AreKept (account_of book).entries (state_of_machine book).clients) (sym replies) sound.kept);

@@ -21,8 +21,7 @@ use Rattle.rv_state.specs.State.{OpenPlace, State, waiting_count}
 use Rattle.rv_state.proofs.TicksBoth.{TicksTo, ticks_from, ticks_to}
 use Rattle.rv_state.specs.Follows.{partners_of}
 use Rattle.rv_kept.specs.Keeping.{AreKept, client_of}
-use Rattle.rv_machine.specs.Machines.{IsWhole, keys_settled, state_in}
-use Rattle.rv_machine.specs.Numbering.{AreNumbered}
+use Rattle.rv_machine.specs.Machines.{keys_settled, state_in}
 use Rattle.rv_machine.specs.Stepping.{IsTick}
 use Rattle.rv_machine.specs.declared.machine.Machine.{Machine}
 use Rattle.rv_machine.specs.declared.steps.TickMade.{TickMade}
@@ -76,8 +75,7 @@ module _ (book : BookState) (now moment : ℕ) (sound : IsSound book)
   to : TicksTo a moment made found.0
   to = ticks_to a found.0 s moment sound.legal sound.stands not_before found.1
 
-  module _ (new : Machine) (whole : IsWhole new) (numbered : AreNumbered (state_in new))
-      (later : new.moment ≤ moment) (fits : moment ≤ max_moment) (tick : TickMade)
+  module _ (new : Machine) (later : new.moment ≤ moment) (fits : moment ≤ max_moment) (tick : TickMade)
       (same_moment : tick.moment ≡ moment) (is : IsTick book.machine new tick) where
     makes : option_to_list tick.entry ≡ made.entries
     makes = is.makes ∙ ap (λ n. (ticked_at s n).entries) same_moment
@@ -116,8 +114,6 @@ module _ (book : BookState) (now moment : ℕ) (sound : IsSound book)
       still_sound = record {
         legal = sound.legal;
         fits = sound.fits;
-        whole = whole;
-        numbered = numbered;
         stands = subst (IsStateOf a) (sym still) sound.stands;
         kept = subst (λ (t : State). AreKept a.entries t.clients book.kept.replies) (sym still) sound.kept;
         spare = subst (λ (t : State). waiting_count t ≤ book.account.room) (sym still) sound.spare;
@@ -181,8 +177,6 @@ module _ (book : BookState) (now moment : ℕ) (sound : IsSound book)
         settles = settles ∙ ap (λ (x : Ticked). keys_settled x.settles) does
             ∙ ap (λ (x : Following). keys_settled x.settles) follows_so;
         fits = account_fits;
-        whole = whole;
-        numbered = numbered;
         kept = sound.kept;
         room =
             let fewer = is.room in

@@ -17,9 +17,8 @@ use Rattle.rv_state.specs.Moves.{Move, StateNextAt}
 use Rattle.rv_account.specs.Limits.{FitsAct}
 use Rattle.rv_kept.specs.Keeping.{AreKept, client_of, front_of, kept_again, source_of}
 use Rattle.rv_kept.specs.Table.{KeptTable}
-use Rattle.rv_machine.specs.Machines.{IsWhole, keys_settled, state_in}
+use Rattle.rv_machine.specs.Machines.{keys_settled, state_in}
 use Rattle.rv_machine.specs.Needing.{IsHello}
-use Rattle.rv_machine.specs.Numbering.{AreNumbered}
 use Rattle.rv_machine.specs.declared.machine.Machine.{Machine}
 use Rattle.rv_book.specs.declared.state.BookState.{BookState}
 use Rattle.rv_book.specs.declared.verdict.KeptAnswer.{KeptAnswer}
@@ -63,7 +62,6 @@ kept_after s place e keys kepts =
 
 -- the machine knows all whom the entry told, and of each something is kept, or there is room for it
 pub record MayKeep (m : Machine) (kept : KeptTable) (e : Entry) : Type 0 where
-  pub ready : IsWhole m
   pub fits : FitsAct e.act
   pub settled : AreKnown (state_in m) kept.replies m.settled.items
   pub known : (client : ℕ) → client_of e.act ≡ Some client → IsSome (client_at (state_in m) client)
@@ -82,8 +80,6 @@ pub record IsAhead (book : BookState) (e : Entry) : Type 0 where
   pub after : state_of_machine book ≡ (following state e.moment e.act).after
   pub settles : book.machine.settled.items ≡ keys_settled (following state e.moment e.act).settles
   pub fits : FitsAccount (with_entry (account_of book) e)
-  pub whole : IsWhole book.machine
-  pub numbered : AreNumbered (state_of_machine book)
   pub kept : AreKept (account_of book).entries state.clients book.kept.replies
   pub room : 1 + waiting_count (state_of_machine book) ≤ book.account.room
   pub place : (client : ℕ) → client_of e.act ≡ Some client → get book.kept.replies client ≡ None

@@ -2,8 +2,7 @@
 use Rattle.std.specs.Prelude.{◌≤◌}
 use Rattle.rv_account.specs.Account.{Account}
 use Rattle.rv_kept.specs.Keeping.{AreKept}
-use Rattle.rv_machine.specs.Machines.{IsWhole, state_in}
-use Rattle.rv_machine.specs.Numbering.{AreNumbered}
+use Rattle.rv_machine.specs.Machines.{state_in}
 use Rattle.rv_state.specs.Agreement.{IsStateOf}
 use Rattle.rv_state.specs.State.{State, waiting_count}
 use Rattle.rv_book.specs.declared.state.BookState.{BookState}
@@ -23,8 +22,6 @@ state_of_machine book = state_in book.machine
 pub record IsSound (book : BookState) : Type 0 where
   pub legal : Legal (account_of book)
   pub fits : FitsAccount (account_of book)
-  pub whole : IsWhole book.machine
-  pub numbered : AreNumbered (state_of_machine book)
   pub stands : IsStateOf (account_of book) (state_of_machine book)
   pub kept : AreKept (account_of book).entries (state_of_machine book).clients book.kept.replies
   pub spare : waiting_count (state_of_machine book) ≤ book.account.room

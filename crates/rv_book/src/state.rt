@@ -5,7 +5,7 @@ ghost use Rattle.rv_text.specs.Limits.{FitsIdentifier, FitsMessage};
 ghost use Rattle.rv_state.specs.State.{client_at};
 ghost use Rattle.rv_kept.specs.Keeping.{client_of, front_of};
 ghost use Rattle.rv_account.specs.Limits.{FitsAct};
-ghost use Rattle.rv_machine.specs.Machines.{IsWhole, state_in};
+ghost use Rattle.rv_machine.specs.Machines.{state_in};
 ghost use Rattle.rv_book.specs.Operations.{AreKnown, MayKeep, kept_after, kept_in, keeping_all};
 
 use crate::verdict::KeptAnswer;
@@ -70,8 +70,7 @@ fn client_of(act: &Act) -> Option<u64>
 
 // The place of the oldest item of the queue at which an arrival looks.
 fn front(machine: &Machine, act: &Act) -> Option<Place>
-    requires ready { IsWhole machine.now }
-    requires fits { FitsAct act.now }
+    requires { FitsAct act.now }
     ensures { result ≡ front_of (state_in machine.now) act.now }
 {
     match act {

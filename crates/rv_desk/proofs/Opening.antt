@@ -6,8 +6,7 @@ use Rattle.std.specs.Prelude.{IsSome, vec_capacity}
 use Rattle.std.proofs.lemmas.Bool.{false≢true}
 use Rattle.std.proofs.lemmas.Option.{none-some}
 use Rattle.rv_rules.specs.StepLimits.{AreStepLimits}
-use Rattle.rv_machine.specs.Machines.{IsWhole, state_in}
-use Rattle.rv_machine.specs.Numbering.{AreNumbered}
+use Rattle.rv_machine.specs.Machines.{state_in}
 use Rattle.rv_machine.specs.declared.machine.Machine.{Machine}
 use Rattle.rv_resume.specs.Resuming.{CanResume}
 use Rattle.rv_account.specs.declared.entry.Entry.{Entry}
@@ -33,11 +32,8 @@ use Rattle.rv_desk.proofs.Turning.{same_sound, sound_same}
 
 -- ---- new
 
-pub book_at : (m : Machine) (now : ℕ) → IsWhole m → AreNumbered (state_in m) → CanResume (state_in m)
-    → now ≡ (state_in m).moment → IsBook m now
-book_at m now whole numbered resumes same = record {
-  whole = whole;
-  numbered = numbered;
+pub book_at : (m : Machine) (now : ℕ) → CanResume (state_in m) → now ≡ (state_in m).moment → IsBook m now
+book_at m now resumes same = record {
   resumes = resumes;
   later = omega (arith, same);
   time = let time = resumes.room.time in omega (arith, same, time);

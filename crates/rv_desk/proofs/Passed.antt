@@ -13,8 +13,7 @@ use Rattle.rv_state.specs.Moves.{state_moment, ticked_at}
 use Rattle.rv_resume.specs.Resuming.{CanResume}
 use Rattle.rv_machine.specs.declared.machine.Machine.{Machine}
 use Rattle.rv_machine.specs.declared.steps.TickMade.{TickMade}
-use Rattle.rv_machine.specs.Machines.{IsWhole, keys_settled, state_in}
-use Rattle.rv_machine.specs.Numbering.{AreNumbered}
+use Rattle.rv_machine.specs.Machines.{keys_settled, state_in}
 use Rattle.rv_machine.specs.Stepping.{IsTick}
 use Rattle.rv_waiting.specs.Waiting.{WaitsOn}
 use Rattle.rv_waiting.proofs.WaitingLaws.{ticks_last}
@@ -39,14 +38,13 @@ elapsed_moment s now latest handed later time is = omega arith
 
 pub elapsed : (old : HubDesk) (m : Machine) (now handed : ℕ) (made : TickMade) (entries : Vec Entry)
     → IsDeskReady old
-    → now ≡ moment_now old.latest handed → made.moment ≡ now → IsWhole m → AreNumbered (state_in m)
-    → now ≤ max_moment
+    → now ≡ moment_now old.latest handed → made.moment ≡ now → now ≤ max_moment
     → IsTick old.machine m made → entries.items ≡ old.entries.items ++ option_to_list made.entry
     → old.entries.items ≡ [] → vec_capacity old.entries ≤ vec_capacity entries
     → IsDeskSound (record old { machine = m; latest = now; entries = entries })
     × ElapsesIt old handed (record old { machine = m; latest = now; entries = entries })
     × StillGoes old (record old { machine = m; latest = now; entries = entries })
-elapsed old m now handed made entries ready is moment whole numbered time tick laid begun room =
+elapsed old m now handed made entries ready is moment time tick laid begun room =
     let s = state_in old.machine in
     let sound = ready.sound in
     let from : old.latest ≤ now = let e = is in (omega arith) in
@@ -57,8 +55,6 @@ elapsed old m now handed made entries ready is moment whole numbered time tick l
     tick.settles ∙ ap (λ n. keys_settled (ticked_at s n).settles) moment in
     let new = record old { machine = m; latest = now; entries = entries } in (
       sound_with old m now entries sound (record {
-        whole = whole;
-        numbered = numbered;
         resumes = subst (λ (t : State). CanResume t) (sym ticked) last.resumes;
         later = subst (λ (t : State). t.moment ≤ now) (sym ticked) last.in_time;
         time = time;

@@ -11,8 +11,7 @@ use Rattle.rv_state.specs.After.{Settled, due_at}
 use Rattle.rv_resume.specs.Resuming.{CanResume}
 use Rattle.rv_machine.specs.declared.machine.Machine.{Machine}
 use Rattle.rv_machine.specs.declared.steps.Heard.{Heard}
-use Rattle.rv_machine.specs.Machines.{IsWhole, keys_settled, state_in}
-use Rattle.rv_machine.specs.Numbering.{AreNumbered}
+use Rattle.rv_machine.specs.Machines.{keys_settled, state_in}
 use Rattle.rv_machine.specs.Stepping.{IsHearing}
 use Rattle.rv_hearers.specs.declared.tables.Hearing.{Hearing}
 use Rattle.rv_hearers.specs.Hearers.{hearers_of}
@@ -72,14 +71,14 @@ sound_with old m now entries sound book tellable = record {
 
 pub stepped : (old : HubDesk) (m : Machine) (entries : Vec Entry) (message : Message) (made : Heard)
     → IsSteady old
-    → FitsMessage message → IsWhole m → AreNumbered (state_in m)
+    → FitsMessage message
     → IsHearing (desk_terms old).limits old.machine m old.latest message made
     → entries.items ≡ old.entries.items ++ option_to_list made.entry
     → vec_capacity old.entries ≤ vec_capacity entries
     → IsDeskSound (record old { machine = m; entries = entries })
     × StepsIt old message made.said (record old { machine = m; entries = entries })
     × StillGoes old (record old { machine = m; entries = entries })
-stepped old m entries message made steady fits whole numbered hearing laid room =
+stepped old m entries message made steady fits hearing laid room =
     let s = state_in old.machine in
     let move = hearing.move in
     let last = moves_last (desk_terms old).limits s old.latest message move steady.sound.limits
@@ -90,8 +89,6 @@ stepped old m entries message made steady fits whole numbered hearing laid room 
     hearing.moves in
     let after = hearing.after in (
       sound_with old m old.latest entries steady.sound (record {
-        whole = whole;
-        numbered = numbered;
         resumes = subst (λ (t : State). CanResume t) (sym after) last.resumes;
         later = subst (λ (t : State). t.moment ≤ old.latest) (sym after) last.in_time;
         time = steady.sound.book.time;

@@ -3,9 +3,8 @@ use Rattle.std.specs.Prelude.{ℕ, ◌≡◌, ◌<◌, ◌≤◌, [], Some, vec_
 use Rattle.rv_rules.specs.Steps.{max_moment}
 use Rattle.rv_rules.specs.StepLimits.{AreStepLimits}
 use Rattle.rv_state.specs.After.{due_at}
-use Rattle.rv_machine.specs.Machines.{IsWhole, state_in}
+use Rattle.rv_machine.specs.Machines.{state_in}
 use Rattle.rv_machine.specs.declared.machine.Machine.{Machine}
-use Rattle.rv_machine.specs.Numbering.{AreNumbered}
 use Rattle.rv_resume.specs.Resuming.{CanResume}
 use Rattle.rv_hearers.specs.declared.tables.Hearing.{Hearing}
 use Rattle.rv_hearers.specs.Hearers.{hearers_of}
@@ -29,8 +28,6 @@ desk_terms d = record { limits = d.limits; patience = d.patience }
 
 -- what holds of the machine and the moment
 pub record IsBook (m : Machine) (now : ℕ) : Type 0 where
-  pub whole : IsWhole m
-  pub numbered : AreNumbered (state_in m)
   pub resumes : CanResume (state_in m)
   pub later : (state_in m).moment ≤ now
   pub time : now ≤ max_moment

@@ -2,8 +2,7 @@
 ghost use Rattle.std.specs.Prelude.{◌≡◌, ◌+◌, ◌≤◌, ◌↔◌, [], ℕ, None, Some, true, false, length, max};
 ghost use Rattle.std.specs.Prelude.{option_map, IfErr, IfNone, IfOk, IfSome, IsSome, IsTrue, OnErr, OnOk};
 ghost use Rattle.rv_rules.specs.StepLimits.{AreStepLimits};
-ghost use Rattle.rv_machine.specs.Machines.{IsWhole, state_in};
-ghost use Rattle.rv_machine.specs.Numbering.{AreNumbered};
+ghost use Rattle.rv_machine.specs.Machines.{state_in};
 ghost use Rattle.rv_resume.specs.Resuming.{CanResume};
 ghost use Rattle.rv_connection.specs.Steps.{input_ended, left_by};
 ghost use Rattle.rv_wires.specs.Connections.{AllHeldBack, HasWire, none_open};
@@ -69,8 +68,6 @@ impl HubDesk {
         limits: Limits,
         patience: u32,
     ) -> Result<HubDesk, NoMemory>
-        requires whole { IsWhole machine }
-        requires numbered { AreNumbered (state_in machine) }
         requires resumes { CanResume (state_in machine) }
         requires limits { AreStepLimits limits }
         ensures ready { IfOk result IsDeskReady }

@@ -42,8 +42,7 @@ impl Engine {
     ghost use Rattle.std.specs.Prelude.{AllPairs, ◌≢◌, length, max};
     ghost use Rattle.std.specs.Bool.{OnFalse, OnTrue};
     ghost use Rattle.rv_frame.specs.Sink.{SinkTakes};
-    ghost use Rattle.rv_machine.specs.Machines.{IsWhole, state_in};
-    ghost use Rattle.rv_machine.specs.Numbering.{AreNumbered};
+    ghost use Rattle.rv_machine.specs.Machines.{state_in};
     ghost use Rattle.rv_resume.specs.Resuming.{CanResume};
     ghost use Rattle.rv_rules.specs.StepLimits.{AreStepLimits};
     ghost use Rattle.rv_hearers.specs.Hearing.{nobody};
@@ -64,8 +63,6 @@ impl Engine {
         has_account: bool,
         room: usize,
     ) -> Result<Engine, NoMemory>
-        requires whole { IsWhole machine }
-        requires numbered { AreNumbered (state_in machine) }
         requires resumes { CanResume (state_in machine) }
         requires limits { AreStepLimits limits }
         ensures state { IfOk result (λ e. engine_state e ≡ record {

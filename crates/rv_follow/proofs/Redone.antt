@@ -8,7 +8,6 @@ use Rattle.rv_account.specs.declared.entry.Act.TheVariants.{Arrive, Cancel, Hell
 use Rattle.rv_account.specs.declared.entry.Entry.{Entry}
 use Rattle.rv_account.specs.Limits.{FitsEntry}
 use Rattle.rv_machine.specs.Machines.{state_in}
-use Rattle.rv_machine.specs.Numbering.{AreNumbered}
 use Rattle.rv_machine.specs.Redoing.{IsRedone}
 use Rattle.rv_machine.specs.declared.machine.Machine.{Machine}
 use Rattle.rv_resume.specs.Resuming.{CanResume, StaysInRoom}
@@ -61,11 +60,6 @@ tells_own s moment (Cancel key) number = tt
 tells_own s moment Tick number = tt
 
 -- ---- the machine
-
-pub numbered : (s : State) → CanResume s → AreNumbered s
-numbered s is client session known =
-    let fits = is.sessions client session known in
-    record { unasked = fits.unasked; zero = fits.fresh }
 
 module _ (old new : Machine) (e : Entry) (is : CanResume (state_in old)) (fits : FitsEntry e)
     (follows : FollowsState (state_in old) e) (room : StaysInRoom (state_after (state_in old) e)) where

@@ -1,6 +1,6 @@
 //! An entry that was written before is followed by a machine, or it is told why not.
 ghost use Rattle.rv_account.specs.Limits.{FitsEntry};
-ghost use Rattle.rv_machine.specs.Machines.{IsWhole, state_in};
+ghost use Rattle.rv_machine.specs.Machines.{state_in};
 ghost use Rattle.rv_resume.specs.Resuming.{CanResume};
 ghost use Rattle.rv_state.specs.Follows.{FollowsState};
 ghost use Rattle.rv_follow.specs.Outcomes.{IsFollowed};
@@ -30,10 +30,8 @@ pub enum Followed {
 /// it is done, the state stays; and all stays where memory wasn't refused, else nobody is listed. A tick, and
 /// a cancel of what waits, take no memory. [`Entry::fits`] tells whether the entry is within its limits.
 pub fn follow(machine: &mut Machine, entry: Entry) -> Followed
-    requires ready { IsWhole machine.old }
     requires resumes { CanResume (state_in machine.old) }
     requires fits { FitsEntry entry }
-    ensures ready { IsWhole machine.new }
     ensures resumes { CanResume (state_in machine.new) }
     ensures became { IsFollowed machine.old machine.new entry result }
 {
@@ -46,11 +44,9 @@ pub fn follow(machine: &mut Machine, entry: Entry) -> Followed
 
 // The same of one that follows.
 fn follow_on(machine: &mut Machine, entry: Entry) -> Followed
-    requires ready { IsWhole machine.old }
     requires resumes { CanResume (state_in machine.old) }
     requires fits { FitsEntry entry }
     requires follows { FollowsState (state_in machine.old) entry }
-    ensures ready { IsWhole machine.new }
     ensures resumes { CanResume (state_in machine.new) }
     ensures became { IsFollowed machine.old machine.new entry result }
 {

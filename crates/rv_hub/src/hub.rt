@@ -43,8 +43,7 @@ impl Hub {
     ghost use Rattle.std.specs.Prelude.{◌↔◌, ◌≢◌, ℕ, AllPairs, IfErr, IfNone, IfOk, IfSome};
     ghost use Rattle.std.specs.Prelude.{IsTrue, OnErr, OnOk, [], max};
     ghost use Rattle.std.specs.Option.{option_copied};
-    ghost use Rattle.rv_machine.specs.Machines.{IsWhole, state_in};
-    ghost use Rattle.rv_machine.specs.Numbering.{AreNumbered};
+    ghost use Rattle.rv_machine.specs.Machines.{state_in};
     ghost use Rattle.rv_resume.specs.Resuming.{CanResume};
     ghost use Rattle.rv_rules.specs.StepLimits.{AreStepLimits};
     ghost use Rattle.rv_hearers.specs.Hearing.{nobody};
@@ -67,8 +66,6 @@ impl Hub {
         patience: u32,
         has_journal: bool,
     ) -> Result<Hub, NoMemory>
-        requires whole { IsWhole machine }
-        requires numbered { AreNumbered (state_in machine) }
         requires resumes { CanResume (state_in machine) }
         requires limits { AreStepLimits limits }
         ensures state { IfOk result (λ h. hub_state h ≡ record {

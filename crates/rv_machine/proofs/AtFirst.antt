@@ -6,13 +6,13 @@ use Rattle.std.specs.Prelude.{vec_len}
 use Rattle.rv_rules.specs.Steps.{max_moment}
 use Rattle.rv_state.specs.State.{ClientState, OpenPlace, client_at}
 use Rattle.rv_state.proofs.Words.{none-some}
-use Rattle.rv_machine.specs.declared.machine.Machine.{Machine}
+use Rattle.rv_machine.specs.declared.tables.Holdings.{Holdings}
 use Rattle.rv_rules.specs.Reach.{most_known}
 use Rattle.rv_machine.specs.Machines.{IsWhole, state_in}
 use Rattle.rv_machine.specs.Numbering.{AreNumbered}
 use Rattle.rv_open.specs.OpenMap.{count_waiting}
 
-module _ (m : Machine) (none : m.table ≡ []) (nobody : m.clients.clients ≡ empty) where
+module _ (m : Holdings) (none : m.table ≡ []) (nobody : m.clients.clients ≡ empty) where
   nothing : (i : ℕ) (one : OpenPlace) → slice_get m.table i ≡ Some one → ⊥
   nothing i one at = none-some one (ap (λ l. slice_get l i) (sym none) ∙ at)
 

@@ -23,7 +23,7 @@ use Rattle.rv_state.specs.After.{advanced, cancelled, with_client, with_last}
 use Rattle.rv_state.specs.Follows.{NumberWaits}
 use Rattle.rv_state.specs.Moves.{answer_after, answer_told, entering, told_again}
 use Rattle.rv_state.proofs.Words.{none-some, same_Some}
-use Rattle.rv_machine.specs.declared.machine.Machine.{Machine}
+use Rattle.rv_machine.specs.declared.tables.Holdings.{Holdings}
 use Rattle.rv_machine.specs.declared.machine.Said.TheVariants as said
 use Rattle.rv_machine.specs.Ending.{EndsWaiting, counted}
 use Rattle.rv_machine.specs.Entering.{HasSpaceFor, WaitsForNothing, LastWaits}
@@ -39,7 +39,8 @@ use Rattle.rv_resume.proofs.Sessions.{put_own}
 
 -- ---- where no entry is made
 
-module _ (limits : StepLimits) (m : Machine) (moment : ℕ) (key : Key) (numbered : AreNumbered (state_in m))
+module _ (limits : StepLimits) (m : Holdings) (moment : ℕ) (key : Key) (numbered :
+    AreNumbered (state_in m))
   where
     pub refuses_cancel : (refusal : Refusal) → RefusalSays m.clients key refusal
         → MovesBy limits m m moment (Cancel key) [] (said.Refused refusal)
@@ -79,7 +80,7 @@ module _ (limits : StepLimits) (m : Machine) (moment : ℕ) (key : Key) (numbere
 
 -- ---- where the last request waits
 
-module _ (limits : StepLimits) (old mid : Machine) (ready : IsWhole old) (numbered :
+module _ (limits : StepLimits) (old mid : Holdings) (ready : IsWhole old) (numbered :
     AreNumbered (state_in old)) (moment : ℕ)
     (key : Key)
     (place : ℕ) (last : LastWaits old key place) (ends : EndsWaiting old mid place Cancelled) where
@@ -136,7 +137,7 @@ module _ (limits : StepLimits) (old mid : Machine) (ready : IsWhole old) (number
 
 -- ---- where it did not come
 
-module _ (old : Machine) (moment : ℕ) (key : Key) (says : AsksNext old.clients key) where
+module _ (old : Holdings) (moment : ℕ) (key : Key) (says : AsksNext old.clients key) where
   -- its client's session then
   abbrev pub buried : ClientState
   buried = with_last_number says.state key.number CancelledUnseen
@@ -158,7 +159,7 @@ module _ (old : Machine) (moment : ℕ) (key : Key) (says : AsksNext old.clients
       ∙ ap (insert_known old.clients.clients key.client (λ x. with_last_number x key.number CancelledUnseen))
       says.of_key.there
 
-  module _ (limits : StepLimits) (mid : Machine) (numbered : AreNumbered (state_in old)) (space :
+  module _ (limits : StepLimits) (mid : Holdings) (numbered : AreNumbered (state_in old)) (space :
       HasSpaceFor limits old 1)
       (is : state_in mid ≡ with_client (state_in old) key.client buried)
       (kept : mid.settled.items ≡ old.settled.items) where

@@ -13,7 +13,7 @@ use Rattle.rv_state.specs.State.{ClientState, OpenPlace, State, Waiter, client_a
 use Rattle.rv_state.specs.After.{asked, with_client, with_last}
 use Rattle.rv_state.specs.Follows.{NumberIsNext}
 use Rattle.rv_state.proofs.Words.{none-some, same_Some}
-use Rattle.rv_machine.specs.declared.machine.Machine.{Machine}
+use Rattle.rv_machine.specs.declared.tables.Holdings.{Holdings}
 use Rattle.rv_machine.specs.Machines.{IsConsistent, IsWhole, IsWaiter, AwaitsPlace, state_in}
 use Rattle.rv_resume.proofs.Sessions.{put_other, put_own}
 
@@ -123,7 +123,7 @@ asked_consistent s key request session is known idle quiet =
     (ap awaited_by known ∙ idle) quiet)
 
 -- the machine whose clients were asked so
-abbrev pub asked_in : Machine → Key → LastRequest → Machine
+abbrev pub asked_in : Holdings → Key → LastRequest → Holdings
 asked_in m key request =
     record {
       moment = m.moment;
@@ -133,11 +133,11 @@ asked_in m key request =
       settled = m.settled;
     }
 
-pub asked_state : (m : Machine) (key : Key) (request : LastRequest)
+pub asked_state : (m : Holdings) (key : Key) (request : LastRequest)
     → state_in (asked_in m key request) ≡ asked (state_in m) key request
 asked_state m key request = sym (asked_is (state_in m) key request)
 
-pub asked_ready : (m : Machine) (key : Key) (request : LastRequest) (session : ClientState) → IsWhole m
+pub asked_ready : (m : Holdings) (key : Key) (request : LastRequest) (session : ClientState) → IsWhole m
     → client_at (state_in m) key.client ≡ Some session → place_waiting session.request ≡ None
     → place_waiting request ≡ None → IsWhole (asked_in m key request)
 asked_ready m key request session ready known idle quiet = record {
@@ -148,7 +148,7 @@ asked_ready m key request session ready known idle quiet = record {
 }
 
 -- the machine with other clients
-abbrev pub with_states : Machine → ClientStates → Machine
+abbrev pub with_states : Holdings → ClientStates → Holdings
 with_states m clients =
     record {
       moment = m.moment;
@@ -159,7 +159,8 @@ with_states m clients =
     }
 
 -- ready, as the table of clients gives it
-pub concluded_ready : (m : Machine) (key : Key) (request : LastRequest) (clients : ClientStates) → IsWhole m
+pub concluded_ready : (m : Holdings) (key : Key) (request : LastRequest) (clients : ClientStates)
+    → IsWhole m
     → NumberIsNext (state_in m) key → place_waiting request ≡ None
     → clients ≡ with_clients m.clients (clients_asked m.clients.clients key request)
     → IsWhole (with_states m clients)

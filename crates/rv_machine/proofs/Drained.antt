@@ -29,7 +29,7 @@ use Rattle.rv_state.proofs.Words.{none-some, same_Some}
 use Rattle.rv_state.proofs.Filtered.{filter_get, take_get}
 use Rattle.rv_state.proofs.SideLines.{same_side_is}
 use Rattle.rv_state.proofs.ToldClients.{get_tell_all, told_client, told_still}
-use Rattle.rv_machine.specs.declared.machine.Machine.{Machine}
+use Rattle.rv_machine.specs.declared.tables.Holdings.{Holdings}
 use Rattle.rv_machine.specs.Arriving.{Arrives}
 use Rattle.rv_machine.specs.Ending.{counted}
 use Rattle.rv_machine.specs.Machines.{IsConsistent, IsWaiter, keys_settled, state_in}
@@ -192,7 +192,7 @@ still_next s gone xs key is = record {
 
 -- ---- what it makes of a machine
 
-module _ (old mid : Machine) (key : Key) (queue most : ℕ) (items : List (List ℕ)) (places : List ℕ)
+module _ (old mid : Holdings) (key : Key) (queue most : ℕ) (items : List (List ℕ)) (places : List ℕ)
     (takes : TakesAll old mid queue key most items places) where
   pub next_there : NumberIsNext (state_in old) key → NumberIsNext (state_in mid) key
   next_there is =

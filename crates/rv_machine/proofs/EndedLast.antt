@@ -13,7 +13,7 @@ use Rattle.rv_open.specs.OpenMap.{most_counted}
 use Rattle.rv_state.specs.State.{ClientState, OpenPlace, State, Waiter, client_at, client_waits, open_at}
 use Rattle.rv_state.proofs.TableClients.{clients_after_tell}
 use Rattle.rv_state.proofs.Words.{none-some, same_Some}
-use Rattle.rv_machine.specs.declared.machine.Machine.{Machine}
+use Rattle.rv_machine.specs.declared.tables.Holdings.{Holdings}
 use Rattle.rv_machine.specs.Ending.{EndsWaiting}
 use Rattle.rv_machine.specs.Entering.{WaitsForNothing}
 use Rattle.rv_open.specs.Indexed.{WaitsIn}
@@ -64,7 +64,7 @@ waits_in s client place waits = record {
   waits = subst (λ (o : Option Waiter). IsSome o) (sym waits.waits) refl;
 }
 
-module _ (old new : Machine) (ready : IsWhole old) (client place : ℕ) (reply : Reply) (x : ClientState)
+module _ (old new : Holdings) (ready : IsWhole old) (client place : ℕ) (reply : Reply) (x : ClientState)
     (known : client_at (state_in old) client ≡ Some x) (waits : place_waiting x.request ≡ Some place)
     (ends : EndsWaiting old new place reply) where
   its : AwaitsPlace (state_in old) client place
@@ -99,7 +99,7 @@ module _ (old new : Machine) (ready : IsWhole old) (client place : ℕ) (reply :
 
 -- ---- space
 
-pub space_after : (old new : Machine) (ready : IsWhole old) (place : ℕ) (reply : Reply)
+pub space_after : (old new : Holdings) (ready : IsWhole old) (place : ℕ) (reply : Reply)
     → EndsWaiting old new place reply → new.length + count_waiting new.table < most_counted
 space_after old new ready place reply ends =
     let less = less_waits (state_in old) ready.consistent place ends.there ends.waiter reply ends.found

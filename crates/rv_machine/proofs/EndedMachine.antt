@@ -10,7 +10,7 @@ use Rattle.rv_session.specs.Clients.{ClientStates, clients_told, place_awaited, 
 use Rattle.rv_state.specs.State.{OpenPlace, State, Waiter}
 use Rattle.rv_state.specs.After.{closed}
 use Rattle.rv_state.proofs.Words.{same_Some}
-use Rattle.rv_machine.specs.declared.machine.Machine.{Machine}
+use Rattle.rv_machine.specs.declared.tables.Holdings.{Holdings}
 use Rattle.rv_machine.specs.Ending.{EndsWaiting}
 use Rattle.rv_open.specs.Indexed.{ClosesPlace}
 use Rattle.rv_machine.specs.Machines.{IsConsistent, IsWhole, state_in}
@@ -24,7 +24,8 @@ duty_is there w duty waits owed =
     same_Some _ _ (sym owed ∙ ap (λ (o : Option Waiter). option_map
     (λ x. record { place = there.place; client = x.key.client }) o) waits)
 
-module _ (m : Machine) (ready : IsWhole m) (place : ℕ) (there : OpenPlace) (w : Waiter) (duty : OwedDuty)
+module _ (m : Holdings) (ready : IsWhole m) (place : ℕ) (there : OpenPlace) (w : Waiter) (duty :
+    OwedDuty)
     (reply : Reply) (table : List OpenPlace) (closes : ClosesPlace m.table table place there (Some duty))
     (waits : there.waiter ≡ Some w) where
   abbrev s : State
@@ -50,7 +51,7 @@ module _ (m : Machine) (ready : IsWhole m) (place : ℕ) (there : OpenPlace) (w 
 
   module _ (clients : ClientStates) (told : clients ≡ with_clients m.clients
       (clients_told m.clients.clients duty.client reply)) (settled : Vec Key) where
-    abbrev new : Machine
+    abbrev new : Holdings
     new = record { moment = m.moment; length = m.length; table = table; clients = clients; settled = settled }
 
     clients_now : clients.clients ≡ gone.clients

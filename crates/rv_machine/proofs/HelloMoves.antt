@@ -24,7 +24,7 @@ use Rattle.rv_state.specs.After.{advanced, closed, following, greeted, just_open
 use Rattle.rv_state.specs.After.{with_client}
 use Rattle.rv_state.specs.Moves.{entering}
 use Rattle.rv_state.proofs.Words.{none-some, same_Some}
-use Rattle.rv_machine.specs.declared.machine.Machine.{Machine}
+use Rattle.rv_machine.specs.declared.tables.Holdings.{Holdings}
 use Rattle.rv_machine.specs.declared.machine.Said.TheVariants as said
 use Rattle.rv_machine.specs.Ending.{EndsWaiting}
 use Rattle.rv_machine.specs.Entering.{HasSpaceFor, WaitsForNothing, IsNewHello}
@@ -38,7 +38,7 @@ use Rattle.rv_machine.proofs.Stopping.{settled_one, stopped_none, stopped_one}
 
 -- ---- where no entry is made
 
-module _ (limits : StepLimits) (m : Machine) (moment client incarnation : ℕ) (version : Version) where
+module _ (limits : StepLimits) (m : Holdings) (moment client incarnation : ℕ) (version : Version) where
   pub moves_again : HasState m.clients client incarnation version
       → MovesBy limits m m moment (Hello client incarnation version) []
       (said.Welcome m.clients.epoch client incarnation version)
@@ -82,7 +82,7 @@ module _ (limits : StepLimits) (m : Machine) (moment client incarnation : ℕ) (
       (hello_no_entry limits (state_in m) client incarnation version _ _ _ fits full refl)
 
 -- a client that isn't known is a new one
-pub unknown_new : (limits : StepLimits) (m : Machine) (client incarnation : ℕ)
+pub unknown_new : (limits : StepLimits) (m : Holdings) (client incarnation : ℕ)
     → get m.clients.clients client ≡ None → len m.clients.clients < limits.clients
     → IsNewHello limits (state_in m) client incarnation
 unknown_new limits m client incarnation none less = record {
@@ -91,7 +91,7 @@ unknown_new limits m client incarnation none less = record {
 }
 
 -- a session of a lower incarnation is followed by that of a new one
-pub lower_new : (limits : StepLimits) (m : Machine) (client incarnation : ℕ) (waiting : Option ℕ)
+pub lower_new : (limits : StepLimits) (m : Holdings) (client incarnation : ℕ) (waiting : Option ℕ)
     → HasLowerState m.clients client incarnation waiting → IsNewHello limits (state_in m) client incarnation
 lower_new limits m client incarnation waiting has = record {
   is_new = λ x there. subst (λ (y : ClientState). y.incarnation < incarnation)
@@ -130,7 +130,8 @@ module _ (s : State) (client : ℕ) (session : ClientState) where
 
 -- ---- where it enters
 
-module _ (limits : StepLimits) (old mid new : Machine) (moment client incarnation : ℕ) (version : Version)
+module _ (limits : StepLimits) (old mid new : Holdings) (moment client incarnation : ℕ) (version :
+    Version)
     (fits : IsNewHello limits (state_in old) client incarnation) (space : HasSpaceFor limits old 1) (made :
     Entry)
     (is : made ≡ entry moment (act.Hello client incarnation version) [])
@@ -190,7 +191,7 @@ module _ (limits : StepLimits) (old mid new : Machine) (moment client incarnatio
       (sym (one_settled s client (fresh_state incarnation version) ends.there ends.waiter found ends.waits)))
 
 -- where a growth was refused
-pub moves_lacking : (limits : StepLimits) (old new : Machine) (moment client incarnation : ℕ) (version :
+pub moves_lacking : (limits : StepLimits) (old new : Holdings) (moment client incarnation : ℕ) (version :
     Version)
     → IsNewHello limits (state_in old) client incarnation → HasSpaceFor limits old 1
     → state_in new ≡ state_in old

@@ -8,7 +8,7 @@ use Rattle.rv_session.specs.Clients.{ClientStates, place_waiting}
 use Rattle.rv_state.specs.State.{ClientState, OpenPlace, State, Waiter, client_at}
 use Rattle.rv_state.specs.After.{with_client}
 use Rattle.rv_state.proofs.Words.{none-some, same_Some}
-use Rattle.rv_machine.specs.declared.machine.Machine.{Machine}
+use Rattle.rv_machine.specs.declared.tables.Holdings.{Holdings}
 use Rattle.rv_machine.specs.Entering.{WaitsForNothing}
 use Rattle.rv_machine.specs.Machines.{IsConsistent, IsWhole, IsWaiter, AwaitsPlace, state_in}
 use Rattle.rv_resume.proofs.Sessions.{put_other, put_own}
@@ -74,11 +74,11 @@ module _ (s : State) (is : IsConsistent s) (client : ℕ) (idle : WaitsForNothin
   }
 
 -- the machine with other clients, of which one has another session
-abbrev pub with_table : Machine → ClientStates → Machine
+abbrev pub with_table : Holdings → ClientStates → Holdings
 with_table m clients =
     record { moment = m.moment; length = m.length; table = m.table; clients = clients; settled = m.settled }
 
-module _ (m : Machine) (ready : IsWhole m) (client : ℕ) (session : ClientState) (clients : ClientStates)
+module _ (m : Holdings) (ready : IsWhole m) (client : ℕ) (session : ClientState) (clients : ClientStates)
     (put : clients.clients ≡ insert m.clients.clients client session)
     (epoch : clients.epoch ≡ m.clients.epoch) where
   pub put_state : state_in (with_table m clients) ≡ with_client (state_in m) client session

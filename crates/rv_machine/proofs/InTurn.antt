@@ -8,7 +8,7 @@ use Rattle.rv_account.specs.declared.entry.Act.TheVariants.{Tick}
 use Rattle.rv_state.specs.State.{OpenPlace, State}
 use Rattle.rv_state.specs.After.{Settled, advanced, due_at, stopped}
 use Rattle.rv_state.specs.Moves.{Ticked, ticked_at, ticked_if, ticking}
-use Rattle.rv_machine.specs.declared.machine.Machine.{Machine}
+use Rattle.rv_machine.specs.declared.tables.Holdings.{Holdings}
 use Rattle.rv_machine.specs.Ending.{counted}
 use Rattle.rv_machine.specs.Machines.{keys_settled, state_in}
 use Rattle.rv_open.specs.OpenMap.{count_waiting, due_in}
@@ -19,7 +19,7 @@ use Rattle.rv_machine.proofs.Stopping.{settled_one, settled_twice, stopped_none,
 abbrev keys_stopped : State → List OpenPlace → List Key
 keys_stopped s gone = keys_settled (stopped s gone TimedOut).settles
 
-pub ends_none : (m : Machine) (moment : ℕ) → EndsFirst m m moment
+pub ends_none : (m : Holdings) (moment : ℕ) → EndsFirst m m moment
 ends_none m moment = record {
   gone = [];
   first = refl;
@@ -28,7 +28,7 @@ ends_none m moment = record {
   fewer = omega arith;
 }
 
-pub ends_one : (old new : Machine) (moment : ℕ) → EndsNext old new moment → EndsFirst old new moment
+pub ends_one : (old new : Holdings) (moment : ℕ) → EndsNext old new moment → EndsFirst old new moment
 ends_one old new moment one = record {
   gone = one.there ∷ [];
   first = one.first;
@@ -39,7 +39,8 @@ ends_one old new moment one = record {
   fewer = let fewer = one.fewer in omega arith;
 }
 
-pub ends_more : (old mid new : Machine) (moment : ℕ) → EndsFirst old mid moment → EndsFirst mid new moment
+pub ends_more : (old mid new : Holdings) (moment : ℕ) → EndsFirst old mid moment
+    → EndsFirst mid new moment
     → EndsFirst old new moment
 ends_more old mid new moment some more = record {
   gone = some.gone ++ more.gone;
@@ -58,7 +59,7 @@ ends_more old mid new moment some more = record {
 }
 
 -- all that was due is gone, and the tick was counted
-pub ticked_all : (old new : Machine) (moment : ℕ) (there : OpenPlace) (rest : List OpenPlace)
+pub ticked_all : (old new : Holdings) (moment : ℕ) (there : OpenPlace) (rest : List OpenPlace)
     → due_in old.table moment ≡ there ∷ rest → EndsFirst old new moment → due_in new.table moment ≡ []
     → 1 + count_waiting new.table ≤ count_waiting old.table
     → TimesOut old (counted new moment) moment (entry moment Tick [] ∷ [])

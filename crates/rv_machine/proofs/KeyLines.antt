@@ -20,7 +20,7 @@ use Rattle.rv_state.specs.Follows.{IsNewIncarnation, NumberIsNext}
 use Rattle.rv_state.proofs.Words.{none-some, same_Some}
 use Rattle.rv_machine.specs.Numbering.{AreNumbered}
 use Rattle.rv_machine.specs.Machines.{state_in}
-use Rattle.rv_machine.specs.declared.machine.Machine.{Machine}
+use Rattle.rv_machine.specs.declared.tables.Holdings.{Holdings}
 
 -- ---- the lines that a session isn't met by
 
@@ -214,7 +214,7 @@ pub awaited_there : (t : ClientStates) (client : ℕ) (x : ClientState) (o : Opt
 awaited_there t client x o there waits =
     sym (ap (option_and_then (λ (c : ClientState). place_waiting c.request)) there) ∙ waits
 
-module _ (m : Machine) (key : Key) (refuses : Refusal → Type 0) (at_last above : Type 0)
+module _ (m : Holdings) (key : Key) (refuses : Refusal → Type 0) (at_last above : Type 0)
     (numbered : AreNumbered (state_in m)) where
   lacking : (refuses NoSession) → LacksState m.clients key
       → StateKeyLines (state_in m) key refuses at_last above
@@ -286,7 +286,7 @@ module _ (m : Machine) (key : Key) (refuses : Refusal → Type 0) (at_last above
       (awaited_there m.clients key.client says.state None says.of_key.there says.idle) then
 
 -- the next number of the table is that of the state
-pub number_next : (m : Machine) (key : Key) → AsksNext m.clients key → NumberIsNext (state_in m) key
+pub number_next : (m : Holdings) (key : Key) → AsksNext m.clients key → NumberIsNext (state_in m) key
 number_next m key says = record {
   session = says.state;
   of_session = record {

@@ -24,7 +24,7 @@ use Rattle.rv_state.specs.After.{Following, Settled, advanced, arrived, asked, c
 use Rattle.rv_state.specs.After.{opened_by, parked, request_after, settled_all, stays_open, told_alone}
 use Rattle.rv_state.specs.After.{told_own}
 use Rattle.rv_state.specs.After.{told_partner, with_open}
-use Rattle.rv_machine.specs.declared.machine.Machine.{Machine}
+use Rattle.rv_machine.specs.declared.tables.Holdings.{Holdings}
 use Rattle.rv_machine.specs.Arriving.{Arrives, MayArrive}
 use Rattle.rv_machine.specs.Ending.{counted}
 use Rattle.rv_machine.specs.Machines.{keys_settled, state_in}
@@ -104,7 +104,7 @@ module _ (s : State) (moment : ℕ) (key : Key) (call : Call) (reply : Reply)
 
 -- ---- what it makes of a machine
 
-pub leaves_arrived : (m : Machine) (moment : ℕ) (key : Key) (call : Call) (reply : Reply)
+pub leaves_arrived : (m : Holdings) (moment : ℕ) (key : Key) (call : Call) (reply : Reply)
     → MayArrive m moment key call → opposed_in m.table (side_of call) ≡ []
     → ¬ StaysBy (side_of call) (wait_of call) → told_alone (state_in m) call ≡ Some reply
     → Arrives m (counted (asked_in m key (RepliedTo call reply)) moment) moment key call
@@ -125,14 +125,14 @@ leaves_arrived m moment key call reply may alone leaves told =
     }
 
 -- the same of a machine and an entry that are those
-pub arrives_as : (old was now : Machine) (moment : ℕ) (key : Key) (call : Call) (made is : Entry)
+pub arrives_as : (old was now : Holdings) (moment : ℕ) (key : Key) (call : Call) (made is : Entry)
     → now ≡ was → is ≡ made → Arrives old was moment key call made → Arrives old now moment key call is
 arrives_as old was now moment key call made is same entry_same arrives =
-    subst (λ (m : Machine). Arrives old m moment key call is) (sym same)
+    subst (λ (m : Holdings). Arrives old m moment key call is) (sym same)
     (subst (λ (e : Entry). Arrives old was moment key call e) (sym entry_same) arrives)
 
 -- what the table of clients and the count of entries make of a machine
-pub concluded_now : (m now : Machine) (moment : ℕ) (key : Key) (request : LastRequest) (clients :
+pub concluded_now : (m now : Holdings) (moment : ℕ) (key : Key) (request : LastRequest) (clients :
     ClientStates)
     → clients ≡ with_clients m.clients (clients_asked m.clients.clients key request)
     → now ≡ counted (with_states m clients) moment → now ≡ counted (asked_in m key request) moment

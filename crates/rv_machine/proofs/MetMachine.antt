@@ -22,7 +22,7 @@ use Rattle.rv_state.specs.State.{OpenPlace, State, place_list}
 use Rattle.rv_state.specs.After.{Following, Settled, advanced, asked, closed, following, met_by, parked}
 use Rattle.rv_state.specs.After.{request_after}
 use Rattle.rv_state.specs.After.{settled_all, told_own, told_partner, with_open}
-use Rattle.rv_machine.specs.declared.machine.Machine.{Machine}
+use Rattle.rv_machine.specs.declared.tables.Holdings.{Holdings}
 use Rattle.rv_machine.specs.Arriving.{Arrives, MayArrive}
 use Rattle.rv_machine.specs.Ending.{counted}
 use Rattle.rv_open.specs.Indexed.{ClosesFirst}
@@ -46,10 +46,10 @@ at_least_one (Some (Millis zero)) = omega arith
 at_least_one (Some (Millis (suc n))) = omega arith
 at_least_one (Some Forever) = omega arith
 
-module _ (m : Machine) (moment : ℕ) (key : Key) (call : Call) (may : MayArrive m moment key call)
+module _ (m : Holdings) (moment : ℕ) (key : Key) (call : Call) (may : MayArrive m moment key call)
     (table : List OpenPlace) (there : OpenPlace) (other : Option OwedDuty)
     (met : ClosesFirst m.table table (opposite (side_of call)) there other) (one : drains_of call ≡ None)
-    (now : Machine) (both : TellsBoth m moment key call may table there other met now) (own : Reply)
+    (now : Holdings) (both : TellsBoth m moment key call may table there other met now) (own : Reply)
     (told : told_own (state_in m) key call (there ∷ []) ≡ Some own) (clients : ClientStates)
     (are : clients ≡ with_clients now.clients (clients_told now.clients.clients key.client own)) where
   abbrev s : State
@@ -67,7 +67,7 @@ module _ (m : Machine) (moment : ℕ) (key : Key) (call : Call) (may : MayArrive
       (ap (λ (o : Option ℕ). unwrap_or o 1) one)
 
   -- before its entry is counted
-  abbrev before : Machine
+  abbrev before : Holdings
   before =
       record {
         moment = now.moment;
@@ -77,7 +77,7 @@ module _ (m : Machine) (moment : ℕ) (key : Key) (call : Call) (may : MayArrive
         settled = now.settled;
       }
 
-  abbrev new : Machine
+  abbrev new : Holdings
   new = counted before moment
 
   opens_are : now.table ≡ gone.open_places

@@ -25,7 +25,7 @@ use Rattle.rv_state.proofs.Filtered.{filter_get, find_get}
 use Rattle.rv_state.proofs.SideLines.{same_side_is}
 use Rattle.rv_state.proofs.TableClients.{clients_after_tell}
 use Rattle.rv_state.proofs.Words.{none-some, same_Some}
-use Rattle.rv_machine.specs.declared.machine.Machine.{Machine}
+use Rattle.rv_machine.specs.declared.tables.Holdings.{Holdings}
 use Rattle.rv_machine.specs.Arriving.{MayArrive}
 use Rattle.rv_open.specs.Indexed.{ClosesFirst}
 use Rattle.rv_machine.specs.Machines.{IsConsistent, IsWaiter, keys_settled, state_in}
@@ -54,11 +54,11 @@ faces all new None there first = absurd (no_line there [] first)
 faces all new (Some side) there first = ap Some (sym (faced_side all side there (line_in new side) first))
 
 -- a machine with this table of what is open and these clients
-abbrev pub begun_with : Machine → List OpenPlace → ClientStates → Machine
+abbrev pub begun_with : Holdings → List OpenPlace → ClientStates → Holdings
 begun_with m table clients =
     record { moment = m.moment; length = m.length; table = table; clients = clients; settled = m.settled }
 
-module _ (m : Machine) (moment : ℕ) (key : Key) (call : Call) (may : MayArrive m moment key call)
+module _ (m : Holdings) (moment : ℕ) (key : Key) (call : Call) (may : MayArrive m moment key call)
     (table : List OpenPlace) (there : OpenPlace) (other : Option OwedDuty)
     (met : ClosesFirst m.table table (opposite (side_of call)) there other) where
   abbrev s : State
@@ -74,7 +74,7 @@ module _ (m : Machine) (moment : ℕ) (key : Key) (call : Call) (may : MayArrive
   opposes = faces m.table table (opposite (side_of call)) there met.first
 
   -- with its own request begun
-  abbrev pub begun : Machine
+  abbrev pub begun : Holdings
   begun = begun_with m table (with_clients m.clients (clients_asked m.clients.clients key
       (Waits m.length call)))
 
@@ -141,7 +141,7 @@ module _ (m : Machine) (moment : ℕ) (key : Key) (call : Call) (may : MayArrive
   -- ---- what was told
 
   -- one who waited, or nobody, was told, and then the arrival
-  pub record TellsBoth (now : Machine) : Type 0 where
+  pub record TellsBoth (now : Holdings) : Type 0 where
     pub consistent : IsConsistent (closed s (there ∷ []) settles)
     pub known : client_at (closed s (there ∷ []) settles) key.client ≡ Some may.next.session
     pub table_is : now.table ≡ table
@@ -165,7 +165,7 @@ module _ (m : Machine) (moment : ℕ) (key : Key) (call : Call) (may : MayArrive
   own_awaited clients same = ap (option_and_then (λ (c : ClientState). place_waiting c.request))
       (same ∙ begins)
 
-  nobody : (now : Machine) → there.waiter ≡ None → now ≡ begun → TellsBoth now
+  nobody : (now : Holdings) → there.waiter ≡ None → now ≡ begun → TellsBoth now
   nobody now none same =
       let no_one = settles_nobody s is there.place there found_there key call none in
       let P : List Settled → Type 0 = λ l. IsConsistent (closed s (there ∷ []) l) in
@@ -176,20 +176,20 @@ module _ (m : Machine) (moment : ℕ) (key : Key) (call : Call) (may : MayArrive
         consistent = subst P (sym no_one) (gone_consistent s is there found_there none);
         known = ap (λ (l : List Settled). client_at (closed s (there ∷ []) l) key.client) no_one
             ∙ may.next.of_session.there;
-        table_is = ap (λ (x : Machine). x.table) same;
-        moment_is = ap (λ (x : Machine). x.moment) same;
-        length_is = ap (λ (x : Machine). x.length) same;
-        epoch = ap (λ (x : Machine). x.clients.epoch) same;
-        most = ap (λ (x : Machine). x.clients.most) same;
-        listed = ap (λ (x : Machine). x.settled.items) same ∙ sym (append-nil m.settled.items)
+        table_is = ap (λ (x : Holdings). x.table) same;
+        moment_is = ap (λ (x : Holdings). x.moment) same;
+        length_is = ap (λ (x : Holdings). x.length) same;
+        epoch = ap (λ (x : Holdings). x.clients.epoch) same;
+        most = ap (λ (x : Holdings). x.clients.most) same;
+        listed = ap (λ (x : Holdings). x.settled.items) same ∙ sym (append-nil m.settled.items)
             ∙ ap (λ (l : List Settled). m.settled.items ++ keys_settled l) (sym no_one);
-        room = subst (λ (x : Machine). count_waiting table + vec_len x.settled ≤ vec_capacity x.settled)
+        room = subst (λ (x : Holdings). count_waiting table + vec_len x.settled ≤ vec_capacity x.settled)
             (sym same)
             (omega (arith, at_most, may.ready.room));
-        its_awaited = ap (λ (x : Machine). place_awaited x.clients.clients key.client) same
+        its_awaited = ap (λ (x : Holdings). place_awaited x.clients.clients key.client) same
             ∙ own_awaited begun.clients.clients refl;
         tells = λ own_reply.
-            ap (λ (x : Machine). clients_told x.clients.clients key.client own_reply) same
+            ap (λ (x : Holdings). clients_told x.clients.clients key.client own_reply) same
             ∙ asked_then_told m.clients.clients key m.length call own_reply may.next.session
             may.next.of_session.there
             ∙ ap (λ (l : List Settled). clients_asked (closed s (there ∷ []) l).clients key
@@ -197,7 +197,7 @@ module _ (m : Machine) (moment : ℕ) (key : Key) (call : Call) (may : MayArrive
             (sym no_one);
       }
 
-  somebody : (now : Machine) (w : Waiter) → there.waiter ≡ Some w
+  somebody : (now : Holdings) (w : Waiter) → there.waiter ≡ Some w
       → WasTold begun now there.waiter there.side key (item_of call) → TellsBoth now
   somebody now w waits was =
       let same_who : was.who ≡ w = same_Some _ _ (sym was.is ∙ waits) in
@@ -224,19 +224,19 @@ module _ (m : Machine) (moment : ℕ) (key : Key) (call : Call) (may : MayArrive
             ∙ ap (λ (c : FinMap nat_cmp ClientState). get c key.client) tells_is
             ∙ told_other s.clients w.key.client key.client was.reply (λ e. apart w waits (sym e))
             ∙ may.next.of_session.there;
-        table_is = ap (λ (x : Machine). x.table) same;
-        moment_is = ap (λ (x : Machine). x.moment) same;
-        length_is = ap (λ (x : Machine). x.length) same;
-        epoch = ap (λ (x : Machine). x.clients.epoch) same;
-        most = ap (λ (x : Machine). x.clients.most) same;
+        table_is = ap (λ (x : Holdings). x.table) same;
+        moment_is = ap (λ (x : Holdings). x.moment) same;
+        length_is = ap (λ (x : Holdings). x.length) same;
+        epoch = ap (λ (x : Holdings). x.clients.epoch) same;
+        most = ap (λ (x : Holdings). x.clients.most) same;
         listed = was.listed ∙ ap (λ (v : Waiter). m.settled.items ++ v.key ∷ []) same_who
             ∙ ap (λ (l : List Settled). m.settled.items ++ keys_settled l) (sym settled_is);
         room = omega (arith, less, may.ready.room, was.longer, was.capacity);
-        its_awaited = ap (λ (x : Machine). place_awaited x.clients.clients key.client) same
+        its_awaited = ap (λ (x : Holdings). place_awaited x.clients.clients key.client) same
             ∙ own_awaited (clients_told begun.clients.clients w.key.client was.reply)
             (told_other begun.clients.clients w.key.client key.client was.reply (λ e. apart w waits (sym e)));
         tells = λ own_reply.
-            ap (λ (x : Machine). clients_told x.clients.clients key.client own_reply) same
+            ap (λ (x : Holdings). clients_told x.clients.clients key.client own_reply) same
             ∙ met_clients m.clients.clients key m.length call w.key.client was.reply own_reply
             may.next.session
             one.session may.next.of_session.there one.known (apart w waits)
@@ -247,7 +247,7 @@ module _ (m : Machine) (moment : ℕ) (key : Key) (call : Call) (may : MayArrive
             (sym settled_is);
       }
 
-  pub tells_both : (now : Machine) → TellsOne begun now other there.waiter there.side key (item_of call)
+  pub tells_both : (now : Holdings) → TellsOne begun now other there.waiter there.side key (item_of call)
       → TellsBoth now
   tells_both now tells = by_waiter there.waiter refl
     where

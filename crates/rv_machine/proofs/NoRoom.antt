@@ -32,7 +32,7 @@ use Rattle.rv_state.specs.After.{cancelled}
 use Rattle.rv_state.specs.Follows.{NumberWaits}
 use Rattle.rv_state.specs.Moves.{Move, RefusesMove, RepeatsMove, StateHelloLinesUnder, StateKeyLines}
 use Rattle.rv_state.specs.Moves.{answer_told, entering, staying, told_again}
-use Rattle.rv_machine.specs.declared.machine.Machine.{Machine}
+use Rattle.rv_machine.specs.declared.tables.Holdings.{Holdings}
 use Rattle.rv_machine.specs.Limiting.{LacksPlaceFor}
 use Rattle.rv_machine.specs.Machines.{AwaitsPlace, IsConsistent, IsWhole, state_in}
 use Rattle.rv_machine.specs.Needing.{NeedsNoRoom, TakesNoRoom, message_need}
@@ -135,7 +135,7 @@ not_next standing.Next other = absurd (other refl)
 abbrev Refuses : Refusal → Type 0
 Refuses r = Unit {0}
 
-module _ (limits : StepLimits) (m : Machine) (ready : IsWhole m) (numbered : AreNumbered (state_in m))
+module _ (limits : StepLimits) (m : Holdings) (ready : IsWhole m) (numbered : AreNumbered (state_in m))
     (key : Key) where
   -- the lines for the key don't come to their end
   never_next : (stands : Stands) → StandingSays m.clients key stands → stands ≢ IsNext
@@ -171,13 +171,13 @@ module _ (limits : StepLimits) (m : Machine) (ready : IsWhole m) (numbered : Are
 -- ---- where no session is opened
 
 -- the greeting opens no session under the limits
-abbrev OpensNone : StepLimits → Machine → Greeting → Type 0
+abbrev OpensNone : StepLimits → Holdings → Greeting → Type 0
 OpensNone limits m Unknown = limits.clients ≤ len m.clients.clients
 OpensNone limits m Full = limits.clients ≤ len m.clients.clients
 OpensNone limits m (Newer waiting) = ⊥
 OpensNone limits m other = Unit {0}
 
-pub opens_none : (limits : StepLimits) (m : Machine) (greeting : Greeting) → greeting ≢ Unknown
+pub opens_none : (limits : StepLimits) (m : Holdings) (greeting : Greeting) → greeting ≢ Unknown
     → greeting ≢ Full → ((waiting : Option ℕ) → greeting ≢ Newer waiting) → OpensNone limits m greeting
 opens_none limits m Again unknown full newer = tt
 opens_none limits m Unknown unknown full newer = absurd (unknown refl)
@@ -186,7 +186,7 @@ opens_none limits m (Newer waiting) unknown full newer = absurd (newer waiting r
 opens_none limits m (Older current) unknown full newer = tt
 opens_none limits m (OtherVersion current) unknown full newer = tt
 
-module _ (limits : StepLimits) (m : Machine) (client incarnation : ℕ) (version : Version) where
+module _ (limits : StepLimits) (m : Holdings) (client incarnation : ℕ) (version : Version) where
   -- the lines for the hello don't come to their end
   never_opens : (greeting : Greeting) → GreetingSays m.clients client incarnation version greeting
       → OpensNone limits m greeting → StateHelloLinesUnder limits (state_in m) client incarnation version

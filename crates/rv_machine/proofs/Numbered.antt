@@ -11,7 +11,7 @@ use Rattle.rv_state.specs.State.{ClientState, State}
 use Rattle.rv_state.specs.After.{Settled, tell, with_client}
 use Rattle.rv_state.proofs.TableClients.{clients_after_tell}
 use Rattle.rv_state.proofs.Words.{same_Some}
-use Rattle.rv_machine.specs.declared.machine.Machine.{Machine}
+use Rattle.rv_machine.specs.declared.tables.Holdings.{Holdings}
 use Rattle.rv_machine.specs.Ending.{EndsWaiting}
 use Rattle.rv_machine.specs.Machines.{state_in}
 use Rattle.rv_machine.specs.Numbering.{AreNumbered, IsNumbered}
@@ -64,7 +64,7 @@ pub closed_numbered : (s t : State) (settled : Settled) → t.clients ≡ tell s
     → AreNumbered t
 closed_numbered s t settled is all = subst AllNumbered (sym is) (tell_numbered s.clients settled all)
 
-pub ended_numbered : (old new : Machine) (place : ℕ) (reply : Reply) → EndsWaiting old new place reply
+pub ended_numbered : (old new : Holdings) (place : ℕ) (reply : Reply) → EndsWaiting old new place reply
     → AreNumbered (state_in old) → AreNumbered (state_in new)
 ended_numbered old new place reply ends =
     closed_numbered (state_in old) (state_in new) (record { key = ends.waiter.key; reply = reply })

@@ -16,7 +16,7 @@ use Rattle.rv_state.specs.After.{settled_all}
 use Rattle.rv_state.specs.After.{tell, tell_all, told_own, told_partner, with_open}
 use Rattle.rv_state.specs.Follows.{NumberIsNext}
 use Rattle.rv_state.proofs.TableClients.{clients_after_asked}
-use Rattle.rv_machine.specs.declared.machine.Machine.{Machine}
+use Rattle.rv_machine.specs.declared.tables.Holdings.{Holdings}
 use Rattle.rv_machine.specs.Arriving.{Arrives}
 use Rattle.rv_machine.specs.Machines.{state_in}
 use Rattle.rv_machine.specs.Numbering.{AreNumbered}
@@ -61,7 +61,7 @@ arrived_numbered s moment key call some all =
     (request_after s.length call (told_own s key call met)) some
     (came_after s.length call (told_own s key call met)) (tell_all_numbered s.clients settles all)
 
-pub arrives_numbered : (old new : Machine) (moment : ℕ) (key : Key) (call : Call) (made : Entry)
+pub arrives_numbered : (old new : Holdings) (moment : ℕ) (key : Key) (call : Call) (made : Entry)
     → NumberIsNext (state_in old) key → Arrives old new moment key call made → AreNumbered (state_in old)
     → AreNumbered (state_in new)
 arrives_numbered old new moment key call made is arrives all =

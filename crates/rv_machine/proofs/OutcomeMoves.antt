@@ -10,7 +10,7 @@ use Rattle.rv_rules.specs.StepLimits.{StepLimits}
 use Rattle.rv_state.specs.State.{OpenPlace, State}
 use Rattle.rv_state.specs.After.{due_at}
 use Rattle.rv_state.specs.Moves.{ticked_at, ticked_if}
-use Rattle.rv_machine.specs.declared.machine.Machine.{Machine}
+use Rattle.rv_machine.specs.declared.tables.Holdings.{Holdings}
 use Rattle.rv_machine.specs.declared.machine.Said.{Said}
 use Rattle.rv_machine.specs.declared.machine.Said.TheVariants as said
 use Rattle.rv_machine.specs.declared.steps.Heard.{Heard}
@@ -19,11 +19,11 @@ use Rattle.rv_machine.specs.Stepping.{IsHearing, IsTick}
 use Rattle.rv_machine.specs.Ticking.{TimesOut}
 
 -- the machine with another list of those that were settled
-abbrev pub with_settled : Machine → Vec Key → Machine
+abbrev pub with_settled : Holdings → Vec Key → Holdings
 with_settled m list =
     record { moment = m.moment; length = m.length; table = m.table; clients = m.clients; settled = list }
 
-module _ (old new : Machine) (list : Vec Key) (none : list.items ≡ []) where
+module _ (old new : Holdings) (list : Vec Key) (none : list.items ≡ []) where
   -- ---- a tick
 
   pub ticks_by : (moment : ℕ) (made : Option Entry)

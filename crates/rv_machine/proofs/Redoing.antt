@@ -30,7 +30,7 @@ use Rattle.rv_state.specs.Moves.{EntersMove, Move, NoEntryMoreUnder, StateKeyLin
 use Rattle.rv_state.specs.Moves.{answer_after, answer_told, entering, staying}
 use Rattle.rv_state.proofs.Words.{none-some, same_Some}
 use Rattle.rv_rules.specs.StepLimits.{StepLimits}
-use Rattle.rv_machine.specs.declared.machine.Machine.{Machine}
+use Rattle.rv_machine.specs.declared.tables.Holdings.{Holdings}
 use Rattle.rv_machine.specs.declared.machine.Said.{Said}
 use Rattle.rv_machine.specs.declared.machine.Said.TheVariants as said
 use Rattle.rv_machine.specs.declared.steps.Heard.{Heard}
@@ -259,7 +259,8 @@ said_answers s (said.Welcome epoch client incarnation version) a accepts is r re
 said_answers s (said.Told key) a accepts is r refuses = told_answers key _ r (sym is.2 ∙ refuses)
 said_answers s (said.Refused refusal) a accepts is r refuses = absurd accepts
 
-module _ (old new : Machine) (moment : ℕ) (m : Message) (made : Heard) (on : MayRedo (state_in old) moment
+module _ (old new : Holdings) (moment : ℕ) (m : Message) (made : Heard) (on : MayRedo (state_in old)
+    moment
     (act_of m)) (limits : StepLimits) (is_widest : limits ≡ widest)
     (under : IsHearing limits old new moment m made) where
   abbrev hears : IsHearing widest old new moment m made

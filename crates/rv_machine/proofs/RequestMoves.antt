@@ -25,7 +25,7 @@ use Rattle.rv_state.specs.Moves.{answer_told, call_asked, entering}
 use Rattle.rv_state.specs.Moves.{told_again}
 use Rattle.rv_state.proofs.Words.{same_Some}
 use Rattle.rv_machine.specs.Arriving.{Arrives, IsAsBefore}
-use Rattle.rv_machine.specs.declared.machine.Machine.{Machine}
+use Rattle.rv_machine.specs.declared.tables.Holdings.{Holdings}
 use Rattle.rv_machine.specs.declared.machine.Said.TheVariants as said
 use Rattle.rv_machine.specs.Entering.{HasSpaceFor}
 use Rattle.rv_machine.specs.Limiting.{LacksPlace}
@@ -40,7 +40,7 @@ use Rattle.rv_machine.proofs.Staying.{moves_refused, moves_staying}
 
 -- ---- where no entry is made
 
-module _ (limits : StepLimits) (m : Machine) (moment : ℕ) (key : Key) (call : Call) (numbered :
+module _ (limits : StepLimits) (m : Holdings) (moment : ℕ) (key : Key) (call : Call) (numbered :
     AreNumbered (state_in m)) where
   pub refuses_request : (refusal : Refusal) → RefusalSays m.clients key refusal
       → MovesBy limits m m moment (Request key call) [] (said.Refused refusal)
@@ -108,7 +108,7 @@ module _ (limits : StepLimits) (m : Machine) (moment : ℕ) (key : Key) (call : 
 
 -- ---- where it may arrive
 
-module _ (limits : StepLimits) (old new : Machine) (moment : ℕ) (key : Key) (call : Call) (numbered :
+module _ (limits : StepLimits) (old new : Holdings) (moment : ℕ) (key : Key) (call : Call) (numbered :
     AreNumbered (state_in old))
     (next : AsksNext old.clients key) (need : ℕ) (is : need ≡ need_of call)
     (space : HasSpaceFor limits old need)
@@ -148,7 +148,8 @@ module _ (limits : StepLimits) (old new : Machine) (moment : ℕ) (key : Key) (c
   lacks_request before = moves_refused limits old new moment _ before.state before.settled NoMemory lacks_line
 
 -- and for want of memory it may be refused there, whenever it is heard
-pub lacks_next : (limits : StepLimits) (m : Machine) → AreNumbered (state_in m) → (key : Key) (call : Call)
+pub lacks_next : (limits : StepLimits) (m : Holdings) → AreNumbered (state_in m)
+    → (key : Key) (call : Call)
     → AsksNext m.clients key → EntersWithSpace limits (state_in m) (Request key call)
 lacks_next limits m numbered key call next space place moment =
     lacks_line limits m m moment key call numbered next (need_of call) refl space place

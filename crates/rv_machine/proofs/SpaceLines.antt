@@ -12,7 +12,7 @@ use Rattle.rv_session.specs.ClientMeanings.{AsksLast}
 use Rattle.rv_state.specs.Moves.{CallDiffers, NoEntryMoreUnder, StatePlaceLine, call_asked}
 use Rattle.rv_state.specs.State.{ClientState, State, waiting_count}
 use Rattle.rv_state.proofs.Words.{same_Some}
-use Rattle.rv_machine.specs.declared.machine.Machine.{Machine}
+use Rattle.rv_machine.specs.declared.tables.Holdings.{Holdings}
 use Rattle.rv_machine.specs.Limiting.{LacksPlace}
 use Rattle.rv_machine.specs.Machines.{state_in}
 
@@ -52,7 +52,7 @@ module _ (s : State) (call : Call) (refuses : Refusal → Type 0) (enters : Type
 
 -- ---- the call of the last number
 
-module _ (m : Machine) (key : Key) (call : Call) (refuses : Refusal → Type 0) (repeats : Type 0)
+module _ (m : Holdings) (key : Key) (call : Call) (refuses : Refusal → Type 0) (repeats : Type 0)
     (request : LastRequest) (says : AsksLast m.clients key request) where
   -- its request came with another call
   pub call_differs : (came : Call) → call_asked request ≡ Some came → came ≢ call → refuses OtherCall

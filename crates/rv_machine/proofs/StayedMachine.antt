@@ -22,7 +22,7 @@ use Rattle.rv_state.specs.State.{OpenPlace, State, client_at, place_list}
 use Rattle.rv_state.specs.After.{Following, opened_by, request_after, told_alone}
 use Rattle.rv_state.specs.Moves.{told_again}
 use Rattle.rv_waiters.specs.Meeting.{StaysBy}
-use Rattle.rv_machine.specs.declared.machine.Machine.{Machine}
+use Rattle.rv_machine.specs.declared.tables.Holdings.{Holdings}
 use Rattle.rv_machine.specs.Arriving.{Arrives, MayArrive, after_put}
 use Rattle.rv_machine.specs.Ending.{counted}
 use Rattle.rv_open.specs.Indexed.{own_duty}
@@ -34,7 +34,7 @@ use Rattle.rv_machine.proofs.Stayed.{stayed_consistent}
 use Rattle.rv_machine.proofs.Stayed.{waits_more}
 use Rattle.rv_machine.proofs.Told.{asked_own}
 
-module _ (m : Machine) (moment : ℕ) (key : Key) (call : Call) (may : MayArrive m moment key call)
+module _ (m : Holdings) (moment : ℕ) (key : Key) (call : Call) (may : MayArrive m moment key call)
     (alone : opposed_in m.table (side_of call) ≡ []) (it : StaysBy (side_of call) (wait_of call)) where
   abbrev s : State
   s = state_in m
@@ -89,7 +89,7 @@ module _ (m : Machine) (moment : ℕ) (key : Key) (call : Call) (may : MayArrive
   module _ (copy : Call) (same : copy ≡ call) (table : List OpenPlace) (opens : table ≡ m.table ++ o ∷ [])
       (clients : ClientStates) (put : Option OwedDuty) (put_is : put ≡ own_duty (wait_of call) duty)
       (are : clients ≡ after_put begun put) (settled : Vec Key) where
-    abbrev parked : Machine
+    abbrev parked : Holdings
     parked = record {
       moment = m.moment;
       length = m.length;
@@ -99,7 +99,7 @@ module _ (m : Machine) (moment : ℕ) (key : Key) (call : Call) (may : MayArrive
           settled;
     }
 
-    abbrev new : Machine
+    abbrev new : Holdings
     new = counted parked moment
 
     clients_now : clients ≡ with_clients m.clients

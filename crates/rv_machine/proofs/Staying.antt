@@ -7,13 +7,14 @@ use Rattle.rv_text.specs.declared.answer.Refusal.{Refusal}
 use Rattle.rv_text.specs.declared.message.Message.{Message}
 use Rattle.rv_rules.specs.StepLimits.{StepLimits}
 use Rattle.rv_state.specs.Moves.{StateNextAtUnder, staying}
-use Rattle.rv_machine.specs.declared.machine.Machine.{Machine}
+use Rattle.rv_machine.specs.declared.tables.Holdings.{Holdings}
 use Rattle.rv_machine.specs.declared.machine.Said.{Said}
 use Rattle.rv_machine.specs.declared.machine.Said.TheVariants as said
 use Rattle.rv_machine.specs.Machines.{MovesBy, Says, state_in}
 
 -- the machine is as before but for room
-module _ (limits : StepLimits) (old new : Machine) (moment : ℕ) (m : Message) (same : state_in new ≡ state_in
+module _ (limits : StepLimits) (old new : Holdings) (moment : ℕ) (m : Message) (same : state_in new ≡
+    state_in
     old)
     (kept : new.settled.items ≡ old.settled.items) where
   pub moves_staying : (answer : Answer) (told : Said) → Says (state_in new) told answer

@@ -16,7 +16,7 @@ use Rattle.rv_state.specs.State.{ClientState, OpenPlace, State, client_at}
 use Rattle.rv_state.specs.After.{Settled, but, closed, receipt_of, session_version, settled_all, settled_at}
 use Rattle.rv_state.specs.After.{tell}
 use Rattle.rv_state.proofs.ToldClients.{get_tell_all, told_client}
-use Rattle.rv_machine.specs.declared.machine.Machine.{Machine}
+use Rattle.rv_machine.specs.declared.tables.Holdings.{Holdings}
 use Rattle.rv_machine.specs.Machines.{IsWhole, keys_settled, state_in}
 use Rattle.rv_open.specs.OpenMap.{line_in, all_but}
 use Rattle.rv_machine.specs.Taking.{TakesAll, TakesOne, items_of, settled_taken, told_taken, without_taken}
@@ -78,7 +78,7 @@ one_item : (o : Option (List ℕ)) → IsSome o → cons_option o [] ≡ unwrap_
 one_item None some = absurd (false≢true some)
 one_item (Some item) some = refl
 
-pub takes_none : (m : Machine) (queue : ℕ) (taker : Key) (items : List (List ℕ)) (places : List ℕ)
+pub takes_none : (m : Holdings) (queue : ℕ) (taker : Key) (items : List (List ℕ)) (places : List ℕ)
     → items ≡ [] → places ≡ [] → TakesAll m m queue taker 0 items places
 takes_none m queue taker items places no_items no_places = record {
   gone = [];
@@ -91,7 +91,8 @@ takes_none m queue taker items places no_items no_places = record {
   places_are = no_places;
 }
 
-module _ (old now new : Machine) (queue count : ℕ) (taker : Key) (there : OpenPlace) (items : List (List ℕ))
+module _ (old now new : Holdings) (queue count : ℕ) (taker : Key) (there : OpenPlace) (items :
+    List (List ℕ))
     (places : List ℕ) (is : TakesAll old now queue taker count items places)
     (one : TakesOne now new queue taker there) where
   abbrev s : State
@@ -135,14 +136,14 @@ module _ (old now new : Machine) (queue count : ℕ) (taker : Key) (there : Open
 -- ---- the loop
 
 -- so many were taken so far, of the most for which there is room
-pub record TookSoMany (old now : Machine) (queue most count : ℕ) (taker : Key) (items : Vec (List ℕ))
+pub record TookSoMany (old now : Holdings) (queue most count : ℕ) (taker : Key) (items : Vec (List ℕ))
     (places : Vec ℕ) : Type 0 where
   pub ready : IsWhole now
   pub takes : TakesAll old now queue taker count items.items places.items
   pub items_room : most ≤ vec_capacity items
   pub places_room : most ≤ vec_capacity places
 
-pub took_nothing : (m : Machine) (queue most : ℕ) (taker : Key) (items : Vec (List ℕ)) (places : Vec ℕ)
+pub took_nothing : (m : Holdings) (queue most : ℕ) (taker : Key) (items : Vec (List ℕ)) (places : Vec ℕ)
     → IsWhole m → items.items ≡ [] → places.items ≡ [] → most ≤ vec_capacity items
     → most ≤ vec_capacity places → TookSoMany m m queue most 0 taker items places
 took_nothing m queue most taker items places ready no_items no_places items_room places_room = record {
@@ -162,7 +163,8 @@ no_longer {Y = Y} h (x ∷ xs) = by_head (h x) (no_longer h xs)
     by_head (Some y) rest = omega (arith, rest)
 
 -- there is room for one more
-pub items_left : (old now : Machine) (queue most count : ℕ) (taker : Key) (items : Vec (List ℕ)) (places :
+pub items_left : (old now : Holdings) (queue most count : ℕ) (taker : Key) (items : Vec (List ℕ))
+    (places :
     Vec ℕ)
     → TookSoMany old now queue most count taker items places → count < most
     → vec_len items < vec_capacity items
@@ -173,7 +175,7 @@ items_left old now queue most count taker items places is less =
     no_longer (λ (o : OpenPlace). o.item) is.takes.gone in
     omega (arith, long, same, few, is.takes.number, is.items_room, less)
 
-pub took_more : (old now new : Machine) (queue most count : ℕ) (taker : Key) (there : OpenPlace)
+pub took_more : (old now new : Holdings) (queue most count : ℕ) (taker : Key) (there : OpenPlace)
     (items after : Vec (List ℕ)) (places then : Vec ℕ)
     → TookSoMany old now queue most count taker items places → TakesOne now new queue taker there
     → IsWhole new

@@ -16,7 +16,7 @@ use Rattle.rv_state.specs.State.{ClientState, OpenPlace, State, Waiter}
 use Rattle.rv_state.specs.After.{Settled, closed}
 use Rattle.rv_state.proofs.Words.{none-some}
 use Rattle.rv_state.proofs.Filtered.{find_get}
-use Rattle.rv_machine.specs.declared.machine.Machine.{Machine}
+use Rattle.rv_machine.specs.declared.tables.Holdings.{Holdings}
 use Rattle.rv_open.specs.Indexed.{ClosesPlace, ClosesFirst}
 use Rattle.rv_machine.specs.Machines.{IsConsistent, IsWhole, IsWaiter, keys_settled, state_in}
 use Rattle.rv_open.specs.OpenMap.{duty_at, count_waiting}
@@ -46,7 +46,7 @@ no_waiter there (Some w) is none =
 settles_by : State → Key → OpenPlace → Option Waiter → List Settled
 settles_by s taker there w = settled_taken s taker (record there { waiter = w } ∷ [])
 
-module _ (m : Machine) (ready : IsWhole m) (queue : ℕ) (taker : Key) (table : List OpenPlace)
+module _ (m : Holdings) (ready : IsWhole m) (queue : ℕ) (taker : Key) (table : List OpenPlace)
     (there : OpenPlace) (duty : Option OwedDuty)
     (takes : ClosesFirst m.table table (Some (Gives queue)) there duty) where
   abbrev s : State
@@ -80,7 +80,7 @@ module _ (m : Machine) (ready : IsWhole m) (queue : ℕ) (taker : Key) (table : 
     settles_none : settled_taken s taker (there ∷ []) ≡ []
     settles_none = ap (λ (w : Option Waiter). settled_taken s taker (record there { waiter = w } ∷ [])) lies
 
-    abbrev now : Machine
+    abbrev now : Holdings
     now = record {
       moment = m.moment;
       length = m.length;
@@ -145,7 +145,7 @@ module _ (m : Machine) (ready : IsWhole m) (queue : ℕ) (taker : Key) (table : 
 
     module _ (clients : ClientStates) (tells : clients ≡ with_clients m.clients
         (clients_told m.clients.clients owed.client reply)) (settled : Vec Key) where
-      abbrev then : Machine
+      abbrev then : Holdings
       then = record {
         moment = m.moment;
         length = m.length;

@@ -16,12 +16,12 @@ use Rattle.rv_state.specs.State.{ClientState, client_at}
 use Rattle.rv_state.specs.After.{following}
 use Rattle.rv_state.specs.Follows.{NumberIsNext, partners_of}
 use Rattle.rv_state.specs.Moves.{told_again}
-use Rattle.rv_machine.specs.declared.machine.Machine.{Machine}
+use Rattle.rv_machine.specs.declared.tables.Holdings.{Holdings}
 use Rattle.rv_machine.specs.Machines.{IsWhole, keys_settled, state_in}
 use Rattle.rv_open.specs.OpenMap.{count_waiting}
 
 -- a request of this key with this call is its session's next, and there is room for its entries
-pub record MayArrive (m : Machine) (moment : ℕ) (key : Key) (call : Call) : Type 0 where
+pub record MayArrive (m : Holdings) (moment : ℕ) (key : Key) (call : Call) : Type 0 where
   pub ready : IsWhole m
   pub later : m.moment ≤ moment
   pub time : moment ≤ max_moment
@@ -31,7 +31,8 @@ pub record MayArrive (m : Machine) (moment : ℕ) (key : Key) (call : Call) : Ty
 
 -- it arrived: the state is what its entry makes of the one before, whom that settles is listed, and its
 -- session has what the entry's own reply is
-pub record Arrives (old new : Machine) (moment : ℕ) (key : Key) (call : Call) (made : Entry) : Type 0 where
+pub record Arrives (old new : Holdings) (moment : ℕ) (key : Key) (call : Call) (made : Entry) :
+    Type 0 where
   pub made_is : made ≡ entry moment (Arrive key call) (partners_of (state_in old) (Arrive key call))
   pub state : state_in new ≡ (following (state_in old) moment (Arrive key call)).after
   pub settles : new.settled.items
@@ -41,7 +42,7 @@ pub record Arrives (old new : Machine) (moment : ℕ) (key : Key) (call : Call) 
   pub told : told_again session.request ≡ (following (state_in old) moment (Arrive key call)).reply
 
 -- nothing changed but room
-pub record IsAsBefore (old new : Machine) : Type 0 where
+pub record IsAsBefore (old new : Holdings) : Type 0 where
   pub state : state_in new ≡ state_in old
   pub settled : new.settled.items ≡ old.settled.items
 

@@ -3,13 +3,13 @@ use Rattle.std.specs.Prelude.{◌≡◌, ◌+◌, ◌++◌, ◌∷◌, [], ℕ, 
 use Rattle.rv_text.specs.declared.answer.Reply.{Reply}
 use Rattle.rv_state.specs.State.{OpenPlace, Waiter}
 use Rattle.rv_state.specs.After.{closed}
-use Rattle.rv_machine.specs.declared.machine.Machine.{Machine}
+use Rattle.rv_machine.specs.declared.tables.Holdings.{Holdings}
 use Rattle.rv_machine.specs.Machines.{state_in}
 use Rattle.rv_open.specs.OpenMap.{found_at}
 
 -- the wait of the request at a place is over, which has this reply: its place is closed, its client told, and
 -- its key listed
-pub record EndsWaiting (old new : Machine) (place : ℕ) (reply : Reply) : Type 0 where
+pub record EndsWaiting (old new : Holdings) (place : ℕ) (reply : Reply) : Type 0 where
   pub there : OpenPlace
   pub found : found_at old.table place ≡ Some there
   pub waiter : Waiter
@@ -19,7 +19,7 @@ pub record EndsWaiting (old new : Machine) (place : ℕ) (reply : Reply) : Type 
   pub listed : new.settled.items ≡ old.settled.items ++ waiter.key ∷ []
 
 -- one entry more of a moment was counted; the tables stay
-abbrev pub counted : Machine → ℕ → Machine
+abbrev pub counted : Holdings → ℕ → Holdings
 counted m moment =
     record {
       moment = moment;

@@ -9,12 +9,12 @@ use Rattle.rv_session.specs.Clients.{place_waiting}
 use Rattle.rv_rules.specs.StepLimits.{StepLimits}
 use Rattle.rv_state.specs.Follows.{IsNewIncarnation}
 use Rattle.rv_state.specs.State.{ClientState, State, client_at}
-use Rattle.rv_machine.specs.declared.machine.Machine.{Machine}
+use Rattle.rv_machine.specs.declared.tables.Holdings.{Holdings}
 use Rattle.rv_machine.specs.Machines.{state_in}
 use Rattle.rv_open.specs.OpenMap.{count_waiting}
 
 -- so many entries more can be made, beside those that end what waits
-abbrev pub HasSpaceFor : StepLimits → Machine → ℕ → Type 0
+abbrev pub HasSpaceFor : StepLimits → Holdings → ℕ → Type 0
 HasSpaceFor limits m need = m.length + count_waiting m.table + need ≤ limits.entries
 
 -- no request of the client waits
@@ -23,7 +23,7 @@ WaitsForNothing s client = (session : ClientState) → client_at s client ≡ So
     → place_waiting session.request ≡ None
 
 -- the client is known, and no request of its waits
-pub record CanReopen (m : Machine) (client : ℕ) : Type 0 where
+pub record CanReopen (m : Holdings) (client : ℕ) : Type 0 where
   pub known : IsSome (client_at (state_in m) client)
   pub idle : WaitsForNothing (state_in m) client
 
@@ -33,6 +33,6 @@ pub record IsNewHello (limits : StepLimits) (s : State) (client incarnation : �
   pub most : client_at s client ≡ None → len s.clients < limits.clients
 
 -- the key has its session's last number, whose request waits at this place
-pub record LastWaits (m : Machine) (key : Key) (place : ℕ) : Type 0 where
+pub record LastWaits (m : Holdings) (key : Key) (place : ℕ) : Type 0 where
   pub call : Call
   pub asks : AsksLast m.clients key (Waits place call)

@@ -3,6 +3,7 @@ pub mod Limiting
 pub mod Machines
 pub mod Ending
 pub mod Numbering
+pub mod Owning
 pub mod Ticking
 pub mod Entering
 pub mod Arriving

@@ -20,7 +20,7 @@ use Rattle.rv_state.specs.State.{ClientState, OpenPlace, State, Waiter, client_a
 use Rattle.rv_state.specs.After.{Settled}
 use Rattle.rv_state.specs.Moves.{Move, StateNextAtUnder, answer_told, told_again}
 use Rattle.rv_rules.specs.Reach.{most_known}
-use Rattle.rv_machine.specs.declared.machine.Machine.{Machine}
+use Rattle.rv_machine.specs.declared.tables.Holdings.{Holdings}
 use Rattle.rv_machine.specs.declared.machine.Said.{Said}
 use Rattle.rv_machine.specs.declared.machine.Said.TheVariants as said
 use Rattle.rv_open.specs.OpenMap.{PlacesRise, StandBelow, found_at, count_waiting}
@@ -28,7 +28,7 @@ use Rattle.rv_open.specs.OpenMap.{PlacesRise, StandBelow, found_at, count_waitin
 -- ---- what a machine holds
 
 -- the state that its tables are
-abbrev pub state_in : Machine → State
+abbrev pub state_in : Holdings → State
 state_in m =
     record {
       epoch = m.clients.epoch;
@@ -97,13 +97,13 @@ pub record IsConsistent (s : State) : Type 0 where
 
 -- the machine's state is so, the most clients are those of a state to resume from, and there is room to list
 -- whoever waits among those that a step settles
-pub record IsWhole (m : Machine) : Type 0 where
+pub record IsWhole (m : Holdings) : Type 0 where
   pub consistent : IsConsistent (state_in m)
   pub most : m.clients.most ≡ most_known
   pub room : count_waiting m.table + vec_len m.settled ≤ vec_capacity m.settled
 
 -- the list of the settled takes no more room than there was for it
-abbrev pub SameListRoom : Machine → Machine → Type 0
+abbrev pub SameListRoom : Holdings → Holdings → Type 0
 SameListRoom old new = vec_capacity new.settled ≡ vec_capacity old.settled
 
 -- ---- what a step tells
@@ -122,7 +122,7 @@ Says s (said.Refused refusal) a = a ≡ answer.Refused refusal
 
 -- one move of the state for a message at a moment, under limits: these entries were made, this is said, and
 -- these keys were settled
-pub record MovesBy (limits : StepLimits) (old new : Machine) (moment : ℕ) (m : Message)
+pub record MovesBy (limits : StepLimits) (old new : Holdings) (moment : ℕ) (m : Message)
     (entries : List Entry) (told : Said) : Type 0
   where
     pub move : Move
@@ -133,9 +133,9 @@ pub record MovesBy (limits : StepLimits) (old new : Machine) (moment : ℕ) (m :
     pub after : state_in new ≡ move.after
 
 -- a message was heard: this is said, and this entry was made if there is one
-abbrev pub WasHeard : StepLimits → Machine → Machine → ℕ → Message → Said → Option Entry → Type 0
+abbrev pub WasHeard : StepLimits → Holdings → Holdings → ℕ → Message → Said → Option Entry → Type 0
 WasHeard limits old new moment m told made = MovesBy limits old new moment m (option_to_list made) told
 
 -- a message was refused, and made no entry
-abbrev pub WasRefused : StepLimits → Machine → Machine → ℕ → Message → Refusal → Type 0
+abbrev pub WasRefused : StepLimits → Holdings → Holdings → ℕ → Message → Refusal → Type 0
 WasRefused limits old new moment m refusal = MovesBy limits old new moment m [] (said.Refused refusal)

@@ -6,11 +6,11 @@ use Rattle.rv_state.specs.State.{State}
 use Rattle.rv_state.specs.After.{due_at, following}
 use Rattle.rv_state.specs.Follows.{MomentFits, NumberFits, NumberWaits}
 use Rattle.rv_resume.specs.Resuming.{CanResume, StaysInRoom}
-use Rattle.rv_machine.specs.declared.machine.Machine.{Machine}
+use Rattle.rv_machine.specs.declared.tables.Holdings.{Holdings}
 use Rattle.rv_machine.specs.Machines.{keys_settled, state_in}
 
 -- the state is what the act makes of the one before, and just whom that settles is listed
-pub record IsRedone (old new : Machine) (moment : ℕ) (does : Act) : Type 0 where
+pub record IsRedone (old new : Holdings) (moment : ℕ) (does : Act) : Type 0 where
   pub after : state_in new ≡ (following (state_in old) moment does).after
   pub settles : new.settled.items ≡ keys_settled (following (state_in old) moment does).settles
 

@@ -6,7 +6,7 @@ use Rattle.rv_text.specs.declared.answer.Refusal.TheVariants.{NoMemory}
 use Rattle.rv_rules.specs.StepLimits.{StepLimits}
 use Rattle.rv_state.specs.Moves.{Move, StateNextAtUnder, ticked_at}
 use Rattle.rv_state.specs.State.{waiting_count}
-use Rattle.rv_machine.specs.declared.machine.Machine.{Machine}
+use Rattle.rv_machine.specs.declared.tables.Holdings.{Holdings}
 use Rattle.rv_machine.specs.declared.machine.Said.TheVariants.{Refused}
 use Rattle.rv_machine.specs.declared.steps.Heard.{Heard}
 use Rattle.rv_machine.specs.declared.steps.TickMade.{TickMade}
@@ -14,7 +14,7 @@ use Rattle.rv_machine.specs.Machines.{Says, keys_settled, state_in}
 
 -- the tick of a step, whose moment it gives: it made this entry, just these keys are listed as settled, and
 -- the entry takes the place of a wait that ended
-pub record IsTick (old new : Machine) (made : TickMade) : Type 0 where
+pub record IsTick (old new : Holdings) (made : TickMade) : Type 0 where
   pub makes : option_to_list made.entry ≡ (ticked_at (state_in old) made.moment).entries
   pub settles : new.settled.items ≡ keys_settled (ticked_at (state_in old) made.moment).settles
   pub after : state_in new ≡ (ticked_at (state_in old) made.moment).after
@@ -33,7 +33,8 @@ pub record MadeNothing (made : Heard) : Type 0 where
 
 -- one move of the state for a message at a moment, under limits: it made this entry, this is said, and just
 -- these keys are listed as settled
-pub record IsHearing (limits : StepLimits) (old new : Machine) (moment : ℕ) (m : Message) (made : Heard) :
+pub record IsHearing (limits : StepLimits) (old new : Holdings) (moment : ℕ) (m : Message) (made :
+    Heard) :
     Type 0
   where
     pub move : Move

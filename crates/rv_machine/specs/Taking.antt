@@ -6,7 +6,7 @@ use Rattle.rv_text.specs.declared.call.Side.TheVariants.{Gives}
 use Rattle.rv_text.specs.declared.answer.Reply.{Reply}
 use Rattle.rv_state.specs.State.{OpenPlace, State, place_list}
 use Rattle.rv_state.specs.After.{Settled, closed, receipt_of, session_version, settled_all}
-use Rattle.rv_machine.specs.declared.machine.Machine.{Machine}
+use Rattle.rv_machine.specs.declared.tables.Holdings.{Holdings}
 use Rattle.rv_machine.specs.Machines.{keys_settled, state_in}
 use Rattle.rv_open.specs.OpenMap.{line_in, count_waiting}
 
@@ -24,7 +24,7 @@ abbrev pub without_taken : State → Key → List OpenPlace → State
 without_taken s taker gone = closed s gone (settled_taken s taker gone)
 
 -- the oldest item of a queue was taken by the request of this key
-pub record TakesOne (old new : Machine) (queue : ℕ) (taker : Key) (there : OpenPlace) : Type 0 where
+pub record TakesOne (old new : Holdings) (queue : ℕ) (taker : Key) (there : OpenPlace) : Type 0 where
   pub first : line_in old.table (Gives queue) ≡ there ∷ line_in new.table (Gives queue)
   pub has : IsSome there.item
   pub fewer : count_waiting new.table ≤ count_waiting old.table
@@ -37,7 +37,7 @@ abbrev pub items_of : List OpenPlace → List (List ℕ)
 items_of gone = filter_map (λ o. o.item) gone
 
 -- so many of a queue's oldest items were, which are these with these places
-pub record TakesAll (old new : Machine) (queue : ℕ) (taker : Key) (count : ℕ) (items : List (List ℕ))
+pub record TakesAll (old new : Holdings) (queue : ℕ) (taker : Key) (count : ℕ) (items : List (List ℕ))
     (places : List ℕ) : Type 0 where
   pub gone : List OpenPlace
   pub number : length gone ≡ count

@@ -15,7 +15,7 @@ use Rattle.rv_session.specs.declared.client.ClientState.{ClientState}
 use Rattle.rv_session.specs.Clients.{clients_told, place_awaited, with_clients}
 use Rattle.rv_state.specs.State.{Waiter}
 use Rattle.rv_state.specs.After.{receipt_of}
-use Rattle.rv_machine.specs.declared.machine.Machine.{Machine}
+use Rattle.rv_machine.specs.declared.tables.Holdings.{Holdings}
 
 -- what a request that waits, or that doesn't wait long, is told of the one that it meets, which has this key
 -- and item: a giver who took its item, by its session's version, a taker the item, and who swaps the other's
@@ -31,7 +31,7 @@ told_arriving None side version other gets = Some reply.Done
 told_arriving (Some wait) side version other gets = told_on_side side version other gets
 
 -- who waits with a duty has its session, its reply by that session's version, and room in the list
-pub record MayTell (m : Machine) (duty : OwedDuty) (waiter : Option Waiter) (side : Side) (key : Key)
+pub record MayTell (m : Holdings) (duty : OwedDuty) (waiter : Option Waiter) (side : Side) (key : Key)
     (gift : Option (List ℕ)) : Type 0 where
   pub who : Waiter
   pub is : waiter ≡ Some who
@@ -43,12 +43,13 @@ pub record MayTell (m : Machine) (duty : OwedDuty) (waiter : Option Waiter) (sid
   pub told : told_on_side side session.version (Some key) gift ≡ Some reply
   pub room : vec_len m.settled < vec_capacity m.settled
 
-abbrev pub TellsWaiter : Machine → Option OwedDuty → Option Waiter → Side → Key → Option (List ℕ) → Type 0
+abbrev pub TellsWaiter : Holdings → Option OwedDuty → Option Waiter → Side → Key → Option (List ℕ)
+    → Type 0
 TellsWaiter m None waiter side key gift = Unit {0}
 TellsWaiter m (Some duty) waiter side key gift = MayTell m duty waiter side key gift
 
 -- the machine where one who waited was told a reply
-abbrev pub machine_told : Machine → Waiter → Reply → Vec Key → Machine
+abbrev pub machine_told : Holdings → Waiter → Reply → Vec Key → Holdings
 machine_told m who reply settled =
     record {
       moment = m.moment;
@@ -59,7 +60,7 @@ machine_told m who reply settled =
     }
 
 -- it was told so, and its key listed
-pub record WasTold (old new : Machine) (waiter : Option Waiter) (side : Side) (key : Key)
+pub record WasTold (old new : Holdings) (waiter : Option Waiter) (side : Side) (key : Key)
     (gift : Option (List ℕ)) : Type 0 where
   pub who : Waiter
   pub is : waiter ≡ Some who
@@ -72,7 +73,8 @@ pub record WasTold (old new : Machine) (waiter : Option Waiter) (side : Side) (k
   pub longer : vec_len new.settled ≡ vec_len old.settled + 1
   pub capacity : vec_capacity new.settled ≡ vec_capacity old.settled
 
-abbrev pub TellsOne : Machine → Machine → Option OwedDuty → Option Waiter → Side → Key → Option (List ℕ)
+abbrev pub TellsOne : Holdings → Holdings → Option OwedDuty → Option Waiter → Side → Key
+    → Option (List ℕ)
     → Type 0
 TellsOne old new None waiter side key gift = new ≡ old
 TellsOne old new (Some duty) waiter side key gift = WasTold old new waiter side key gift

@@ -5,12 +5,12 @@ use Rattle.rv_account.specs.declared.entry.Entry.{Entry}
 use Rattle.rv_state.specs.State.{OpenPlace, Waiter}
 use Rattle.rv_state.specs.After.{closed, stopped}
 use Rattle.rv_state.specs.Moves.{ticked_at}
-use Rattle.rv_machine.specs.declared.machine.Machine.{Machine}
+use Rattle.rv_machine.specs.declared.tables.Holdings.{Holdings}
 use Rattle.rv_machine.specs.Machines.{keys_settled, state_in}
 use Rattle.rv_open.specs.OpenMap.{due_in, count_waiting}
 
 -- the first wait that is due at a moment is over, by a time-out
-pub record EndsNext (old new : Machine) (moment : ℕ) : Type 0 where
+pub record EndsNext (old new : Holdings) (moment : ℕ) : Type 0 where
   pub there : OpenPlace
   pub first : due_in old.table moment ≡ there ∷ due_in new.table moment
   pub waiter : Waiter
@@ -21,7 +21,7 @@ pub record EndsNext (old new : Machine) (moment : ℕ) : Type 0 where
   pub fewer : count_waiting new.table + 1 ≡ count_waiting old.table
 
 -- the waits of the first that are due at a moment are over, by time-outs
-pub record EndsFirst (old new : Machine) (moment : ℕ) : Type 0 where
+pub record EndsFirst (old new : Holdings) (moment : ℕ) : Type 0 where
   pub gone : List OpenPlace
   pub first : due_in old.table moment ≡ gone ++ due_in new.table moment
   pub state : state_in new ≡ (stopped (state_in old) gone TimedOut).after
@@ -31,7 +31,7 @@ pub record EndsFirst (old new : Machine) (moment : ℕ) : Type 0 where
 
 -- the time-outs of a step at a moment, which made these entries, in the place of waits that ended: nothing is
 -- due any longer
-pub record TimesOut (old new : Machine) (moment : ℕ) (entries : List Entry) : Type 0 where
+pub record TimesOut (old new : Holdings) (moment : ℕ) (entries : List Entry) : Type 0 where
   pub makes : entries ≡ (ticked_at (state_in old) moment).entries
   pub settles : new.settled.items
       ≡ old.settled.items ++ keys_settled (ticked_at (state_in old) moment).settles

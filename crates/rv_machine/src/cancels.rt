@@ -9,13 +9,13 @@ ghost use Rattle.rv_machine.specs.Entering.{LastWaits};
 ghost use Rattle.rv_machine.specs.Machines.{WasHeard, IsWhole, SameListRoom, MovesBy, WasRefused, state_in};
 ghost use Rattle.rv_machine.specs.Numbering.{AreNumbered};
 
-use crate::machine::Machine;
+use crate::tables::Holdings;
 use rv_account::{Act, Entry, Partners};
 use rv_rules::Limits;
 use rv_session::{KeyStanding, Place};
 use rv_text::{Key, Refusal, Reply};
 
-impl Machine {
+impl Holdings {
     /// A cancel: it ends what waits, tells what has its reply, and settles what did not come yet.
     pub(crate) fn cancel(
         &mut self,

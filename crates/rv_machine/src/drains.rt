@@ -9,8 +9,8 @@ ghost use Rattle.rv_machine.specs.Machines.{IsWhole};
 ghost use Rattle.rv_open.specs.OpenMap.{line_in};
 ghost use Rattle.rv_machine.specs.Taking.{TakesAll, TakesOne};
 
-use crate::machine::Machine;
 use crate::meets::receipt;
+use crate::tables::Holdings;
 use rv_account::{Act, Entry, Partners};
 use rv_session::{OpenPlace, Place};
 use rv_text::{Call, Item, Items, Key, NoMemory, Reply};
@@ -47,7 +47,7 @@ fn list(there: OpenPlace, items: &mut Vec<Item>, places: &mut Vec<Place>)
     places.push_reserved(there.place);
 }
 
-impl Machine {
+impl Holdings {
     /// Records an arrival that drains a queue of at most so many of its oldest items, and gives its entry.
     /// Fails only if memory was refused, and then nothing changes.
     pub(crate) fn drain(

@@ -15,13 +15,13 @@ ghost use Rattle.rv_machine.specs.Entering.{CanReopen};
 ghost use Rattle.rv_machine.specs.Machines.{WasHeard, IsWhole, SameListRoom, WasRefused, state_in};
 ghost use Rattle.rv_machine.specs.Numbering.{AreNumbered};
 
-use crate::machine::Machine;
+use crate::tables::Holdings;
 use rv_account::{Act, Entry, Partners};
 use rv_rules::Limits;
 use rv_session::{Greeting, Place};
 use rv_text::{Refusal, Reply, Version};
 
-impl Machine {
+impl Holdings {
     /// A hello: it opens a session of a new incarnation, and what waits of an earlier one is cancelled. A
     /// repeat makes no entry.
     pub(crate) fn greet(

@@ -13,7 +13,7 @@ ghost use Rattle.rv_machine.specs.Arriving.{Arrives, IsAsBefore, MayArrive};
 ghost use Rattle.rv_machine.specs.Machines.{IsWhole, state_in};
 ghost use Rattle.rv_open.specs.OpenMap.{opposed_in};
 
-use crate::machine::Machine;
+use crate::tables::Holdings;
 use rv_account::{Act, Entry, Partners};
 use rv_session::OpenPlace;
 use rv_text::{Call, Items, Key, NoMemory, Reply, Wait};
@@ -39,7 +39,7 @@ fn peeked(front: &OpenPlace, alloc: Global) -> Result<Reply, NoMemory>
     Ok(Reply::Peeked(front.item.as_ref().unwrap().copy(alloc)?))
 }
 
-impl Machine {
+impl Holdings {
     /// Records an arrival that finds nobody and doesn't stay, and gives its entry: its request has its reply
     /// at once. Fails only if memory was refused, and then nothing changes.
     pub(crate) fn leave(&mut self, moment: u64, key: Key, call: Call) -> Result<Entry, NoMemory>

@@ -14,6 +14,7 @@ mod space;
 mod state;
 mod stays;
 mod steps;
+mod tables;
 mod ticks;
 
 pub use machine::{Machine, Said};

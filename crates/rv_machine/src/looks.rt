@@ -19,56 +19,56 @@ impl Machine {
     pub fn epoch(&self) -> u64
         ensures { result ≡ (state_in self.now).epoch }
     {
-        self.clients.epoch()
+        self.tables.clients.epoch()
     }
 
     /// How many entries there were.
     pub fn length(&self) -> usize
         ensures { result ≡ (state_in self.now).length }
     {
-        self.length
+        self.tables.length
     }
 
     /// The moment of the last entry, or the opening moment, in milliseconds.
     pub fn moment(&self) -> u64
         ensures { result ≡ (state_in self.now).moment }
     {
-        self.moment
+        self.tables.moment
     }
 
     /// How many clients said a hello.
     pub fn clients(&self) -> usize
         ensures { result ≡ len (state_in self.now).clients }
     {
-        self.clients.len()
+        self.tables.clients.len()
     }
 
     /// The client's state, if it said hello.
     pub fn client(&self, client: u64) -> Option<&ClientState>
         ensures { option_map (λ c. c.now) result ≡ client_at (state_in self.now) client }
     {
-        self.clients.get(client)
+        self.tables.clients.get(client)
     }
 
     /// How many places are open.
     pub fn open_places(&self) -> usize
         ensures { result ≡ length (state_in self.now).open_places }
     {
-        self.table.len()
+        self.tables.table.len()
     }
 
     /// What is open at a place.
     pub fn open_at(&self, place: Place) -> Option<&OpenPlace>
         ensures { option_map (λ o. o.now) result ≡ open_at (state_in self.now) place }
     {
-        self.table.get(place)
+        self.tables.table.get(place)
     }
 
     /// How many requests wait.
     pub fn waiting(&self) -> usize
         ensures { result ≡ waiting_count (state_in self.now) }
     {
-        self.table.waiting()
+        self.tables.table.waiting()
     }
 
     /// How many items and how many consumers wait in a queue.
@@ -77,7 +77,7 @@ impl Machine {
         ensures items { result.0 ≡ length (line (state_in self.now) (Gives queue)) }
         ensures consumers { result.1 ≡ length (line (state_in self.now) (Takes queue)) }
     {
-        self.table.count(queue)
+        self.tables.table.count(queue)
     }
 
     /// The place of a queue's oldest item.
@@ -85,7 +85,7 @@ impl Machine {
         requires { FitsQueue queue }
         ensures { result ≡ slice_get (place_list (line (state_in self.now) (Gives queue))) 0 }
     {
-        Some(self.table.front(queue)?.place)
+        Some(self.tables.table.front(queue)?.place)
     }
 
     /// The oldest that is open on a side behind a place, or on the whole side. So a line is read in its
@@ -94,7 +94,7 @@ impl Machine {
         requires { FitsSide side }
         ensures { option_map (λ o. o.now) result ≡ first_behind after (line (state_in self.now) side) }
     {
-        self.table.behind(side, after)
+        self.tables.table.behind(side, after)
     }
 
     /// The client of the least number above another, or of all, with its state. So clients are read in the
@@ -102,7 +102,7 @@ impl Machine {
     pub fn next_client(&self, after: Option<u64>) -> Option<(u64, &ClientState)>
         ensures { option_map (λ p. (p.0, p.1.now)) result ≡ next_client (state_in self.now).clients after }
     {
-        self.clients.next(after)
+        self.tables.clients.next(after)
     }
 
     /// The least limit of a request that waits, if one has a limit: the first moment at which something is
@@ -111,7 +111,7 @@ impl Machine {
         ensures some { IfSome result (IsNextLimit (state_in self.now)) }
         ensures none { IfNone result ((moment : ℕ) → due_at (state_in self.now) moment ≡ []) }
     {
-        self.table.next_limit()
+        self.tables.table.next_limit()
     }
 
     /// The keys that the last [`elapse`](Machine::elapse), [`hear`](Machine::hear) or [`redo`](Machine::redo)
@@ -119,6 +119,6 @@ impl Machine {
     pub fn settled(&self) -> &[Key]
         ensures { result.now ≡ self.now.settled.items }
     {
-        &self.settled
+        &self.tables.settled
     }
 }

@@ -1,17 +1,7 @@
-//! The machine of a book: the state of an account in tables, and what changes them together.
-ghost use Rattle.std.specs.Prelude.{◌≡◌, ◌+◌, ◌<◌, ◌≤◌};
-ghost use Rattle.rv_open.specs.OpenMap.{count_waiting, most_counted};
-ghost use Rattle.rv_open.specs.Indexed.{WaitsIn};
-ghost use Rattle.rv_machine.specs.Machines.{IsWhole, SameListRoom, state_in};
-ghost use Rattle.rv_machine.specs.Ending.{EndsWaiting, counted};
-ghost use Rattle.rv_account.specs.Account.{entry};
-ghost use Rattle.rv_rules.specs.Steps.{max_moment};
-
-use rv_account::{Act, Entry, Partners};
-use rv_open::OpenTable;
-use rv_session::{Clients, Place};
-use rv_text::{Key, Refusal, Reply, Version};
-use std::alloc::Global;
+//! The machine of a book: the state of an account in tables, of which always holds what its steps rest on.
+use crate::tables::Holdings;
+use rv_text::{Key, Refusal, Version};
+use std::marker::Model;
 
 /// What is said of a step. An answer is made of it, and of the state after the step.
 #[derive(Clone, Copy)]
@@ -24,51 +14,25 @@ pub enum Said {
     Refused(Refusal),
 }
 
-/// The machine: the state of an account, without its entries. Each step is handed its limits.
+/// The machine: the state of an account, without its entries. Each step is handed its limits. Contracts see
+/// its tables, of which always holds that they fit each other and a state, and that there is room to list
+/// whoever waits.
 #[derive(Drop)]
 pub struct Machine {
-    pub(crate) moment: u64,
-    // How many entries there were.
-    pub(crate) length: usize,
-    pub(crate) table: OpenTable,
-    pub(crate) clients: Clients,
-    // The keys that the tick or the message has settled so far.
-    pub(crate) settled: Vec<Key>,
+    pub(crate) tables: Holdings,
 }
 
-impl Machine {
-    /// Ends the wait of the request at a place, which has this reply now, and lists its key.
-    pub(crate) fn end(&mut self, place: Place, reply: Reply)
-        requires ready { IsWhole self.old }
-        requires waits { WaitsIn self.old.table place }
-        ensures ready { IsWhole self.new }
-        ensures ends { EndsWaiting self.old self.new place reply }
-        ensures room { SameListRoom self.old self.new }
-    {
-        let (there, duty) = self.table.close(place);
-        self.settled.push_reserved(there.waiter.unwrap().key);
-        self.clients.settle(duty, reply);
-    }
+impl Model for Machine {
+    ghost use Rattle.rv_machine.specs.declared.tables.Holdings.{Holdings};
+    ghost use Rattle.rv_machine.specs.contracts.tables.Holdings as row;
 
-    /// Counts one entry more, of a moment, and gives it. What is whole stays so if there is space for it.
-    pub(crate) fn record(&mut self, moment: u64, act: Act, partners: Partners) -> Entry
-        requires { self.old.length < most_counted }
-        ensures entry { result ≡ entry moment act partners }
-        ensures ready { IsWhole self.old → moment ≤ max_moment
-            → self.old.length + count_waiting self.old.table < most_counted → IsWhole self.new }
-        ensures counted { self.new ≡ counted self.old moment }
-    {
-        self.length += 1;
-        self.moment = moment;
-        Entry {
-            moment,
-            act,
-            partners,
-        }
-    }
+    ghost Value = { Holdings };
 
-    /// The allocator that the machine keeps.
-    pub(crate) fn allocator(&self) -> Global {
-        *self.settled.allocator()
-    }
+    ghost coded = { row.the_row.coded };
+
+    ghost use Rattle.rv_machine.specs.Owning.{IsMachine};
+
+    ghost view = { λ m. m.tables };
+
+    ghost invariant = { λ m. IsMachine m.tables };
 }

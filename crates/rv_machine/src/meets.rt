@@ -9,8 +9,8 @@ ghost use Rattle.rv_open.specs.OpenMap.{opposed_in};
 ghost use Rattle.rv_state.specs.After.{receipt_of};
 ghost use Rattle.rv_machine.specs.Telling.{TellsOne, TellsWaiter, told_arriving, told_on_side};
 
-use crate::machine::Machine;
 use crate::stays::copy_item;
+use crate::tables::Holdings;
 use rv_account::{Act, Entry, Partners};
 use rv_open::MetPlace;
 use rv_session::{Duty, OpenPlace, Place, Waiter};
@@ -64,7 +64,7 @@ fn arriving(
     }
 }
 
-impl Machine {
+impl Holdings {
     /// A request meets the oldest that it can meet, which there must be. Fails only if memory was refused,
     /// and then the state stays.
     pub(crate) fn meet(&mut self, moment: u64, key: Key, call: Call) -> Result<Entry, NoMemory>

@@ -9,15 +9,14 @@ ghost use Rattle.rv_machine.specs.Numbering.{AreNumbered};
 ghost use Rattle.rv_machine.specs.Redoing.{MayRedo, IsRedone, NeedsNoMemory};
 
 use crate::machine::{Machine, Said};
+use crate::tables::Holdings;
 use rv_account::Act;
 use rv_rules::Limits;
 use rv_text::Message;
 
-impl Machine {
-    /// Does again what an entry did that was written before, of this moment and act, whatever limits its step
-    /// had, and lists whom it settles. Tells whether it was done: only want of memory keeps it from that, and
-    /// then the state stays and nobody is listed. A tick, and a cancel of what waits, take none.
-    pub fn redo(&mut self, moment: u64, act: Act) -> bool
+impl Holdings {
+    // Does again what an entry did, of the tables.
+    fn redo(&mut self, moment: u64, act: Act) -> bool
         requires ready { IsWhole self.old }
         requires numbered { AreNumbered (state_in self.old) }
         requires time { moment ≤ max_moment }
@@ -73,5 +72,22 @@ impl Machine {
             Said::Welcome(..) => true,
             Said::Told(_) => true,
         }
+    }
+}
+
+impl Machine {
+    /// Does again what an entry did that was written before, of this moment and act, whatever limits its step
+    /// had, and lists whom it settles. Tells whether it was done: only want of memory keeps it from that, and
+    /// then the state stays and nobody is listed. A tick, and a cancel of what waits, take none.
+    pub fn redo(&mut self, moment: u64, act: Act) -> bool
+        requires time { moment ≤ max_moment }
+        requires fits { FitsAct act }
+        requires goes_on { MayRedo (state_in self.old) moment act }
+        ensures done { result ≡ true → IsRedone self.old self.new moment act }
+        ensures stays { result ≡ false → state_in self.new ≡ state_in self.old }
+        ensures none { result ≡ false → self.new.settled.items ≡ [] }
+        ensures spare { NeedsNoMemory (state_in self.old) act → result ≡ true }
+    {
+        self.tables.redo(moment, act)
     }
 }

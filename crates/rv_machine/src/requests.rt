@@ -12,7 +12,7 @@ ghost use Rattle.rv_machine.specs.declared.machine.Said.TheVariants as said;
 ghost use Rattle.rv_machine.specs.Machines.{WasHeard, IsWhole, SameListRoom, WasRefused, state_in};
 ghost use Rattle.rv_machine.specs.Numbering.{AreNumbered};
 
-use crate::machine::Machine;
+use crate::tables::Holdings;
 use rv_account::{Entry, lasts, need_of};
 use rv_rules::Limits;
 use rv_session::KeyStanding;
@@ -39,7 +39,7 @@ fn repeat(asked: &Call, call: &Call) -> Result<Option<Entry>, Refusal>
     Err(Refusal::OtherCall)
 }
 
-impl Machine {
+impl Holdings {
     /// A request: it arrives if it has its session's next number. A repeat of the last one makes no entry.
     pub(crate) fn request(
         &mut self,

@@ -11,6 +11,7 @@ ghost use Rattle.rv_machine.specs.Numbering.{AreNumbered};
 
 use crate::machine::Machine;
 use crate::requests::stays;
+use crate::tables::Holdings;
 use rv_account::need_of;
 use rv_rules::Limits;
 use rv_session::{Greeting, KeyStanding};
@@ -28,7 +29,7 @@ pub fn message_need(message: &Message) -> usize
     }
 }
 
-impl Machine {
+impl Holdings {
     /// Whether there is no space for so many entries more, beside those that what waits may come to need.
     pub(crate) fn is_full(&self, limits: &Limits, need: usize) -> bool
         requires ready { IsWhole self.now }
@@ -67,9 +68,8 @@ impl Machine {
         }
     }
 
-    /// Whether the message, heard now under limits, would get an entry of its own for which room must be
-    /// made: no line of the step comes before, and it is no cancel of what waits.
-    pub fn enters(&self, limits: &Limits, message: &Message) -> bool
+    // Whether the message would get such an entry, heard now under limits.
+    fn enters(&self, limits: &Limits, message: &Message) -> bool
         requires ready { IsWhole self.now }
         requires numbered { AreNumbered (state_in self.now) }
         requires fits { FitsMessage message.now }
@@ -102,5 +102,17 @@ impl Machine {
             Message::Request { key, .. } => matches!(self.clients.look(key), KeyStanding::Next),
             Message::Cancel { key } => matches!(self.clients.look(key), KeyStanding::Next),
         }
+    }
+}
+
+impl Machine {
+    /// Whether the message, heard now under limits, would get an entry of its own for which room must be
+    /// made: no line of the step comes before, and it is no cancel of what waits.
+    pub fn enters(&self, limits: &Limits, message: &Message) -> bool
+        requires fits { FitsMessage message.now }
+        ensures yes { result ≡ true → MayLackMemory limits.now (state_in self.now) message.now }
+        ensures no { result ≡ false → NeedsNoRoom limits.now (state_in self.now) message.now }
+    {
+        self.tables.enters(limits, message)
     }
 }

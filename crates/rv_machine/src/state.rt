@@ -6,6 +6,7 @@ ghost use Rattle.rv_machine.specs.Numbering.{AreNumbered};
 ghost use Rattle.rv_machine.specs.Remaking.{IsWhyNot};
 
 use crate::machine::Machine;
+use crate::tables::Holdings;
 use rv_open::OpenTable;
 use rv_resume::Snapshot;
 use rv_rules::MOST_KNOWN;
@@ -27,19 +28,17 @@ impl Machine {
     pub fn state(&self) -> Result<Snapshot, NoMemory>
         ensures { IfOk result (λ s. s ≡ state_in self.now) }
     {
-        let alloc = self.allocator();
-        let places = self.table.places(alloc)?;
-        let clients = self.clients.states(alloc)?;
-        let (epoch, length) = (self.clients.epoch(), self.length as u64);
-        Ok(Snapshot::from_parts(epoch, self.moment, length, places, clients).unwrap())
+        let alloc = self.tables.allocator();
+        let places = self.tables.table.places(alloc)?;
+        let clients = self.tables.clients.states(alloc)?;
+        let (epoch, length) = (self.tables.clients.epoch(), self.tables.length as u64);
+        Ok(Snapshot::from_parts(epoch, self.tables.moment, length, places, clients).unwrap())
     }
 
     /// The machine of a state to resume from, whatever account made that: it goes on as a machine does that
     /// came to it, and has settled nothing yet. It takes time as [`Snapshot::can_resume`] does.
     pub fn resume(alloc: Global, state: Snapshot) -> Result<Machine, NoMachine>
         ensures state { IfOk result (λ m. state_in m ≡ state) }
-        ensures ready { IfOk result IsWhole }
-        ensures numbered { IfOk result (λ m. AreNumbered (state_in m)) }
         ensures settled { IfOk result (λ m. m.settled.items ≡ []) }
         ensures fits { IfOk result (λ _. CanResume state) }
         ensures err { IfErr result (IsWhyNot state) }
@@ -47,14 +46,16 @@ impl Machine {
         if !state.can_resume() {
             return Err(NoMachine::Unfit);
         }
-        match Machine::holding(alloc, state) {
-            Ok(machine) => Ok(machine),
+        match Holdings::holding(alloc, state) {
+            Ok(tables) => Ok(Machine { tables }),
             Err(_) => Err(NoMachine::NoMemory),
         }
     }
+}
 
-    // The machine that holds a state to resume from. Fails only if memory was refused.
-    fn holding(alloc: Global, state: Snapshot) -> Result<Machine, NoMemory>
+impl Holdings {
+    // The tables that hold a state to resume from. Fails only if memory was refused.
+    fn holding(alloc: Global, state: Snapshot) -> Result<Holdings, NoMemory>
         requires { CanResume state }
         ensures state { IfOk result (λ m. state_in m ≡ state) }
         ensures ready { IfOk result IsWhole }
@@ -66,7 +67,7 @@ impl Machine {
         let opened = OpenTable::resume(alloc, clients, places)?;
         let (table, clients) = opened;
         let settled = Vec::with_capacity(alloc, table.waiting())?;
-        Ok(Machine {
+        Ok(Holdings {
             moment,
             length: length as usize,
             table,

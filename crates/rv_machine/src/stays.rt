@@ -11,7 +11,7 @@ ghost use Rattle.rv_machine.specs.Arriving.{Arrives, IsAsBefore, MayArrive, afte
 ghost use Rattle.rv_machine.specs.Machines.{IsWhole, state_in};
 ghost use Rattle.rv_open.specs.OpenMap.{opposed_in};
 
-use crate::machine::Machine;
+use crate::tables::Holdings;
 use rv_account::{Act, Entry, Partners, deadline_after};
 use rv_session::{Clients, Duty, OpenPlace, Waiter};
 use rv_text::{Call, Item, Key, NoMemory, Reply};
@@ -37,7 +37,7 @@ fn settle_put(clients: &mut Clients, put: Option<Duty>)
     }
 }
 
-impl Machine {
+impl Holdings {
     // The open place of a request that stays, with a copy of its item.
     fn opening(&self, moment: u64, key: &Key, call: &Call) -> Result<OpenPlace, NoMemory>
         requires time { moment ≤ max_moment }

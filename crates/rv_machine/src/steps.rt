@@ -10,6 +10,7 @@ ghost use Rattle.rv_machine.specs.Numbering.{AreNumbered};
 ghost use Rattle.rv_machine.specs.Stepping.{IsHearing, IsNoRequest, MadeNothing, IsTick};
 
 use crate::machine::{Machine, Said};
+use crate::tables::Holdings;
 use rv_account::Entry;
 use rv_open::OpenTable;
 use rv_rules::{Limits, MOST_KNOWN};
@@ -52,15 +53,15 @@ fn outcome(made: Result<Option<Entry>, Refusal>, said: Said) -> Heard
     }
 }
 
-impl Machine {
-    /// The machine of an empty account, which has settled nothing yet. Fails only if memory was refused.
-    pub fn open(alloc: Global, epoch: u64, now: u64) -> Result<Machine, NoMemory>
+impl Holdings {
+    // The tables of an empty account, which settled nothing yet. Fails only if memory was refused.
+    fn open(alloc: Global, epoch: u64, now: u64) -> Result<Holdings, NoMemory>
         ensures state { IfOk result (λ m. state_in m ≡ opening epoch (capped_moment now)) }
         ensures ready { IfOk result IsWhole }
         ensures numbered { IfOk result (λ m. AreNumbered (state_in m)) }
         ensures settled { IfOk result (λ m. m.settled.items ≡ []) }
     {
-        Ok(Machine {
+        Ok(Holdings {
             moment: now.min(MAX_MOMENT),
             length: 0,
             table: OpenTable::empty(alloc)?,
@@ -69,10 +70,8 @@ impl Machine {
         })
     }
 
-    /// The first half of a step, or time that passes alone: all that is due at its moment is ended, and its
-    /// keys are listed; where nothing is due the state stays. The moment is the one handed in, at most 2^62,
-    /// or the last one if that is later. It takes no memory.
-    pub fn elapse(&mut self, now: u64) -> TickMade
+    // The first half of a step, of the tables.
+    pub(crate) fn elapse(&mut self, now: u64) -> TickMade
         requires ready { IsWhole self.old }
         requires numbered { AreNumbered (state_in self.old) }
         ensures ready { IsWhole self.new }
@@ -89,9 +88,8 @@ impl Machine {
         TickMade { moment, entry }
     }
 
-    /// The second half of a step: a message is heard at its moment under limits, and the keys that it settles
-    /// are listed. Limits only refuse: a machine goes on under any.
-    pub fn hear(&mut self, limits: &Limits, moment: u64, message: Message) -> Heard
+    // The second half of a step, of the tables.
+    pub(crate) fn hear(&mut self, limits: &Limits, moment: u64, message: Message) -> Heard
         requires ready { IsWhole self.old }
         requires numbered { AreNumbered (state_in self.old) }
         requires later { self.old.moment ≤ moment }
@@ -121,5 +119,42 @@ impl Machine {
             }
             Message::Cancel { key } => outcome(self.cancel(limits, moment, key), Said::Told(key)),
         }
+    }
+}
+
+impl Machine {
+    /// The machine of an empty account, which has settled nothing yet. Fails only if memory was refused.
+    pub fn open(alloc: Global, epoch: u64, now: u64) -> Result<Machine, NoMemory>
+        ensures state { IfOk result (λ m. state_in m ≡ opening epoch (capped_moment now)) }
+        ensures settled { IfOk result (λ m. m.settled.items ≡ []) }
+    {
+        let tables = Holdings::open(alloc, epoch, now)?;
+        Ok(Machine { tables })
+    }
+
+    /// The first half of a step, or time that passes alone: all that is due at its moment is ended, and its
+    /// keys are listed; where nothing is due the state stays. The moment is the one handed in, at most 2^62,
+    /// or the last one if that is later. It takes no memory.
+    pub fn elapse(&mut self, now: u64) -> TickMade
+        ensures exact { result.moment ≡ state_moment (state_in self.old) now }
+        ensures later { self.new.moment ≤ result.moment }
+        ensures time { result.moment ≤ max_moment }
+        ensures ticks { IsTick self.old self.new result }
+        ensures room { SameListRoom self.old self.new }
+    {
+        self.tables.elapse(now)
+    }
+
+    /// The second half of a step: a message is heard at its moment under limits, and the keys that it settles
+    /// are listed. Limits only refuse: a machine goes on under any.
+    pub fn hear(&mut self, limits: &Limits, moment: u64, message: Message) -> Heard
+        requires later { self.old.moment ≤ moment }
+        requires time { moment ≤ max_moment }
+        requires fits { FitsMessage message }
+        ensures hears { IsHearing limits.now self.old self.new moment message result }
+        ensures room { IsNoRequest message → SameListRoom self.old self.new }
+        ensures quiet { MadeNothing result → SameListRoom self.old self.new }
+    {
+        self.tables.hear(limits, moment, message)
     }
 }

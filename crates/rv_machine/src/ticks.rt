@@ -6,11 +6,11 @@ ghost use Rattle.rv_machine.specs.Numbering.{AreNumbered};
 ghost use Rattle.rv_open.specs.OpenMap.{due_in};
 ghost use Rattle.rv_machine.specs.Ticking.{EndsFirst, EndsNext, TimesOut};
 
-use crate::machine::Machine;
+use crate::tables::Holdings;
 use rv_account::{Act, Entry, Partners};
 use rv_text::Reply;
 
-impl Machine {
+impl Holdings {
     /// Ends all that is due at a moment, by one tick, and gives its entry if something was due.
     pub(crate) fn time_out(&mut self, moment: u64) -> Option<Entry>
         requires ready { IsWhole self.old }

@@ -1,3 +1,2 @@
 -- What the clauses of this crate cite.
 pub mod Ready
-pub mod Hearing

@@ -1,5 +1,5 @@
 //! Machines made anew behind a line: of the state before it, and by following the entries that it made.
-ghost use Rattle.rv_steps.specs.Ready.{CanFollow, IsReady};
+ghost use Rattle.rv_steps.specs.Ready.{CanFollow};
 
 use crate::steps::{Made, answer_line};
 use rv_account::Entry;
@@ -18,10 +18,7 @@ pub(crate) fn answer_by(
     anew: bool,
     machine: &mut Machine,
     line: &[u8],
-) -> Result<Option<String>, NoMemory>
-    requires { IsReady machine.old }
-    ensures { IsReady machine.new }
-{
+) -> Result<Option<String>, NoMemory> {
     if anew {
         return answer_anew(alloc, limits, machine, line);
     }
@@ -34,10 +31,7 @@ fn answer_anew(
     limits: &Limits,
     machine: &mut Machine,
     line: &[u8],
-) -> Result<Option<String>, NoMemory>
-    requires { IsReady machine.old }
-    ensures { IsReady machine.new }
-{
+) -> Result<Option<String>, NoMemory> {
     let before = machine.state()?;
     let (body, made) = answer_line(alloc, limits, machine, line)?;
     match made {
@@ -48,10 +42,7 @@ fn answer_anew(
 
 // Puts the machine of the state before a line, behind the entries that the line made, in the place of the one
 // that heard it. Tells whether that can be made, and settles just the same.
-fn is_made_anew(alloc: Global, machine: &mut Machine, before: Snapshot, made: Made) -> bool
-    requires { IsReady machine.old }
-    ensures { IsReady machine.new }
-{
+fn is_made_anew(alloc: Global, machine: &mut Machine, before: Snapshot, made: Made) -> bool {
     let Ok(mut again) = Machine::resume(alloc, before) else {
         return false;
     };

@@ -1,8 +1,5 @@
 //! What lines are handed to: a machine or a hub, and what is told of each line.
-ghost use Rattle.std.specs.Prelude.{IfOk};
 ghost use Rattle.rv_rules.specs.StepLimits.{AreStepLimits};
-ghost use Rattle.rv_steps.specs.Hearing.{CanHear};
-ghost use Rattle.rv_steps.specs.Ready.{IsReady};
 
 use crate::EPOCH;
 use crate::anew::answer_by;
@@ -45,7 +42,6 @@ impl Driver {
 #[tactic(auto, using(crate::proofs::Opened::opened_resumes))]
 pub(crate) fn begin(alloc: Global, limits: Limits, beginning: Beginning) -> Result<Driver, NoMemory>
     requires { AreStepLimits limits }
-    ensures { IfOk result CanHear }
 {
     let machine = Machine::open(alloc, EPOCH, 0)?;
     match beginning {
@@ -68,10 +64,7 @@ pub(crate) fn answer(
     driver: &mut Driver,
     text: &mut Vec<u8>,
     line: &[u8],
-) -> Result<bool, NoMemory>
-    requires { CanHear driver.old }
-    ensures { CanHear driver.new }
-{
+) -> Result<bool, NoMemory> {
     match driver {
         Driver::Machine {
             machine,
@@ -90,10 +83,7 @@ fn answer_step(
     machine: &mut Machine,
     text: &mut Vec<u8>,
     line: &[u8],
-) -> Result<bool, NoMemory>
-    requires { IsReady machine.old }
-    ensures { IsReady machine.new }
-{
+) -> Result<bool, NoMemory> {
     match answer_by(alloc, limits, anew, machine, line)? {
         Some(body) => add_line(text, &body),
         None => Ok(false),

@@ -15,7 +15,6 @@
 #![tactic(auto)]
 
 ghost use Rattle.rv_rules.specs.StepLimits.{AreStepLimits};
-ghost use Rattle.rv_steps.specs.Hearing.{CanHear};
 
 mod anew;
 mod answers;
@@ -93,9 +92,7 @@ fn run_lines(rt: &HostRuntime, limits: Limits, beginning: Beginning) -> anyhow::
 
 // Does what each line says, and prints what is told of that. Why a line ends the run is told on standard
 // error.
-fn answer_all(rt: &HostRuntime, driver: &mut Driver, input: &[u8]) -> anyhow::Result<ExitCode>
-    requires { CanHear driver.old }
-{
+fn answer_all(rt: &HostRuntime, driver: &mut Driver, input: &[u8]) -> anyhow::Result<ExitCode> {
     let mut output = BufWriter::new(rt.alloc(), rt.stdout())?;
     let mut rest = input;
     while let Some((line, after)) = first_line(rest) {
@@ -114,10 +111,7 @@ fn print_answer<W: Write>(
     output: &mut W,
     driver: &mut Driver,
     line: &[u8],
-) -> anyhow::Result<bool>
-    requires { CanHear driver.old }
-    ensures { CanHear driver.new }
-{
+) -> anyhow::Result<bool> {
     let mut text = Vec::new(alloc);
     let goes_on = answer(alloc, driver, &mut text, line)?;
     output.write_all(&text)?;

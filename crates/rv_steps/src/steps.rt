@@ -3,7 +3,6 @@ ghost use Rattle.std.specs.Prelude.{◌≡◌, IfOk};
 ghost use Rattle.rv_text.specs.Limits.{FitsMessage};
 ghost use Rattle.rv_state.specs.Moves.{Move, StateNextUnder};
 ghost use Rattle.rv_machine.specs.Machines.{state_in};
-ghost use Rattle.rv_steps.specs.Ready.{IsReady};
 
 use crate::answers::answer_of;
 use rv_account::Entry;
@@ -34,10 +33,7 @@ pub(crate) fn answer_line(
     limits: &Limits,
     machine: &mut Machine,
     line: &[u8],
-) -> Result<(String, Option<Made>), NoMemory>
-    requires ready { IsReady machine.old }
-    ensures ready { IsReady machine.new }
-{
+) -> Result<(String, Option<Made>), NoMemory> {
     match read_line(alloc, line) {
         Ok((moment, message)) => {
             let (answer, made) = step(alloc, limits, machine, moment, message)?;
@@ -66,10 +62,8 @@ fn step(
     now: u64,
     message: Message,
 ) -> Result<(Answer, Made), NoMemory>
-    requires ready { IsReady machine.old }
-    requires fits { FitsMessage message }
-    ensures ready { IsReady machine.new }
-    ensures steps { IfOk result (λ out. (move : Move)
+    requires { FitsMessage message }
+    ensures { IfOk result (λ out. (move : Move)
         × StateNextUnder limits.now (state_in machine.old) now message move
         × (out.0 ≡ move.answer) × (state_in machine.new ≡ move.after)) }
 {

@@ -1,5 +1,4 @@
 //! Items put and taken in turn by the program itself: what a machine takes as its entries grow.
-ghost use Rattle.rv_steps.specs.Ready.{IsReady};
 
 use crate::EPOCH;
 use rv_machine::{Machine, Said};
@@ -30,10 +29,7 @@ fn number_of(turn: u64, requests: u64) -> u64 {
 }
 
 // Whether the machine heard a message, and didn't refuse it.
-fn is_heard(limits: &Limits, machine: &mut Machine, message: Message) -> bool
-    requires { IsReady machine.old }
-    ensures { IsReady machine.new }
-{
+fn is_heard(limits: &Limits, machine: &mut Machine, message: Message) -> bool {
     if !message.fits() {
         return false;
     }
@@ -71,10 +67,7 @@ fn take(client: u64, number: u64) -> Message {
 }
 
 // Whether each client's hello was heard.
-fn all_greet(limits: &Limits, machine: &mut Machine) -> bool
-    requires { IsReady machine.old }
-    ensures { IsReady machine.new }
-{
+fn all_greet(limits: &Limits, machine: &mut Machine) -> bool {
     for client in 0..CLIENTS {
         let hello = Message::Hello {
             client: client_of(client),
@@ -89,10 +82,7 @@ fn all_greet(limits: &Limits, machine: &mut Machine) -> bool
 }
 
 // Whether all items that stay open were put, each client's in turn.
-fn all_put(alloc: Global, limits: &Limits, machine: &mut Machine) -> Result<bool, NoMemory>
-    requires { IsReady machine.old }
-    ensures { IsReady machine.new }
-{
+fn all_put(alloc: Global, limits: &Limits, machine: &mut Machine) -> Result<bool, NoMemory> {
     for turn in 0..OPEN {
         let put = put(alloc, client_of(turn), number_of(turn, 1))?;
         if !is_heard(limits, machine, put) {
@@ -108,10 +98,7 @@ fn all_turn(
     limits: &Limits,
     machine: &mut Machine,
     turns: u64,
-) -> Result<bool, NoMemory>
-    requires { IsReady machine.old }
-    ensures { IsReady machine.new }
-{
+) -> Result<bool, NoMemory> {
     for turn in 0..turns {
         let client = client_of(turn);
         let before = number_of(OPEN.saturating_sub(client), 1);
@@ -134,10 +121,7 @@ pub(crate) fn take_turns(
     limits: &Limits,
     machine: &mut Machine,
     turns: u64,
-) -> Result<bool, NoMemory>
-    requires { IsReady machine.old }
-    ensures { IsReady machine.new }
-{
+) -> Result<bool, NoMemory> {
     Ok(
         all_greet(limits, machine)
             && all_put(alloc, limits, machine)?

@@ -5,7 +5,7 @@ use Rattle.std.proofs.Common.{slice_get, take}
 use Rattle.rv_account.specs.Account.{Account}
 use Rattle.rv_account.specs.Limits.{max_moment}
 use Rattle.rv_account.specs.declared.entry.Entry.{Entry}
-use Rattle.rv_machine.specs.Machines.{IsWhole, state_in}
+use Rattle.rv_machine.specs.Machines.{state_in}
 use Rattle.rv_resume.specs.Resuming.{CanResume, StaysInRoom}
 use Rattle.rv_resume.proofs.ResumeLaws.{openings_resume}
 use Rattle.rv_rules.specs.Legal.{Legal}
@@ -32,9 +32,8 @@ module _ (v : Verifier) (epoch opened : ℕ) (fits : FitsIdentifier epoch) (smal
   is : state_in v.machine ≡ opening epoch opened
   is = state ∙ ap (opening epoch) (capped_is opened small)
 
-  pub opens_ready : IsWhole v.machine → v.entries ≡ 0 → CanReadOn v
-  opens_ready whole none = record {
-    whole = whole;
+  pub opens_ready : v.entries ≡ 0 → CanReadOn v
+  opens_ready none = record {
     resumes = subst CanResume (sym is) (openings_resume epoch opened fits small);
     few = omega (arith, none);
   }

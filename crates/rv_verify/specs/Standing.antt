@@ -10,7 +10,7 @@ use Rattle.rv_state.specs.After.{state_of}
 use Rattle.rv_state.specs.State.{State}
 use Rattle.rv_resume.specs.Laws.{HadRoom}
 use Rattle.rv_resume.specs.Resuming.{CanResume}
-use Rattle.rv_machine.specs.Machines.{IsWhole, state_in}
+use Rattle.rv_machine.specs.Machines.{state_in}
 use Rattle.rv_machine.specs.declared.machine.Machine.{Machine}
 use Rattle.rv_follow.specs.Outcomes.{PassesRoom}
 use Rattle.rv_asked.specs.Ruling.{IsFirstBroken, NamesClosed}
@@ -56,7 +56,6 @@ pub record HasRead (lines : List (List ℕ)) (v : Verifier) : Type 0 where
 
 -- the verifier can go on
 pub record CanReadOn (v : Verifier) : Type 0 where
-  pub whole : IsWhole v.machine
   pub resumes : CanResume (state_in v.machine)
   pub few : v.entries ≤ max_identifier
 

@@ -6,7 +6,7 @@ ghost use Rattle.rv_text.specs.Members.{max_identifier};
 ghost use Rattle.rv_account.specs.Limits.{max_moment};
 ghost use Rattle.rv_account.specs.declared.entry.Entry as entries;
 ghost use Rattle.rv_findings.specs.declared.verdict.AccountVerdict.TheVariants as verdict;
-ghost use Rattle.rv_machine.specs.Machines.{IsWhole, state_in};
+ghost use Rattle.rv_machine.specs.Machines.{state_in};
 ghost use Rattle.rv_resume.specs.Resuming.{CanResume};
 ghost use Rattle.rv_lines.specs.Entries.{IsNoNext};
 ghost use Rattle.rv_lines.specs.Reading.{ReadsHead};
@@ -160,10 +160,8 @@ fn stop_at(
     line: &[u8],
     entry: Entry,
 ) -> Result<Option<StopReason>, VerifyFault>
-    requires ready { IsWhole machine.old }
     requires resumes { CanResume (state_in machine.old) }
     requires says { ReadsLongEntry line.now entry }
-    ensures ready { IsWhole machine.new }
     ensures resumes { CanResume (state_in machine.new) }
     ensures stopped { IfOk result (IsStopped machine.old machine.new entry) }
     ensures lines { records.new.lines ≡ records.old.lines }

@@ -13,5 +13,4 @@ returns-clause-sound c =
     λ i. record { epoch = made.epoch i; opened = made.opened i; entries = made.entries i } in
     let most : c.min.result ≤ max_moment = let least = c.min.ensures in omega (arith, least) in
     opened_sound c.args.epoch c.min.result c.requires most c.empty.result c.in_ok-open.field-0 c.new.result is
-    (c.in_ok-open.ensures.state ∙ ap (opening c.args.epoch) (sym c.min.ensures)) c.in_ok-open.ensures.ready
-    c.in_ok-open.ensures.numbered
+    (c.in_ok-open.ensures.state ∙ ap (opening c.args.epoch) (sym c.min.ensures))

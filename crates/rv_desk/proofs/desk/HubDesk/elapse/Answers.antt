@@ -15,7 +15,7 @@ returns-in-Some c =
     (c.elapse-moment.ensures.exact ∙ elapsed_moment (state_in c.args.self.now.machine) c.max.result
     c.args.self.now.latest c.args.now c.requires.ready.sound.book.later c.requires.ready.sound.book.time
     c.max.ensures)
-    refl c.elapse-moment.ensures.ready c.elapse-moment.ensures.numbered c.elapse-moment.ensures.time
+    refl c.elapse-moment.ensures.time
     c.elapse-moment.ensures.ticks
     (c.push_reserved.ensures.items
     ∙ ap (λ (o : Option Entry). c.args.self.now.entries.items ++ option_to_list o) (sym c.in-Some.is))
@@ -29,7 +29,7 @@ returns-in-None c =
     (c.elapse-moment.ensures.exact ∙ elapsed_moment (state_in c.args.self.now.machine) c.max.result
     c.args.self.now.latest c.args.now c.requires.ready.sound.book.later c.requires.ready.sound.book.time
     c.max.ensures)
-    refl c.elapse-moment.ensures.ready c.elapse-moment.ensures.numbered c.elapse-moment.ensures.time
+    refl c.elapse-moment.ensures.time
     c.elapse-moment.ensures.ticks
     (sym (append-nil c.args.self.now.entries.items)
     ∙ ap (λ (o : Option Entry). c.args.self.now.entries.items ++ option_to_list o) (sym c.in-None.is))

@@ -10,8 +10,7 @@ pub returns-in-Some : goal.returns-in-Some
 returns-in-Some c =
     let kept = c.push_reserved.ensures.capacity in
     let all = stepped c.args.self.now c.hear-entry.new.self c.push_reserved.new.self c.args.message
-    c.hear-entry.result c.requires.steady c.requires.fits c.hear-entry.ensures.ready
-    c.hear-entry.ensures.numbered c.hear-entry.ensures.hears
+    c.hear-entry.result c.requires.steady c.requires.fits c.hear-entry.ensures.hears
     (c.push_reserved.ensures.items
     ∙ ap (λ (o : Option Entry). c.args.self.now.entries.items ++ option_to_list o) (sym c.in-Some.is))
     (omega arith) in
@@ -20,8 +19,7 @@ returns-in-Some c =
 pub returns-in-None : goal.returns-in-None
 returns-in-None c =
     let all = stepped c.args.self.now c.hear-entry.new.self c.args.self.now.entries c.args.message
-    c.hear-entry.result c.requires.steady c.requires.fits c.hear-entry.ensures.ready
-    c.hear-entry.ensures.numbered c.hear-entry.ensures.hears
+    c.hear-entry.result c.requires.steady c.requires.fits c.hear-entry.ensures.hears
     (sym (append-nil c.args.self.now.entries.items)
     ∙ ap (λ (o : Option Entry). c.args.self.now.entries.items ++ option_to_list o) (sym c.in-None.is))
     (omega arith) in

@@ -6,7 +6,7 @@ use Rattle.rv_verify.proofs.verifier.Verifier.open.Goals as goal
 pub returns-clause-ready : goal.returns-clause-ready
 returns-clause-ready c =
     opens_ready _ c.args.epoch c.args.opened c.requires.epoch c.requires.opened c.in_ok-open.ensures.state
-    c.in_ok-open.ensures.ready refl
+    refl
 
 pub returns-clause-read : goal.returns-clause-read
 returns-clause-read c =
