@@ -1,6 +1,7 @@
 -- What a server's turn does to the engine behind its sockets, and to the file of its account.
-use Rattle.std.specs.Prelude.{◌↔◌, IsSome, IsTrue, List, None, Option, Some, ℕ}
+use Rattle.std.specs.Prelude.{◌↔◌, ◌≡◌, false, IsSome, IsTrue, List, None, Option, Some, ℕ}
 use Rattle.rv_frame.specs.declared.sink.Sink.{Sink}
+use Rattle.rv_frame.specs.Sink.{sink_failed}
 use Rattle.rv_traffic.specs.CallRuns.{RunsWith}
 use Rattle.rv_host.specs.declared.journal.Journal.{Journal}
 use Rattle.rv_host.specs.declared.shell.Shell.{Shell}
@@ -9,6 +10,11 @@ use Rattle.rv_host.specs.declared.shell.Shell.{Shell}
 abbrev pub device_in : {W : Type 0} → Option (Journal W) → Option (Sink W)
 device_in None = None
 device_in (Some journal) = Some journal.file
+
+-- the account's file takes what is written, if one is kept: no write to it failed
+abbrev pub TakesAllLines : {W : Type 0} → Option (Journal W) → Type 0
+TakesAllLines None = Unit {0}
+TakesAllLines (Some journal) = sink_failed journal.file ≡ false
 
 -- the calls of a turn, joined, over the one device of the account: the lines that the hub is told of went
 -- there

@@ -1,5 +1,6 @@
 //! The shell of a server: what the poll tells is handed to the traffic of its sockets, turn by turn.
-ghost use Rattle.std.specs.Prelude.{◌≡◌, IfOk};
+ghost use Rattle.std.specs.Prelude.{◌≡◌, false, IfOk, OnOk};
+ghost use Rattle.rv_frame.specs.Sink.{sink_failed};
 ghost use Rattle.rv_traffic.specs.CallRuns.{OnlyCalls, RunsOnDevice};
 
 use crate::door::{Accepted, Door};
@@ -57,14 +58,20 @@ fn write_to<S: Drop, W: Write>(
     journal: &mut Journal<W>,
 ) -> Result<(), HostEnd>
     ensures over { RunsOnDevice W.contents traffic.old journal.old.file traffic.new journal.new.file }
+    ensures works { OnOk result (sink_failed journal.new.file ≡ false) }
 {
     let count = traffic.engine().lines().len() as u64;
     match traffic.write_lines(now, &mut journal.file) {
-        Err(EngineFault::NotWritten(fault)) => Err(HostEnd::Account(fault)),
-        _ => {
+        Ok(_) => {
             journal.bytes = journal.bytes.saturating_add(count);
             Ok(())
         }
+        Err(EngineFault::NoMemory) => {
+            journal.bytes = journal.bytes.saturating_add(count);
+            Ok(())
+        }
+        Err(EngineFault::NotWritten(fault)) => Err(HostEnd::Account(fault)),
+        Err(EngineFault::Refused(_)) => Ok(()),
     }
 }
 
@@ -457,7 +464,7 @@ impl<W: Drop> Shell<W> {
 }
 
 impl<W: Write + Drop> Shell<W> {
-    ghost use Rattle.rv_host.specs.Turns.{TurnsOver};
+    ghost use Rattle.rv_host.specs.Turns.{TakesAllLines, TurnsOver};
 
     /// Serves until it can't go on.
     pub(crate) fn serve(&mut self, rt: &HostRuntime) -> Result<(), HostEnd>
@@ -475,6 +482,7 @@ impl<W: Write + Drop> Shell<W> {
     // One turn: all that came is taken, and then the answers go out.
     fn turn(&mut self, rt: &HostRuntime) -> Result<(), HostEnd>
         ensures turns { TurnsOver W.contents self.old self.new }
+        ensures works { OnOk result (TakesAllLines self.new.account) }
     {
         match self.poll(rt) {
             Ok(now) => self.go_through(rt, now),
@@ -485,6 +493,7 @@ impl<W: Write + Drop> Shell<W> {
     // The turn at a moment.
     fn go_through(&mut self, rt: &HostRuntime, now: u64) -> Result<(), HostEnd>
         ensures turns { TurnsOver W.contents self.old self.new }
+        ensures works { OnOk result (TakesAllLines self.new.account) }
     {
         self.take_all(now);
         match self.write_account(now) {
@@ -499,6 +508,7 @@ impl<W: Write + Drop> Shell<W> {
     // Writes what was gathered of the account, if one is kept, and tells the hub.
     fn write_account(&mut self, now: u64) -> Result<(), HostEnd>
         ensures turns { TurnsOver W.contents self.old self.new }
+        ensures works { OnOk result (TakesAllLines self.new.account) }
     {
         match &mut self.account {
             Some(journal) => write_to(&mut self.traffic, now, journal),
