@@ -11,6 +11,7 @@ use Rattle.rv_text.specs.declared.answer.Answer.TheVariants as answers
 use Rattle.rv_text.specs.declared.answer.Refusal.TheVariants as refusals
 use Rattle.rv_account.specs.Account.{Extends, own_moment}
 use Rattle.rv_rules.specs.Legal.{before}
+use Rattle.rv_rules.specs.Resting.{rests_on}
 use Rattle.rv_state.proofs.Extending.{steps_extend_under, ticks_extend}
 use Rattle.rv_parts.specs.declared.event.Event.{Event}
 use Rattle.rv_parts.specs.declared.packet.Packet.{Packet}
@@ -19,7 +20,7 @@ use Rattle.rv_parts.specs.declared.event.Event.TheVariants as event
 use Rattle.rv_parts.proofs.Listing.{stands_at}
 use Rattle.rv_crashes.specs.Crashes.{AtServer, CrashWorld, LeavesServer, Occurrence, Occurs, Outside, Passed}
 use Rattle.rv_crashes.specs.Crashes.{RunsAcross, Sends, Server, Stepped, Stored, first_crash_world, made}
-use Rattle.rv_crashes.specs.Crashes.{needs_stored, stored_world}
+use Rattle.rv_crashes.specs.Crashes.{stored_world}
 use Rattle.rv_crashes.proofs.Around.{outside_is}
 use Rattle.rv_crashes.proofs.Fronts.{with_all}
 
@@ -125,7 +126,7 @@ happens_across x a held (Under limits (event.ToServer packet moment)) v (shows, 
     let late = made_is a v.present held extends in
     let count : ℕ = length (a.entries ++ extends.more) in
     let own : Packet = record { client = sender is.message; answer = is.told } in
-    let all : List (Packet × ℕ) = held ++ (own, needs_stored is.told count) ∷ [] in
+    let all : List (Packet × ℕ) = held ++ (own, rests_on is.told count) ∷ [] in
     let t : Server = server_of a extends.more all in
     record {
       occurrences = AtServer (Stepped limits moment is.message) ∷ AtServer (Stored count) ∷ Sends own ∷ [];
@@ -153,9 +154,9 @@ happens_across x a held (Under limits (event.ToServer packet moment)) v (shows, 
             whole (record x { to_client = x.to_client ++ own ∷ [] }) v.present all,
             (
               (
-                needs_stored is.told count,
+                rests_on is.told count,
                 at_most is.told (a.entries ++ extends.more) v.present.entries extends.entries,
-                Contains-push held (own, needs_stored is.told count),
+                Contains-push held (own, rests_on is.told count),
               ),
               refl,
             ),
@@ -166,11 +167,11 @@ happens_across x a held (Under limits (event.ToServer packet moment)) v (shows, 
       is = sym is.rest;
     }
   where
-    rests_short : (told : Answer) (n : ℕ) → needs_stored told n ≤ n
+    rests_short : (told : Answer) (n : ℕ) → rests_on told n ≤ n
     rests_short (answers.Refused refusals.NoMemory) n = omega arith
     rests_short _ n = omega arith
 
-    at_most : (told : Answer) (xs ys : List Entry) → ys ≡ xs → needs_stored told (length xs) ≤ length ys
+    at_most : (told : Answer) (xs ys : List Entry) → ys ≡ xs → rests_on told (length xs) ≤ length ys
     at_most told xs ys same = let short = rests_short told (length xs) in omega (arith, ap length same)
 happens_across x a held (Under limits (event.NewEpoch epoch)) v (shows, is) = record {
   occurrences = Outside (event.NewEpoch epoch) ∷ [];

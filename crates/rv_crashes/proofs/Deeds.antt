@@ -16,6 +16,7 @@ use Rattle.rv_rules.specs.Steps.{Adds, step_moment}
 use Rattle.rv_rules.proofs.StepLeaves.{own_act}
 use Rattle.rv_account.specs.declared.entry.Act.TheVariants.{Arrive}
 use Rattle.rv_rules.specs.Legal.{before}
+use Rattle.rv_rules.specs.Resting.{rests_on}
 use Rattle.rv_rules.proofs.Fronts.{Legal-before, read_whole}
 use Rattle.rv_rules.proofs.Growing.{act_read, reads_back}
 use Rattle.rv_state.proofs.Extending.{extends_itself, steps_extend_under, ticks_extend}
@@ -26,7 +27,7 @@ use Rattle.rv_parts.specs.World.{first_world}
 use Rattle.rv_parts.proofs.Answered.{became_at, next_arrives, next_legal, ticked_arrives}
 use Rattle.rv_parts.proofs.Epochs.{empty_legal}
 use Rattle.rv_parts.proofs.Growth.{goes_on_itself}
-use Rattle.rv_crashes.specs.Crashes.{Server, made, needs_stored, server_in, withholds}
+use Rattle.rv_crashes.specs.Crashes.{Server, made, server_in, withholds}
 use Rattle.rv_crashes.specs.Laws.{IsHeldRightly, IsHeldStep, IsServer, KeepsServer}
 use Rattle.rv_crashes.proofs.Fronts.{front_extends, held_step, made_extends, rightly_before, rightly_on}
 use Rattle.rv_crashes.proofs.Fronts.{with_all}
@@ -129,7 +130,7 @@ next_hello limits a b now m said r client incarnation version next there =
 
 -- ---- a step, and time alone
 
-rests_all : (told : Answer) (n : ℕ) → (told ≡ answers.Refused refusals.NoMemory) ⊎ (needs_stored told n ≡ n)
+rests_all : (told : Answer) (n : ℕ) → (told ≡ answers.Refused refusals.NoMemory) ⊎ (rests_on told n ≡ n)
 rests_all (answers.Refused refusals.NoMemory) n = inl refl
 rests_all _ n = inr refl
 
@@ -140,7 +141,7 @@ pub stepped : (messages : List Message) (s t : Server) (limits : StepLimits) (mo
       unstored = t.unstored;
       withheld = s.withheld ++ (
         record { client = sender message; answer = told },
-        needs_stored told
+        rests_on told
             (length (made t).entries),
       ) ∷ [];
     }
@@ -168,7 +169,7 @@ stepped messages s t limits moment message said told server sent next is_told re
               | inl old ↦ server.hellos r client incarnation version old
               | inr new ↦ subst (Contains messages) new sent
             ];
-        answers = λ packet count there. elim (Contains-push_cases s.withheld (own, needs_stored told late)
+        answers = λ packet count there. elim (Contains-push_cases s.withheld (own, rests_on told late)
             (packet, count) (subst (λ (u : Server). Contains u.withheld (packet, count)) rest there)) [
               | inl old ↦ rightly_on messages messages (made s) (made t) packet count
                   (goes_on_itself messages)

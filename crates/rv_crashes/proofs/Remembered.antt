@@ -12,6 +12,7 @@ use Rattle.rv_account.specs.Account.{Extends, act_at, own_moment, with_entry}
 use Rattle.rv_account.specs.declared.entry.Act.TheVariants as act
 use Rattle.rv_account.specs.declared.entry.Act.{Act}
 use Rattle.rv_rules.specs.Legal.{before}
+use Rattle.rv_rules.specs.Resting.{rests_on}
 use Rattle.rv_rules.specs.Sessions.{HasIncarnation}
 use Rattle.rv_rules.specs.Steps.{Adds, Answers, ClientsFullDueUnder, EntersOrNoMemory, EpochFullDueUnder}
 use Rattle.rv_rules.specs.Steps.{NextAtUnder, PlaceLine, PlacesFullDue, Refuses, Replies}
@@ -30,7 +31,7 @@ use Rattle.rv_parts.proofs.Answered.{key_lines, ticked_arrives}
 use Rattle.rv_parts.proofs.Listing.{place_of}
 use Rattle.rv_crashes.specs.Crashes.{AtServer, CrashWorld, Crashed, Lacked, LeavesServer, Occurrence, Occurs}
 use Rattle.rv_crashes.specs.Crashes.{Outside, Passed, RunsAcross, Sends, Server, ServerDeed, ServerDoes}
-use Rattle.rv_crashes.specs.Crashes.{Stepped, Stored, IsOfMessages, first_crash_world, made, needs_stored}
+use Rattle.rv_crashes.specs.Crashes.{Stepped, Stored, IsOfMessages, first_crash_world, made}
 use Rattle.rv_crashes.specs.Crashes.{stored_world}
 use Rattle.rv_crashes.specs.Laws.{DeedsKeepServers, ForgetsClient, IsOfSomeStep, SentIsStored}
 use Rattle.rv_crashes.proofs.Fronts.{made_extends}
@@ -330,7 +331,7 @@ deed_remembers : (c : CrashWorld) (deed : ServerDeed) (t : Server) → IsRemembe
     → Contains t.withheld (packet, count) → Remembers packet.answer
 deed_remembers c (Stepped limits moment m) t keep sent does packet count there =
     let own : Packet = record { client = sender m; answer = does.told } in
-    elim (Contains-push_cases c.server.withheld (own, needs_stored does.told (length (made t).entries))
+    elim (Contains-push_cases c.server.withheld (own, rests_on does.told (length (made t).entries))
     (packet, count) (subst (λ (u : Server). Contains u.withheld (packet, count)) does.rest there)) [
       | inl old ↦ keep.held packet count old
       | inr new ↦ subst (λ (p : Packet × ℕ). Remembers p.0.answer) new (told_remembers does.said does.told

@@ -8,6 +8,7 @@ use Rattle.rv_text.specs.declared.answer.Refusal.TheVariants.{NoMemory}
 use Rattle.rv_account.specs.declared.entry.Entry.{Entry}
 use Rattle.rv_account.specs.Account.{Account}
 use Rattle.rv_rules.specs.Legal.{before}
+use Rattle.rv_rules.specs.Resting.{rests_on}
 use Rattle.rv_rules.specs.Steps.{NextUnder, StepLimits, Ticks, max_moment, own_moment}
 use Rattle.rv_parts.specs.declared.event.Event.{Event}
 use Rattle.rv_parts.specs.declared.event.Event.TheVariants as event
@@ -46,12 +47,6 @@ pub data ServerDeed : Type 0 where
 abbrev pub withholds : Server → Message → Answer → ℕ → List (Packet × ℕ)
 withholds s message told count = s.withheld ++ (record { client = sender message; answer = told }, count) ∷ []
 
--- how many entries an answer rests on, where there are so many after its step: all of them, but want of
--- memory on none
-abbrev pub needs_stored : Answer → ℕ → ℕ
-needs_stored (Refused NoMemory) entries = 0
-needs_stored _ entries = entries
-
 -- what was made goes on by a step under these limits, whose answer is held back
 pub record TakesMessage (s : Server) (limits : StepLimits) (moment : ℕ) (message : Message) (t : Server)
     : Type 0 where
@@ -61,7 +56,7 @@ pub record TakesMessage (s : Server) (limits : StepLimits) (moment : ℕ) (messa
   pub is_told : IsTold said told
   pub rest : t ≡ record s {
     unstored = t.unstored;
-    withheld = withholds s message told (needs_stored told (length (made t).entries));
+    withheld = withholds s message told (rests_on told (length (made t).entries));
   }
 
 -- the deed leads from the one server to the other

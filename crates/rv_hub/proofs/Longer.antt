@@ -87,7 +87,7 @@ deed_counts terms deed s t does =
 abbrev pub IsWithin : DeskState → Type 0
 IsWithin s = s.open_wires.written ≤ s.book.length
 
-answers_written : (terms : DeskTerms) (s t : DeskState) (connection : ℕ) (body : List ℕ) (said : Answer)
+pub answers_written : (terms : DeskTerms) (s t : DeskState) (connection : ℕ) (body : List ℕ) (said : Answer)
     → AnswersOrWaits terms s connection body said t → t.open_wires.written ≡ s.open_wires.written
 answers_written terms s t connection body (answer.Waiting key) does = does.takes.sets.written
 answers_written terms s t connection body (answer.Replied key reply) does = does.answers.changes.sets.written

@@ -193,7 +193,7 @@ module _ (limits : StepLimits) (a b : Account) (made : List Entry) (adds : AddsE
       (open_same s t n (sets.others n apart ∙ ap (λ (w : WiresState). w.wires n) wires)))
 
 -- each frame of a connection of which one is due has an answer
-same_length : (s : DeskState) (n m : ℕ) (body : List ℕ) (past : Past) → HasPast s n past
+pub same_length : (s : DeskState) (n m : ℕ) (body : List ℕ) (past : Past) → HasPast s n past
     → HasWire s.open_wires m (λ wire. IsDueWith wire body) → n ≡ m
     → length past.frames ≡ length past.answers
 same_length s n m body past has frame same =
@@ -459,7 +459,7 @@ deed_pairs terms (Closed m) s t a b n past does time rises is adds has pairs =
 
 -- ---- deeds, one after another
 
-deeds_pairs : (terms : DeskTerms) (deeds : List Deed) (s t : DeskState) (a b : Account)
+pub deeds_pairs : (terms : DeskTerms) (deeds : List Deed) (s t : DeskState) (a b : Account)
     → AreStepLimits terms.limits → DoesAll terms s deeds t → t.now ≤ max_moment → IsHubAccount a s
     → AddsEntries a (flat_map entries_of_deed deeds) b → (n : ℕ) (past : Past)
     → HasPairs terms.limits a s n past
