@@ -1,7 +1,7 @@
 -- The members of an object are in order, as many as it has.
-use Rattle.std.proofs.Common.{◌≡◌, ◌≤◌, ◌+◌, ℕ, suc, List, [], ◌∷◌, length, Option, Some, None, Ordering}
+use Rattle.std.proofs.Common.{◌≡◌, ◌≤◌, ◌+◌, ℕ, suc, List, [], ◌∷◌, length, Some, Ordering}
 use Rattle.std.proofs.Common.{Less, Equal, Greater, String, Global, string_bytes, string_cmp, nat_cmp, is_eq}
-use Rattle.std.proofs.Common.{option_map, refl, sym, ap, ◌∙◌, arith}
+use Rattle.std.proofs.Common.{refl, sym, ap, ◌∙◌, arith}
 use Rattle.std.proofs.lemmas.Cmp.{nat_list_cmp_total}
 use Rattle.std.proofs.lemmas.Map.Text.{is_eq-slice_cmp}
 use Rattle.std.proofs.lemmas.Slice.Eq.{bytes_eq-Decides}
@@ -14,9 +14,6 @@ use Rattle.serde_json.specs.Data.{Data, Members, no_members, member, put}
 use Rattle.serde_json.specs.Events.{members_len}
 use Rattle.serde_json.specs.View.{members_view}
 use Rattle.serde_json.specs.declared.value.Value.{Value}
-use Rattle.rv_json.specs.Finding.{texts_in}
-use Rattle.rv_json.specs.declared.flat.Plain.{Plain}
-use Rattle.rv_json.specs.declared.flat.Plain.TheVariants.{Whole, Text}
 use Rattle.rv_json.specs.declared.flat.FlatMember.{FlatMember}
 use Rattle.rv_json.specs.Alone.{Form, IsAlone}
 use Rattle.rv_json.specs.Flat.{plain_data, put_each, flat_members}
@@ -120,8 +117,3 @@ alone_among A form fs x found has same fits = record {
   whole = omega (arith, members_len-flat_members fs);
   fits = fits;
 }
-
-pub no_list : (r : Option Plain) → texts_in (option_map plain_data r) ≡ None
-no_list None = refl
-no_list (Some (Whole n)) = refl
-no_list (Some (Text s)) = refl

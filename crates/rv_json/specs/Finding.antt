@@ -1,19 +1,19 @@
 -- What is found among the members of an object, each by its name.
-use Rattle.std.specs.Prelude.{◌≡◌, ℕ, List, [], ◌∷◌, codes, if◌then◌else◌}
-use Rattle.std.specs.Prelude.{Option, Some, None, option_and_then, nat_le, Result, Ok, Err, String}
+use Rattle.std.specs.Prelude.{◌≡◌, ℕ, List, codes, Option, Some, None, option_and_then, Result, Ok, Err}
+use Rattle.std.specs.Prelude.{String}
 use Rattle.std.specs.declared.alloc.Global.{Global}
 use Rattle.std.specs.BTreeMap.{BTreeMap}
 use Rattle.std.specs.Ordering.{match_ordering, nat_cmp}
 use Rattle.std.specs.Cmp.Lexicographic.{slice_cmp}
-use Rattle.serde_json.specs.Data.{Data, Items, Members}
+use Rattle.serde_json.specs.Data.{Members}
 use Rattle.serde_json.specs.Data as json
-use Rattle.serde_json.specs.Events.{items_len}
 use Rattle.serde_json.specs.View.{members_view}
 use Rattle.serde_json.specs.declared.value.Value.{Value}
-use Rattle.serde_json.specs.Find.{get_member, as_number, as_u64, as_str, as_array}
+use Rattle.serde_json.specs.Find.{get_member, as_number, as_u64, as_str}
 use Rattle.rv_json.specs.declared.members.Members.{Members as Object}
 use Rattle.rv_json.specs.declared.members.Members.TheVariants.{Flat, Tree}
 use Rattle.rv_json.specs.Flat.{flat_members, seen}
+pub use Rattle.rv_json.specs.Listed.{◌>>=◌, texts_of, few_of, few_in, texts_in}
 use Rattle.rv_json.specs.declared.fault.TextFault.{TextFault}
 use Rattle.rv_json.specs.declared.fault.TextFault.TheVariants as fault
 
@@ -75,31 +75,11 @@ Leaves name (Tree map) (Tree rest) = members_view rest.entries ≡ without name 
 
 -- ---- a list of texts
 
-infixl 10 ◌>>=◌
-abbrev pub ◌>>=◌ : {A B : Type 0} → Option A → (A → Option B) → Option B
-None >>= next = None
-(Some x) >>= next = next x
-
--- the texts of a list, if each of its values is one
-abbrev pub texts_of : Items → Option (List (List ℕ))
-texts_of json.no_items = Some []
-texts_of (json.item value values) = do
-  text ← as_str value
-  texts ← texts_of values
-  Some (text ∷ texts)
-
--- the values of a list, if they are no more than a drain takes at most
-abbrev pub few_of : Items → Option Items
-few_of values = if nat_le (items_len values) 16 then Some values else None
-
-abbrev pub few_in : Data → Option Items
-few_in value = option_and_then few_of (as_array value)
-
--- the texts of a value that is a list of few, if one is there
-abbrev pub texts_in : Option Data → Option (List (List ℕ))
-texts_in value = do
-  values ← option_and_then few_in value
-  texts_of values
-
 abbrev pub texts_among : Members → Option (List (List ℕ))
 texts_among members = texts_in (get_member (codes "texts") members)
+
+-- texts among flat members are copied; those of a map, with others like them, are moved into a longer list
+abbrev pub TakesRoomForTexts : Object → Type 0
+TakesRoomForTexts (Flat fields) = ¬ (texts_among (flat_members fields.now) ≡ None)
+TakesRoomForTexts (Tree map) =
+    ¬ (option_and_then few_in (get_member (codes "texts") (members_view map.entries)) ≡ None)

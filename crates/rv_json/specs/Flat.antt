@@ -5,12 +5,14 @@ use Rattle.rv_json.specs.declared.members.Members.{Members as Object}
 use Rattle.rv_json.specs.declared.members.Members.TheVariants.{Flat, Tree}
 use Rattle.serde_json.specs.Data.{Data, number, unsigned, string, Members, no_members, put}
 use Rattle.rv_json.specs.declared.flat.Plain.{Plain}
-use Rattle.rv_json.specs.declared.flat.Plain.TheVariants.{Whole, Text}
+use Rattle.rv_json.specs.declared.flat.Plain.TheVariants.{Whole, Text, Texts}
 use Rattle.rv_json.specs.declared.flat.FlatMember.{FlatMember}
+use Rattle.rv_json.specs.Listed.{list_of, texts_read}
 
 abbrev pub plain_data : Plain → Data
 plain_data (Whole n) = number (unsigned n)
 plain_data (Text s) = string s.now
+plain_data (Texts s) = list_of (texts_read s.now)
 
 -- each of them put in: of a name that stands twice the last value counts
 abbrev pub put_each : List FlatMember → Members → Members

@@ -1,5 +1,6 @@
 -- What a reader must agree with, all that public contracts cite:
 pub mod Bodies
+pub mod Listed
 pub mod Flat
 pub mod Scan
 pub mod Sorted

@@ -43,21 +43,26 @@ pub trait Body: Drop {
         ensures { form.size self.now ≤ members_len (flat_members fields.now) };
 }
 
+// A growth of memory was refused.
+#[derive(Clone, Copy)]
+struct Refused;
+
 /// What is alone in the object that the bytes are the text of. [`TextFault::NoMemory`] comes only if a
-/// growth was refused. A compact text of whole numbers and texts is read in one pass with no memory but its
-/// item's, and any other as `serde_json` reads it.
+/// growth was refused. A compact text of whole numbers, texts and lists of texts is read in one pass with no
+/// memory but that of its items, and any other as `serde_json` reads it.
 pub fn decode<B: Body>(alloc: Global, bytes: &[u8]) -> Result<B, TextFault>
     ensures { FindsIn B.form bytes.now result }
 {
     match decode_flat(alloc, bytes) {
         Ok(Some(value)) => Ok(value),
         Ok(None) => decode_tree(alloc, bytes),
-        Err(_) => Err(TextFault::NoMemory),
+        Err(Refused) => Err(TextFault::NoMemory),
     }
 }
 
-// What is alone in a flat object, where the pass over its text is sure of it.
-fn decode_flat<B: Body>(alloc: Global, bytes: &[u8]) -> Result<Option<B>, TextFault>
+// What is alone in a flat object, where the pass over its text is sure of it. Fails only if memory was
+// refused.
+fn decode_flat<B: Body>(alloc: Global, bytes: &[u8]) -> Result<Option<B>, Refused>
     ensures value { IfOk result (λ found. IfSome found (λ value. FindsIn B.form bytes.now (Ok value))) }
     ensures fault { IfErr result (λ _. HasBodyLength bytes.now) }
 {
@@ -68,14 +73,15 @@ fn decode_flat<B: Body>(alloc: Global, bytes: &[u8]) -> Result<Option<B>, TextFa
     }
 }
 
-// The value that is alone among these members, if their number tells that none stands twice.
-fn read_flat<B: Body>(alloc: Global, fields: &[FlatMember]) -> Result<Option<B>, TextFault>
+// The value that is alone among these members, if their number tells that none stands twice. Fails only if
+// memory was refused.
+fn read_flat<B: Body>(alloc: Global, fields: &[FlatMember]) -> Result<Option<B>, Refused>
     ensures { IfOk result (λ found. IfSome found (IsAlone B B.form (flat_members fields.now))) }
 {
     let mut members = Members::Flat(fields);
     match B::read(alloc, &mut members) {
         Ok(value) => Ok(own_alone(fields, value)),
-        Err(TextFault::NoMemory) => Err(TextFault::NoMemory),
+        Err(TextFault::NoMemory) => Err(Refused),
         Err(_) => Ok(None),
     }
 }

@@ -3,13 +3,15 @@ ghost use Rattle.std.specs.Prelude.{◌≡◌, option_map};
 ghost use Rattle.serde_json.specs.Find.{get_member};
 ghost use Rattle.rv_json.specs.Flat.{plain_data, flat_members};
 
-/// A value that is a whole number or a text.
+/// A value that is a whole number, a text or a list of texts.
 #[derive(Clone, Copy, Drop)]
 pub enum Plain<'a> {
     /// A whole number, 0 to 2^64 - 1.
     Whole(u64),
     /// A text.
     Text(&'a str),
+    /// The texts that `serde_json` reads of a list's own text: none if it is no list of at most 16 texts.
+    Texts(&'a str),
 }
 
 /// A member of a flat object.

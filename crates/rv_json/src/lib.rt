@@ -4,6 +4,7 @@
 mod body;
 mod fault;
 mod flat;
+mod list;
 mod members;
 mod scan;
 mod value;

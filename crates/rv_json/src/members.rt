@@ -1,15 +1,16 @@
 //! Reads members of a JSON object, each by its name. The only limit is that of a list: 16 texts.
-ghost use Rattle.std.specs.Prelude.{◌≡◌, codes, option_map, option_and_then, Err, None};
+ghost use Rattle.std.specs.Prelude.{◌≡◌, codes, option_map, option_and_then, Err, None, Some};
 ghost use Rattle.serde_json.specs.Find.{get_member, as_str, as_u64, as_number};
 ghost use Rattle.rv_json.specs.Flat.{seen, plain_data};
 ghost use Rattle.serde_json.specs.View.{view, items_view, members_view};
 ghost use Rattle.rv_json.specs.Finding.{Finds, FindsAmong, FindsSeenAmong, texts_in, whole_among, text_among};
-ghost use Rattle.rv_json.specs.Finding.{few_of, few_in, texts_of, texts_among, item_among, without};
-ghost use Rattle.rv_json.specs.Finding.{CopiesItem, Leaves};
+ghost use Rattle.rv_json.specs.Finding.{few_of, few_in, texts_of, texts_among, item_among, CopiesItem};
+ghost use Rattle.rv_json.specs.Finding.{without, Leaves, TakesRoomForTexts};
 ghost use Rattle.rv_json.specs.declared.fault.TextFault.TheVariants as fault;
 
 use crate::fault::TextFault;
 use crate::flat::{FlatMember, Plain, find};
+use crate::list::read_items;
 use rv_item::{Item, Items, MAX_DRAIN};
 use serde_json::{Map, Value};
 use std::alloc::Global;
@@ -17,7 +18,7 @@ use std::alloc::Global;
 /// The members of a JSON object. Of a name that stood twice the last value counts.
 #[derive(Drop)]
 pub enum Members<'a> {
-    /// Whole numbers and texts, as they stand in the body's bytes.
+    /// Whole numbers, texts and lists of texts, as they stand in the body's bytes.
     Flat(&'a [FlatMember<'a>]),
     /// Any members, as `serde_json` reads them.
     Tree(Map<String, Value>),
@@ -40,6 +41,7 @@ fn whole_of(value: Option<Plain>) -> Option<u64>
     match value {
         Some(Plain::Whole(n)) => Some(n),
         Some(Plain::Text(_)) => None,
+        Some(Plain::Texts(_)) => None,
         None => None,
     }
 }
@@ -51,6 +53,7 @@ fn text_of<'a>(value: Option<Plain<'a>>) -> Option<&'a str>
     match value {
         Some(Plain::Text(text)) => Some(text),
         Some(Plain::Whole(_)) => None,
+        Some(Plain::Texts(_)) => None,
         None => None,
     }
 }
@@ -119,34 +122,50 @@ fn copy_item(alloc: Global, text: Option<&str>) -> Result<Item, TextFault>
     Ok(Item::from_text(text))
 }
 
-/// The texts of the member `texts`, taken out without a copy. [`TextFault::NotMessage`] comes only if no
-/// list of at most 16 texts stands there, and [`TextFault::NoMemory`] only if a growth was refused. Flat
-/// members have no list, and stay as they are; of others all stay but `texts`.
+/// The texts of the member `texts`: of flat members copied, of others taken out without a copy.
+/// [`TextFault::NotMessage`] comes only if no list of at most 16 texts stands there, and
+/// [`TextFault::NoMemory`] only if a growth was refused, and such a list stands there, or one of at most 16
+/// other values that aren't flat. Flat members stay as they are; of others all stay but `texts`.
 pub fn take_texts(alloc: Global, members: &mut Members) -> Result<Items, TextFault>
     ensures found { FindsAmong members.old result texts_among }
+    ensures sure { result ≡ Err fault.NoMemory → TakesRoomForTexts members.old }
     ensures left { Leaves (codes "texts") members.old members.new }
 {
     match members {
-        Members::Flat(fields) => no_texts(find(fields, "texts")),
+        Members::Flat(fields) => texts_at(alloc, find(fields, "texts")),
         Members::Tree(map) => {
             let value = take_member(map, "texts").ok_or(TextFault::NotMessage)?;
-            take_each_text(alloc, values_of(value)?)
+            items_of(alloc, value)
         }
     }
 }
 
-// No plain value is a list.
-#[tactic(auto, using(crate::proofs::InOrder::no_list))]
-fn no_texts(value: Option<Plain>) -> Result<Items, TextFault>
-    ensures { Finds (λ items. items) result (texts_in (option_map plain_data value.entry)) }
+// The items of the list that the value is.
+#[tactic(auto, using(crate::proofs::FewTexts::read_texts_in_list))]
+fn texts_at(alloc: Global, value: Option<Plain>) -> Result<Items, TextFault>
+    ensures found { Finds (λ items. items) result (texts_in (option_map plain_data value.entry)) }
+    ensures sure { result ≡ Err fault.NoMemory → ¬ (texts_in (option_map plain_data value.entry) ≡ None) }
 {
-    let _ = value;
-    Err(TextFault::NotMessage)
+    match value {
+        Some(Plain::Texts(text)) => read_items(alloc, text),
+        Some(Plain::Whole(_)) => Err(TextFault::NotMessage),
+        Some(Plain::Text(_)) => Err(TextFault::NotMessage),
+        None => Err(TextFault::NotMessage),
+    }
+}
+
+// The items of the list of at most 16 texts that the value is.
+pub(crate) fn items_of(alloc: Global, value: Value) -> Result<Items, TextFault>
+    ensures found { Finds (λ items. items) result (texts_in (Some (view value))) }
+    ensures sure { result ≡ Err fault.NoMemory → ¬ (few_in (view value) ≡ None) }
+{
+    take_each_text(alloc, values_of(value)?)
 }
 
 // The values of a list of 16 at most.
 fn values_of(value: Value) -> Result<Vec<Value>, TextFault>
-    ensures { Finds (λ values. items_view values.items) result (few_in (view value)) }
+    ensures found { Finds (λ values. items_view values.items) result (few_in (view value)) }
+    ensures sure { ¬ (result ≡ Err fault.NoMemory) }
 {
     match value {
         Value::Array(values) => few_of(values),
@@ -156,7 +175,8 @@ fn values_of(value: Value) -> Result<Vec<Value>, TextFault>
 
 #[tactic(auto, using(crate::proofs::Counts::items_counted))]
 fn few_of(values: Vec<Value>) -> Result<Vec<Value>, TextFault>
-    ensures { Finds (λ values. items_view values.items) result (few_of (items_view values.items)) }
+    ensures found { Finds (λ values. items_view values.items) result (few_of (items_view values.items)) }
+    ensures sure { ¬ (result ≡ Err fault.NoMemory) }
 {
     if values.len() as u64 <= MAX_DRAIN {
         Ok(values)

@@ -1,15 +1,16 @@
 //! Reads the members of a flat object in one pass over its compact text.
 ghost use Rattle.std.specs.Prelude.{◌≡◌, ◌≤◌, ◌<◌, ◌-◌, ◌∷◌, [], ◌++◌, length, take, drop};
-ghost use Rattle.std.specs.Prelude.{decimal, IsTrue, IfSome, Some};
+ghost use Rattle.std.specs.Prelude.{decimal, IsTrue, IfSome, Some, ℕ};
 ghost use Rattle.json.specs.Print.{escape, escape_byte, quoted};
 ghost use Rattle.serde_json.specs.Data.{object};
 ghost use Rattle.serde_json.specs.Read.{read};
 ghost use Rattle.rv_json.specs.Bodies.{HasBodyLength, Reads};
 ghost use Rattle.rv_json.specs.Flat.{flat_members};
-ghost use Rattle.rv_json.specs.Scan.{plain_text, field_text, FitsPlain};
+ghost use Rattle.rv_json.specs.Scan.{plain_text, field_text, FitsPlain, BeginsByList, IsListText, mark_after};
 
 use crate::flat::{FlatMember, Plain};
 use crate::value::has_body_length;
+use rv_item::MAX_DRAIN;
 
 // Whether the byte stands for itself in a JSON string.
 #[inline(always)]
@@ -75,7 +76,75 @@ fn scan_whole(bytes: &[u8], at: usize) -> Option<(u64, usize)>
     Some((value, end))
 }
 
-// The text or the number at the place, and the place after it.
+// The text of a list that stands at the place, whether it is the list's last, and the place after the mark
+// that stands behind it: a comma, or the closing bracket after the last.
+pub(crate) fn scan_element<'a>(text: &'a str, at: usize) -> Option<(&'a str, bool, usize)>
+    ensures text { IfSome result
+        (λ p. drop at text.now ≡ quoted p.0.now ++ (mark_after p.1 ∷ drop p.2 text.now)) }
+    ensures on { IfSome result (λ p. at < p.2) }
+    ensures within { IfSome result (λ p. p.2 ≤ length text.now) }
+{
+    let bytes = text.as_bytes();
+    let (element, end) = scan_text(text, at)?;
+    if end >= bytes.len() {
+        return None;
+    }
+    if bytes[end] == b',' {
+        return Some((element, false, end + 1));
+    }
+    if bytes[end] == b']' {
+        return Some((element, true, end + 1));
+    }
+    None
+}
+
+// The place after the list of at most 16 texts that stands at this one.
+fn list_end(text: &str, at: usize) -> Option<usize>
+    ensures list { IfSome result (λ end. BeginsByList (drop at text.now) (drop end text.now)) }
+    ensures on { IfSome result (λ end. at < end) }
+    ensures within { IfSome result (λ end. end ≤ length text.now) }
+{
+    let bytes = text.as_bytes();
+    if at >= bytes.len() || bytes[at] != b'[' {
+        return None;
+    }
+    let first = at + 1;
+    if first < bytes.len() && bytes[first] == b']' {
+        return Some(first + 1);
+    }
+    elements_end(text, first)
+}
+
+// The place after the closing bracket of a list whose first text, of at most 16, stands at this one.
+fn elements_end(text: &str, first: usize) -> Option<usize>
+    ensures list { IfSome result (λ end. BeginsByList (91 ∷ drop first text.now) (drop end text.now)) }
+    ensures on { IfSome result (λ end. first < end) }
+    ensures within { IfSome result (λ end. end ≤ length text.now) }
+{
+    let mut at = first;
+    let mut count = 0;
+    'texts: while count < MAX_DRAIN {
+        let (_element, last, after) = scan_element(text, at)?;
+        if last {
+            return Some(after);
+        }
+        at = after;
+        count += 1;
+    }
+    None
+}
+
+// The list of at most 16 texts at the place, as it stands there, and the place after it.
+fn scan_list<'a>(text: &'a str, at: usize) -> Option<(&'a str, usize)>
+    ensures text { IfSome result (λ p. drop at text.now ≡ p.0.now ++ drop p.1 text.now) }
+    ensures list { IfSome result (λ p. IsListText p.0.now) }
+    ensures on { IfSome result (λ p. at < p.1) }
+{
+    let end = list_end(text, at)?;
+    Some((text.get(at..end)?, end))
+}
+
+// The text, the number or the list of texts at the place, and the place after it.
 #[inline(always)]
 fn scan_plain<'a>(text: &'a str, at: usize) -> Option<(Plain<'a>, usize)>
     ensures text { IfSome result (λ p. drop at text.now ≡ plain_text p.0 ++ drop p.1 text.now) }
@@ -85,11 +154,14 @@ fn scan_plain<'a>(text: &'a str, at: usize) -> Option<(Plain<'a>, usize)>
     let bytes = text.as_bytes();
     if at < bytes.len() && bytes[at] == b'"' {
         let (value, end) = scan_text(text, at)?;
-        Some((Plain::Text(value), end))
-    } else {
-        let (value, end) = scan_whole(bytes, at)?;
-        Some((Plain::Whole(value), end))
+        return Some((Plain::Text(value), end));
     }
+    if at < bytes.len() && bytes[at] == b'[' {
+        let (list, end) = scan_list(text, at)?;
+        return Some((Plain::Texts(list), end));
+    }
+    let (value, end) = scan_whole(bytes, at)?;
+    Some((Plain::Whole(value), end))
 }
 
 // The member at the place: its name, a colon, its value; and the place after it.
@@ -109,7 +181,8 @@ fn scan_field<'a>(text: &'a str, at: usize) -> Option<(FlatMember<'a>, usize)>
 }
 
 // Reads the members of the flat object that the text is into the first places, and tells how many they are,
-// if each is a whole number or a text, with no white space, escape or sign, and has a place.
+// if each is a whole number, a text or a list of at most 16 texts, with no white space, escape or sign, and
+// has a place.
 fn scan_flat<'a>(text: &'a str, places: &mut [FlatMember<'a>]) -> Option<usize>
     ensures within { IfSome result (λ count. count ≤ length places.new) }
     ensures value { IfSome result
@@ -141,8 +214,8 @@ fn scan_flat<'a>(text: &'a str, places: &mut [FlatMember<'a>]) -> Option<usize>
 
 /// Reads the members of the object that the bytes are the text of into the first places, and tells how many
 /// they are; of a name that stands twice the last counts. `None` says nothing of the bytes: it comes for all
-/// that isn't the compact text of whole numbers and texts, below 10^19 and with no escape, or that has more
-/// members than places.
+/// that isn't the compact text of whole numbers below 10^19, texts with no escape and lists of at most 16 of
+/// these, or that has more members than places.
 pub(crate) fn scan_body<'a>(bytes: &'a [u8], places: &mut [FlatMember<'a>]) -> Option<usize>
     ensures within { IfSome result (λ count. count ≤ length places.new) }
     ensures length { IfSome result (λ count. HasBodyLength bytes.now) }

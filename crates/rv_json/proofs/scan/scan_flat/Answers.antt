@@ -6,7 +6,7 @@ use Rattle.serde_json.specs.Data.{object}
 use Rattle.rv_json.specs.Flat.{flat_members}
 use Rattle.rv_json.specs.Scan.{each_text, FitEach}
 use Rattle.rv_json.proofs.FlatParts.{more_read, last_read, FitEach-push}
-use Rattle.rv_json.proofs.FlatTokens.{flat_text}
+use Rattle.rv_json.proofs.ReadBack.{flat_text}
 use Rattle.rv_json.proofs.scan.scan_flat.Goals as goal
 
 pub returns-then-end-bytes-2-clause-value : goal.returns-then-end-bytes-2-clause-value
