@@ -88,7 +88,8 @@ impl Engine {
         let round = LookList::new(alloc, room)?;
         let hub = Hub::new(alloc, machine, limits, patience, has_account)?;
         let gathered = hub.entries().len();
-        let stored = hub.machine().length();
+        let book = hub.machine();
+        let stored = book.length();
         Ok(Engine {
             parts: EngineParts {
                 alloc,

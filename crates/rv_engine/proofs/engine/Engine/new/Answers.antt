@@ -25,7 +25,7 @@ returns-clause-state c =
     state_is _ _ _ c.args.room c.in_ok-hub.ensures.state c.new-4.ensures.bytes
     (all_gathered c.entries-gathered.result.now c.in_ok-hub.hub.desk.entries.items
     c.entries-gathered.ensures)
-    (c.length-stored.ensures ∙ ap (λ (m : Machine). (state_in m).length) c.machine.ensures
+    (c.length-stored.ensures ∙ ap (λ (m : Machine). (state_in m).length) c.machine-book.ensures
     ∙ ap (λ (s : DeskState). s.book.length) c.in_ok-hub.ensures.state) c.in_ok-looks.ensures.none
     c.in_ok-round.ensures.none
     c.in_ok-looks.ensures.room
