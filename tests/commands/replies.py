@@ -100,6 +100,10 @@ def counted(*counts):
     return [f"{what} {count}" for what, count in zip(COUNTS, [*counts, *[0] * len(COUNTS)])]
 
 
+# What is printed of the record that is kept.
+ALL_KEPT = ["1 kept", "2 kept", "3 kept, as a cancel tells it", *counted(2, 1)]
+
+
 def run(words, text, lines, **streams):
     """What the program prints of an account's text with a record of these lines, what it says, and its status. The words name the
     files ACCOUNT and RECORD."""
@@ -117,29 +121,27 @@ def by_records():
     """Records beside accounts: what was told of them, and what is to be told."""
     words, account, kept = ["ACCOUNT", "--replies", "RECORD"], joined(ACCOUNT), joined(KEPT)
     lines, printed = joined(line for line, _ in TOLD), [text for _, texts in TOLD for text in texts]
-    all_kept = ["1 kept", "2 kept", "3 kept, as a cancel tells it", *counted(2, 1)]
     yield "each finding", run(words, account, lines), (["legal", *printed, *counted(3, 3, 4, 3, 1, 1, 1, 1, 3, 6, 2)], "", 6)
-    yield "a record that is kept", run(words, account, kept), (["legal", *all_kept], "", 0)
-    yield "its last line without LF", run(words, account, kept[:-1]), (["legal", *all_kept], "", 0)
+    yield "a record that is kept", run(words, account, kept), (["legal", *ALL_KEPT], "", 0)
+    yield "its last line without LF", run(words, account, kept[:-1]), (["legal", *ALL_KEPT], "", 0)
     yield "an empty record", run(words, account, ""), (["legal", *counted()], "", 0)
-    yield "a torn end", run(words, account + "0 -", kept), (["legal", "torn end", *all_kept], "", 3)
+    yield "a torn end", run(words, account + "0 -", kept), (["legal", "torn end", *ALL_KEPT], "", 3)
     yield "a torn end and a line that isn't kept", run(words, account + "0 -", GIVEN[:-1]), (
         ["legal", "torn end", "1 no record", *counted(0, 0, 0, 0, 0, 0, 0, 0, 1)], "", 6)
-    yield "a fault behind the replies", run(words, account + "0 - tick\n", kept), (["fault 6 M3", *all_kept], "", 1)
+    yield "a fault behind the replies", run(words, account + "0 - tick\n", kept), (["fault 6 M3", *ALL_KEPT], "", 1)
     yield "a fault before a reply", run(words, joined([*ACCOUNT[:4], "0 - tick", *ACCOUNT[4:]]), TAKEN), (
         ["fault 3 M3", "1 no such request", *counted(0, 0, 0, 0, 1)], "", 1)
     yield "a bad line before a reply", run(words, joined([*ACCOUNT[:4], "x", *ACCOUNT[4:]]), TAKEN), (
         ["bad line 5", "1 no such request", *counted(0, 0, 0, 0, 1)], "", 1)
     yield "no epoch", run(words, "x\n", kept), (["bad line 1"], "", 1)
-    yield "a pipe", run(["-", "--replies", "RECORD"], "", kept, input=account), (["legal", *all_kept], "", 0)
+    yield "a pipe", run(["-", "--replies", "RECORD"], "", kept, input=account), (["legal", *ALL_KEPT], "", 0)
     yield "no record named", run(["ACCOUNT"], account, kept), (["legal"], "", 0)
 
 
 def by_words():
     """Words in any order, and others, which are none of the command's; and files that can't be read."""
     account, kept, bad = joined(ACCOUNT), joined(KEPT), ([], "command fault 1\n", 2)
-    all_kept = ["legal", "1 kept", "2 kept", "3 kept, as a cancel tells it", *counted(2, 1)]
-    yield "the record first", run(["--replies", "RECORD", "ACCOUNT"], account, kept), (all_kept, "", 0)
+    yield "the record first", run(["--replies", "RECORD", "ACCOUNT"], account, kept), (["legal", *ALL_KEPT], "", 0)
     yield "the record behind =", run(["--replies=RECORD", "ACCOUNT"], account, kept), (
         [], "record RECORD: No such file or directory (os error 2)\n", 1)
     for words in (["--replies", "RECORD"], ["ACCOUNT", "--replies"], ["ACCOUNT", "RECORD"], ["-", "--follow"],
@@ -191,7 +193,7 @@ def by_growth():
         ["beyond limits 100001"], said, 4)
     yield "six entries first", followed(["x", "\n"], None, joined(ACCOUNT)), (["bad line 8"], "6 entries so far\n", 1)
     yield "a record beside it", followed([joined(ACCOUNT[:4]), joined(ACCOUNT[4:]), "x\n"], joined(KEPT)), (
-        ["bad line 8", "1 kept", "2 kept", "3 kept, as a cancel tells it", *counted(2, 1)], said, 1)
+        ["bad line 8", *ALL_KEPT], said, 1)
 
 
 @contextlib.contextmanager

@@ -25,7 +25,7 @@ import threading
 
 ROOT = pathlib.Path(__file__).resolve().parents[2]
 sys.dont_write_bytecode, sys.path[0] = True, str(ROOT)
-from tests.commands.replies import ACCOUNT, KEPT, counted  # noqa: E402
+from tests.commands.replies import ACCOUNT, ALL_KEPT, KEPT  # noqa: E402
 from tests.faults.preload import built, switches  # noqa: E402
 from tests.model.account import Account  # noqa: E402
 from tests.model.rows import (  # noqa: E402
@@ -236,8 +236,7 @@ def verify_row(folder):
     """The same of an account beside a record that it keeps: where a line finds no memory, those before it are printed."""
     record = folder / "record"
     record.write_bytes(text_of(KEPT))
-    kept = [f"{number} kept" for number in range(1, len(KEPT) + 1)]
-    words, lines = ["verify", "-", "--replies", str(record)], ["legal", *kept, *counted(len(KEPT))]
+    words, lines = ["verify", "-", "--replies", str(record)], ["legal", *ALL_KEPT]
     ends = [(lines[:number], RUN_FAULT) for number in range(1, len(KEPT) + 1)]
     return "an account beside a record", words, ACCOUNT, lines, ends
 
