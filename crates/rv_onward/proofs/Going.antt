@@ -117,7 +117,7 @@ hubs_go_on keep messages server a s pasts left had is =
     let stored : length later.stored.entries ≡ length b.entries =
     ap (λ (es : List Entry). length es) (take_all all (made between).entries (omega arith)) ∙ long in (
       later,
-      (tt, between, refl, tt, later, does, refl),
+      (tt, between, refl, (tt, later, does, refl)),
       begins_hub messages later b can (keep messages between later (Stored all) kept tt does).server whole
           stored,
     )
