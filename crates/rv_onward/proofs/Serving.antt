@@ -50,7 +50,7 @@ use Rattle.rv_hub.proofs.Repeating.{account_is, as_a_repeat}
 use Rattle.rv_parts.proofs.Words.{Contains-push}
 use Rattle.rv_parts.specs.declared.packet.Packet.{Packet}
 use Rattle.rv_parts.specs.Events.{sender}
-use Rattle.rv_crashes.specs.Crashes.{Server, made}
+use Rattle.rv_crashes.specs.Crashes.{Server}
 use Rattle.rv_crashes.specs.Laws.{DeedsKeepServers}
 use Rattle.rv_onward.specs.Laws.{HubsAreServers}
 use Rattle.rv_onward.specs.Serving.{AreHeldAtServer, IsHeldAtServer, IsHubServer, LeadsServer}
