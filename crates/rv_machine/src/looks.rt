@@ -1,8 +1,8 @@
 //! What is read off a machine.
-ghost use Rattle.std.specs.Prelude.{◌≡◌, IfNone, IfSome, length, option_map, slice_get, ℕ, []};
+ghost use Rattle.std.specs.Prelude.{◌≡◌, ◌≤◌, ◌+◌, IfNone, IfSome, length, option_map, slice_get, ℕ, []};
 ghost use Rattle.std.specs.FinMap.{len};
 ghost use Rattle.rv_text.specs.Limits.{FitsQueue, FitsSide};
-ghost use Rattle.rv_open.specs.OpenMap.{first_behind};
+ghost use Rattle.rv_open.specs.OpenMap.{first_behind, most_counted};
 ghost use Rattle.rv_session.specs.ClientOrder.{next_client};
 ghost use Rattle.rv_text.specs.declared.call.Side.TheVariants.{Gives, Takes};
 ghost use Rattle.rv_state.specs.After.{due_at};
@@ -64,9 +64,10 @@ impl Machine {
         self.tables.table.get(place)
     }
 
-    /// How many requests wait.
+    /// How many requests wait. With the entries that there were they are at most 2^54.
     pub fn waiting(&self) -> usize
-        ensures { result ≡ waiting_count (state_in self.now) }
+        ensures count { result ≡ waiting_count (state_in self.now) }
+        ensures space { (state_in self.now).length + result ≤ most_counted }
     {
         self.tables.table.waiting()
     }

@@ -7,7 +7,7 @@ use Rattle.rv_desk.proofs.desk.HubDesk.unheard.Goals as goal
 
 pub overflow_sub-result : goal.overflow_sub-result
 overflow_sub-result c =
-    subst (λ n. c.clients_heard.result ≤ n) (sym c.waiting.ensures)
+    subst (λ n. c.clients_heard.result ≤ n) (sym c.waiting.ensures.count)
     (heard_at_most (state_in c.args.self.now.machine) c.requires.sound.book.resumes
     (hearers_of c.args.self.now.hearers) c.clients_heard.result c.clients_heard.ensures c.requires.waits)
 
@@ -15,7 +15,7 @@ pub returns : goal.returns
 returns c =
     let most = heard_at_most (state_in c.args.self.now.machine) c.requires.sound.book.resumes
     (hearers_of c.args.self.now.hearers) c.clients_heard.result c.clients_heard.ensures c.requires.waits in
-    let all = c.waiting.ensures in
+    let all = c.waiting.ensures.count in
     counts_unheard (state_in c.args.self.now.machine) c.requires.sound.book.resumes
     (hearers_of c.args.self.now.hearers) c.clients_heard.result c.clients_heard.ensures c.requires.waits
     (c.waiting.result - c.clients_heard.result) (omega (arith, most, all))
