@@ -2,8 +2,9 @@
 use Rattle.std.proofs.Common.{inl, inr, ◌≡◌, ◌≤◌, ◌∙◌, ◌++◌, ◌∷◌, ℕ, List, [], refl, sym, ap}
 use Rattle.std.proofs.Common.{subst}
 use Rattle.std.proofs.Common.{append_assoc, arith, drop, length}
-use Rattle.std.specs.List.{Contains}
+use Rattle.std.specs.List.{All, Contains}
 use Rattle.std.proofs.lemmas.List.{length-take-le, take-append-drop}
+use Rattle.std.proofs.lemmas.List.Elements.{All-cons, All-nil}
 use Rattle.rv_parts.proofs.Words.{Contains-append_left, Contains-push}
 use Rattle.rv_text.specs.declared.message.Message.{Message}
 use Rattle.rv_text.specs.declared.answer.Answer.{Answer}
@@ -20,7 +21,7 @@ use Rattle.rv_parts.specs.Events.{sender}
 use Rattle.rv_crashes.specs.Crashes.{Crashed, IsOfMessages, Lacked, Passed, Server, ServerDeed, ServerDoes}
 use Rattle.rv_crashes.specs.Crashes.{Stepped, Stored, made, withholds}
 use Rattle.rv_crashes.specs.Laws.{DeedsKeepServers, IsHeldRightly, IsServer}
-use Rattle.rv_onward.specs.Serving.{RunsServer}
+use Rattle.rv_onward.specs.Serving.{IsOfHub, RunsServer}
 
 -- ---- more messages
 
@@ -81,10 +82,13 @@ server_more messages more s server = record {
 
 -- ---- where a server's deeds lead
 
--- deeds lead to a server that made this account, stored so many of its entries, and holds back what was held
+-- a hub's deeds lead to a server that made this account, stored so many of its entries, and holds back what
+-- was held
 -- back
-pub record Moves (messages : List Message) (s : Server) (b : Account) (written : ℕ) : Type 0 where
+pub record Moves (limits : StepLimits) (messages : List Message) (s : Server) (b : Account) (written : ℕ)
+    : Type 0 where
   pub deeds : List ServerDeed
+  pub are : All (IsOfHub limits) deeds
   pub later : Server
   pub runs : RunsServer messages s deeds later
   pub server_is : IsServer messages later
@@ -94,11 +98,15 @@ pub record Moves (messages : List Message) (s : Server) (b : Account) (written :
       → Contains later.withheld (packet, count)
 
 -- and also this answer for the client of the message
-pub record MovesTelling (messages : List Message) (s : Server) (b : Account) (written : ℕ) (message : Message)
-    (said : Answer) : Type 0 where
-  pub moves : Moves messages s b written
+pub record MovesTelling (limits : StepLimits) (messages : List Message) (s : Server) (b : Account)
+    (written : ℕ) (message : Message) (said : Answer) : Type 0 where
+  pub moves : Moves limits messages s b written
   pub held : Contains moves.later.withheld
       (record { client = sender message; answer = said }, rests_on said (length b.entries))
+
+-- one deed alone
+only : (limits : StepLimits) (deed : ServerDeed) → IsOfHub limits deed → All (IsOfHub limits) (deed ∷ [])
+only limits deed is = All-cons (IsOfHub limits) deed [] is (All-nil (IsOfHub limits))
 
 -- the account is what its fields are
 same_account : (a b : Account) (made : List Entry) → AddsEntries a made b
@@ -122,10 +130,12 @@ made_more s a b more held is adds =
     ap (λ es. record { epoch = s.stored.epoch; opened = s.stored.opened; entries = es })
     (sym (append_assoc s.stored.entries s.unstored more)) ∙ ap longer is ∙ same_account a b more adds
 
-pub stays : (messages : List Message) (s : Server) (a b : Account) (written : ℕ) → IsServer messages s
-    → made s ≡ a → length s.stored.entries ≡ written → a ≡ b → Moves messages s b written
-stays messages s a b written server is stored same = record {
+pub stays : (limits : StepLimits) (messages : List Message) (s : Server) (a b : Account) (written : ℕ)
+    → IsServer messages s → made s ≡ a → length s.stored.entries ≡ written → a ≡ b
+    → Moves limits messages s b written
+stays limits messages s a b written server is stored same = record {
   deeds = [];
+  are = All-nil (IsOfHub limits);
   later = s;
   runs = refl;
   server_is = server;
@@ -140,7 +150,7 @@ module _ (keep : DeedsKeepServers) (messages : List Message) (s : Server) (a b :
     (adds : AddsEntries a more b) where
   -- a step with one of the messages
   pub steps : (limits : StepLimits) (now : ℕ) (message : Message) (said : Answer) → Contains messages message
-      → NextUnder limits a now message b said → MovesTelling messages s b written message said
+      → NextUnder limits a now message b said → MovesTelling limits messages s b written message said
   steps limits now message said sent next =
       let long : ℕ = length (s.stored.entries ++ (s.unstored ++ more)) in
       let held : List (Packet × ℕ) = withholds s message said (rests_on said long) in
@@ -157,6 +167,7 @@ module _ (keep : DeedsKeepServers) (messages : List Message) (s : Server) (a b :
       record {
         moves = record {
           deeds = Stepped limits now message ∷ [];
+          are = only limits (Stepped limits now message) refl;
           later = t;
           runs = (sent, t, does, refl);
           server_is = (keep messages s t (Stepped limits now message) server sent does).server;
@@ -174,9 +185,9 @@ module _ (keep : DeedsKeepServers) (messages : List Message) (s : Server) (a b :
       }
 
   -- time alone
-  pub passes : (moment : ℕ) → own_moment a ≤ moment → moment ≤ max_moment → Ticks a moment b
-      → Moves messages s b written
-  passes moment later time ticks =
+  pub passes : (limits : StepLimits) (moment : ℕ) → own_moment a ≤ moment → moment ≤ max_moment
+      → Ticks a moment b → Moves limits messages s b written
+  passes limits moment later time ticks =
       let t : Server = record {
         stored = s.stored;
         unstored = s.unstored ++ more;
@@ -192,6 +203,7 @@ module _ (keep : DeedsKeepServers) (messages : List Message) (s : Server) (a b :
       ) in
       record {
         deeds = Passed moment ∷ [];
+        are = only limits (Passed moment) tt;
         later = t;
         runs = (tt, t, does, refl);
         server_is = (keep messages s t (Passed moment) server tt does).server;
@@ -201,11 +213,10 @@ module _ (keep : DeedsKeepServers) (messages : List Message) (s : Server) (a b :
       }
 
 -- so many entries are stored
-pub stores : (keep : DeedsKeepServers) (messages : List Message) (s : Server) (b : Account) (written count :
-    ℕ)
-    → IsServer messages s → made s ≡ b → length s.stored.entries ≡ written → written ≤ count
-    → count ≤ length b.entries → Moves messages s b count
-stores keep messages s b written count server is stored rises within =
+pub stores : (keep : DeedsKeepServers) (limits : StepLimits) (messages : List Message) (s : Server)
+    (b : Account) (written count : ℕ) → IsServer messages s → made s ≡ b → length s.stored.entries ≡ written
+    → written ≤ count → count ≤ length b.entries → Moves limits messages s b count
+stores keep limits messages s b written count server is stored rises within =
     let t : Server = record {
       stored = before (made s) count;
       unstored = drop count (made s).entries;
@@ -219,6 +230,7 @@ stores keep messages s b written count server is stored rises within =
     (take-append-drop count (made s).entries) in
     record {
       deeds = Stored count ∷ [];
+      are = only limits (Stored count) tt;
       later = t;
       runs = (tt, t, does, refl);
       server_is = (keep messages s t (Stored count) server tt does).server;

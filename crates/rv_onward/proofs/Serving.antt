@@ -5,6 +5,7 @@ use Rattle.std.specs.Prelude.{flat_map}
 use Rattle.std.specs.List.{Contains}
 use Rattle.std.proofs.lemmas.Grind.{flat_map-append}
 use Rattle.std.proofs.lemmas.List.{append-nil}
+use Rattle.std.proofs.lemmas.List.Elements.{All-append, All-nil}
 use Rattle.std.proofs.lemmas.Option.{none-some}
 use Rattle.rv_text.specs.declared.message.Key.{Key}
 use Rattle.rv_text.specs.declared.message.Message.{Message}
@@ -18,7 +19,7 @@ use Rattle.rv_account.specs.declared.entry.Entry.{Entry}
 use Rattle.rv_account.specs.Account.{Account, act_at}
 use Rattle.rv_account.specs.Limits.{max_moment}
 use Rattle.rv_rules.specs.Resting.{rests_on}
-use Rattle.rv_rules.specs.StepLimits.{AreStepLimits}
+use Rattle.rv_rules.specs.StepLimits.{AreStepLimits, StepLimits}
 use Rattle.rv_rules.specs.Steps.{NextUnder, Ticks}
 use Rattle.rv_session.specs.declared.client.LastRequest.{LastRequest}
 use Rattle.rv_session.specs.declared.client.LastRequest.TheVariants.{CancelledUnseen, Fresh, RepliedTo, Waits}
@@ -53,7 +54,7 @@ use Rattle.rv_parts.specs.Events.{sender}
 use Rattle.rv_crashes.specs.Crashes.{Server}
 use Rattle.rv_crashes.specs.Laws.{DeedsKeepServers}
 use Rattle.rv_onward.specs.Laws.{HubsAreServers}
-use Rattle.rv_onward.specs.Serving.{AreHeldAtServer, IsHeldAtServer, IsHubServer, LeadsServer}
+use Rattle.rv_onward.specs.Serving.{AreHeldAtServer, IsHeldAtServer, IsHubServer, IsOfHub, LeadsServer}
 use Rattle.rv_onward.specs.Serving.{messages_by, messages_in, messages_of}
 use Rattle.rv_onward.proofs.Pairs.{pair_answer, pair_both, pair_frame}
 use Rattle.rv_onward.proofs.Room.{adds_after}
@@ -210,11 +211,12 @@ due_frame terms s t m body (answer.Refused refusal) does = does.frame
 abbrev pasts_by : (ℕ → Past) → ℕ → Deed → ℕ → Past
 pasts_by pasts entries deed n = cond (is_deed_of n deed) (past_by (pasts n) entries deed) (pasts n)
 
-led : (messages : List Message) (server : Server) (b : Account) (t : DeskState) (pasts : ℕ → Past)
-    (moves : Moves messages server b t.open_wires.written) → ((n : ℕ) → HeldPast moves.later (pasts n))
-    → LeadsServer messages server b t pasts
-led messages server b t pasts moves held = record {
+led : (limits : StepLimits) (messages : List Message) (server : Server) (b : Account) (t : DeskState)
+    (pasts : ℕ → Past) (moves : Moves limits messages server b t.open_wires.written)
+    → ((n : ℕ) → HeldPast moves.later (pasts n)) → LeadsServer limits messages server b t pasts
+led limits messages server b t pasts moves held = record {
   deeds = moves.deeds;
+  are = moves.are;
   later = moves.later;
   runs = moves.runs;
   is = record {
@@ -236,19 +238,19 @@ module _ (keep : DeedsKeepServers) (terms : DeskTerms) (s : DeskState) (a : Acco
   -- no deed of the server
   quiet : (t : DeskState) (b : Account) (more : List Message) → AddsEntries a [] b
       → t.open_wires.written ≡ s.open_wires.written
-      → Moves (messages ++ more) server b t.open_wires.written
+      → Moves terms.limits (messages ++ more) server b t.open_wires.written
   quiet t b more adds written =
-      stays (messages ++ more) server a b t.open_wires.written
+      stays terms.limits (messages ++ more) server a b t.open_wires.written
       (server_more messages more server serves.server_is) serves.made_is (serves.stored_is ∙ sym written)
       (none_added a b adds)
 
   quiet_leads : (deed : Deed) (t : DeskState) (b : Account) (more : List Message) → AddsEntries a [] b
       → t.open_wires.written ≡ s.open_wires.written → (count : ℕ)
       → ((later : Server) (n : ℕ) → HeldPast later (pasts n) → HeldPast later (pasts_by pasts count deed n))
-      → LeadsServer (messages ++ more) server b t (pasts_by pasts count deed)
+      → LeadsServer terms.limits (messages ++ more) server b t (pasts_by pasts count deed)
   quiet_leads deed t b more adds written count own =
       let moves = quiet t b more adds written in
-      led (messages ++ more) server b t (pasts_by pasts count deed) moves
+      led terms.limits (messages ++ more) server b t (pasts_by pasts count deed) moves
       (λ n. own moves.later n (carried server moves.later (pasts n).frames (pasts n).answers moves.still
       (serves.answers n)))
 
@@ -256,7 +258,8 @@ module _ (keep : DeedsKeepServers) (terms : DeskTerms) (s : DeskState) (a : Acco
   stepped : (t mid : DeskState) (b : Account) (step : Stepped) (said : Answer)
       → MakesStep terms s step said mid
       → AddsEntries a step.entries b → t.open_wires.written ≡ s.open_wires.written
-      → MovesTelling (messages ++ step.message ∷ []) server b t.open_wires.written step.message said
+      → MovesTelling terms.limits (messages ++ step.message ∷ []) server b t.open_wires.written step.message
+      said
   stepped t mid b step said makes adds written =
       steps keep (messages ++ step.message ∷ []) server a b step.entries t.open_wires.written
       (server_more messages (step.message ∷ []) server serves.server_is) serves.made_is
@@ -268,16 +271,16 @@ module _ (keep : DeedsKeepServers) (terms : DeskTerms) (s : DeskState) (a : Acco
       → MakesStep terms s step said mid → AddsEntries a step.entries b
       → t.open_wires.written ≡ s.open_wires.written
       → ((later : Server) (n : ℕ) → HeldPast later (pasts n) → HeldPast later (pasts_by pasts count deed n))
-      → LeadsServer (messages ++ step.message ∷ []) server b t (pasts_by pasts count deed)
+      → LeadsServer terms.limits (messages ++ step.message ∷ []) server b t (pasts_by pasts count deed)
   untold t mid b step said deed count makes adds written own =
       let moves = (stepped t mid b step said makes adds written).moves in
-      led (messages ++ step.message ∷ []) server b t (pasts_by pasts count deed) moves
+      led terms.limits (messages ++ step.message ∷ []) server b t (pasts_by pasts count deed) moves
       (λ n. own moves.later n (carried server moves.later (pasts n).frames (pasts n).answers moves.still
       (serves.answers n)))
 
   asked : (t : DeskState) (b : Account) (m : ℕ) (body : List ℕ) (step : Stepped) (said : Answer)
       → Does terms s (Asked m body step said) t → AddsEntries a step.entries b
-      → LeadsServer (messages ++ step.message ∷ []) server b t
+      → LeadsServer terms.limits (messages ++ step.message ∷ []) server b t
       (pasts_by pasts (s.book.length + length step.entries) (Asked m body step said))
   asked t b m body step said does adds =
       let mid = does.between in
@@ -288,7 +291,7 @@ module _ (keep : DeedsKeepServers) (terms : DeskTerms) (s : DeskState) (a : Acco
       let later = telling.moves.later in
       let counted : s.book.length + length step.entries ≡ length b.entries =
       entries_counted a s step.entries is ∙ ap length (sym adds.entries) in
-      led (messages ++ step.message ∷ []) server b t _ telling.moves
+      led terms.limits (messages ++ step.message ∷ []) server b t _ telling.moves
       (λ n. said_held later s mid wires n m body (pasts n) (pairs n).has
       (carried server later (pasts n).frames (pasts n).answers telling.moves.still (serves.answers n))
       (due_frame terms mid t m body said does.rest) said step.message
@@ -297,7 +300,8 @@ module _ (keep : DeedsKeepServers) (terms : DeskTerms) (s : DeskState) (a : Acco
   -- whoever waited is told: a step with the request again
   told : (t : DeskState) (b : Account) (m : ℕ) (key : Key) (said : Answer) → Does terms s (Told m key said) t
       → AddsEntries a [] b
-      → LeadsServer (messages ++ []) server b t (pasts_by pasts (s.book.length + 0) (Told m key said))
+      → LeadsServer terms.limits (messages ++ []) server b t (pasts_by pasts (s.book.length + 0)
+      (Told m key said))
   told t b m key said does adds =
       let waits = ((pairs m).pairs.waits does.hearing does.waited).1 in
       let request : Message = Request key waits.call in
@@ -318,7 +322,7 @@ module _ (keep : DeedsKeepServers) (terms : DeskTerms) (s : DeskState) (a : Acco
       entries_counted a s [] is ∙ ap length (sym adds.entries) in
       let held : (n : ℕ) → HeldPast later (pasts n) = λ n.
       carried server later (pasts n).frames (pasts n).answers telling.moves.still (serves.answers n) in
-      led (messages ++ []) server b t _ telling.moves
+      led terms.limits (messages ++ []) server b t _ telling.moves
       (λ n. by_own (HeldPast later) n m (with_answer (pasts n) (s.book.length + 0) said) (pasts n)
       (λ same. pair_answer (IsHeldAtServer later) (pasts n).frames (pasts n).answers waits.body
       (record { body = answer_text said; rests_on = s.book.length + 0 })
@@ -331,16 +335,17 @@ module _ (keep : DeedsKeepServers) (terms : DeskTerms) (s : DeskState) (a : Acco
 
   deed_serves : (deed : Deed) (t : DeskState) (b : Account) → Does terms s deed t → t.now ≤ max_moment
       → AddsEntries a (entries_of_deed deed) b
-      → LeadsServer (messages ++ messages_of deed) server b t
+      → LeadsServer terms.limits (messages ++ messages_of deed) server b t
       (pasts_by pasts (s.book.length + length (entries_of_deed deed)) deed)
   deed_serves (Elapsed moment entries settled) t b does later adds =
       let now : t.now ≡ moment = ap (λ (u : DeskState). u.now) does.after in
       let moves = passes keep (messages ++ []) server a b entries t.open_wires.written
       (server_more messages [] server serves.server_is) serves.made_is
-      (serves.stored_is ∙ sym (ap (λ (u : DeskState). u.open_wires.written) does.after)) adds moment
+      (serves.stored_is ∙ sym (ap (λ (u : DeskState). u.open_wires.written) does.after)) adds terms.limits
+      moment
       (own_before a s moment is does.later) (omega arith)
       (elapsed_ticks a b s t moment entries settled does is adds) in
-      led (messages ++ []) server b t _ moves
+      led terms.limits (messages ++ []) server b t _ moves
       (λ n. carried server moves.later (pasts n).frames (pasts n).answers moves.still (serves.answers n))
   deed_serves (Opened m) t b does later adds =
       quiet_leads (Opened m) t b [] adds does.opens.sets.written (s.book.length + 0)
@@ -361,11 +366,11 @@ module _ (keep : DeedsKeepServers) (terms : DeskTerms) (s : DeskState) (a : Acco
       let counted : s.book.length + 0 ≡ length b.entries =
       entries_counted a s [] is ∙ ap length (sym adds.entries) in
       let few = does.within in
-      let moves = stores keep (messages ++ []) server b s.open_wires.written entries
+      let moves = stores keep terms.limits (messages ++ []) server b s.open_wires.written entries
       (server_more messages [] server serves.server_is) (serves.made_is ∙ same) serves.stored_is does.rises
       (omega arith) in
-      let own = subst (Moves (messages ++ []) server b) (sym does.releases.written_is) moves in
-      led (messages ++ []) server b t _ own
+      let own = subst (Moves terms.limits (messages ++ []) server b) (sym does.releases.written_is) moves in
+      led terms.limits (messages ++ []) server b t _ own
       (λ n. carried server own.later (pasts n).frames (pasts n).answers own.still (serves.answers n))
   deed_serves (Asked m body step said) t b does later adds = asked t b m body step said does adds
   deed_serves (ReadNothing m body) t b does later adds =
@@ -398,22 +403,25 @@ module _ (keep : DeedsKeepServers) (terms : DeskTerms) (s : DeskState) (a : Acco
 
 -- ---- deeds, one after another
 
-leads_on : (messages more : List Message) (server : Server) (m b : Account) (mid t : DeskState)
-    (pasts later : ℕ → Past) (first : LeadsServer messages server m mid pasts)
-    → LeadsServer (messages ++ more) first.later b t later → LeadsServer (messages ++ more) server b t later
-leads_on messages more server m b mid t pasts later first rest = record {
+leads_on : (limits : StepLimits) (messages more : List Message) (server : Server) (m b : Account)
+    (mid t : DeskState) (pasts later : ℕ → Past) (first : LeadsServer limits messages server m mid pasts)
+    → LeadsServer limits (messages ++ more) first.later b t later
+    → LeadsServer limits (messages ++ more) server b t later
+leads_on limits messages more server m b mid t pasts later first rest = record {
   deeds = first.deeds ++ rest.deeds;
+  are = All-append (IsOfHub limits) first.deeds rest.deeds first.are rest.are;
   later = rest.later;
   runs = runs_on (messages ++ more) server first.deeds first.later rest.deeds rest.later
       (runs_more messages more server first.deeds first.later first.runs) rest.runs;
   is = rest.is;
 }
 
-pasts_are : (messages : List Message) (server : Server) (b : Account) (t : DeskState) (one other : ℕ → Past)
-    → ((n : ℕ) → one n ≡ other n) → LeadsServer messages server b t one
-    → LeadsServer messages server b t other
-pasts_are messages server b t one other same leads = record {
+pasts_are : (limits : StepLimits) (messages : List Message) (server : Server) (b : Account) (t : DeskState)
+    (one other : ℕ → Past) → ((n : ℕ) → one n ≡ other n) → LeadsServer limits messages server b t one
+    → LeadsServer limits messages server b t other
+pasts_are limits messages server b t one other same leads = record {
   deeds = leads.deeds;
+  are = leads.are;
   later = leads.later;
   runs = leads.runs;
   is = record {
@@ -429,10 +437,11 @@ pub deeds_serve : (keep : DeedsKeepServers) (terms : DeskTerms) (deeds : List De
     → AreStepLimits terms.limits → DoesAll terms s deeds t → t.now ≤ max_moment → IsHubAccount a s
     → AddsEntries a (flat_map entries_of_deed deeds) b
     → ((n : ℕ) → HasPairs terms.limits a s n (pasts n)) → IsHubServer messages server a s pasts
-    → LeadsServer (messages ++ messages_by deeds) server b t
+    → LeadsServer terms.limits (messages ++ messages_by deeds) server b t
     (λ n. past_after n (pasts n) s.book.length deeds)
 deeds_serve keep terms [] s t a b messages server pasts limits same time is adds pairs serves = record {
   deeds = [];
+  are = All-nil (IsOfHub terms.limits);
   later = server;
   runs = refl;
   is = record {
@@ -464,10 +473,10 @@ deeds_serve keep terms (deed ∷ deeds) s t a b messages server pasts limits (mi
     let after_all : ℕ → Past = λ n. past_after n (pasts n) s.book.length (deed ∷ deeds) in
     let came : List Message = messages ++ messages_of deed in
     let more : List Message = messages_by deeds in
-    subst (λ (l : List Message). LeadsServer l server b t after_all)
+    subst (λ (l : List Message). LeadsServer terms.limits l server b t after_all)
     (append_assoc messages (messages_of deed) more)
-    (leads_on came more server first.after b mid t now after_all one
-    (pasts_are (came ++ more) one.later b t after_rest after_all
+    (leads_on terms.limits came more server first.after b mid t now after_all one
+    (pasts_are terms.limits (came ++ more) one.later b t after_rest after_all
     (λ n. ap (λ k. past_after n (now n) k deeds) counted) rest))
 
 -- ---- events
@@ -514,10 +523,10 @@ events_serve keep terms (deeds ∷ events) s t a b messages server pasts limits 
     let after_all : ℕ → Past = λ n. past_after n (pasts n) count (all_deeds (deeds ∷ events)) in
     let came : List Message = messages ++ messages_by deeds in
     let more : List Message = messages_in events in
-    subst (λ (l : List Message). LeadsServer l server b t after_all)
+    subst (λ (l : List Message). LeadsServer terms.limits l server b t after_all)
     (append_assoc messages (messages_by deeds) more
     ∙ ap (λ l. messages ++ l) (sym (flat_map-append messages_of deeds (all_deeds events))))
-    (leads_on came more server first.after b mid t now after_all one
-    (pasts_are (came ++ more) one.later b t after_rest after_all
+    (leads_on terms.limits came more server first.after b mid t now after_all one
+    (pasts_are terms.limits (came ++ more) one.later b t after_rest after_all
     (λ n. ap (λ k. past_after n (now n) k (all_deeds events)) counted
     ∙ sym (past_on n (pasts n) count deeds (all_deeds events))) rest))

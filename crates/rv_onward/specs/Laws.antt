@@ -30,7 +30,7 @@ HubsAreServers = (terms : DeskTerms) (events : List (List Deed)) (s t : DeskStat
     → AreStepLimits terms.limits
     → DoesEvents terms s events t → t.now ≤ max_moment → IsHubAccount a s → AddsEntries a (made_by events) b
     → ((n : ℕ) → HasPairs terms.limits a s n (pasts n)) → IsHubServer messages server a s pasts
-    → LeadsServer (messages ++ messages_in events) server b t
+    → LeadsServer terms.limits (messages ++ messages_in events) server b t
     (λ n. past_after n (pasts n) s.book.length (all_deeds events))
 
 -- want of memory may be held back for any message that came

@@ -1,11 +1,12 @@
 -- A hub as a server that crashes and goes on.
 use Rattle.std.specs.Prelude.{◌≡◌, ◌⊎◌, ◌∷◌, [], ℕ, List, Some, flat_map, length, map}
 use Rattle.std.specs.Prelude.{option_to_list, slice_get}
-use Rattle.std.specs.List.{Contains}
+use Rattle.std.specs.List.{All, Contains}
 use Rattle.rv_text.specs.declared.message.Message.{Message}
 use Rattle.rv_text.specs.declared.answer.Refusal.TheVariants.{BadText, NoMemory}
 use Rattle.rv_text.specs.Bodies.{IsMessageBody, answer_text}
 use Rattle.rv_account.specs.Account.{Account}
+use Rattle.rv_rules.specs.StepLimits.{StepLimits}
 use Rattle.rv_state.specs.After.{state_of}
 use Rattle.rv_connection.specs.History.{Given}
 use Rattle.rv_hearers.specs.Hearing.{nobody}
@@ -17,7 +18,8 @@ use Rattle.rv_hub.specs.Pairing.{on_nothing}
 use Rattle.rv_hub.specs.Pasts.{Past}
 use Rattle.rv_parts.specs.declared.packet.Packet.{Packet}
 use Rattle.rv_parts.specs.Events.{sender}
-use Rattle.rv_crashes.specs.Crashes.{IsOfMessages, MaySend, Server, ServerDeed, ServerDoes, made}
+use Rattle.rv_crashes.specs.Crashes.{Crashed, IsOfMessages, Lacked, MaySend, Server, ServerDeed, ServerDoes}
+use Rattle.rv_crashes.specs.Crashes.{Stepped, made}
 use Rattle.rv_crashes.specs.Laws.{IsServer}
 
 -- ---- the deeds
@@ -73,10 +75,18 @@ pub record IsHubServer (messages : List Message) (server : Server) (a : Account)
   pub stored_is : length server.stored.entries ≡ s.open_wires.written
   pub answers : (n : ℕ) → AreHeldAtServer server (pasts n).frames (pasts n).answers
 
--- deeds of a server, each of these messages, lead from this one to one that the hub is
-pub record LeadsServer (messages : List Message) (server : Server) (b : Account) (t : DeskState)
-    (pasts : ℕ → Past) : Type 0 where
+-- a step under these limits, time alone, or entries that are stored: no crash, and no want of memory
+abbrev pub IsOfHub : StepLimits → ServerDeed → Type 0
+IsOfHub limits (Stepped own moment message) = own ≡ limits
+IsOfHub limits (Lacked message) = ⊥
+IsOfHub limits (Crashed left) = ⊥
+IsOfHub limits deed = Unit {0}
+
+-- such deeds, each of these messages, lead from this server to one that the hub is
+pub record LeadsServer (limits : StepLimits) (messages : List Message) (server : Server) (b : Account)
+    (t : DeskState) (pasts : ℕ → Past) : Type 0 where
   pub deeds : List ServerDeed
+  pub are : All (IsOfHub limits) deeds
   pub later : Server
   pub runs : RunsServer messages server deeds later
   pub is : IsHubServer messages later b t pasts
