@@ -12,8 +12,8 @@ pub fn accounts_go_on()
 {}
 
 /// The events of a hub are deeds of a server that crashes and goes on: steps under its limits, time alone,
-/// and what is written. Whoever waited is told as a repeat, and each answer that a connection was given is
-/// held back for the sender of its frame's message, with the same number; so may want of memory be.
+/// and entries that are stored. Each answer that a connection was given is held back for the sender of its
+/// frame's message, with the number of entries that it rests on. So may want of memory be, for any message.
 pub fn hubs_are_servers()
     ensures events { HubsAreServers }
     ensures lacks { LacksMemory }
