@@ -1,0 +1,7 @@
+mod Room
+mod Pairs
+mod Servers
+mod Serving
+mod Lacking
+mod Leaving
+mod Going

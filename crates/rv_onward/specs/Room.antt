@@ -1,0 +1,36 @@
+-- Whatever a crash leaves of a hub's account, a machine can be made of it.
+use Rattle.std.specs.Prelude.{◌≤◌, ℕ, List, flat_map}
+use Rattle.rv_account.specs.Account.{Account}
+use Rattle.rv_account.specs.Limits.{max_moment}
+use Rattle.rv_rules.specs.Legal.{Legal, before}
+use Rattle.rv_rules.specs.StepLimits.{AreStepLimits}
+use Rattle.rv_state.specs.After.{state_of}
+use Rattle.rv_resume.specs.Laws.{HadRoom}
+use Rattle.rv_resume.specs.Resuming.{CanResume}
+use Rattle.rv_desk.specs.View.{DeskState, DeskTerms}
+use Rattle.rv_desk.specs.Deeds.{Deed, DoesAll, entries_of_deed}
+use Rattle.rv_hub.specs.HubRuns.{AddsEntries, DoesEvents, IsHubAccount}
+use Rattle.rv_hub.specs.Turns.{made_by}
+
+-- the deeds of a hub keep that there was room after each entry of its account
+abbrev pub DeedsKeepRoom : Type 0
+DeedsKeepRoom = (terms : DeskTerms) (deeds : List Deed) (s t : DeskState) (a b : Account)
+    → AreStepLimits terms.limits
+    → DoesAll terms s deeds t → t.now ≤ max_moment → IsHubAccount a s
+    → AddsEntries a (flat_map entries_of_deed deeds) b → HadRoom a → HadRoom b
+
+-- so do its events
+abbrev pub EventsKeepRoom : Type 0
+EventsKeepRoom = (terms : DeskTerms) (events : List (List Deed)) (s t : DeskState) (a b : Account)
+    → AreStepLimits terms.limits → DoesEvents terms s events t → t.now ≤ max_moment → IsHubAccount a s
+    → AddsEntries a (made_by events) b → HadRoom a → HadRoom b
+
+-- an account to go on from
+pub record LetsGoOn (a : Account) : Type 0 where
+  pub legal : Legal a
+  pub had_room : HadRoom a
+  pub resumes : CanResume (state_of a)
+
+-- so is each front of a legal account of which there was room after each entry
+abbrev pub FrontsGoOn : Type 0
+FrontsGoOn = (a : Account) (count : ℕ) → Legal a → HadRoom a → LetsGoOn (before a count)

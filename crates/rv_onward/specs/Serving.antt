@@ -1,0 +1,120 @@
+-- A hub as a server that crashes and goes on.
+use Rattle.std.specs.Prelude.{◌≡◌, ◌⊎◌, ◌∷◌, [], ℕ, List, Some, flat_map, length, map}
+use Rattle.std.specs.Prelude.{option_to_list, slice_get}
+use Rattle.std.specs.List.{All, Contains}
+use Rattle.rv_text.specs.declared.message.Message.{Message}
+use Rattle.rv_text.specs.declared.answer.Refusal.TheVariants.{BadText, NoMemory}
+use Rattle.rv_text.specs.Bodies.{IsMessageBody, answer_text}
+use Rattle.rv_account.specs.Account.{Account}
+use Rattle.rv_rules.specs.StepLimits.{StepLimits}
+use Rattle.rv_state.specs.After.{state_of}
+use Rattle.rv_connection.specs.History.{Given}
+use Rattle.rv_hearers.specs.Hearing.{nobody}
+use Rattle.rv_wires.specs.Connections.{none_open}
+use Rattle.rv_desk.specs.View.{DeskState}
+use Rattle.rv_desk.specs.Deeds.{Deed, step_of}
+use Rattle.rv_hub.specs.EventDeeds.{all_deeds}
+use Rattle.rv_hub.specs.Pairing.{on_nothing}
+use Rattle.rv_hub.specs.Pasts.{Past}
+use Rattle.rv_parts.specs.declared.packet.Packet.{Packet}
+use Rattle.rv_parts.specs.Events.{sender}
+use Rattle.rv_crashes.specs.Crashes.{Crashed, IsOfMessages, Lacked, MaySend, Server, ServerDeed, ServerDoes}
+use Rattle.rv_crashes.specs.Crashes.{Stepped, made}
+use Rattle.rv_crashes.specs.Laws.{IsServer}
+
+-- ---- the deeds
+
+-- the message of the frame with which a deed made a step, if it made one
+abbrev pub messages_of : Deed → List Message
+messages_of deed = map (λ step. step.message) (option_to_list (step_of deed))
+
+-- those of deeds, and of events, in order
+abbrev pub messages_by : List Deed → List Message
+messages_by deeds = flat_map messages_of deeds
+
+abbrev pub messages_in : List (List Deed) → List Message
+messages_in events = messages_by (all_deeds events)
+
+-- deeds of a server lead from the one to the other, each of these messages
+abbrev pub RunsServer : List Message → Server → List ServerDeed → Server → Type 0
+RunsServer messages s [] t = t ≡ s
+RunsServer messages s (deed ∷ deeds) t = IsOfMessages messages deed × (between : Server)
+    × ServerDoes s deed between × RunsServer messages between deeds t
+
+-- ---- what the server holds back
+
+-- this answer is held back for the client of this message, by its text, and with the number of entries that
+-- it rests on
+pub record IsHeldFor (server : Server) (message : Message) (given : Given) : Type 0 where
+  pub packet : Packet
+  pub client_is : packet.client ≡ sender message
+  pub body_is : given.body ≡ answer_text packet.answer
+  pub held : Contains server.withheld (packet, given.rests_on)
+
+-- what a frame of this body was given: where that is no message's, the answer to bad text; or that for want
+-- of memory; or one that is held back for its message
+abbrev pub IsHeldAtServer : Server → List ℕ → Given → Type 0
+IsHeldAtServer server body given =
+    (((message : Message) → ¬ IsMessageBody body message) × (given ≡ on_nothing BadText))
+    ⊎ ((given ≡ on_nothing NoMemory)
+    ⊎ ((message : Message) × IsMessageBody body message × IsHeldFor server message given))
+
+-- so is each answer of a connection's past, at the place of its frame
+abbrev pub AreHeldAtServer : Server → List (List ℕ) → List Given → Type 0
+AreHeldAtServer server frames answers = (place : ℕ) (body : List ℕ) (given : Given)
+    → slice_get frames place ≡ Some body → slice_get answers place ≡ Some given
+    → IsHeldAtServer server body given
+
+-- the hub with this account and these pasts of its connections is this server: what the server made is the
+-- account; it stored as many entries as the hub has written; and each answer that a connection was given is
+-- one that it holds back
+pub record IsHubServer (messages : List Message) (server : Server) (a : Account) (s : DeskState)
+    (pasts : ℕ → Past) : Type 0 where
+  pub server_is : IsServer messages server
+  pub made_is : made server ≡ a
+  pub stored_is : length server.stored.entries ≡ s.open_wires.written
+  pub answers : (n : ℕ) → AreHeldAtServer server (pasts n).frames (pasts n).answers
+
+-- a step under these limits, time alone, or entries that are stored: no crash, and no want of memory
+abbrev pub IsOfHub : StepLimits → ServerDeed → Type 0
+IsOfHub limits (Stepped own moment message) = own ≡ limits
+IsOfHub limits (Lacked message) = ⊥
+IsOfHub limits (Crashed left) = ⊥
+IsOfHub limits deed = Unit {0}
+
+-- such deeds, each of these messages, lead from this server to one that the hub is
+pub record LeadsServer (limits : StepLimits) (messages : List Message) (server : Server) (b : Account)
+    (t : DeskState) (pasts : ℕ → Past) : Type 0 where
+  pub deeds : List ServerDeed
+  pub are : All (IsOfHub limits) deeds
+  pub later : Server
+  pub runs : RunsServer messages server deeds later
+  pub is : IsHubServer messages later b t pasts
+
+-- ---- what may leave
+
+-- the answer may be sent to the client of this message
+pub record MaySendFor (server : Server) (message : Message) (given : Given) : Type 0 where
+  pub packet : Packet
+  pub client_is : packet.client ≡ sender message
+  pub body_is : given.body ≡ answer_text packet.answer
+  pub may : MaySend server packet
+
+-- what a frame of this body was given may be sent, but for bad text and for want of memory
+abbrev pub MayLeave : Server → List ℕ → Given → Type 0
+MayLeave server body given =
+    (((message : Message) → ¬ IsMessageBody body message) × (given ≡ on_nothing BadText))
+    ⊎ ((given ≡ on_nothing NoMemory)
+    ⊎ ((message : Message) × IsMessageBody body message × MaySendFor server message given))
+
+-- ---- a new hub
+
+-- a hub over a machine with this account's state: all that there is counts as written, no connection is open
+abbrev pub new_hub : Account → DeskState
+new_hub a = record {
+  book = state_of a;
+  now = (state_of a).moment;
+  open_wires = none_open (state_of a).length;
+  changed = [];
+  hears = nobody;
+}

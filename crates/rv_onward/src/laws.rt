@@ -1,0 +1,37 @@
+//! Laws of a hub that is a server that crashes and goes on: each function is its contract, over the
+//! definitions alone.
+ghost use Rattle.rv_onward.specs.Laws.{HubsAreServers, HubsBegin, HubsGoOn, LacksMemory, SentMayLeave};
+ghost use Rattle.rv_onward.specs.Room.{DeedsKeepRoom, EventsKeepRoom, FrontsGoOn};
+
+/// A hub's account had room after each of its entries, and so has it after what its deeds add. So whatever a
+/// crash leaves of it, a machine can be made of that.
+pub fn accounts_go_on()
+    ensures deeds { DeedsKeepRoom }
+    ensures events { EventsKeepRoom }
+    ensures fronts { FrontsGoOn }
+{}
+
+/// The events of a hub are deeds of a server that crashes and goes on: steps under its limits, time alone,
+/// and entries that are stored. Each answer that a connection was given is held back for the sender of its
+/// frame's message, with the number of entries that it rests on. So may want of memory be, for any message.
+pub fn hubs_are_servers()
+    ensures events { HubsAreServers }
+    ensures lacks { LacksMemory }
+{
+    rv_crashes::laws::deeds_keep_servers();
+}
+
+/// Of an answer no byte leaves before the server may send it.
+pub fn sent_may_leave()
+    ensures { SentMayLeave }
+{}
+
+/// A new hub is such a server, in an epoch in which nothing happened, and after a crash, over all that this
+/// left.
+pub fn hubs_go_on()
+    ensures begins { HubsBegin }
+    ensures goes_on { HubsGoOn }
+{
+    rv_crashes::laws::servers_begin();
+    rv_crashes::laws::deeds_keep_servers();
+}

@@ -1,0 +1,4 @@
+//! A hub is a server that crashes and goes on: definitions, and laws over them.
+#![tactic(auto)]
+
+pub mod laws;
