@@ -315,4 +315,5 @@ def main():
     sys.exit(passed > 0)
 
 
-main()
+if __name__ == "__main__":
+    main()
