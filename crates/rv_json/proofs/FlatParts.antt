@@ -79,11 +79,11 @@ FitEach-push [] f h k = (k, tt)
 FitEach-push (g ∷ fs) f h k = (h.0, FitEach-push fs f h.1 k)
 
 -- a member more, with its comma
-pub more_read : (text : List ℕ) (fs : List FlatMember) (f : FlatMember) (at end : ℕ)
-    → text ≡ 123 ∷ (each_text fs ++ drop at text)
+pub more_read : (whole text : List ℕ) (fs : List FlatMember) (f : FlatMember) (at end : ℕ)
+    → whole ≡ 123 ∷ (each_text fs ++ drop at text)
     → drop at text ≡ field_text f ++ drop end text → end < length text → get_or text end 0 ≡ 44
-    → text ≡ 123 ∷ (each_text (fs ++ f ∷ []) ++ drop (end + 1) text)
-more_read text fs f at end before here within comma =
+    → whole ≡ 123 ∷ (each_text (fs ++ f ∷ []) ++ drop (end + 1) text)
+more_read whole text fs f at end before here within comma =
     before
     ∙ ap (λ l. 123 ∷ l)
     (ap (λ l. each_text fs ++ l) (here ∙ ap (λ l. field_text f ++ l) (byte_here text end 44 within comma)

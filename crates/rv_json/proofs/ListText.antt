@@ -77,21 +77,25 @@ whole_read text texts s here after opens before few is ends =
     (opens ∙ text_last (drop 1 text) texts s here (drop after text) before is
     ∙ ap (λ rest. compact_text (list_of all) ++ rest) none ∙ append-nil (compact_text (list_of all)))
 
--- the range of a list in the text around it
-pub list_range : (d : List ℕ) (at end : ℕ) → at ≤ end → end ≤ length d
-    → BeginsByList (drop at d) (drop end d) → IsListText (take (end - at) (drop at d))
-list_range d at end le within begins =
-    let own = compact_text (list_of begins.texts) in
+-- the range of a text in the one around it
+pub own_range : (d own : List ℕ) (at end : ℕ) → at ≤ end → end ≤ length d → drop at d ≡ own ++ drop end d
+    → take (end - at) (drop at d) ≡ own
+own_range d own at end le within begins =
     let long : end - at ≡ length own = omega (
       arith,
-      ap (λ l. length l) begins.text,
+      ap (λ l. length l) begins,
       length-append own (drop end d),
       length-drop at d,
       length-drop end d,
     ) in
-    record {
-      texts = begins.texts;
-      few = begins.few;
-      text = ap (take (end - at)) begins.text ∙ ap (λ n. take n (own ++ drop end d)) long
-          ∙ take-append_seam own (drop end d);
-    }
+    ap (take (end - at)) begins ∙ ap (λ n. take n (own ++ drop end d)) long
+    ∙ take-append_seam own (drop end d)
+
+-- that of a list
+pub list_range : (d : List ℕ) (at end : ℕ) → at ≤ end → end ≤ length d
+    → BeginsByList (drop at d) (drop end d) → IsListText (take (end - at) (drop at d))
+list_range d at end le within begins = record {
+  texts = begins.texts;
+  few = begins.few;
+  text = own_range d (compact_text (list_of begins.texts)) at end le within begins.text;
+}

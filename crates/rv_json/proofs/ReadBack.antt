@@ -20,6 +20,7 @@ use Rattle.rv_json.specs.declared.flat.Plain.TheVariants.{Whole, Text, Texts}
 use Rattle.rv_json.specs.declared.flat.FlatMember.{FlatMember}
 use Rattle.rv_json.specs.Flat.{plain_data, put_each, flat_members}
 use Rattle.rv_json.specs.Listed.{list_of, texts_read}
+use Rattle.rv_json.specs.Pair.{pair_text}
 use Rattle.rv_json.specs.Scan.{plain_text, field_text, each_text, FitsPlain, FitEach}
 use Rattle.rv_json.proofs.FewTexts.{texts_read_of}
 
@@ -28,7 +29,7 @@ abbrev data_of : Option (json.Json × List Token) → Option Data
 data_of found = option_and_then of_json (option_and_then (λ p. json.if_last p.0 p.1) found)
 
 -- a text is read as what its value makes
-read_again : (d e : Data) → tree.HasNumbers (outline d) → tree.depth (outline d) ≤ 2
+read_again : (d e : Data) → tree.HasNumbers (outline d) → tree.depth (outline d) ≤ 3
     → of_json (outline d) ≡ Some e → read (compact_text d) ≡ Some e
 read_again d e numbers shallow again =
     let written = outline d in
@@ -127,12 +128,71 @@ printed_each (g ∷ fs) f h =
     ∙ ap (λ l. field_text g ++ l) (ap (λ l. 44 ∷ l) (printed_each fs f h.1) ∙ sym (with_comma fs f))
     ∙ field_printed g (members_text true (written_each (fs ++ f ∷ []))) h.0
 
+-- the text is that of a value of two levels at most, and is read as this one
+pub record Makes (text : List ℕ) (value : Data) : Type 0 where
+  pub written : Data
+  pub is : text ≡ compact_text written
+  pub numbers : tree.HasNumbers (outline written)
+  pub shallow : tree.depth (outline written) ≤ 2
+  pub again : of_json (outline written) ≡ Some value
+
+pub makes_read : (text : List ℕ) (value : Data) → Makes text value → read text ≡ Some value
+makes_read text value m =
+    ap read m.is ∙ read_again m.written value m.numbers (omega (arith, m.shallow)) m.again
+
 -- the whole text
+pub flat_makes : (fs : List FlatMember) (f : FlatMember) (text : List ℕ) → FitEach (fs ++ f ∷ [])
+    → text ≡ 123 ∷ (each_text fs ++ (field_text f ++ 125 ∷ []))
+    → Makes text (object (flat_members (fs ++ f ∷ [])))
+flat_makes fs f text fit is =
+    let all = fs ++ f ∷ [] in
+    record {
+      written = object (written_each all);
+      is = is ∙ ap (λ l. 123 ∷ l) (printed_each fs f fit);
+      numbers = numbers_each all fit;
+      shallow = omega (arith, shallow_each all);
+      again = ap (option_map object) (again_each all no_members fit);
+    }
+
 pub flat_text : (fs : List FlatMember) (f : FlatMember) (text : List ℕ) → FitEach (fs ++ f ∷ [])
     → text ≡ 123 ∷ (each_text fs ++ (field_text f ++ 125 ∷ []))
     → read text ≡ Some (object (flat_members (fs ++ f ∷ [])))
 flat_text fs f text fit is =
-    let all = fs ++ f ∷ [] in
-    ap read (is ∙ ap (λ l. 123 ∷ l) (printed_each fs f fit))
-    ∙ read_again (object (written_each all)) (object (flat_members all)) (numbers_each all fit)
-    (omega (arith, shallow_each all)) (ap (option_map object) (again_each all no_members fit))
+    makes_read text (object (flat_members (fs ++ f ∷ []))) (flat_makes fs f text fit is)
+
+-- ---- two texts, each behind its name
+
+behind_name : (name text rest : List ℕ) (written : Data) → text ≡ compact_text written
+    → (quoted name ++ (58 ∷ text)) ++ rest ≡ quoted name ++ 58 ∷ (compact_text written ++ rest)
+behind_name name text rest written is =
+    append_assoc (quoted name) (58 ∷ text) rest ∙ ap (λ t. quoted name ++ 58 ∷ (t ++ rest)) is
+
+module _ (first one second other : List ℕ) (value next : Data) (m : Makes one value) (n : Makes other next)
+  where
+    abbrev written_pair : Members
+    written_pair = member first m.written (member second n.written no_members)
+
+    abbrev both : Members
+    both = put second next (put first value no_members)
+
+    printed_pair : pair_text first one second other ≡ compact_text (object written_pair)
+    printed_pair =
+        ap (λ l. 123 ∷ ((quoted first ++ (58 ∷ one)) ++ (44 ∷ l)))
+        (behind_name second other (125 ∷ []) n.written n.is)
+        ∙ ap (λ l. 123 ∷ l)
+        (behind_name first one
+        (44 ∷ (quoted second ++ 58 ∷ (compact_text n.written ++ 125 ∷ []))) m.written m.is)
+
+    pair_again : of_json (outline (object written_pair)) ≡ Some (object both)
+    pair_again =
+        ap (λ o. option_map object (option_and_then (λ d. of_members
+        (members_outline (member second n.written no_members)) (put first d no_members)) o)) m.again
+        ∙ ap (λ o. option_map object (option_and_then (λ d. Some (put second d (put first value
+        no_members))) o)) n.again
+
+    pub pair_read : (text : List ℕ) → text ≡ pair_text first one second other
+        → read text ≡ Some (object (put second next (put first value no_members)))
+    pair_read text is =
+        ap read (is ∙ printed_pair)
+        ∙ read_again (object written_pair) (object both) (m.numbers, (n.numbers, tt))
+        (omega (arith, m.shallow, n.shallow)) pair_again

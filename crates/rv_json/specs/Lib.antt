@@ -3,6 +3,7 @@ pub mod Bodies
 pub mod Listed
 pub mod Flat
 pub mod Scan
+pub mod Pair
 pub mod Sorted
 pub mod Finding
 pub mod Alone

@@ -37,7 +37,7 @@ fn plain_end(bytes: &[u8], from: usize) -> usize
 
 // The text between the quotes that stand at the place, and the place after them.
 #[inline(always)]
-fn scan_text<'a>(text: &'a str, at: usize) -> Option<(&'a str, usize)>
+pub(crate) fn scan_text<'a>(text: &'a str, at: usize) -> Option<(&'a str, usize)>
     ensures text { IfSome result (λ p. drop at text.now ≡ quoted p.0.now ++ drop p.1 text.now) }
     ensures on { IfSome result (λ p. at < p.1) }
 {
@@ -166,7 +166,7 @@ fn scan_plain<'a>(text: &'a str, at: usize) -> Option<(Plain<'a>, usize)>
 
 // The member at the place: its name, a colon, its value; and the place after it.
 #[inline(always)]
-fn scan_field<'a>(text: &'a str, at: usize) -> Option<(FlatMember<'a>, usize)>
+pub(crate) fn scan_field<'a>(text: &'a str, at: usize) -> Option<(FlatMember<'a>, usize)>
     ensures text { IfSome result (λ p. drop at text.now ≡ field_text p.0 ++ drop p.1 text.now) }
     ensures fits { IfSome result (λ p. FitsPlain p.0.value) }
     ensures on { IfSome result (λ p. at < p.1) }

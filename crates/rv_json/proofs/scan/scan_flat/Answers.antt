@@ -33,7 +33,7 @@ turns-preserved c =
     let comma : get_or t end 0 ≡ 44 = subst (λ d. get_or d end 0 ≡ 44) same c.if-bytes-end-ne44.false in
     let within : end < length t = subst (λ d. end < length d) same c.if-end-bytes.false in
     let pushed = sym (take_more_set c.turns.places c.turns.count f c.if-count-places.true) in (
-      more_read t fs f c.turns.at end c.turns.invariant.0 c.in_ok-field.ensures.text within comma
+      more_read t t fs f c.turns.at end c.turns.invariant.0 c.in_ok-field.ensures.text within comma
           ∙ ap (λ all. 123 ∷ (each_text all ++ drop (end + 1) t)) pushed,
       subst FitEach pushed (FitEach-push fs f c.turns.invariant.1 c.in_ok-field.ensures.fits),
       omega (arith, length-set c.turns.places c.turns.count f),

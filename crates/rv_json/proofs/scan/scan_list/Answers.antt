@@ -1,5 +1,5 @@
 -- The list is the range up to its end.
-use Rattle.std.proofs.Common.{◌-◌, ◌++◌, drop, sym, ap, ◌∙◌, subst, arith}
+use Rattle.std.proofs.Common.{◌++◌, drop, sym, ap, ◌∙◌, subst, arith}
 use Rattle.rv_json.specs.Scan.{IsListText}
 use Rattle.rv_json.proofs.FlatParts.{range_here}
 use Rattle.rv_json.proofs.ListText.{list_range}

@@ -1,0 +1,91 @@
+//! Finds the texts of two flat objects in the compact text of the object that has them, with no tree.
+ghost use Rattle.std.specs.Prelude.{◌≡◌, ◌<◌, ◌≤◌, ◌∷◌, [], ◌++◌, IfSome, drop, length};
+ghost use Rattle.json.specs.Print.{escape, quoted};
+ghost use Rattle.rv_json.specs.Pair.{BeginsByFlat, IsFlatText, ReadsPair, pair_text};
+
+use crate::scan::{scan_field, scan_text};
+
+// The place after the flat object, of one member or more, that stands at this one.
+fn object_end(text: &str, at: usize) -> Option<usize>
+    ensures object { IfSome result (λ end. BeginsByFlat (drop at text.now) (drop end text.now)) }
+    ensures on { IfSome result (λ end. at < end) }
+    ensures within { IfSome result (λ end. end ≤ length text.now) }
+{
+    let bytes = text.as_bytes();
+    if at >= bytes.len() || bytes[at] != b'{' {
+        return None;
+    }
+    let mut place = at + 1;
+    'members: while place < bytes.len() {
+        let (_field, end) = scan_field(text, place)?;
+        if end >= bytes.len() {
+            return None;
+        }
+        if bytes[end] == b'}' {
+            return Some(end + 1);
+        }
+        if bytes[end] != b',' {
+            return None;
+        }
+        place = end + 1;
+    }
+    None
+}
+
+// The flat object at the place, as it stands there, and the place after it.
+fn scan_object<'a>(text: &'a str, at: usize) -> Option<(&'a str, usize)>
+    ensures text { IfSome result (λ p. drop at text.now ≡ p.0.now ++ drop p.1 text.now) }
+    ensures object { IfSome result (λ p. IsFlatText p.0.now) }
+    ensures on { IfSome result (λ p. at < p.1) }
+{
+    let end = object_end(text, at)?;
+    Some((text.get(at..end)?, end))
+}
+
+// The flat object that is the value of the member at the place, if it has this name, and the place after it.
+fn scan_member<'a>(text: &'a str, at: usize, name: &str) -> Option<(&'a str, usize)>
+    ensures text { IfSome result
+        (λ p. drop at text.now ≡ (quoted name.now ++ (58 ∷ p.0.now)) ++ drop p.1 text.now) }
+    ensures object { IfSome result (λ p. IsFlatText p.0.now) }
+    ensures on { IfSome result (λ p. at < p.1) }
+{
+    let bytes = text.as_bytes();
+    let (own, end) = scan_text(text, at)?;
+    if own != name || end >= bytes.len() || bytes[end] != b':' {
+        return None;
+    }
+    scan_object(text, end + 1)
+}
+
+// The two flat objects of which the text is the compact text under these names, in this order.
+fn scan_pair<'a>(text: &'a str, first: &str, second: &str) -> Option<(&'a str, &'a str)>
+    ensures text { IfSome result
+        (λ p. text.now ≡ pair_text first.now p.0.now second.now p.1.now) }
+    ensures one { IfSome result (λ p. IsFlatText p.0.now) }
+    ensures other { IfSome result (λ p. IsFlatText p.1.now) }
+{
+    let bytes = text.as_bytes();
+    if bytes.is_empty() || bytes[0] != b'{' {
+        return None;
+    }
+    let (one, comma) = scan_member(text, 1, first)?;
+    if comma >= bytes.len() || bytes[comma] != b',' {
+        return None;
+    }
+    let (other, close) = scan_member(text, comma + 1, second)?;
+    if close >= bytes.len() || bytes[close] != b'}' || close + 1 != bytes.len() {
+        return None;
+    }
+    Some((one, other))
+}
+
+/// The texts of the two objects that are the members of the object that the bytes are the text of, the first
+/// under the one name and the second under the other. `None` says nothing of the bytes: it comes for all that
+/// isn't the compact text of just these two, in this order, each of one member or more: whole numbers below
+/// 10^19, texts with no escape and lists of at most 16 of these.
+pub fn two_objects<'a>(bytes: &'a [u8], first: &str, second: &str) -> Option<(&'a [u8], &'a [u8])>
+    ensures { IfSome result (λ p. ReadsPair bytes.now first.now p.0.now second.now p.1.now) }
+{
+    let (one, other) = scan_pair(std::str::from_utf8(bytes).ok()?, first, second)?;
+    Some((one.as_bytes(), other.as_bytes()))
+}
