@@ -12,8 +12,12 @@ ghost use Rattle.rv_findings.specs.declared.findings.Told as told;
 ghost use Rattle.rv_text.specs.declared.call.Call as calls;
 ghost use Rattle.rv_text.specs.declared.message.Key as keys;
 ghost use Rattle.rv_text.specs.declared.answer.Reply as replies;
+ghost use Rattle.rv_text.specs.declared.answer.Answer.TheVariants as answers;
+ghost use Rattle.rv_text.specs.declared.message.Message.TheVariants as messages;
+ghost use Rattle.rv_text.specs.Bodies.{IsAnswerBody, IsMessageBody};
 
 use rv_findings::Told;
+use rv_json::two_objects;
 use rv_text::{
     Answer, Call, Key, Message, NoMemory, Reply, TextFault, decode_answer, decode_message,
 };
@@ -140,8 +144,64 @@ fn read_reply(alloc: Global, members: &Map<String, Value>) -> Result<(Key, Reply
     }
 }
 
-/// The reply of which a line is the record.
-pub(crate) fn read_told(alloc: Global, line: &[u8]) -> Result<Told, NotRead>
+// The request whose body the bytes are, if they are one. The only fault is want of memory.
+fn request_in(alloc: Global, bytes: &[u8]) -> Result<Option<(Key, Call)>, NotRead>
+    ensures sure { (flaw : Flaw) → ¬ (result ≡ Err (NotRead.Flawed flaw)) }
+    ensures found { IfOk result
+        (λ found. IfSome found (λ p. IsMessageBody bytes.now (messages.Request p.0 p.1))) }
+{
+    match decode_message(alloc, bytes) {
+        Ok(Message::Request { key, call }) => Ok(Some((key, call))),
+        Ok(Message::Hello { .. }) => Ok(None),
+        Ok(Message::Cancel { .. }) => Ok(None),
+        Err(TextFault::NotJson) => Ok(None),
+        Err(TextFault::NotMessage) => Ok(None),
+        Err(TextFault::NoMemory) => Err(NotRead::NoMemory),
+    }
+}
+
+// The reply whose body the bytes are, with the key of its request, if they are one. The only fault is want
+// of memory.
+fn reply_in(alloc: Global, bytes: &[u8]) -> Result<Option<(Key, Reply)>, NotRead>
+    ensures sure { (flaw : Flaw) → ¬ (result ≡ Err (NotRead.Flawed flaw)) }
+    ensures found { IfOk result
+        (λ found. IfSome found (λ p. IsAnswerBody bytes.now (answers.Replied p.0 p.1))) }
+{
+    match decode_answer(alloc, bytes) {
+        Ok(Answer::Replied { key, reply }) => Ok(Some((key, reply))),
+        Ok(Answer::Welcome { .. }) => Ok(None),
+        Ok(Answer::Waiting { .. }) => Ok(None),
+        Ok(Answer::Refused(_)) => Ok(None),
+        Err(TextFault::NotJson) => Ok(None),
+        Err(TextFault::NotMessage) => Ok(None),
+        Err(TextFault::NoMemory) => Err(NotRead::NoMemory),
+    }
+}
+
+// The reply of which a compact line is the record, with no tree. `None` says nothing of the line. The only
+// fault is want of memory, where two bodies stand in it.
+fn read_compact(alloc: Global, line: &[u8]) -> Result<Option<Told>, NotRead>
+    ensures sure { (flaw : Flaw) → ¬ (result ≡ Err (NotRead.Flawed flaw)) }
+    ensures told { IfOk result (λ found. IfSome found (ReadsTold line.now)) }
+{
+    let Some((asked, told)) = two_objects(line, "asked", "told") else {
+        return Ok(None);
+    };
+    let Some((key, call)) = request_in(alloc, asked)? else {
+        return Ok(None);
+    };
+    let Some((own, reply)) = reply_in(alloc, told)? else {
+        return Ok(None);
+    };
+    if key == own {
+        Ok(Some(Told { key, call, reply }))
+    } else {
+        Ok(None)
+    }
+}
+
+// The reply of which any line is the record.
+fn read_tree(alloc: Global, line: &[u8]) -> Result<Told, NotRead>
     ensures told { IfOk result (ReadsTold line.now) }
     ensures flaw { (flaw : Flaw) → result ≡ Err (NotRead.Flawed flaw) → (told : told.Told)
         → ¬ ReadsTold line.now told }
@@ -156,5 +216,18 @@ pub(crate) fn read_told(alloc: Global, line: &[u8]) -> Result<Told, NotRead>
         Ok(Told { key, call, reply })
     } else {
         Err(NotRead::Flawed(Flaw::NotTold))
+    }
+}
+
+/// The reply of which a line is the record. A compact line of both in the order in which clients write them
+/// is read with no memory but that of the two; any other as `serde_json` reads it.
+pub(crate) fn read_told(alloc: Global, line: &[u8]) -> Result<Told, NotRead>
+    ensures told { IfOk result (ReadsTold line.now) }
+    ensures flaw { (flaw : Flaw) → result ≡ Err (NotRead.Flawed flaw) → (told : told.Told)
+        → ¬ ReadsTold line.now told }
+{
+    match read_compact(alloc, line)? {
+        Some(told) => Ok(told),
+        None => read_tree(alloc, line),
     }
 }
