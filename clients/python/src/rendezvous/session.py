@@ -68,10 +68,10 @@ class Session:
     def __init__(self, address: Address, client: Optional[int] = None, incarnation: Optional[int] = None, *,
                  clients: Optional[range] = None, version: int = GREATEST_VERSION, patience: Optional[float] = 60.0,
                  answer: float = 30.0, record: Optional[Path] = None, connect_timeout: Optional[float] = 5.0,
-                 renew: bool = False) -> None:
+                 renew: bool = False, presence: Optional[float] = None) -> None:
         self.address, self.patience = address_of(address), patience
         checked(not renew or incarnation is None, UNGIVEN)
-        manner = manner_of(version, patience, answer, connect_timeout, record, renew)
+        manner = manner_of(version, patience, answer, connect_timeout, record, renew, presence)
         self._process = os.getpid()
         self._closed = False
         # The job that runs, or that its caller left, and that of a close: setdefault and pop are single steps. Whoever pops it
