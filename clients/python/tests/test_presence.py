@@ -16,7 +16,7 @@ from book import PLACE, Book, named
 from context import Case, asked, behind, impatient, in_time, key, raised_by, rv, session, unhurried, until
 from let_in import handled
 from record_lines import lines_of
-from rendezvous import aio, calls
+from rendezvous import aio, calls, stream
 from rendezvous.course import LEAST_WAIT, Course
 from scripted import HANG_UP, SILENCE, Scripted, received_by, refused, reply, running_first, welcome
 from test_aio import cancelled, comes, made, raised, run
@@ -306,6 +306,24 @@ class Tasks(Case):
                 async with made(server, presence=PRESENCE) as one:
                     with between(lambda _: one.cancel()):
                         self.assertEqual((await raised(one.take(3))).args, rv.Cancelled(None).args)
+                    self.assertEqual((await one.take(3), requests(server)), ("a", [(1, PIECE), (2, PIECE)]))
+        run(asks())
+
+    def test_as_the_answer_comes(self):
+        """Of a task that is cancelled in the step in which a piece's answer came, no other piece is asked."""
+        async def asks():
+            with Scripted(welcome, TIMED_OUT, reply("item", item="a")) as server:
+                async with made(server, presence=PRESENCE) as one:
+                    task = asyncio.ensure_future(one.take(3))
+                    comes_in = stream.Connection.data_received
+
+                    def cancelled_behind(link, data):
+                        comes_in(link, data)
+                        if len(server.heard) == 2:
+                            task.cancel()
+                    with mock.patch.object(stream.Connection, "data_received", cancelled_behind):
+                        self.assertIs(type(await raised(task)), asyncio.CancelledError)
+                    self.assertEqual((one.last, one.unsettled), (rv.replies.TimedOut(key(1)), None))
                     self.assertEqual((await one.take(3), requests(server)), ("a", [(1, PIECE), (2, PIECE)]))
         run(asks())
 
