@@ -59,6 +59,11 @@ class Session:
     keeps it whatever becomes of the process, and is not forced to the disk. An OSError, before anything is leased or asked, where
     it can't be written; `NotRecorded` where it can't be later.
 
+    With `presence` a wait of more than so many seconds is asked in pieces of that at most: each is a new request, until one settles
+    otherwise than by its time. So what a process asked that was killed ends by itself within that time. A new piece comes last in
+    the line of those who wait. `last`, `unsettled` and `again` tell of one piece; a cancel between two is `Cancelled` without a
+    key.
+
     A server that is started anew ends the session. With `renew` it begins anew by itself, in the new epoch, under its client
     number and a greater incarnation: a call that certainly nobody met, or that only looks (`count`, `peek`), goes on there.
     One that may have been met is `EpochEnded`, and the next call begins anew. No incarnation is given then, and no other
