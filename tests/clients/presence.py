@@ -1,21 +1,25 @@
 """Waits that are asked in pieces, on a live host: what a killed process asked ends by itself, and what others asked goes on."""
 import contextlib
 import os
+import pathlib
 import random
 import subprocess
 import sys
+import tempfile
 import threading
 import time
 
 import rendezvous as rv
 from context import unhurried
+from record_lines import lines_of
 from tests import ROOT
 from tests.clients import java
+from tests.clients.proxy import Proxy
 from tests.model.account import Request
 from tests.model.tables import table_audit
 from tests.sockets.hosts import Host, HostProgram
 from tests.sockets.standing import Replies
-from tests.sockets.wire import PATIENCE, demand, until
+from tests.sockets.wire import PATIENCE, demand, together, until
 
 DOUBLE = HostProgram(ROOT / "tests/host/double.py")
 QUEUE = 3
@@ -23,6 +27,8 @@ QUEUE = 3
 WORKER, OTHER, PRESENCE = 1, 2, 1
 # How many takes are cancelled at any moment, and the presence of these, in seconds.
 CANCELLED, BRIEF = 60, 0.02
+# How many items are handed over on a bad link, and how many connections that has.
+HANDED, CONNECTIONS = 60, 2_000
 # Workers in Python, which wait in a take until they are killed.
 THREAD = f"rendezvous.Session(address, {WORKER}, 1, presence={PRESENCE}).take({QUEUE})"
 TASK = f"asyncio.run(rendezvous.aio.Session(address, {WORKER}, 1, presence={PRESENCE}).take({QUEUE}))"
@@ -40,10 +46,10 @@ def in_java(_, port):
     return java.command("rendezvous.Scenes", "waits", port), None
 
 
-def session(server, number, presence=None):
+def session(server, number, presence=None, **more):
     """A session of a client, which waits long on a slow machine."""
     return rv.Session(("127.0.0.1", server.port), number, 1, patience=PATIENCE, answer=PATIENCE / 2, connect_timeout=None,
-                      presence=presence)
+                      presence=presence, **more)
 
 
 @contextlib.contextmanager
@@ -190,6 +196,29 @@ def cancels_at_any_moment(program, seed):
     return f"{len(told)} of {CANCELLED} takes had an item"
 
 
+def over_a_bad_link(program, seed):
+    """Transfers and takes in brief pieces, where answers are lost and requests come twice: each item is handed over once, in
+    order, and the account has the reply of each piece."""
+    chance, items = random.Random(seed), [f"item {number}" for number in range(HANDED)]
+
+    def takes(one):
+        time.sleep(chance.random() * 2 * BRIEF)
+        return one.take(QUEUE), one.last.key
+    with tempfile.TemporaryDirectory(prefix="rv-presence-") as folder, Host(HostProgram(program)) as server, \
+            Proxy(server, seed, CONNECTIONS) as proxy:
+        record = pathlib.Path(folder, "record")
+        with session(proxy, WORKER, BRIEF, record=record) as giver, session(proxy, OTHER, BRIEF, record=record) as taker:
+            receipts, taken = together(lambda: [giver.transfer(QUEUE, item) for item in items],
+                                       lambda: [takes(taker) for _ in items])
+        proxy.close()
+        account_of(server)
+        server.keeps(record.read_bytes())
+        late = sum(line.reply["reply"] == "timedout" for line in lines_of(record))
+    demand([item for item, _ in taken] == items, f"{taken} were taken")
+    demand([receipt.by for receipt in receipts] == [key for _, key in taken], f"{receipts} for {taken}")
+    return f"{late} pieces timed out, and {HANDED} items were handed over"
+
+
 CASES = [killed_workers, at_the_double, in_its_third_piece, the_place_in_the_line, a_time_of_its_own]
-BY_SEED = [cancels_at_any_moment]
+BY_SEED = [cancels_at_any_moment, over_a_bad_link]
 WITH_JAVA = [a_killed_worker_in_java, java_at_the_double]

@@ -66,6 +66,17 @@ def ends(call, server, kind, **more):
         return raised_by(lambda: told.append(call(one))) or told[0]
 
 
+def renewed(server, kind):
+    """What a take gives in a session of this kind that renews itself."""
+    async def awaited():
+        async with aio.Session(server.address, 1, renew=True, connect_timeout=None, presence=PRESENCE) as one:
+            return await one.take(3)
+    if kind is aio.Session:
+        return run(awaited())
+    with rv.Session(server.address, 1, renew=True, connect_timeout=None, presence=PRESENCE) as one:
+        return one.take(3)
+
+
 def between(deed):
     """In the block, a deed is done between two pieces: the answer of one was taken in, and the next one is not sent yet."""
     pieced = Course._pieced
@@ -170,25 +181,14 @@ class Pieces(Case):
                 self.assertEqual((type(fault), fault.key, fault.current), (rv.NotAsked, key(2), 5))
             with Scripted(welcome, TIMED_OUT, refused(2, current=5), lambda came: welcome(came, 5), TIMED_OUT,
                           reply("item", item="a")) as server:
-                deed = ends_of(server, kind)
-                self.assertEqual((deed, requests(server)), ("a", [(1, PIECE), (2, PIECE), (1, PIECE), (2, PIECE)]))
+                gave = renewed(server, kind)
+                self.assertEqual((gave, requests(server)), ("a", [(1, PIECE), (2, PIECE), (1, PIECE), (2, PIECE)]))
 
     def test_a_full_server(self):
         """A piece that finds no room is asked until it does."""
         with Scripted(welcome, TIMED_OUT, refused(10), refused(10), reply("item", item="a")) as server:
             self.assertEqual(ends(lambda one: one.take(3), server, rv.Session), "a")
             self.assertEqual(requests(server), [(1, PIECE)] + [(2, PIECE)] * 3)
-
-
-def ends_of(server, kind):
-    """What a take gives in a session that renews itself."""
-    async def awaited():
-        async with aio.Session(server.address, 1, renew=True, connect_timeout=None, presence=PRESENCE) as one:
-            return await one.take(3)
-    if kind is aio.Session:
-        return run(awaited())
-    with rv.Session(server.address, 1, renew=True, connect_timeout=None, presence=PRESENCE) as one:
-        return one.take(3)
 
 
 class Records(Case):
