@@ -258,6 +258,15 @@ class Cancels(Case):
                 jobs = one.items(3)
                 with between(lambda _: stops(one, jobs)):
                     self.assertEqual((list(jobs), requests(server)), (["a"], [(1, PIECE), (2, PIECE)]))
+            with Scripted(welcome, reply("item", item="a"), TIMED_OUT) as server:
+                self.assertEqual((run(self.looped(server, stops)), requests(server)), (["a"], [(1, PIECE), (2, PIECE)]))
+
+    async def looped(self, server, stops):
+        """The items of a loop in asyncio that is stopped between two pieces."""
+        async with made(server, presence=PRESENCE) as one:
+            jobs = one.items(3)
+            with between(lambda _: stops(one, jobs)):
+                return [item async for item in jobs]
 
     def test_a_close(self):
         """Between two pieces, by another thread: nothing is asked any more, and nothing is unsettled."""

@@ -167,8 +167,8 @@ public final class RvClients implements AutoCloseable {
         /**
          * For how long one request waits at most, a day at most, in whole milliseconds, rounded up. A longer wait is asked in
          * pieces, each of them a new request, one after another until one settles otherwise than by its time. So what a process
-         * asked that is killed ends by itself within this time. Each piece comes last in the line of those that wait. Unless
-         * it is chosen here a wait is one request.
+         * asked that is killed ends by itself within this time. Each piece comes last in the line of those that wait. What is
+         * unsettled, and the last outcome, is of one piece. Unless it is chosen here a wait is one request.
          */
         public Builder presence(Duration time) {
             presence = Calls.presence(Objects.requireNonNull(time, "a presence is a time"));
