@@ -500,6 +500,19 @@ def a_consumer(_java):
         program.expect("gave an end, interrupted", "ends")
 
 
+def a_wait_in_pieces(_java):
+    """Is a new request for each; where a cancel is told that the piece timed out, no other one is asked."""
+    late, hour = reply("timedout"), 3_600_000
+    with scripted(welcome, late, late, reply("item", item="a")) as server, playing("pieces", server.port) as program:
+        server.otherwise = silent_then(late)
+        program.expect("gave a")
+        heard_of(server, 4)
+        program.go()
+        program.expect("threw InterruptedException", "ends")
+        asked = [(one["kind"], one["number"], one.get("wait")) for one in server.heard[1:]]
+        demand(asked == [*(("request", number, hour) for number in range(1, 5)), ("cancel", 4, None)], f"{asked}")
+
+
 @java.in_time
 def times(_java):
     """A call with a time ends behind it and a second, long before the patience of 100 seconds, with a silent server and none."""
@@ -518,4 +531,4 @@ CASES = [
     replies_that_a_call_cannot_have, for_ever, a_long_time, connections_of_dead_threads, a_pooled_thread,
     an_interrupt_in_the_hello, an_interrupt_while_the_server_is_away, an_interrupt_in_again, a_nested_answer,
     exceptions_read_back, an_unresolved_host, numbers_of_sessions, no_descriptors, times, a_cancelled_take,
-    a_cancelled_transfer, a_consumer]
+    a_cancelled_transfer, a_consumer, a_wait_in_pieces]

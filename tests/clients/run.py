@@ -16,8 +16,8 @@ ROOT = pathlib.Path(__file__).resolve().parents[2]
 sys.dont_write_bytecode, sys.path[0] = True, str(ROOT)
 from tests.clients import (  # noqa: E402
     browser, cancelled_tasks, crowds, drains, guide, installed, interrupted, interrupted_judged, java, java_closes, java_leases,
-    java_packages, java_record, java_scenes, long_waits, missing_tools, python_page, python_tests, receipts, records, restarts,
-    table_cases, wrong_clients)
+    java_packages, java_record, java_scenes, long_waits, missing_tools, presence, python_page, python_tests, receipts, records,
+    restarts, table_cases, wrong_clients)
 from tests.sockets.wire import Wrong  # noqa: E402
 from tests import left_out  # noqa: E402
 
@@ -88,15 +88,16 @@ def run(program, asked, count):
     else:
         run_java(program, count)
         count.run(crowds.beside_the_jdk, program, asked.seed, asked.scripts)
-        for case in receipts.WITH_JAVA + restarts.WITH_JAVA:
+        for case in receipts.WITH_JAVA + restarts.WITH_JAVA + presence.WITH_JAVA:
             count.run(case, program)
         for case in java_closes.CASES:
             count.run(case, program, asked.seed)
     count.run(crowds.at_the_double)
     count.run(crowds.a_crowd, program, asked.seed, asked.seconds)
-    for case in interrupted.CASES + cancelled_tasks.CASES:
+    for case in interrupted.CASES + cancelled_tasks.CASES + presence.BY_SEED:
         count.run(case, program, asked.seed)
-    for case in receipts.CASES + restarts.CASES + drains.CASES + python_page.CASES + guide.CASES + missing_tools.CASES:
+    for case in (receipts.CASES + restarts.CASES + drains.CASES + presence.CASES + python_page.CASES + guide.CASES
+                 + missing_tools.CASES):
         count.run(case, program)
     if browser.missing():
         left_out.tell("the pictures in a browser", browser.missing())

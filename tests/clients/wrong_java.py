@@ -3,12 +3,12 @@ bodies, for the classes of the other files are not built anew."""
 from tests.clients.wrong import (
     ANOTHER_NUMBER, NEW_KEY, OTHER_EPOCH, NOBODY, NEWEST_FIRST, TOO_MANY, SHORT_FRAMES, OTHER_WELCOME,
     OLD_HELLO, OWN_NUMBER, PART_OF_A_KEY, OTHER_VERSION, TELLS_WRONG, NOTHING_GIVEN, CANCEL_RECORDED, NEW_RECORD, DROPS_REPLY,
-    NEVER_UNMET, UNMET_THOUGH_HEARD, UNMET_THOUGH_LOST, Edit, WrongClient)
+    NEVER_UNMET, NO_PRESENCE, UNMET_THOUGH_HEARD, UNMET_THOUGH_LOST, Edit, WrongClient)
 
-(MACHINE, REPLIES, SESSION, RUNNING, POOL, LEASES, QUEUE, FUTURE, UNCLAIMED, CONSUMER, BODIES, LINK, CLIENTS, RECORD,
+(CALLS, MACHINE, REPLIES, SESSION, RUNNING, POOL, LEASES, QUEUE, FUTURE, UNCLAIMED, CONSUMER, BODIES, LINK, CLIENTS, RECORD,
  INCARNATIONS) = (
     f"clients/java/src/main/java/rendezvous/{name}.java"
-    for name in ("Machine", "Replies", "RvSession", "Running", "Pool", "Leases", "RvTransferQueue", "RequestFuture", "Unclaimed",
+    for name in ("Calls", "Machine", "Replies", "RvSession", "Running", "Pool", "Leases", "RvTransferQueue", "RequestFuture", "Unclaimed",
                  "RvConsumer", "Bodies", "SocketLink", "RvClients", "RecordFile", "Incarnations"))
 
 IN_JAVA = [
@@ -74,6 +74,10 @@ IN_JAVA = [
              '        if (interrupted && !interruptible) {\n            Thread.c')]),
     WrongClient("tells each cancel as a time that is over", "java_scenes, cancelled though nobody asked", [
         Edit(SESSION, 'running.order() == Order.TIME', 'running.order() != Order.USER')]),
+    WrongClient(NO_PRESENCE, "presence, java at the double", [
+        Edit(CALLS, "return presence < FOR_EVER && call.has", "return presence < 0 && call.has")]),
+    WrongClient("asks the next piece of a call that was interrupted", "java_scenes, a wait in pieces", [
+        Edit(RUNNING, "        due |= order != Order.NOBODY;\n", "")]),
     WrongClient("goes on behind a close", "java_scenes, close in a pause", [
         Edit(RUNNING, "            noteClose();\n", "")]),
     WrongClient("closes and waits not for what was given up", "java_scenes, a close after a cancel", [

@@ -2,7 +2,8 @@
 from tests.clients.wrong import (
     ANOTHER_NUMBER, NEW_KEY, OTHER_EPOCH, NOBODY, NEWEST_FIRST, TOO_MANY, SHORT_FRAMES, OUT_OF_STEP,
     OTHER_WELCOME, OLD_HELLO, OWN_NUMBER, PART_OF_A_KEY, OTHER_VERSION, FULL_TOO_EARLY, REPEATS_ANEW,
-    ANY_REPLY, LAST_OUTCOME, ANY_CALL, TELLS_WRONG, NOTHING_GIVEN, CANCEL_RECORDED, NEW_RECORD, DROPS_REPLY, NEVER_UNMET, UNMET_THOUGH_HEARD,
+    ANY_REPLY, LAST_OUTCOME, ANY_CALL, TELLS_WRONG, NOTHING_GIVEN, CANCEL_RECORDED, NEW_RECORD, DROPS_REPLY, NEVER_UNMET, NO_PRESENCE,
+    UNMET_THOUGH_HEARD,
     UNMET_THOUGH_LOST, Edit, WrongClient)
 
 PACKAGE, TESTS = "clients/python/src/rendezvous", "clients/python/tests"
@@ -120,6 +121,20 @@ IN_PYTHON = [
         Edit(RECORD, "    record.check()\n", "")]),
     WrongClient("takes a wrong time for a right one", "test_words.Arguments.test_of_a_call", [
         Edit(CALLS, "if isinstance(seconds, bool) or not", "if not")]),
+    WrongClient(NO_PRESENCE, "presence, at the double", [
+        Edit(CALLS, "    if presence is None or not is_in_pieces(call, presence):", "    if True or presence is None:")]),
+    WrongClient("gives its last piece more than is left", "test_presence.Pieces.test_a_time_of_its_own", [
+        Edit(CALLS, "presence if left * 1000 >= presence else math.ceil(max(0.0, left) * 1000)}", "presence}")]),
+    WrongClient("tells a piece that timed out as the end of its call", "test_presence.Pieces.test_one_after_another", [
+        Edit(COURSE, "        if not timed_out or job.call is None or", "        if told or job.call is None or")]),
+    WrongClient("asks the next piece of a call that was cancelled", "test_presence.Cancels.test_within_a_piece", [
+        Edit(COURSE, "        self._heard_at, self._bound = time.monotonic(), LEAST_PAUSE\n        return None\n",
+             "        job.given_up = False\n        return None\n")]),
+    WrongClient("asks on after a piece that it can't record", "test_presence.Records.test_one_that_is_not_recorded", [
+        Edit(COURSE, " and job.unrecorded is None\n", "\n")]),
+    WrongClient("asks another piece for a cancelled task", "test_presence.Tasks.test_as_the_answer_comes", [
+        Edit(AIO, "        under_way.job.given_up = True\n        if self._course.has_news():\n            self._go_on(under_way, True)\n",
+             "        if self._course.has_news():\n            self._go_on(under_way, True)\n        under_way.job.given_up = True\n")]),
     WrongClient("has exceptions without pickles", "test_processes.Pickles.test_exceptions", [
         Edit(ERRORS, "super().__init__(key, number, current, why)", "super().__init__(key)")]),
     WrongClient("counts a copy over a link that its peer had closed",

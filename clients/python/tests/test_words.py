@@ -241,6 +241,7 @@ MADE = [
     *[("address", *each, "address") for each in ADDRESSES],
     *[(name, *each, name) for name in ("patience", "answer", "connect_timeout") for each in TIMES + BELOW],
     ("answer", None, TypeError, "answer"), ("answer", 0, ValueError, "answer"),
+    *[("presence", *each, "presence") for each in [*TIMES, *BELOW, (0, ValueError), (INF, ValueError), (86_400.001, ValueError)]],
     *[("client", each, ValueError, "client") for each in (0, -1, True, 1.0, "1", 2**53)],
     *[("incarnation", each, ValueError, "incarnation") for each in (0, -1, True, 1.0, "1", 2**53)],
     *[("version", each, ValueError, "version") for each in (0, 3, True, "2", None)],

@@ -53,10 +53,10 @@ class Session:
     def __init__(self, address: Address, client: Optional[int] = None, incarnation: Optional[int] = None, *,
                  clients: Optional[range] = None, version: int = GREATEST_VERSION, patience: Optional[float] = 60.0,
                  answer: float = 30.0, record: Optional[Path] = None, connect_timeout: Optional[float] = 5.0,
-                 renew: bool = False) -> None:
+                 renew: bool = False, presence: Optional[float] = None) -> None:
         self.address, self.patience = address_of(address), patience
         checked(not renew or incarnation is None, UNGIVEN)
-        manner = manner_of(version, patience, answer, connect_timeout, record, renew)
+        manner = manner_of(version, patience, answer, connect_timeout, record, renew, presence)
         self._process = os.getpid()
         self._course = StreamCourse(self.address, name_of(client, incarnation, clients), manner)
         self._event_loop: Optional[asyncio.AbstractEventLoop] = None
@@ -364,9 +364,9 @@ class Session:
 
     def _leave(self, under_way: UnderWay) -> None:
         """Its task has gone, and another one settles it, or the close that waits; an answer that is here already comes first."""
+        under_way.job.given_up = True
         if self._course.has_news():
             self._go_on(under_way, True)
-        under_way.job.given_up = True
         self._go_on(under_way, False)
         if not under_way.over and not self._closed and self._event_loop and not self._event_loop.is_closed():
             self._settling = self._event_loop.create_task(self._to_its_end(under_way))

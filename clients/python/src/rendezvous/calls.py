@@ -58,6 +58,22 @@ def looks(call: Members) -> bool:
     return CALLS[call["call"]].looks
 
 
+# ---- pieces of a wait
+
+def is_in_pieces(call: Members, presence: Optional[int]) -> bool:
+    """Whether a call waits longer than one request of it, which waits for so many milliseconds at most; None is no limit."""
+    wait = call.get("wait", 0)
+    return presence is not None and (wait == Wait.FOREVER.value or isinstance(wait, int) and wait > presence)
+
+
+def piece_of(call: Members, presence: Optional[int], left: float) -> Members:
+    """What is asked next of a call that has so many seconds left: itself, or a piece of its wait. The last piece has what is
+    left."""
+    if presence is None or not is_in_pieces(call, presence):
+        return call
+    return {**call, "wait": presence if left * 1000 >= presence else math.ceil(max(0.0, left) * 1000)}
+
+
 # ---- members
 
 def checked(holds: bool, what: str) -> None:
@@ -122,6 +138,15 @@ def times_of(patience: Optional[float], answer: float, connect_timeout: Optional
     time_of("patience", patience)
     checked(time_of("answer", answer, may_be_none=False) > 0, f"answer is above zero: {answer!r}")
     return answer, time_of("connect_timeout", connect_timeout)
+
+
+def presence_of(presence: Optional[float]) -> Optional[int]:
+    """For how many milliseconds one request of a session waits at most, rounded up; None is no limit."""
+    if presence is None:
+        return None
+    number = number_of("presence", presence)
+    checked(0 < number * 1000 <= GREATEST_WAIT, f"presence is above zero, and at most a day: {presence!r}")
+    return math.ceil(number * 1000)
 
 
 def milliseconds(seconds: float) -> int:

@@ -12,16 +12,18 @@ from typing import Callable, Generator, NamedTuple, Optional, Protocol, Tuple
 
 from . import machine as m
 from .bodies import GREATEST_VERSION, Members, NoAnswer, body_of, is_whole, read_answer
-from .calls import checked, looks, seconds_of, time_of, times_of
+from .calls import checked, is_in_pieces, looks, piece_of, presence_of, seconds_of, time_of, times_of
 from .errors import REFUSALS, Misused, NotRecorded
 from .leases import Name
 from .link import named
 from .record import Path, Record, line_of, record_of
-from .replies import Key, Outcome
+from .replies import Key, Outcome, TimedOut
 
 # A request whose own time is over is cancelled behind so many seconds, in which the server's own word may still come,
 # and what is known is told behind so many.
 CANCEL_BEHIND, TELL_BEHIND = 0.5, 1.0
+# A server counts whole milliseconds: where less is left of a call's own time, that is over.
+LEAST_WAIT = 0.001
 # Pauses before a next try, in seconds: any up to this bound, which doubles each time.
 LEAST_PAUSE, GREATEST_PAUSE = 0.01, 5.0
 FOREVER = float("inf")
@@ -59,15 +61,15 @@ class Channel(Protocol):
 
 class Job:
     """One call and what came of it. `call` is None where only the hello is to be said; `resumes` where it goes on with the
-    unsettled request. `own` is the call's own time in seconds. `asked` has the members of the call that it is about.
-    `unrecorded` is there where its reply could not be written into the record. `shelved`: what it took is unclaimed, and this
-    job gives it no more."""
+    unsettled request. `own` is the call's own time in seconds. `asked` has the members of the call that it is about: its request
+    may be a piece of that. `unrecorded` is there where its reply could not be written into the record. `shelved`: what it took
+    is unclaimed, and this job gives it no more."""
 
     def __init__(self, call: Optional[Members], own: Optional[float], patience: Optional[float], resumes: bool = False) -> None:
         self.call, self.resumes = call, resumes
         self.asked = call
         self.patience = time_of("patience", patience)
-        self.cancel_at = self.tell_at = FOREVER
+        self.ends = self.cancel_at = self.tell_at = FOREVER
         self.limit(own)
         self.given_up = False
         self.cancelled = False
@@ -93,7 +95,12 @@ class Job:
     def limit(self, own: Optional[float]) -> None:
         """From now on it has so many seconds of its own, where it had not fewer."""
         ends = time.monotonic() + seconds_of(own)
+        self.ends = min(self.ends, ends)
         self.cancel_at, self.tell_at = min(self.cancel_at, ends + CANCEL_BEHIND), min(self.tell_at, ends + TELL_BEHIND)
+
+    def left(self) -> float:
+        """How many seconds of its own time are left."""
+        return self.ends - time.monotonic()
 
     def give_up(self, at_most: float) -> None:
         """Its caller goes, and waits so many seconds for what is known."""
@@ -119,23 +126,26 @@ class Running:
 
 class Manner(NamedTuple):
     """How a session goes about its calls: the version that it speaks, for how many seconds it awaits one answer, and its first
-    welcome, the record that it keeps, and whether it begins anew where its epoch has ended."""
+    welcome, the record that it keeps, whether it begins anew where its epoch has ended, and for how many milliseconds one request
+    waits at most."""
 
     version: int
     answer: float
     connect_timeout: float
     record: Optional[Record]
     renew: bool
+    presence: Optional[int]
 
 
 def manner_of(version: int, patience: Optional[float], answer: float, connect_timeout: Optional[float], record: Optional[Path],
-              renew: bool) -> Manner:
+              renew: bool, presence: Optional[float]) -> Manner:
     """The manner of a session, by what it is given."""
     awaits, connects = times_of(patience, answer, connect_timeout)
     checked(is_whole(version, 1, GREATEST_VERSION), f"the version is 1 to {GREATEST_VERSION}: {version!r}")
     if not isinstance(renew, bool):
         raise TypeError(f"renew is True or False: {renew!r}")
-    return Manner(version, awaits, connects, record_of(record), renew)
+    waits = presence_of(presence)
+    return Manner(version, awaits, connects, record_of(record), renew, waits)
 
 
 class Course:
@@ -206,12 +216,12 @@ class Course:
         if self._outlived and self.manner.renew and not job.resumes:
             self._begin_anew(None)
         if job.call is not None:
-            self._step(m.Ask(job.call))
+            self._step(m.Ask(self._piece(job, job.call)))
         elif not job.resumes and self.machine.state is not m.State.NEW:
             if self.machine.state is m.State.IDLE:
                 return m.Welcomed()
             raise Misused("the session has ended, or a request is unsettled")
-        job.asked = self.machine.call
+        job.asked = job.call or self.machine.call
         self._heard_at, self._resume_at, self._bound = time.monotonic(), 0.0, LEAST_PAUSE
         told: Optional[m.Told] = None
         while told is None:
@@ -311,7 +321,21 @@ class Course:
             self._hang_up()
         if isinstance(made.tell, m.EpochEnded):
             return self._outlives(job, made.tell)
-        return made.tell
+        return self._pieced(job, made.tell)
+
+    def _piece(self, job: Job, call: Members) -> Members:
+        """What is asked next of a job's call."""
+        return piece_of(call, self.manner.presence, job.left())
+
+    def _pieced(self, job: Job, told: Optional[m.Told]) -> Optional[m.Told]:
+        """What an answer tells of a job: nothing yet where a piece of its wait timed out, and there is time for the next one. That
+        is a new request, which is never sent where the job is given up by now. A reply that can't be recorded ends the job."""
+        timed_out = isinstance(told, m.Settled) and isinstance(told.outcome, TimedOut) and job.unrecorded is None
+        if not timed_out or job.call is None or not is_in_pieces(job.call, self.manner.presence) or job.left() <= LEAST_WAIT:
+            return told
+        self._step(m.Ask(self._piece(job, job.call)))
+        self._heard_at, self._bound = time.monotonic(), LEAST_PAUSE
+        return None
 
     def _welcome(self) -> None:
         """The server is there: what is logged of it from now on is something new."""
@@ -350,7 +374,7 @@ class Course:
             return told
         if call is None or not (told.unmet or looks(call)):
             return told
-        self._begin_anew(call)
+        self._begin_anew(self._piece(job, call))
         self._renewed_for = told.current
         return None
 

@@ -59,6 +59,11 @@ class Session:
     keeps it whatever becomes of the process, and is not forced to the disk. An OSError, before anything is leased or asked, where
     it can't be written; `NotRecorded` where it can't be later.
 
+    With `presence` a wait of more than so many seconds is asked in pieces of that at most: each is a new request, until one settles
+    otherwise than by its time. So what a process asked that was killed ends by itself within that time. A new piece comes last in
+    the line of those who wait. `last`, `unsettled` and `again` tell of one piece; a cancel between two is `Cancelled` without a
+    key.
+
     A server that is started anew ends the session. With `renew` it begins anew by itself, in the new epoch, under its client
     number and a greater incarnation: a call that certainly nobody met, or that only looks (`count`, `peek`), goes on there.
     One that may have been met is `EpochEnded`, and the next call begins anew. No incarnation is given then, and no other
@@ -68,10 +73,10 @@ class Session:
     def __init__(self, address: Address, client: Optional[int] = None, incarnation: Optional[int] = None, *,
                  clients: Optional[range] = None, version: int = GREATEST_VERSION, patience: Optional[float] = 60.0,
                  answer: float = 30.0, record: Optional[Path] = None, connect_timeout: Optional[float] = 5.0,
-                 renew: bool = False) -> None:
+                 renew: bool = False, presence: Optional[float] = None) -> None:
         self.address, self.patience = address_of(address), patience
         checked(not renew or incarnation is None, UNGIVEN)
-        manner = manner_of(version, patience, answer, connect_timeout, record, renew)
+        manner = manner_of(version, patience, answer, connect_timeout, record, renew, presence)
         self._process = os.getpid()
         self._closed = False
         # The job that runs, or that its caller left, and that of a close: setdefault and pop are single steps. Whoever pops it

@@ -2,6 +2,7 @@ package rendezvous;
 
 import com.google.gson.JsonElement;
 import com.google.gson.JsonObject;
+import java.time.Duration;
 import java.util.Map;
 import java.util.Objects;
 import java.util.Set;
@@ -69,6 +70,25 @@ final class Calls {
         Job later(long nanos) {
             return own == FOR_EVER ? this : new Job(call, Math.max(0, own - nanos), abort);
         }
+
+        /** Whether it waits longer than one request, which waits so many milliseconds at most; {@link #FOR_EVER} is no limit. */
+        boolean isInPieces(long presence) {
+            return presence < FOR_EVER && call.has("wait") && waits(call)
+                && (!isTimed(call) || Bodies.number(call, "wait") > presence);
+        }
+
+        /**
+         * What is asked next of it, with so many nanoseconds left: its members, or those of a piece of its wait. The last piece
+         * has what is left.
+         */
+        JsonObject piece(long presence, long left) {
+            if (!isInPieces(presence)) {
+                return call;
+            }
+            JsonObject piece = call.deepCopy();
+            piece.addProperty("wait", Math.min(presence, roundedUp(left)));
+            return piece;
+        }
     }
 
     static final long FOR_EVER = Long.MAX_VALUE;
@@ -104,6 +124,21 @@ final class Calls {
         }
         call.addProperty("item", item);
         return call;
+    }
+
+    /** A time in whole milliseconds, of so many nanoseconds, rounded up. */
+    private static long roundedUp(long nanos) {
+        long millis = TimeUnit.NANOSECONDS.toMillis(nanos);
+        return TimeUnit.MILLISECONDS.toNanos(millis) < nanos ? millis + 1 : millis;
+    }
+
+    /** For how many milliseconds one request waits at most, rounded up: more than none, and a day at most. */
+    static long presence(Duration time) {
+        long millis = roundedUp(RvSession.nanos("presence", time));
+        if (millis == 0 || millis > GREATEST_WAIT) {
+            throw new IllegalArgumentException("a presence is above zero, and at most a day: " + time);
+        }
+        return millis;
     }
 
     /** A call that waits so: "now" or "forever". */

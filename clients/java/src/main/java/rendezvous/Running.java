@@ -10,11 +10,13 @@ final class Running {
 
     /** Within how many nanoseconds a call that is to end ends by what is known, where nothing else is chosen. */
     static final long GRACE = TimeUnit.SECONDS.toNanos(1);
+    private static final long LEAST_WAIT = TimeUnit.MILLISECONDS.toNanos(1);
     private static final long LEAST_PAUSE = TimeUnit.MILLISECONDS.toNanos(10);
     private static final long GREATEST_PAUSE = TimeUnit.SECONDS.toNanos(5);
 
     private final long began = System.nanoTime();
     private final boolean interruptible;
+    private final long own;
     private final long grace;
     private final Abort abort;
     private final long givesUp;
@@ -34,6 +36,7 @@ final class Running {
      */
     Running(boolean interruptible, long own, long patience, long grace, Abort abort) {
         this.interruptible = interruptible;
+        this.own = own;
         this.patience = patience;
         this.grace = grace;
         this.abort = abort;
@@ -138,6 +141,21 @@ final class Running {
         patience = nanos;
         heard = now();
         pause = LEAST_PAUSE;
+    }
+
+    /** How many nanoseconds of its own time are left. */
+    long ownLeft() {
+        return own == Calls.FOR_EVER ? own : Math.max(0, own - now());
+    }
+
+    /**
+     * Whether a call of which a piece timed out has time for the next one, with this patience. That is given up before it is
+     * sent, where the call is by now. A server counts whole milliseconds: where less is left, the time is over.
+     */
+    boolean hasMore(long nanos) {
+        heard(nanos);
+        due |= order != Order.NOBODY;
+        return ownLeft() > LEAST_WAIT;
     }
 
     /** Something failed; the nanoseconds to pause, which grow from fault to fault. */

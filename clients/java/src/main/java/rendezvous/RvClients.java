@@ -94,6 +94,7 @@ public final class RvClients implements AutoCloseable {
         private OptionalLong incarnation = OptionalLong.empty();
         private Duration patience = RvSession.PATIENCE;
         private long connectTime = RvSession.nanos("connectTimeout", RvSession.CONNECT);
+        private long presence = Calls.FOR_EVER;
         private int version = RvSession.VERSION;
         private Executor executor;
         private boolean recordIsChosen;
@@ -160,6 +161,17 @@ public final class RvClients implements AutoCloseable {
          */
         public Builder connectTimeout(Duration time) {
             connectTime = RvSession.nanos("connectTimeout", Objects.requireNonNull(time, "a connectTimeout is a time"));
+            return this;
+        }
+
+        /**
+         * For how long one request waits at most, a day at most, in whole milliseconds, rounded up. A longer wait is asked in
+         * pieces, each of them a new request, one after another until one settles otherwise than by its time. So what a process
+         * asked that is killed ends by itself within this time. Each piece comes last in the line of those that wait. What is
+         * unsettled, and the last outcome, is of one piece. Unless it is chosen here a wait is one request.
+         */
+        public Builder presence(Duration time) {
+            presence = Calls.presence(Objects.requireNonNull(time, "a presence is a time"));
             return this;
         }
 
@@ -236,6 +248,7 @@ public final class RvClients implements AutoCloseable {
             int spoken = version;
             long nanos = grace;
             long connects = connectTime;
+            long waits = presence;
             Optional<RecordFile> kept = recordIsChosen ? Optional.ofNullable(record).map(RecordFile::new)
                 : RecordFile.of(System.getenv());
             kept.ifPresent(RecordFile::check);
@@ -243,6 +256,7 @@ public final class RvClients implements AutoCloseable {
                 RvSession session = new RvSession(links, client, each, time, RvSession.ANSWER, spoken);
                 session.grace(nanos);
                 session.connectTime(connects);
+                session.presence(waits);
                 session.record(kept);
                 return session;
             };

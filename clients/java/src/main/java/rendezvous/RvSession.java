@@ -41,6 +41,7 @@ public final class RvSession implements AutoCloseable {
     private volatile Consumer<Outcome> whenSettled = outcome -> { };
     private volatile long grace = Running.GRACE;
     private volatile long connectTime = Calls.FOR_EVER;
+    private volatile long presence = Calls.FOR_EVER;
     private volatile boolean renews;
     private volatile Optional<RecordFile> record = Optional.empty();
     /** The request that was said last, or was to be said when its cancel was, and the body of what was heard last. */
@@ -156,6 +157,11 @@ public final class RvSession implements AutoCloseable {
         connectTime = nanos;
     }
 
+    /** One request waits for so many milliseconds at most, from the next call on: a longer wait is asked in pieces. */
+    void presence(long millis) {
+        presence = millis;
+    }
+
     /** Begins anew, once, where the server has a greater incarnation before any welcome: its clock was set back. */
     void renews() {
         renews = true;
@@ -226,16 +232,20 @@ public final class RvSession implements AutoCloseable {
     }
 
     /**
-     * The outcome of a call. An interrupt cancels it where it is interruptible: if its outcome is that it was cancelled
-     * this throws, else the outcome is given, and the thread stays interrupted. Of a call that is not interruptible the
-     * interrupt is set again at its end. A call that was aborted and cancelled gives {@link Outcome.Cancelled}.
+     * The outcome of a call, or of the last piece of its wait. An interrupt cancels it where it is interruptible: if its
+     * outcome is that it was cancelled this throws, else the outcome is given, and the thread stays interrupted. Of a call that
+     * is not interruptible the interrupt is set again at its end. A call that was aborted and cancelled gives {@link Outcome.Cancelled}.
      */
     Outcome ask(Calls.Job job, boolean interruptible) throws InterruptedException {
         enter(interruptible, job.own(), job.abort());
         try {
-            take(new Event.Ask(job.call()));
-            last = null;
-            Outcome outcome = outcome();
+            Outcome outcome;
+            do {
+                take(new Event.Ask(job.piece(presence, running.ownLeft())));
+                last = null;
+                whenSettled.accept(null);
+                outcome = outcome();
+            } while (outcome instanceof Outcome.TimedOut && job.isInPieces(presence) && running.hasMore(silence()));
             return outcome instanceof Outcome.Cancelled ? cancelled(outcome.key()) : outcome;
         } finally {
             leave();

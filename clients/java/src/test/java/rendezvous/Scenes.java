@@ -66,7 +66,8 @@ final class Scenes {
         Map.entry("serialized", Scenes::serialized), Map.entry("unresolved", Scenes::unresolved),
         Map.entry("used-up", Scenes::usedUp), Map.entry("no-descriptors", Scenes::noDescriptors),
         Map.entry("times", Scenes::times), Map.entry("cancelled-take", Scenes::cancelledTake),
-        Map.entry("cancelled-transfer", Scenes::cancelledTransfer), Map.entry("consumer", Scenes::consumer));
+        Map.entry("cancelled-transfer", Scenes::cancelledTransfer), Map.entry("consumer", Scenes::consumer),
+        Map.entry("waits", Scenes::waits), Map.entry("pieces", Scenes::pieces));
 
     /** A patience that ends in a scene, in milliseconds: long enough for a slow machine to ask. */
     private static final long SHORT = 3_000;
@@ -620,6 +621,23 @@ final class Scenes {
         LINES.readLine();
         other.thread.interrupt();
         System.out.println(other.end());
+    }
+
+    /** A take in pieces of a second, until it has an item. */
+    private static void waits(int port) {
+        RvClients clients = given(HOST, port, 1, 1).presence(Duration.ofSeconds(1)).build();
+        System.out.println(told(new RvTransferQueue(clients, 3)::take));
+    }
+
+    /** A take in pieces of an hour, and one that is interrupted. */
+    private static void pieces(int port) throws Exception {
+        RvTransferQueue queue =
+            new RvTransferQueue(given(HOST, port, 1, 1).grace(Answering.LONG).presence(Duration.ofHours(1)).build(), 3);
+        System.out.println(told(queue::take));
+        Started taking = Started.of(queue::take);
+        LINES.readLine();
+        taking.thread.interrupt();
+        System.out.println(taking.end());
     }
 
     /** There are descriptors for all of a link but its socket; then there are some again. */

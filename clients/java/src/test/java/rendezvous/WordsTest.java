@@ -70,6 +70,11 @@ final class WordsTest {
         rows.add(new Row(impatient::build, ILLEGAL, "patience"));
         rows.add(new Row(() -> builder.connectTimeout(null), NULL, "connectTimeout"));
         rows.add(new Row(() -> builder.connectTimeout(Duration.ofNanos(-1)), ILLEGAL, "connectTimeout"));
+        rows.add(new Row(() -> builder.presence(null), NULL, "presence"));
+        for (Duration time : List.of(Duration.ZERO, Duration.ofNanos(-1), Duration.ofDays(1).plusNanos(1),
+                ChronoUnit.FOREVER.getDuration())) {
+            rows.add(new Row(() -> builder.presence(time), ILLEGAL, "presence"));
+        }
         rows.add(new Row(() -> builder.executor(null), NULL, "executor"));
         rows.add(new Row(() -> builder.record(null), NULL, "record"));
         return rows;
