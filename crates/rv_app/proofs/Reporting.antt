@@ -7,53 +7,74 @@ use Rattle.rv_inspect.specs.Report.{BeginsReport, IsReport, StopsTaking, TookLin
 use Rattle.rv_inspect.specs.Statuses.{TellsFound}
 use Rattle.rv_replies.specs.declared.records.Records.{Records}
 use Rattle.rv_run.specs.declared.fault.RunFault.{RunFault}
-use Rattle.rv_app.specs.Verifying.{Reports, StopsReporting}
+use Rattle.rv_app.specs.Verifying.{IsRuleOf, Reports, StopsReporting}
 
-module _ {W : Type 0} (contents : W → Option (List ℕ)) (r : Option Records) (old new : Sink W) where
+module _ {W : Type 0} (contents : W → Option (List ℕ)) (again : Option (Option (List ℕ)))
+    (r : Option Records) (old new : Sink W) where
   -- the finding itself
   module _ (found : AccountFinding) (rule : Option Rule) (result : Result ℕ RunFault) where
-    pub reports : IfOk result (TellsFound found rule r)
+    pub reports : IsRuleOf found.verdict again rule → IfOk result (TellsFound found rule r)
         → OnOk result (TookLines contents (IsReport found rule r) old new)
-        → IfOk result (Reports contents (λ other. other ≡ found) r old new)
-    reports tells took = by result tells took
+        → IfOk result (Reports contents (λ other. other ≡ found) again r old new)
+    reports known tells took = by result tells took
       where
         by : (result : Result ℕ RunFault) → IfOk result (TellsFound found rule r)
             → OnOk result (TookLines contents (IsReport found rule r) old new)
-            → IfOk result (Reports contents (λ other. other ≡ found) r old new)
-        by (Ok status) tells took =
-            inl (record { found = found; is = refl; rule = rule; tells = tells; took = took })
+            → IfOk result (Reports contents (λ other. other ≡ found) again r old new)
+        by (Ok status) tells took = inl (record {
+          found = found;
+          is = refl;
+          rule = rule;
+          rule_is = known;
+          tells = tells;
+          took = took;
+        })
         by (Err fault) tells took = tt
 
-    pub stops : IfErr result (StopsTaking contents (IsReport found rule r) (BeginsReport found rule r) old
-        new)
-        → IfErr result (StopsReporting contents (λ other. other ≡ found) r old new)
-    stops part = by result part
+    pub stops : IsRuleOf found.verdict again rule
+        → IfErr result (StopsTaking contents (IsReport found rule r) (BeginsReport found rule r) old new)
+        → IfErr result (StopsReporting contents (λ other. other ≡ found) again r old new)
+    stops known part = by result part
       where
         by : (result : Result ℕ RunFault)
             → IfErr result (StopsTaking contents (IsReport found rule r) (BeginsReport found rule r) old new)
-            → IfErr result (StopsReporting contents (λ other. other ≡ found) r old new)
+            → IfErr result (StopsReporting contents (λ other. other ≡ found) again r old new)
         by (Ok status) part = tt
-        by (Err fault) part = inr (record { found = found; is = refl; rule = rule; stops = part })
+        by (Err fault) part = inr (record {
+          found = found;
+          is = refl;
+          rule = rule;
+          rule_is = known;
+          stops = part;
+        })
 
   -- what the finding is
   module _ {Is Other : AccountFinding → Type 0} (to : (found : AccountFinding) → Is found → Other found) where
-    pub reports_so : (status : ℕ) → Reports contents Is r old new status
-        → Reports contents Other r old new status
+    pub reports_so : (status : ℕ) → Reports contents Is again r old new status
+        → Reports contents Other again r old new status
     reports_so status (inl all) = inl (record {
       found = all.found;
       is = to all.found all.is;
       rule = all.rule;
+      rule_is = all.rule_is;
       tells = all.tells;
       took = all.took;
     })
-    reports_so status (inr none) = inr none
+    reports_so status (inr none) = inr (record {
+      found = none.found;
+      is = to none.found none.is;
+      unopened = none.unopened;
+      status_is = none.status_is;
+      silent = none.silent;
+    })
 
-    pub stops_so : (fault : RunFault) → StopsReporting contents Is r old new fault
-        → StopsReporting contents Other r old new fault
+    pub stops_so : (fault : RunFault) → StopsReporting contents Is again r old new fault
+        → StopsReporting contents Other again r old new fault
     stops_so fault (inl none) = inl none
     stops_so fault (inr at) = inr (record {
       found = at.found;
       is = to at.found at.is;
       rule = at.rule;
+      rule_is = at.rule_is;
       stops = at.stops;
     })

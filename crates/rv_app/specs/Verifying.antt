@@ -1,8 +1,9 @@
 -- What `rv verify` tells of the bytes of an input and of a record beside it.
 use Rattle.std.specs.Prelude.{◌≡◌, ◌≢◌, ◌⊎◌, ◌-◌, ◌++◌, true, false, Bool, ℕ, List, None, Option, Some}
-use Rattle.std.specs.Prelude.{length}
+use Rattle.std.specs.Prelude.{IsSome, length}
 use Rattle.rv_breaking.specs.declared.rule.Rule.{Rule}
 use Rattle.rv_findings.specs.declared.verdict.AccountFinding.{AccountFinding}
+use Rattle.rv_findings.specs.declared.verdict.AccountVerdict.{AccountVerdict}
 use Rattle.rv_findings.specs.declared.verdict.AccountVerdict.TheVariants as verdict
 use Rattle.rv_frame.specs.declared.sink.Sink.{Sink}
 use Rattle.rv_inspect.specs.Report.{BeginsReport, IsReport, StopsTaking, TookLines}
@@ -11,7 +12,11 @@ use Rattle.rv_lines.specs.Lines.{lines}
 use Rattle.rv_replies.specs.declared.records.Records.{Records}
 use Rattle.rv_run.specs.declared.fault.RunFault.{RunFault}
 use Rattle.rv_verify.specs.Ends.{AreWholeLines}
+use Rattle.rv_verify.specs.Naming.{BeginAlike, IsRuleAt}
 use Rattle.rv_verify.specs.Ongoing.{AreLegalUpTo, IsFoundOfBytes, IsFoundOfLines}
+use Rattle.rv_verify.specs.Verdicts.{TellsNotOpen}
+use Rattle.rv_app.specs.declared.verify.Reread.{Reread}
+use Rattle.rv_app.specs.declared.verify.Reread.TheVariants.{Told, Unopened}
 
 -- of an account that grows, the lines up to the first that is bad, or whose entry isn't followed; the record
 -- has noted what passed of them
@@ -35,26 +40,63 @@ abbrev pub beside : {A : Type 0} → Option A → Records → Option Records
 beside None r = None
 beside (Some name) r = Some r
 
+-- the verdict names a closed place, at which the entries before tell the rule
+abbrev pub IsClosed : AccountVerdict → Type 0
+IsClosed (verdict.NotOpen place entry) = Unit {0}
+IsClosed verdict.Legal = ⊥
+IsClosed (verdict.Fault place rule) = ⊥
+IsClosed (verdict.BadLine number) = ⊥
+IsClosed (verdict.BeyondLimits place) = ⊥
+
+-- the rule at a closed place, where the bytes that are read once more begin as those of the verdict
+abbrev pub IsRuleBy : AccountVerdict → Option (List ℕ) → Option Rule → Type 0
+IsRuleBy (verdict.NotOpen place entry) again rule = (all : List (List ℕ)) (bytes : List ℕ)
+    → again ≡ Some bytes → TellsNotOpen all place entry → BeginAlike all (lines bytes) place
+    → IsRuleAt all place rule
+IsRuleBy verdict.Legal again rule = rule ≡ None
+IsRuleBy (verdict.Fault place named) again rule = rule ≡ None
+IsRuleBy (verdict.BadLine number) again rule = rule ≡ None
+IsRuleBy (verdict.BeyondLimits place) again rule = rule ≡ None
+
+-- or none where nothing may be read once more
+abbrev pub IsRuleOf : AccountVerdict → Option (Option (List ℕ)) → Option Rule → Type 0
+IsRuleOf found None rule = rule ≡ None
+IsRuleOf found (Some again) rule = IsRuleBy found again rule
+
+-- what a second reading tells: it fails only at a closed place, where there is what to read
+abbrev pub IsReread : AccountVerdict → Option (Option (List ℕ)) → Reread → Type 0
+IsReread found again (Told rule) = IsRuleOf found again rule
+IsReread found again Unopened = IsClosed found × IsSome again
+
 module _ {W : Type 0} (contents : W → Option (List ℕ)) (IsFound : AccountFinding → Type 0)
-    (r : Option Records) (old new : Sink W) where
-  -- the sink took exactly the report on what is found, with a rule at a closed place or none, and the status
-  -- tells that
+    (again : Option (Option (List ℕ))) (r : Option Records) (old new : Sink W) where
+  -- the sink took exactly the report on what is found, with the rule at a closed place, if that is known, and
+  -- the status tells that
   pub record ReportsFound (status : ℕ) : Type 0 where
     pub found : AccountFinding
     pub is : IsFound found
     pub rule : Option Rule
+    pub rule_is : IsRuleOf found.verdict again rule
     pub tells : TellsFound found rule r status
     pub took : TookLines contents (IsReport found rule r) old new
 
-  -- or the status is 1 and it took nothing: the file couldn't be opened once more
+  -- the status is 1 and it took nothing: at a closed place the bytes can't be opened once more
+  pub record CannotReread (status : ℕ) : Type 0 where
+    pub found : AccountFinding
+    pub is : IsFound found
+    pub unopened : IsReread found.verdict again Unopened
+    pub status_is : status ≡ 1
+    pub silent : new ≡ old
+
   abbrev pub Reports : ℕ → Type 0
-  Reports status = ReportsFound status ⊎ ((status ≡ 1) × (new ≡ old))
+  Reports status = ReportsFound status ⊎ CannotReread status
 
   -- the telling of what is found stopped for this fault
   pub record StopsReportAt (fault : RunFault) : Type 0 where
     pub found : AccountFinding
     pub is : IsFound found
     pub rule : Option Rule
+    pub rule_is : IsRuleOf found.verdict again rule
     pub stops : StopsTaking contents (IsReport found rule r) (BeginsReport found rule r) old new fault
 
   -- or nothing went out

@@ -5,6 +5,7 @@ ghost use Rattle.std.specs.Prelude.{◌≤◌};
 ghost use Rattle.rv_text.specs.Limits.{FitsIdentifier};
 
 mod account;
+mod again;
 mod audit;
 mod fault;
 mod growing;

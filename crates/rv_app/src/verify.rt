@@ -2,7 +2,7 @@
 //! record of replies beside it.
 ghost use Rattle.std.specs.Prelude.{◌≡◌, ℕ, IfErr, IfOk, IfSome, List, Some, option_map};
 ghost use Rattle.std.specs.Io.Buffered.{reader_remaining};
-ghost use Rattle.rv_app.specs.Verifying.{IsFoundIn, Reports, StopsReporting, beside};
+ghost use Rattle.rv_app.specs.Verifying.{IsFoundIn, IsReread, Reports, StopsReporting, beside};
 ghost use Rattle.rv_lines.specs.Lines.{lines};
 ghost use Rattle.rv_verify.specs.Ends.{IsToldOfBytes};
 ghost use Rattle.rv_verify.specs.Naming.{BeginAlike, IsRuleAt};
@@ -11,6 +11,7 @@ ghost use Rattle.rv_verify.specs.Recording.{IsRecordOf};
 ghost use Rattle.rv_verify.specs.Stages.{AreNew};
 ghost use Rattle.rv_verify.specs.Verdicts.{TellsNotOpen};
 
+use crate::again::{Again, RegularFile, size_of};
 use crate::fault::ProgramFault;
 use crate::growing::follow;
 use crate::watch::{Watch, Watched};
@@ -69,16 +70,19 @@ fn verify_beside<T: Wait + time::Clock>(
 {
     let mut sink = Sink::new(rt.stdout());
     if words.file == STANDARD_INPUT {
-        let about = About {
+        let about = About::<RegularFile<'_>> {
             size: 0,
-            is_regular: false,
+            again: None,
         };
         let status = verify_bytes(rt, waits, words, &about, rt.stdin(), records, &mut sink)?;
         return Ok(ExitCode::from(status));
     }
     match File::open(rt, words.file) {
         Ok(file) => {
-            let about = about_file(&file);
+            let about = About {
+                size: size_of(&file),
+                again: RegularFile::at(words.file, &file),
+            };
             let status = verify_bytes(rt, waits, words, &about, file, records, &mut sink)?;
             Ok(ExitCode::from(status))
         }
@@ -89,28 +93,21 @@ fn verify_beside<T: Wait + time::Clock>(
     }
 }
 
-// What is known of a file.
-#[derive(Clone, Copy, Drop)]
-struct About {
+// What is known of an input.
+#[derive(Drop)]
+struct About<A> {
     // How many bytes it has, or 0 if nobody knows.
     size: u64,
-    // Whether it is known to be a regular one.
-    is_regular: bool,
-}
-
-fn about_file(file: &File) -> About {
-    About {
-        size: size_of(file),
-        is_regular: is_regular(file),
-    }
+    // Where its bytes may be read once more, if they may be.
+    again: Option<A>,
 }
 
 // Tells what is found of the bytes of an input, and of the record if one is named, and gives the status.
-fn verify_bytes<T: Wait + time::Clock, F: Read + Drop, W: Write>(
+fn verify_bytes<T: Wait + time::Clock, F: Read + Drop, A: Again + Drop, W: Write>(
     rt: &HostRuntime,
     waits: &T,
     words: &VerifyWords<'_>,
-    about: &About,
+    about: &About<A>,
     input: F,
     records: &mut Records,
     sink: &mut Sink<W>,
@@ -118,16 +115,16 @@ fn verify_bytes<T: Wait + time::Clock, F: Read + Drop, W: Write>(
     requires { AreNew records.old }
     ensures lines { records.new.lines ≡ records.old.lines }
 
-    // What went out is the report on the bytes and the record, or none did.
+    // What went out is the report on the bytes and the record; or none did, since they can't be read again.
     ensures told { IfSome (F.remaining input) (λ bytes. IfOk result (Reports W.contents
-        (IsFoundIn words.now.follow bytes records.new) (beside words.now.replies records.new)
-        sink.old sink.new)) }
+        (IsFoundIn words.now.follow bytes records.new) (option_map A.bytes about.now.again)
+        (beside words.now.replies records.new) sink.old sink.new)) }
     ensures stopped { IfSome (F.remaining input) (λ bytes. IfErr result (StopsReporting W.contents
-        (IsFoundIn words.now.follow bytes records.new) (beside words.now.replies records.new)
-        sink.old sink.new)) }
+        (IsFoundIn words.now.follow bytes records.new) (option_map A.bytes about.now.again)
+        (beside words.now.replies records.new) sink.old sink.new)) }
 {
     let found = found_by(rt, waits, words.follow, about.size, input, records)?;
-    tell_file(rt, words, about.is_regular, &found, records, sink)
+    tell_file(rt, words, about, &found, records, sink)
 }
 
 // What is found of an input's bytes: of all, or as they grow.
@@ -150,45 +147,73 @@ fn found_by<T: Wait + time::Clock, F: Read + Drop>(
     }
 }
 
-// Tells what was found of a file, or nothing where it can't be opened once more, as standard error says.
-fn tell_file<W: Write>(
+// Tells what was found of an input, or nothing where it can't be read once more, as standard error says.
+fn tell_file<A: Again + Drop, W: Write>(
     rt: &HostRuntime,
     words: &VerifyWords<'_>,
-    is_regular: bool,
+    about: &About<A>,
     found: &AccountFinding,
     records: &Records,
     sink: &mut Sink<W>,
 ) -> Result<u8, RunFault>
     ensures told { IfOk result (Reports W.contents (λ other. other ≡ found.now)
-        (beside words.now.replies records.now) sink.old sink.new) }
+        (option_map A.bytes about.now.again) (beside words.now.replies records.now) sink.old sink.new) }
     ensures stopped { IfErr result (StopsReporting W.contents (λ other. other ≡ found.now)
-        (beside words.now.replies records.now) sink.old sink.new) }
+        (option_map A.bytes about.now.again) (beside words.now.replies records.now) sink.old sink.new) }
 {
-    let Some(rule) = rule_again(rt, words, is_regular, found)? else {
-        return Ok(UNREAD);
-    };
-    tell_found(rt.alloc(), found, rule, record_named(words, records), sink)
+    let beside = record_named(words, records);
+    match rule_again(rt, words.file, &about.again, found)? {
+        Reread::Told(rule) => tell_found(rt.alloc(), found, rule, beside, sink),
+        Reread::Unopened => Ok(UNREAD),
+    }
 }
 
-// The rule at a closed place, if it is known. There a file is opened once more, if it is a regular one:
-// another may give no byte twice, and a named pipe waits for who writes. `None` if it can't be.
-fn rule_again(
+/// What a second reading of an input tells, if one is needed.
+#[derive(Clone, Copy)]
+enum Reread {
+    /// The rule at a closed place: none where no place is closed, or nothing may be read once more.
+    Told(Option<Rule>),
+    /// The bytes can't be opened once more.
+    Unopened,
+}
+
+// The rule at a closed place, if it is known: there the bytes are read once more, if they may be.
+fn rule_again<A: Again>(
     rt: &HostRuntime,
-    words: &VerifyWords<'_>,
-    is_regular: bool,
+    path: &str,
+    again: &Option<A>,
     found: &AccountFinding,
-) -> Result<Option<Option<Rule>>, RunFault> {
+) -> Result<Reread, RunFault>
+    ensures { IfOk result (IsReread found.now.verdict (option_map A.bytes again.now)) }
+{
     let AccountVerdict::NotOpen { place, entry } = &found.verdict else {
-        return Ok(Some(None));
+        return Ok(Reread::Told(None));
     };
-    if !is_regular {
-        return Ok(Some(None));
+    match again {
+        None => Ok(Reread::Told(None)),
+        Some(again) => reread(rt, path, again, *place, entry),
     }
-    match File::open(rt, words.file) {
-        Ok(again) => Ok(Some(rule_in(rt, *place, entry, size_of(&again), again)?)),
+}
+
+// The rule that the entry at a place breaks, which names a closed place, by reading the bytes once more.
+fn reread<A: Again>(
+    rt: &HostRuntime,
+    path: &str,
+    again: &A,
+    place: Place,
+    entry: &Entry,
+) -> Result<Reread, RunFault>
+    ensures { IfOk result (IsReread (AccountVerdict.NotOpen place entry.now) (Some (A.bytes again.now))) }
+{
+    match again.open(rt) {
+        Ok(input) => {
+            let size = again.size(&input);
+            let rule = rule_in(rt, place, entry, size, input)?;
+            Ok(Reread::Told(rule))
+        }
         Err(error) => {
-            unread(rt, "account", words.file, &error);
-            Ok(None)
+            unread(rt, "account", path, &error);
+            Ok(Reread::Unopened)
         }
     }
 }
@@ -198,16 +223,6 @@ fn record_named<'a>(words: &VerifyWords<'_>, records: &'a Records) -> Option<&'a
     ensures { option_map (λ r. r.now) result ≡ beside words.now.replies records.now }
 {
     words.replies.map(|_| records)
-}
-
-// Whether a file is known to be a regular one.
-fn is_regular(file: &File) -> bool {
-    file.metadata().map_or(false, |about| about.is_file())
-}
-
-// How many bytes a file has, or 0 if nobody knows.
-fn size_of(file: &File) -> u64 {
-    file.metadata().map_or(0, |about| about.len())
 }
 
 // The record that the lines of a reader are, which has so many bytes, or 0 if nobody knows how many.
