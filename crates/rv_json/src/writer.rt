@@ -1,10 +1,8 @@
 //! Writes the text of a JSON object, one member after another.
 ghost use Rattle.std.specs.Prelude.{◌≡◌, [], ◌∷◌, ◌++◌, map, OnOk, IfOk, string_bytes};
 ghost use Rattle.json.specs.Token as token;
-ghost use Rattle.serde_json.specs.Data.{Members as MembersOf, no_members};
-ghost use Rattle.serde_json.specs.Data.{string, number, unsigned, array, object};
+ghost use Rattle.serde_json.specs.Data.{no_members, string, number, unsigned, array};
 ghost use Rattle.serde_json.specs.View.{items_of};
-ghost use Rattle.serde_json.specs.Written.{compact_text};
 
 use crate::fault::NoMemory;
 use json::Writer;
@@ -24,14 +22,21 @@ pub struct ObjectText {
 }
 
 impl ObjectText {
-    ghost use Rattle.rv_json.specs.Writing.{Writes, text_with};
+    ghost use Rattle.rv_json.specs.Writing.{IsBlank, Writes, text_with};
 
     /// The text of an object with no member so far. Fails only if memory was refused.
     pub fn new(alloc: Global) -> Result<ObjectText, NoMemory>
-        ensures { IfOk result (λ text. (members : MembersOf)
-            → text_with members text ≡ compact_text (object members)) }
+        ensures { IfOk result IsBlank }
     {
-        let mut writer = Writer::new(Vec::with_capacity(alloc, ROOM)?);
+        ObjectText::in_room(Vec::with_capacity(alloc, ROOM)?)
+    }
+
+    /// The same, in the room of a buffer, whose bytes are let go.
+    pub fn in_room(mut buffer: Vec<u8>) -> Result<ObjectText, NoMemory>
+        ensures { IfOk result IsBlank }
+    {
+        buffer.clear();
+        let mut writer = Writer::new(buffer);
         writer.begin_object()?;
         Ok(ObjectText { writer })
     }

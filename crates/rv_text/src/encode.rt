@@ -2,7 +2,7 @@
 ghost use Rattle.std.specs.Prelude.{◌≡◌, ◌<◌, [], ◌∷◌, ◌++◌, codes, Some, OnOk, IfOk};
 ghost use Rattle.std.specs.Prelude.{length, string_bytes, option_map};
 ghost use Rattle.serde_json.specs.Data.{number, unsigned};
-ghost use Rattle.rv_json.specs.Writing.{Writes};
+ghost use Rattle.rv_json.specs.Writing.{IsBlank, Writes};
 ghost use Rattle.rv_text.specs.Rows.{version_row, item_row, taker_row, message_row, answer_row};
 ghost use Rattle.rv_text.specs.Writing.{WritesRow, Completes, keyed_row, session_row, word_row};
 ghost use Rattle.rv_text.specs.Writing.{refused_field};
@@ -50,7 +50,26 @@ pub fn encode_answer(alloc: Global, answer: &Answer) -> Result<String, NoMemory>
     ensures short { FitsAnswer answer.now → IfOk result (λ s. HasBodyLength (string_bytes s)) }
     ensures shorter { FitsAnswer answer.now → IfOk result (λ s. length (string_bytes s) < 65535) }
 {
-    let mut body = ObjectText::new(alloc)?;
+    write_answer(ObjectText::new(alloc)?, answer)
+}
+
+/// The same body, in the room of a buffer, whose bytes are let go. It takes memory only where it needs more
+/// room.
+pub fn encode_answer_in(buffer: Vec<u8>, answer: &Answer) -> Result<String, NoMemory>
+    ensures text { IfOk result (λ s. string_bytes s ≡ answer_text answer.now) }
+    ensures short { FitsAnswer answer.now → IfOk result (λ s. HasBodyLength (string_bytes s)) }
+    ensures shorter { FitsAnswer answer.now → IfOk result (λ s. length (string_bytes s) < 65535) }
+{
+    write_answer(ObjectText::in_room(buffer)?, answer)
+}
+
+// The body of an answer, whose text has no member so far.
+fn write_answer(mut body: ObjectText, answer: &Answer) -> Result<String, NoMemory>
+    requires { IsBlank body }
+    ensures text { IfOk result (λ s. string_bytes s ≡ answer_text answer.now) }
+    ensures short { FitsAnswer answer.now → IfOk result (λ s. HasBodyLength (string_bytes s)) }
+    ensures shorter { FitsAnswer answer.now → IfOk result (λ s. length (string_bytes s) < 65535) }
+{
     put_answer(&mut body, answer)?;
     body.finish()
 }

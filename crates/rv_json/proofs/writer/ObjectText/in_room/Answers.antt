@@ -3,7 +3,7 @@ use Rattle.std.proofs.Common.{[], ◌∷◌, ◌++◌, ap, ◌∙◌}
 use Rattle.json.specs.Token.{begin_object}
 use Rattle.rv_json.specs.Writing.{text_with}
 use Rattle.rv_json.proofs.Tokens.{text_begun}
-use Rattle.rv_json.proofs.writer.ObjectText.new.Goals as goal
+use Rattle.rv_json.proofs.writer.ObjectText.in_room.Goals as goal
 
 pub returns : goal.returns
 unfolding text_with

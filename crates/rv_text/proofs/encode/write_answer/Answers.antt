@@ -8,14 +8,14 @@ use Rattle.rv_text.specs.Members.{members_of}
 use Rattle.rv_text.specs.Rows.{answer_row}
 use Rattle.rv_text.proofs.Fitting.{short_text, shorter_text}
 use Rattle.rv_text.proofs.Sound.{answer_sound, answer_within}
-use Rattle.rv_text.proofs.encode.encode_answer.Goals as goal
+use Rattle.rv_text.proofs.encode.write_answer.Goals as goal
 
 pub returns-clause-text : goal.returns-clause-text
 returns-clause-text c =
     let row = answer_row c.args.answer.now in
     IfOk-weaker c.finish.result (λ s. string_bytes s ≡ text_with no_members c.put_answer.new.body)
     (λ s. string_bytes s ≡ answer_text c.args.answer.now)
-    (λ s is. is ∙ (c.in_ok-put_answer.ensures ∙ c.in_ok-body.ensures (members_of row))) c.finish.ensures
+    (λ s is. is ∙ (c.in_ok-put_answer.ensures ∙ c.requires (members_of row))) c.finish.ensures
 
 pub returns-clause-short : goal.returns-clause-short
 returns-clause-short c fits =
