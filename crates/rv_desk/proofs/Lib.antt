@@ -22,3 +22,4 @@ pub mod Listing
 pub mod OneBook
 pub mod Others
 pub mod Waited
+pub mod Rooms

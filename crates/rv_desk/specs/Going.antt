@@ -152,6 +152,12 @@ pub record IsNextOverdue (s : DeskState) (connection : ℕ) : Type 0 where
 
 -- ---- asking
 
+-- but for the room of texts nothing changed
+pub record IsSameButRoom (old new : HubDesk) : Type 0 where
+  pub wires : wires_in new.wires ≡ wires_in old.wires
+  pub tally : tally_in new.wires ≡ tally_in old.wires
+  pub rest : new ≡ record old { wires = new.wires }
+
 -- the frame of some body is due on the connection
 pub record IsFrameDue (d : HubDesk) (connection : ℕ) (body : List ℕ) : Type 0 where
   pub frame : HasWire (wires_in d.wires) connection (λ wire. IsDueWith wire body)

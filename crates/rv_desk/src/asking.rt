@@ -1,5 +1,6 @@
 //! One frame of a connection: a step of the machine.
-ghost use Rattle.std.specs.Prelude.{◌≡◌, ◌<◌, ℕ, List, IfNone, IfOk, IfSome, vec_capacity, vec_len};
+ghost use Rattle.std.specs.Prelude.{◌≡◌, ◌<◌, ℕ, List, IfNone, IfOk, IfSome, string_bytes, vec_capacity};
+ghost use Rattle.std.specs.Prelude.{vec_len};
 ghost use Rattle.std.specs.Bool.{OnFalse, OnTrue};
 ghost use Rattle.rv_json.specs.Bodies.{HasBodyLength};
 ghost use Rattle.rv_text.specs.declared.answer.Answer.{Answer as Answered};
@@ -12,7 +13,8 @@ ghost use Rattle.rv_wires.specs.Wires.{wires_in};
 ghost use Rattle.rv_desk.specs.Deeds.{rests_on};
 ghost use Rattle.rv_desk.specs.Telling.{WaitsOn};
 ghost use Rattle.rv_desk.specs.Fields.{IsDeskSound, IsSteady, desk_state};
-ghost use Rattle.rv_desk.specs.Going.{AnswersIt, HasDue, IsFrameDue, IsMessageAt, LacksIt, MaySay, SaysIt};
+ghost use Rattle.rv_desk.specs.Going.{AnswersIt, HasDue, IsFrameDue, IsMessageAt, IsSameButRoom, LacksIt};
+ghost use Rattle.rv_desk.specs.Going.{MaySay, SaysIt};
 ghost use Rattle.rv_desk.specs.Going.{SaysText, StepsIt, StillGoes, Strides, WaitsIt, fault_answer};
 
 use crate::desk::HubDesk;
@@ -21,7 +23,7 @@ use rv_hearers::{ConnectionNumber, Hearing};
 use rv_machine::{Heard, Machine, Said};
 use rv_text::{
     Answer, Key, Message, NoMemory, Refusal, TextFault, bad_text_body, decode_message,
-    encode_answer, no_memory_body,
+    encode_answer_in, no_memory_body,
 };
 use std::alloc::Global;
 
@@ -112,6 +114,24 @@ impl HubDesk {
         self.answer_by(connection, 0, no_memory_body());
     }
 
+    // The text of an answer, in the room for such texts.
+    fn text_of(&mut self, answer: &Answer) -> Result<String, NoMemory>
+        requires { FitsAnswer answer.now }
+        ensures text { IfOk result (λ s. string_bytes s ≡ answer_text answer.now) }
+        ensures length { IfOk result (λ s. HasBodyLength (string_bytes s)) }
+        ensures same { IsSameButRoom self.old self.new }
+    {
+        let room = self.wires.lend_room();
+        encode_answer_in(room, answer)
+    }
+
+    // The room of a text is there for the next one.
+    fn keep_room_of(&mut self, text: String)
+        ensures { IsSameButRoom self.old self.new }
+    {
+        self.wires.keep_room(text.into_bytes());
+    }
+
     // Answers the frame that is due by an answer, if that finds memory.
     fn answer(&mut self, connection: ConnectionNumber, answer: &Answer)
         requires sound { IsDeskSound self.old }
@@ -120,10 +140,11 @@ impl HubDesk {
         ensures sound { IsDeskSound self.new }
         ensures answers { SaysText self.old connection answer.now self.new }
     {
-        match encode_answer(self.alloc, answer) {
+        match self.text_of(answer) {
             Ok(text) => {
                 let entries = rests_on(answer, self.machine.length() as u64);
                 self.answer_by(connection, entries, text.as_bytes());
+                self.keep_room_of(text);
             }
             Err(_) => self.lack(connection),
         }

@@ -8,6 +8,7 @@ use crate::noted::Noted;
 use rv_connection::{NoMemory, Wire};
 use rv_hearers::ConnectionNumber;
 use std::alloc::Global;
+use std::mem;
 
 // How many bytes of a connection are unread, if it is open.
 fn unread_of(noted: &Noted, connection: ConnectionNumber) -> usize
@@ -39,6 +40,8 @@ pub struct Wires {
     noted: Noted,
     // How many bytes are unread of all.
     unread: u128,
+    // The room in which the texts of answers are written.
+    room: Vec<u8>,
     ghost sound: { IsNoted noted },
     ghost counted: { IsUnreadIn noted unread },
 }
@@ -65,6 +68,7 @@ impl Wires {
         Wires {
             noted: Noted::empty(alloc, written),
             unread: 0,
+            room: Vec::new(alloc),
         }
     }
 
@@ -147,6 +151,24 @@ impl Wires {
         ensures kept { OnErr result (tally_in self.new ≡ tally_in self.old) }
     {
         self.noted.answer(connection, entries, body)
+    }
+
+    /// Lends the room in which the texts of answers are written, so that one after another takes no memory
+    /// but where it needs more. While it is lent there is none.
+    pub fn lend_room(&mut self) -> Vec<u8>
+        ensures same { wires_in self.new ≡ wires_in self.old }
+        ensures tally { tally_in self.new ≡ tally_in self.old }
+    {
+        let none = Vec::new(*self.room.allocator());
+        mem::replace(&mut self.room, none)
+    }
+
+    /// Takes the room back. It stays as large as the longest text needed, twice the most bytes of a body.
+    pub fn keep_room(&mut self, room: Vec<u8>)
+        ensures same { wires_in self.new ≡ wires_in self.old }
+        ensures tally { tally_in self.new ≡ tally_in self.old }
+    {
+        self.room = room;
     }
 
     /// The input of a connection has ended.
