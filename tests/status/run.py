@@ -8,11 +8,12 @@ usage: tests/status/run.py [--picture FILE]
 from __future__ import annotations
 
 import argparse
+import json
 import pathlib
 import re
 import subprocess
 import sys
-from typing import Callable, Dict, List
+from typing import Callable, Dict, Iterator, List
 
 sys.dont_write_bytecode, sys.path[0] = True, str(pathlib.Path(__file__).resolve().parents[2])
 from tests import ROOT  # noqa: E402
@@ -21,6 +22,9 @@ from tests.status import busy, stages, standin  # noqa: E402
 from tests import left_out  # noqa: E402
 
 ROWS, RULES = ROOT / "crates/rv_status/specs/Rows.antt", ROOT / "packaging/rv.rules.yml"
+DASHBOARD = ROOT / "packaging/rv.dashboard.json"
+# Metrics that the rows don't list: those of each queue.
+QUEUES = {"rv_queue_items", "rv_queue_consumers"}
 # What a text that a peer chose might try, were it markup.
 MARKUP = "<img src=x onerror=document.title='bad'>"
 counts = {True: 0, False: 0}
@@ -114,17 +118,39 @@ def metrics_follow_the_conventions() -> None:
 
 def alerts_are_raised() -> None:
     """Each staged fault raises its alert, and no rule reads a number that isn't there."""
-    read = set(re.findall(r"\brv_\w+", RULES.read_text())) - {"rv_queue_items"}
+    read = set(re.findall(r"\brv_\w+", RULES.read_text())) - QUEUES
     check(bool(read) and read <= set(numbers()), f"an alert reads {read - set(numbers())}")
     ran = subprocess.run(["promtool", "test", "rules", ROOT / "tests/status/alerts.yml"], capture_output=True, text=True, timeout=60)
     check(ran.returncode == 0, f"promtool: {ran.stdout}{ran.stderr}")
+
+
+def queries(node: object) -> Iterator[str]:
+    """What a dashboard asks Prometheus."""
+    if isinstance(node, dict):
+        yield from (str(node[name]) for name in ("expr", "query") if isinstance(node.get(name), str))
+    parts = node.values() if isinstance(node, dict) else node if isinstance(node, list) else ()
+    for part in parts:
+        yield from queries(part)
+
+
+def the_dashboard_asks_what_there_is() -> None:
+    """Each query of the dashboard names metrics that there are, each metric but the bound of another stands in one, and no two
+    panels overlap."""
+    board = json.loads(DASHBOARD.read_text())
+    asked = [set(re.findall(r"\brv_\w+", query)) for query in queries(board)]
+    read, known = set().union(*asked), set(numbers()) | QUEUES
+    check(read <= known, f"the dashboard asks for {read - known}")
+    check(known - read <= {"rv_status_connections"}, f"the dashboard doesn't show {known - read}")
+    check(all(re.search(r"\brv_\w+|\bup\b|^prometheus$", query) for query in queries(board)), "a query names no metric")
+    places = [(panel["gridPos"]["x"], panel["gridPos"]["y"]) for panel in board["panels"]]
+    check(len(set(places)) == len(places) == len({panel["id"] for panel in board["panels"]}), "two panels stand in one place")
 
 
 def main() -> None:
     parser = argparse.ArgumentParser()
     parser.add_argument("--picture", type=pathlib.Path)
     picture = parser.parse_args().picture
-    cases: List[Callable[[], None]] = [the_page_is_written]
+    cases: List[Callable[[], None]] = [the_page_is_written, the_dashboard_asks_what_there_is]
     if browser.missing():
         left_out.tell("the status page in a browser", browser.missing())
     else:
