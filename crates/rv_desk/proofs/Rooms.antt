@@ -1,16 +1,24 @@
 -- A call that only lends the room of texts, or takes it back, changes nothing else.
-use Rattle.std.proofs.Common.{inl, inr, ◌≡◌, ◌+◌, ◌≤◌, ◌∙◌, ℕ, List, sym, ap, ap₂, subst, arith, length}
+use Rattle.std.proofs.Common.{inl, inr, ◌≡◌, ◌+◌, ◌≤◌, ◌∙◌, ℕ, List, refl, sym, ap, ap₂, subst, arith}
+use Rattle.std.proofs.Common.{length}
 use Rattle.rv_wires.specs.Connections.{HasWire, Tally, WiresState}
 use Rattle.rv_wires.specs.Wires.{tally_in, wires_in}
+use Rattle.rv_text.specs.Bodies.{answer_text}
+use Rattle.rv_text.specs.declared.answer.Answer.{Answer}
+use Rattle.rv_text.specs.declared.answer.Answer.TheVariants.{Refused}
+use Rattle.rv_text.specs.declared.answer.Refusal.TheVariants.{NoMemory}
+use Rattle.rv_machine.specs.Machines.{state_in}
 use Rattle.rv_connection.specs.Traffic.{IsDue}
 use Rattle.rv_hearers.specs.declared.hearers.Hearers.{Hearers}
 use Rattle.rv_hearers.specs.Hearers.{hearers_count}
 use Rattle.rv_desk.specs.declared.desk.HubDesk.{HubDesk}
 use Rattle.rv_desk.specs.View.{DeskState}
-use Rattle.rv_desk.specs.Deeds.{AnswersNow, DoesClose, IsDueWith}
+use Rattle.rv_desk.specs.Deeds.{AnswersNow, DoesClose, IsDueWith, rests_on}
 use Rattle.rv_desk.specs.Fields.{IsDeskSound, desk_state}
 use Rattle.rv_desk.specs.Rest.{HearersOwe, OwersHear}
-use Rattle.rv_desk.specs.Going.{AnswersIt, HasDue, IsSameButRoom, unread_at, unread_of, unread_total, work_left}
+use Rattle.rv_desk.specs.Going.{AnswersIt, HasDue, IsFrameDue, IsSameButRoom, LacksIt, SaysText, unread_at}
+use Rattle.rv_desk.specs.Going.{unread_of, unread_total, work_left}
+use Rattle.rv_desk.proofs.Saying.{text_lacked, text_said}
 
 module _ (old new : HubDesk) (same : IsSameButRoom old new) where
   pub same_state : desk_state new ≡ desk_state old
@@ -51,7 +59,8 @@ answered_in_room old mid after last connection entries text first answers second
     ap (λ (d : HubDesk). hearers_count d.hearers) first.rest in
     let were_free : length mid.freed.items ≡ length old.freed.items =
     ap (λ (d : HubDesk). length d.freed.items) first.rest in
-    let unread : unread_total last.wires ≡ unread_total after.wires = ap (λ (t : Tally). t.unread) second.tally
+    let unread : unread_total last.wires ≡ unread_total after.wires = ap (λ (t : Tally). t.unread)
+        second.tally
     in
     let were_unread : unread_total mid.wires ≡ unread_total old.wires =
     ap (λ (t : Tally). t.unread) first.tally in
@@ -64,14 +73,15 @@ answered_in_room old mid after last connection entries text first answers second
     let emptied = answers.takes.emptied in
     record {
       did = λ body asked.
-          let due = record {
+          let due : IsFrameDue mid connection body = record {
             frame = subst (λ (w : WiresState). HasWire w connection (λ wire. IsDueWith wire body))
                 (sym first.wires) asked.frame;
           } in
           elim (answers.did body due) [
             | inl now ↦ inl (subst (λ (s : DeskState). AnswersNow s connection body entries text
                 (desk_state last)) from
-                (subst (λ (t : DeskState). AnswersNow (desk_state mid) connection body entries text t) to now))
+                (subst (λ (t : DeskState). AnswersNow (desk_state mid) connection body entries text t) to
+                    now))
             | inr closed ↦ inr (subst (λ (s : DeskState). DoesClose s connection (desk_state last)) from
                 (subst (λ (t : DeskState). DoesClose (desk_state mid) connection t) to closed))
           ];
@@ -86,3 +96,23 @@ answered_in_room old mid after last connection entries text first answers second
         emptied = omega arith;
       };
     }
+
+-- by an answer's text
+pub text_said_in_room : (old mid after last : HubDesk) (connection entries : ℕ) (a : Answer) (text : List ℕ)
+    → IsSameButRoom old mid → entries ≡ rests_on a (state_in mid.machine).length → text ≡ answer_text a
+    → AnswersIt mid connection entries text after → IsSameButRoom after last
+    → SaysText old connection a last
+text_said_in_room old mid after last connection entries a text first count is answers second =
+    let rests : entries ≡ rests_on a (state_in old.machine).length =
+    count ∙ ap (λ (d : HubDesk). rests_on a (state_in d.machine).length) first.rest in
+    text_said old connection a text last is
+    (subst (λ n. AnswersIt old connection n text last) rests
+    (answered_in_room old mid after last connection entries text first answers second))
+
+-- or that memory lacks
+pub text_lacked_in_room : (old mid new : HubDesk) (connection : ℕ) (a : Answer) → IsSameButRoom old mid
+    → LacksIt mid connection new → SaysText old connection a new
+text_lacked_in_room old mid new connection a first lacks =
+    let stays : IsSameButRoom new new = record { wires = refl; tally = refl; rest = refl } in
+    text_lacked old connection a new
+    (answered_in_room old mid new new connection 0 (answer_text (Refused NoMemory)) first lacks stays)
