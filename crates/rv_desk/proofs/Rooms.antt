@@ -60,7 +60,7 @@ answered_in_room old mid after last connection entries text first answers second
     let were_free : length mid.freed.items ≡ length old.freed.items =
     ap (λ (d : HubDesk). length d.freed.items) first.rest in
     let unread : unread_total last.wires ≡ unread_total after.wires = ap (λ (t : Tally). t.unread)
-        second.tally
+    second.tally
     in
     let were_unread : unread_total mid.wires ≡ unread_total old.wires =
     ap (λ (t : Tally). t.unread) first.tally in
@@ -81,7 +81,7 @@ answered_in_room old mid after last connection entries text first answers second
             | inl now ↦ inl (subst (λ (s : DeskState). AnswersNow s connection body entries text
                 (desk_state last)) from
                 (subst (λ (t : DeskState). AnswersNow (desk_state mid) connection body entries text t) to
-                    now))
+                now))
             | inr closed ↦ inr (subst (λ (s : DeskState). DoesClose s connection (desk_state last)) from
                 (subst (λ (t : DeskState). DoesClose (desk_state mid) connection t) to closed))
           ];
