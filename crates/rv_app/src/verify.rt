@@ -191,12 +191,12 @@ fn rule_again<A: Again>(
     };
     match again {
         None => Ok(Reread::Told(None)),
-        Some(again) => reread(rt, path, again, *place, entry),
+        Some(again) => read_once_more(rt, path, again, *place, entry),
     }
 }
 
 // The rule that the entry at a place breaks, which names a closed place, by reading the bytes once more.
-fn reread<A: Again>(
+fn read_once_more<A: Again>(
     rt: &HostRuntime,
     path: &str,
     again: &A,
