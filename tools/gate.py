@@ -35,7 +35,7 @@ from tools import proved  # noqa: E402
 from tools.outside import BAR, OF_TESTS, PROGRAM, STEPS, count, finish, outcome, outside, run, seed_of_commit  # noqa: E402
 
 # How many units the gate may take where all is proved from nothing.
-BUDGET = 100
+BUDGET = 115
 
 
 class Provers(threading.Thread):

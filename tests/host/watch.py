@@ -16,5 +16,10 @@ def memory(pid: int) -> int:
 
 def processor(pid: int) -> float:
     """The processor seconds that a process took so far."""
-    took = pathlib.Path(f"/proc/{pid}/stat").read_text().rpartition(")")[2].split()[11:13]
-    return sum(map(int, took)) / TICKS
+    return sum(own_and_system(pid))
+
+
+def own_and_system(pid: int) -> tuple[float, float]:
+    """The processor seconds that a process took so far: those of its own code, and those of the system for it."""
+    own, system = pathlib.Path(f"/proc/{pid}/stat").read_text().rpartition(")")[2].split()[11:13]
+    return int(own) / TICKS, int(system) / TICKS

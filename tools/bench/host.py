@@ -21,7 +21,7 @@ from typing import NamedTuple
 ROOT = pathlib.Path(__file__).resolve().parents[2]
 sys.dont_write_bytecode, sys.path[0] = True, str(ROOT)
 from tests.host import many  # noqa: E402
-from tests.host.watch import memory, processor  # noqa: E402
+from tests.host.watch import memory, own_and_system, processor  # noqa: E402
 from tests.sockets.hosts import Host  # noqa: E402
 from tests.sockets.programs import free_port  # noqa: E402
 from tools.bench import driver  # noqa: E402
@@ -44,12 +44,14 @@ class Running(NamedTuple):
 
 
 class Taken(NamedTuple):
-    """What a load took: the seconds of a request, those from a piece to its last answer, and those of the server's processor."""
+    """What a load took: the seconds of a request, those from a piece to its last answer, and those of the server's processor: all,
+    and those of the server's own code."""
 
     each: float
     median: float
     late: float
     processor: float
+    own: float
 
 
 @contextlib.contextmanager
@@ -82,9 +84,11 @@ Start = Callable[[bool], contextlib.AbstractContextManager[Running]]
 def load(start: Start, keeps: bool, connections: int, piece: int, requests: int) -> Taken:
     """A load of a server that was just started."""
     with start(keeps) as server:
-        before = processor(server.pid)
+        own, system = own_and_system(server.pid)
         took = driver.load(server.kind, server.port, 1, connections, piece, requests)
-        return Taken(took.seconds / requests, took.median, took.late, (processor(server.pid) - before) / requests)
+        own_after, system_after = own_and_system(server.pid)
+        own_spent, spent = own_after - own, own_after + system_after - own - system
+        return Taken(took.seconds / requests, took.median, took.late, spent / requests, own_spent / requests)
 
 
 def hand(start: Start, keeps: bool, others: int) -> driver.HandOver:
@@ -119,7 +123,7 @@ def beside(starts: dict[str, Start]) -> None:
                     taken[name].append(load(start, keeps, connections, piece, requests))
             print(f" {connections} connections, {piece} in a piece, {requests} requests:")
             tell({name: middle(list(runs)) for name, runs in taken.items()},
-                 ("a request", "a piece at the median", "at the 99th of 100", "of the processor"))
+                 ("a request", "a piece at the median", "at the 99th of 100", "of the processor", "of its own code"))
         for others in OTHERS:
             handed: dict[str, list[driver.HandOver]] = {name: [] for name in starts}
             for _ in range(RUNS):

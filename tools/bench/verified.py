@@ -23,7 +23,7 @@ ITEM = "x" * 100
 # How many times the memory of a million entries all of them may take.
 MOST_MEMORY = 1.05
 # How many lines are printed beside those of a record: the verdict and the counts.
-FURTHER = 10
+FURTHER = 12
 # How many lines go into the pipe at once.
 PIECE = 2_000
 
@@ -112,4 +112,5 @@ def tell_record(program: str, entries: int) -> None:
     print(f"beside a record of {count:,} replies: {beside.kilobytes} KB, {beside.seconds:.1f} seconds of the processor")
 
 
-main()
+if __name__ == "__main__":
+    main()
