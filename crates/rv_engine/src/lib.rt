@@ -13,4 +13,5 @@ mod writing;
 
 pub use engine::Engine;
 pub use events::{EngineFault, LinkEvent};
+pub use looks::LookList;
 pub use parts::EngineParts;

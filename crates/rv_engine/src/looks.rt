@@ -8,9 +8,9 @@ ghost use Rattle.rv_engine.specs.Handing.{AddsLooks};
 use rv_hearers::ConnectionNumber;
 use std::alloc::{AllocError, Global};
 
-// The numbers that are listed, with room for all that have a flag.
+/// The numbers that are listed, with room for all that have a flag.
 #[derive(Drop)]
-pub(crate) struct LookList {
+pub struct LookList {
     pub(crate) numbers: Vec<ConnectionNumber>,
     // Of each number whether it is listed.
     pub(crate) flags: Vec<bool>,
@@ -18,7 +18,7 @@ pub(crate) struct LookList {
 
 impl LookList {
     /// None is listed, and all below this number may be.
-    pub(crate) fn new(alloc: Global, most: usize) -> Result<LookList, AllocError>
+    pub fn new(alloc: Global, most: usize) -> Result<LookList, AllocError>
         ensures sound { IfOk result IsLooks }
         ensures none { IfOk result (λ list. list.numbers.items ≡ []) }
         ensures room { IfOk result (λ list. length list.flags.items ≡ most) }
@@ -31,7 +31,8 @@ impl LookList {
         Ok(list)
     }
 
-    pub(crate) fn is_empty(&self) -> bool
+    /// Whether none is.
+    pub fn is_empty(&self) -> bool
         ensures { IsTrue result ↔ (self.now.numbers.items ≡ []) }
     {
         self.numbers.is_empty()
@@ -68,7 +69,7 @@ impl LookList {
     }
 
     /// A number is listed, if it may be and isn't yet.
-    pub(crate) fn add(&mut self, number: ConnectionNumber)
+    pub fn add(&mut self, number: ConnectionNumber)
         requires { IsLooks self.old }
         ensures sound { IsLooks self.new }
         ensures adds { AddsLooks (length self.old.flags.items) self.old.numbers.items (number ∷ [])
@@ -94,7 +95,7 @@ impl LookList {
     }
 
     /// The last that is listed, which is listed no longer.
-    pub(crate) fn pop(&mut self) -> Option<ConnectionNumber>
+    pub fn pop(&mut self) -> Option<ConnectionNumber>
         requires { IsLooks self.old }
         ensures sound { IsLooks self.new }
         ensures some { IfSome result (λ number. self.old.numbers.items

@@ -17,7 +17,7 @@ use rv_engine::{Engine, EngineFault};
 use rv_hearers::ConnectionNumber;
 use rv_links::Links;
 use rv_options::HostOptions;
-use rv_traffic::Switchboard;
+use rv_traffic::{SHARE, Switchboard, WaitingLists};
 use std::io;
 use std::io::Write;
 use std::os::fd::AsRawFd;
@@ -30,12 +30,15 @@ const STATUS_LISTENER: Token = Token(usize::MAX - 1);
 // The most events of one poll, and the most accepts of one turn.
 const EVENTS: usize = 1_024;
 
+const ACCEPTS: usize = 64;
+
 // Connections are looked over every so many milliseconds, and no poll waits longer than the other.
 pub(crate) const LOOK_OVER: u64 = 1_000;
 
 const LONGEST_WAIT: u64 = 60_000;
 
-// Lines that found no memory are tried again after so many milliseconds.
+// Lines that found no memory are tried again after so many milliseconds, and so is a read for which there was no
+// room.
 const MEMORY_AGAIN: u64 = 10;
 
 // The system asks a silent peer whether it is there, and gives up one that takes nothing for a minute. If it
@@ -141,6 +144,8 @@ pub(crate) struct Shell<W> {
     // At most so many connections are open.
     pub(crate) connections: usize,
     pub(crate) memory: u128,
+    // Since when more is held than that, if it is.
+    pub(crate) full_since: Option<u64>,
     pub(crate) limits: TimeLimits,
     // How many connections were accepted, and in how many turns the clock failed.
     pub(crate) opened: u64,
@@ -161,6 +166,7 @@ pub(crate) struct ShellParts<W> {
     poll: Poll,
     events: Events,
     links: Links<TcpStream>,
+    waits: WaitingLists,
 }
 
 /// Where a server is asked: for connections, and how it is.
@@ -203,6 +209,7 @@ impl<W: Drop> ShellParts<W> {
             poll: watching(rt, &mut doors)?,
             events: Events::with_capacity(rt.alloc(), EVENTS)?,
             links: Links::new(rt.alloc(), connections)?,
+            waits: WaitingLists::new(rt.alloc(), connections)?,
             doors,
             account,
             connections,
@@ -226,12 +233,13 @@ impl<W: Drop> Shell<W> {
             poll: parts.poll,
             events: parts.events,
             door: parts.doors.door,
-            traffic: Switchboard::new(engine, parts.links),
+            traffic: Switchboard::new(engine, parts.links, parts.waits),
             account: parts.account,
             status: parts.doors.status,
             report,
             connections: parts.connections,
             memory: options.memory as u128 * 1_048_576,
+            full_since: None,
             limits: TimeLimits {
                 stall: options.stall.saturating_mul(1_000),
                 idle: options.idle.saturating_mul(1_000),
@@ -274,7 +282,7 @@ impl<W: Drop> Shell<W> {
     // The same, where no line is left.
     fn time_to_wait(&self, now: u64) -> u64 {
         let may_accept = self.traffic.links().len() < self.connections;
-        if !self.is_quiet() || (may_accept && self.door.is_asked(now)) {
+        if self.is_asked_at_once() || (may_accept && self.door.is_asked(now)) {
             return 0;
         }
         let mut until = self
@@ -283,6 +291,9 @@ impl<W: Drop> Shell<W> {
             .hub()
             .next_moment()
             .unwrap_or(u64::MAX);
+        if !self.is_quiet() {
+            until = until.min(now.saturating_add(MEMORY_AGAIN));
+        }
         if self.traffic.links().len() > 0 || self.report.has_untold() {
             until = until.min(self.looked_over.saturating_add(LOOK_OVER));
         }
@@ -295,10 +306,25 @@ impl<W: Drop> Shell<W> {
         until.saturating_sub(now).min(LONGEST_WAIT)
     }
 
-    // Whether nobody is to be looked at, and all entries are written.
+    // Whether nobody is to be looked at, or waits for a share.
     fn is_quiet(&self) -> bool {
-        let engine = self.traffic.engine();
-        engine.is_quiet() && engine.hub().written() >= engine.hub().machine().length() as u64
+        self.traffic.engine().is_quiet() && self.traffic.waits().is_empty()
+    }
+
+    // Whether something is to be done at once: entries are to be written, or somebody is to be looked at or waits
+    // for a share. Where there is no room for what is read, that has time.
+    fn is_asked_at_once(&self) -> bool {
+        let hub = self.traffic.engine().hub();
+        if hub.written() < hub.machine().length() as u64 {
+            return true;
+        }
+        !self.is_quiet() && !self.traffic.is_over(self.memory)
+    }
+
+    // Room for answers to what is pending where there is none for more to be pending.
+    fn room_to_answer(&self) -> u128 {
+        let pending = self.connections.saturating_mul(SHARE) as u128;
+        self.memory.saturating_add(pending)
     }
 
     // Waits until something is to be done, and gives the moment.
@@ -384,7 +410,7 @@ impl<W: Drop> Shell<W> {
         ensures runs { OnlyCalls self.old.traffic self.new.traffic }
         ensures account { self.new.account ≡ self.old.account }
     {
-        for _turn in 0..EVENTS {
+        for _turn in 0..ACCEPTS {
             if !self.accept_one(now) {
                 break;
             }
@@ -422,14 +448,23 @@ impl<W: Drop> Shell<W> {
             .is_ok()
     }
 
-    // Reads once from each that is looked at.
+    // Reads once from each that is looked at, where there is room for it.
     fn read_all(&mut self, now: u64)
         ensures runs { OnlyCalls self.old.traffic self.new.traffic }
         ensures account { self.new.account ≡ self.old.account }
     {
-        let faults = self.traffic.read_round(now);
+        let faults = self.traffic.read_round(self.memory, now);
         self.report.note_all(FaultKind::Link, faults.broken);
         self.report.note_all(FaultKind::NotOpened, faults.no_memory);
+    }
+
+    // Some of those that sent more than a little have a share of it answered.
+    fn share_out(&mut self, now: u64)
+        ensures runs { OnlyCalls self.old.traffic self.new.traffic }
+        ensures account { self.new.account ≡ self.old.account }
+    {
+        let room = self.room_to_answer();
+        self.traffic.share_out(room, now);
     }
 
     // Writes once to each that is looked at.
@@ -450,6 +485,7 @@ impl<W: Drop> Shell<W> {
         self.elapse(now);
         self.accept(now);
         self.read_all(now);
+        self.share_out(now);
     }
 
     // Sends all that may leave, and looks after all connections.

@@ -8,13 +8,13 @@ use crate::shell::{LOOK_OVER, Shell};
 use rv_hearers::ConnectionNumber;
 
 impl<W: Drop> Shell<W> {
-    /// Once a second ends those that are idle or stall, and tells faults; at once who holds most, if all
-    /// hold too much.
+    /// Once a second ends those that are idle or stall, and tells faults; and who holds most, if all have held
+    /// too much for as long as a peer may stall.
     pub(crate) fn look_over(&mut self, rt: &HostRuntime, now: u64)
         ensures runs { OnlyCalls self.old.traffic self.new.traffic }
         ensures account { self.new.account ≡ self.old.account }
     {
-        self.make_room(now);
+        self.watch_room(now);
         if now < self.looked_over.saturating_add(LOOK_OVER) {
             return;
         }
@@ -57,6 +57,27 @@ impl<W: Drop> Shell<W> {
         overdue(wire, heard, moved, now, self.limits)
     }
 
+    // Closes those that hold most, if all have held too much for as long as a peer may stall.
+    #[tactic(auto, using(crate::proofs::Turning::none_called))]
+    fn watch_room(&mut self, now: u64)
+        ensures runs { OnlyCalls self.old.traffic self.new.traffic }
+        ensures account { self.new.account ≡ self.old.account }
+    {
+        self.full_since = self.full_at(now);
+        if now.saturating_sub(self.full_since.unwrap_or(now)) < self.limits.stall {
+            return;
+        }
+        self.make_room(now);
+    }
+
+    // Since when all hold too much, if they do now.
+    fn full_at(&self, now: u64) -> Option<u64> {
+        if !self.traffic.is_over(self.memory) {
+            return None;
+        }
+        Some(self.full_since.unwrap_or(now))
+    }
+
     // Closes those that hold most, until all hold at most what they may.
     fn make_room(&mut self, now: u64)
         ensures runs { OnlyCalls self.old.traffic self.new.traffic }
@@ -85,7 +106,7 @@ impl<W: Drop> Shell<W> {
         ensures runs { OnlyCalls self.old.traffic self.new.traffic }
         ensures account { self.new.account ≡ self.old.account }
     {
-        if self.total() <= self.memory {
+        if !self.traffic.is_over(self.memory) {
             return false;
         }
         if !self.traffic.catch_up() {

@@ -16,7 +16,7 @@ use std::alloc::{AllocError, Global};
 use std::io::{Read, Write};
 
 // The most bytes of one read, at least.
-const PIECE: usize = 65_536;
+const PIECE: usize = 4_096;
 
 /// The sockets under their numbers, in room that was made before, and the bytes of the last read.
 #[derive(Drop)]

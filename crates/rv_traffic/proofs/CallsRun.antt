@@ -14,13 +14,14 @@ use Rattle.rv_traffic.specs.declared.outcomes.Writing.{Writing}
 use Rattle.rv_traffic.specs.declared.outcomes.Writing.TheVariants as writing
 use Rattle.rv_hub.specs.Hubs.{hub_terms}
 use Rattle.rv_traffic.specs.declared.traffic.Switchboard.{Switchboard}
-use Rattle.rv_traffic.specs.Calls.{Attaches, Hands, ReadsOne, WritesOne}
+use Rattle.rv_traffic.specs.Calls.{Attaches, Hands, LosesBytes, OffersOne, ReadsOne, WritesOne}
 use Rattle.rv_traffic.specs.CallRuns.{EndsAreRuns, EventsAreRuns, GatheringsAreRuns, OnlyCalls}
 use Rattle.rv_traffic.specs.CallRuns.{LooksAreRuns, ReadRoundsAreRuns, RefusalsAreRuns, RunsAreJoined}
-use Rattle.rv_traffic.specs.CallRuns.{RunsBehind, WriteRoundsAreRuns}
+use Rattle.rv_traffic.specs.CallRuns.{RunsBehind, SharesAreRuns, WriteRoundsAreRuns}
 use Rattle.rv_traffic.specs.CallRuns.{WrittenLinesAreRuns}
 use Rattle.rv_traffic.specs.Rounds.{DoesIfReady, DoesWhere, LooksAgain, LooksForMore, ReadsTurn, TakesTurns}
-use Rattle.rv_traffic.specs.Rounds.{Turn, WritesTurn, round_begun}
+use Rattle.rv_traffic.specs.Rounds.{SharesTurn, TakesShares, TakesTurn, Turn, WaitsForMore, WritesTurn}
+use Rattle.rv_traffic.specs.Rounds.{round_begun}
 use Rattle.rv_traffic.specs.Views.{TrafficState}
 
 -- ---- one call
@@ -154,22 +155,36 @@ written_lines_run journal terms s t now made told is =
 -- ---- a turn
 
 module _ {S : Type 0} (journal : Bool) (terms : DeskTerms) where
-  reads_run : (remaining : S → Option (List ℕ)) (now n : ℕ) (old : TrafficState S) (came : Reading)
-      (new : TrafficState S) → ReadsOne remaining journal terms now n old came new
+  loses_run : (now n : ℕ) (bytes : List ℕ) (old new : TrafficState S)
+      → LosesBytes journal terms now n bytes old new → RunsBehind journal terms old.engine [] new.engine
+  loses_run now n bytes old new (inl rest) =
+      runs_on journal terms old.engine rest.between.engine new.engine
+      (hands_run journal terms old.engine now rest.what rest.given rest.between.engine rest.hands)
+      (gone_run journal terms rest.between.engine new.engine now n rest.gives_up.told)
+  loses_run now n bytes old new (inr whole) =
+      gone_run journal terms old.engine new.engine now n whole.gives_up.told
+
+  reads_run : (remaining : S → Option (List ℕ)) (room now n : ℕ) (old : TrafficState S) (came : Reading)
+      (new : TrafficState S) → ReadsOne remaining room journal terms now n old came new
       → RunsBehind journal terms old.engine [] new.engine
-  reads_run remaining now n old reading.Nothing new is = none_run journal terms old.engine new.engine
-      is.engine
-  reads_run remaining now n old reading.Offered new is =
+  reads_run remaining room now n old reading.Nothing new is =
+      none_run journal terms old.engine new.engine is.engine
+  reads_run remaining room now n old reading.Offered new (within, is) =
       hands_run journal terms old.engine now is.what is.given new.engine is.hands
-  reads_run remaining now n old reading.Ended new is =
+  reads_run remaining room now n old reading.Kept new (within, is) =
+      none_run journal terms old.engine new.engine is.engine
+  reads_run remaining room now n old reading.Ended new (within, is) =
       hands_run journal terms old.engine now _ is.given new.engine is.hands
-  reads_run remaining now n old reading.Broken new is =
+  reads_run remaining room now n old reading.Broken new (within, is) =
       gone_run journal terms old.engine new.engine now n is.gives_up.told
-  reads_run remaining now n old reading.NoMemory new is =
-      runs_on journal terms old.engine is.loses.between.engine new.engine
-      (hands_run journal terms old.engine now is.loses.what is.loses.given is.loses.between.engine
-      is.loses.hands) (gone_run journal terms is.loses.between.engine new.engine now n
-      is.loses.gives_up.told)
+  reads_run remaining room now n old reading.NoMemory new (within, is) =
+      loses_run now n is.bytes (record old { table = is.read }) new is.loses
+
+  offers_run : (now n : ℕ) (old : TrafficState S) (came : Bool) (new : TrafficState S)
+      → OffersOne journal terms now n old came new → RunsBehind journal terms old.engine [] new.engine
+  offers_run now n old true new is =
+      hands_run journal terms old.engine now is.what is.given new.engine is.hands
+  offers_run now n old false new is = none_run journal terms old.engine new.engine is.engine
 
   writes_run : (contents : S → Option (List ℕ)) (now n : ℕ) (old : TrafficState S) (what : Writing)
       (new : TrafficState S) → WritesOne contents journal terms now n old what new
@@ -201,7 +216,7 @@ module _ {S : Type 0} (journal : Bool) (terms : DeskTerms) where
   ready_run does run old came new is =
       runs_on journal terms old.engine is.ready new.engine
       (gatherings_run journal terms old.engine is.ready is.gathers)
-      (where_run does run (record { engine = is.ready; table = old.table }) came new is.made)
+      (where_run does run (record old { engine = is.ready }) came new is.made)
 
   again_run : (old : TrafficState S) (n : ℕ) (new : TrafficState S) → LooksAgain old n new
       → RunsBehind journal terms old.engine [] new.engine
@@ -214,13 +229,35 @@ module _ {S : Type 0} (journal : Bool) (terms : DeskTerms) where
   more_run (Some what) old n new (inr (rests, same)) =
       none_run journal terms old.engine new.engine (ap (λ (s : TrafficState S). s.engine) same)
 
-  read_turn_runs : (remaining : S → Option (List ℕ)) (now : ℕ) (old : TrafficState S) (turn : Turn Reading)
-      (new : TrafficState S) → ReadsTurn remaining journal terms now old turn new
+  waits_run : (old : TrafficState S) (n : ℕ) (new : TrafficState S) → WaitsForMore old n new
       → RunsBehind journal terms old.engine [] new.engine
-  read_turn_runs remaining now old turn new is =
+  waits_run old n new (inl (has, is)) = none_run journal terms old.engine new.engine is.engine
+  waits_run old n new (inr (not, same)) =
+      none_run journal terms old.engine new.engine (ap (λ (s : TrafficState S). s.engine) same)
+
+  takes_run : {A : Type 0} (does : ℕ → TrafficState S → A → TrafficState S → Type 0)
+      → ((n : ℕ) (s : TrafficState S) (a : A) (t : TrafficState S) → does n s a t
+      → RunsBehind journal terms s.engine [] t.engine)
+      → (old : TrafficState S) (turn : Turn A) (new : TrafficState S) → TakesTurn does old turn new
+      → RunsBehind journal terms old.engine [] new.engine
+  takes_run does run old turn new is =
       runs_on journal terms old.engine is.after.engine new.engine
-      (ready_run (ReadsOne remaining journal terms now turn.number) (reads_run remaining now turn.number) old
-      turn.came is.after is.reads) (again_run is.after turn.number new is.again)
+      (ready_run (does turn.number) (run turn.number) old turn.came is.after is.made)
+      (runs_on journal terms is.after.engine is.settles.between.engine new.engine
+      (waits_run is.after turn.number is.settles.between is.settles.waits)
+      (again_run is.settles.between turn.number new is.settles.again))
+
+  read_turn_runs : (remaining : S → Option (List ℕ)) (room now : ℕ) (old : TrafficState S)
+      (turn : Turn Reading) (new : TrafficState S) → ReadsTurn remaining room journal terms now old turn new
+      → RunsBehind journal terms old.engine [] new.engine
+  read_turn_runs remaining room now old turn new is =
+      takes_run (λ (n : ℕ). ReadsOne remaining room journal terms now n) (reads_run remaining room now) old
+      turn new is
+
+  share_turn_runs : (now : ℕ) (old : TrafficState S) (turn : Turn Bool) (new : TrafficState S)
+      → SharesTurn journal terms now old turn new → RunsBehind journal terms old.engine [] new.engine
+  share_turn_runs now old turn new is =
+      takes_run (λ (n : ℕ). OffersOne journal terms now n) (offers_run now) old turn new is
 
   write_turn_runs : (contents : S → Option (List ℕ)) (now : ℕ) (old : TrafficState S) (turn : Turn Writing)
       (new : TrafficState S) → WritesTurn contents journal terms now old turn new
@@ -228,7 +265,9 @@ module _ {S : Type 0} (journal : Bool) (terms : DeskTerms) where
   write_turn_runs contents now old turn new is =
       runs_on journal terms old.engine is.after.engine new.engine
       (ready_run (WritesOne contents journal terms now turn.number) (writes_run contents now turn.number) old
-      turn.came is.after is.writes) (more_run turn.came is.after turn.number new is.again)
+      turn.came is.after is.writes) (runs_on journal terms is.after.engine is.between.engine new.engine
+      (waits_run is.after turn.number is.between is.waits)
+      (more_run turn.came is.between turn.number new is.again))
 
   -- ---- a round
 
@@ -258,11 +297,24 @@ module _ {S : Type 0} (journal : Bool) (terms : DeskTerms) where
       (same_but_looks journal terms old.engine old.engine.round old.engine.looks)
       (turns_run takes run turns _ new taken)
 
+  shares_run : (now : ℕ) (turns : List (Turn Bool)) (old new : TrafficState S)
+      → TakesShares (SharesTurn journal terms now) old turns new
+      → RunsBehind journal terms old.engine [] new.engine
+  shares_run now [] old new same =
+      none_run journal terms old.engine new.engine (ap (λ (s : TrafficState S). s.engine) same)
+  shares_run now (turn ∷ turns) old new (between, earlier, next) =
+      runs_on journal terms old.engine between.engine new.engine (shares_run now turns old between earlier)
+      (share_turn_runs now _ turn new next.taken)
+
 -- ---- the laws
 
 pub read_rounds_run : {S : Type 0} (remaining : S → Option (List ℕ)) → ReadRoundsAreRuns remaining
-read_rounds_run remaining journal terms now old new faults is =
-    round_runs journal terms _ (read_turn_runs journal terms remaining now) is.turns old new is.round.taken
+read_rounds_run remaining journal terms room now old new faults is =
+    round_runs journal terms _ (read_turn_runs journal terms remaining room now) is.turns old new
+    is.round.taken
+
+pub shared_run : {S : Type 0} → SharesAreRuns S
+shared_run journal terms room now old new is = shares_run journal terms now is.turns _ new is.taken
 
 pub write_rounds_run : {S : Type 0} (contents : S → Option (List ℕ)) → WriteRoundsAreRuns contents
 write_rounds_run contents journal terms now old new broken is =

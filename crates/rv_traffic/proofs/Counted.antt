@@ -11,13 +11,13 @@ use Rattle.rv_traffic.specs.Rounds.{is_write_broken, read_faults, write_faults}
 use Rattle.rv_traffic.specs.Views.{TrafficState}
 
 module _ {S : Type 0} where
-  pub read_turn_at : (remaining : S → Option (List ℕ)) (journal same : Bool) (terms as_before : DeskTerms)
+  pub read_turn_at : (remaining : S → Option (List ℕ)) (room : ℕ) (journal same : Bool) (terms as_before : DeskTerms)
       (now : ℕ) (old : TrafficState S) (turn : Turn Reading) (new : TrafficState S) → same ≡ journal
-      → as_before ≡ terms → ReadsTurn remaining same as_before now old turn new
-      → ReadsTurn remaining journal terms now old turn new
-  read_turn_at remaining journal same terms as_before now old turn new keeps terms_keep is =
-      subst (λ (b : Bool). ReadsTurn remaining b terms now old turn new) keeps
-      (subst (λ (t : DeskTerms). ReadsTurn remaining same t now old turn new) terms_keep is)
+      → as_before ≡ terms → ReadsTurn remaining room same as_before now old turn new
+      → ReadsTurn remaining room journal terms now old turn new
+  read_turn_at remaining room journal same terms as_before now old turn new keeps terms_keep is =
+      subst (λ (b : Bool). ReadsTurn remaining room b terms now old turn new) keeps
+      (subst (λ (t : DeskTerms). ReadsTurn remaining room same t now old turn new) terms_keep is)
 
   pub write_turn_at : (contents : S → Option (List ℕ)) (journal same : Bool) (terms as_before : DeskTerms)
       (now : ℕ) (old : TrafficState S) (turn : Turn Writing) (new : TrafficState S) → same ≡ journal

@@ -74,13 +74,12 @@ module _ {S A F : Type 0} (takes : TrafficState S → Turn A → TrafficState S 
       → (old s t : TrafficState S) (before faults : F)
       (popped : EngineState) (turn : Turn A) → s.engine.round ≡ popped.round ++ turn.number ∷ []
       → popped ≡ record s.engine { round = popped.round }
-      → takes (record { engine = popped; table = s.table }) turn t
+      → takes (record s { engine = popped }) turn t
       → ((turns : List (Turn A)) → before ≡ faults_of turns → faults ≡ faults_of (turn ∷ turns))
       → SoFar takes faults_of old s before → SoFar takes faults_of old t faults
   one_taken faults_of keeps old s t before faults popped turn last rest has_turn counts so_far =
-      let from : takes (record { engine = record s.engine { round = popped.round }; table = s.table }) turn
-      t =
-      subst (λ (e : EngineState). takes (record { engine = e; table = s.table }) turn t) rest has_turn in
+      let from : takes (record s { engine = record s.engine { round = popped.round } }) turn t =
+      subst (λ (e : EngineState). takes (record s { engine = e }) turn t) rest has_turn in
       let stays = keeps _ turn t from in
       record {
         turns = turn ∷ so_far.turns;

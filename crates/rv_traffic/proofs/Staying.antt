@@ -1,6 +1,6 @@
 -- What a turn leaves as it is: the round, and all other sockets.
 use Rattle.std.proofs.Common.{◌≡◌, ◌∙◌, ℕ, Bool, List, None, Option, Some, ap, inl, inr, slice_set}
-use Rattle.std.proofs.Common.{subst, sym}
+use Rattle.std.proofs.Common.{false, subst, sym, true}
 use Rattle.std.proofs.lemmas.List.{set-get_or}
 use Rattle.rv_desk.specs.View.{DeskTerms}
 use Rattle.rv_engine.specs.Engines.{EngineState}
@@ -10,10 +10,11 @@ use Rattle.rv_traffic.specs.declared.outcomes.Reading.{Reading}
 use Rattle.rv_traffic.specs.declared.outcomes.Reading.TheVariants as reading
 use Rattle.rv_traffic.specs.declared.outcomes.Writing.{Writing}
 use Rattle.rv_traffic.specs.declared.outcomes.Writing.TheVariants as writing
-use Rattle.rv_traffic.specs.Calls.{NoneCame, ReadsNothing, ReadsOne, SendsNothing, TellsGone, WritesOne}
+use Rattle.rv_traffic.specs.Calls.{LosesBytes, NoneCame, OffersOne, ReadsNothing, ReadsOne, SendsNothing}
+use Rattle.rv_traffic.specs.Calls.{TellsGone, WritesOne}
 use Rattle.rv_traffic.specs.Rounds.{DoesIfReady, DoesWhere, LooksAgain, LooksForMore, ReadsTurn, Turn}
-use Rattle.rv_traffic.specs.Rounds.{WritesTurn}
-use Rattle.rv_traffic.specs.Views.{TrafficState}
+use Rattle.rv_traffic.specs.Rounds.{Settles, TakesTurn, WaitsForMore, WritesTurn}
+use Rattle.rv_traffic.specs.Views.{TrafficState, Waits}
 use Rattle.rv_traffic.proofs.Tables.{one_then}
 
 gone_keeps : (journal : Bool) (terms : DeskTerms) (s : EngineState) (now n : ℕ) (t : EngineState)
@@ -45,38 +46,67 @@ module _ {S : Type 0} where
   none_keeps remaining n old new (inl (none, same)) = same_one old new n same
   none_keeps remaining n old new (inr changes) = changes.others
 
-  nothing_keeps : (remaining : S → Option (List ℕ)) (n : ℕ) (old new : TrafficState S)
-      → ReadsNothing remaining n old new → ChangesOne old.table n new.table
-  nothing_keeps remaining n old new is =
+  nothing_keeps : (remaining : S → Option (List ℕ)) (room n : ℕ) (old new : TrafficState S)
+      → ReadsNothing remaining room n old new → ChangesOne old.table n new.table
+  nothing_keeps remaining room n old new is =
       elim is.why [
         | inl refused ↦ same_one old.table new.table n refused.1
-        | inr none ↦ none_keeps remaining n old.table new.table none.1
+        | inr none ↦ none_keeps remaining n old.table new.table none.2
       ]
 
-  pub reads_keep : (remaining : S → Option (List ℕ)) (journal : Bool) (terms : DeskTerms) (now n : ℕ)
-      (old : TrafficState S) (came : Reading) (new : TrafficState S)
-      → ReadsOne remaining journal terms now n old came new → StaysBut old n new
-  reads_keep remaining journal terms now n old reading.Nothing new is = record {
+  loses_keeps : (journal : Bool) (terms : DeskTerms) (now n : ℕ) (bytes : List ℕ) (old new : TrafficState S)
+      → LosesBytes journal terms now n bytes old new → StaysBut old n new
+  loses_keeps journal terms now n bytes old new (inl rest) = record {
+    round = gone_keeps journal terms rest.between.engine now n new.engine rest.gives_up.told
+        ∙ rest.hands.hands.looks.round;
+    others = one_then old.table rest.between.table new.table n rest.others rest.gives_up.link.others;
+  }
+  loses_keeps journal terms now n bytes old new (inr whole) = record {
+    round = gone_keeps journal terms old.engine now n new.engine whole.gives_up.told;
+    others = whole.gives_up.link.others;
+  }
+
+  pub reads_keep : (remaining : S → Option (List ℕ)) (room : ℕ) (journal : Bool) (terms : DeskTerms)
+      (now n : ℕ) (old : TrafficState S) (came : Reading) (new : TrafficState S)
+      → ReadsOne remaining room journal terms now n old came new → StaysBut old n new
+  reads_keep remaining room journal terms now n old reading.Nothing new is = record {
     round = ap (λ (e : EngineState). e.round) is.engine;
-    others = nothing_keeps remaining n old new is;
+    others = nothing_keeps remaining room n old new is;
   }
-  reads_keep remaining journal terms now n old reading.Offered new is = record {
+  reads_keep remaining room journal terms now n old reading.Offered new (within, is) = record {
     round = is.hands.hands.looks.round;
     others = is.link.others;
   }
-  reads_keep remaining journal terms now n old reading.Ended new is = record {
+  reads_keep remaining room journal terms now n old reading.Kept new (within, is) = record {
+    round = ap (λ (e : EngineState). e.round) is.engine;
+    others = is.link.others;
+  }
+  reads_keep remaining room journal terms now n old reading.Ended new (within, is) = record {
     round = is.hands.hands.looks.round;
     others = is.link.others;
   }
-  reads_keep remaining journal terms now n old reading.Broken new is = record {
+  reads_keep remaining room journal terms now n old reading.Broken new (within, is) = record {
     round = gone_keeps journal terms old.engine now n new.engine is.gives_up.told;
     others = is.gives_up.link.others;
   }
-  reads_keep remaining journal terms now n old reading.NoMemory new is = record {
-    round = gone_keeps journal terms is.loses.between.engine now n new.engine is.loses.gives_up.told
-        ∙ is.loses.hands.hands.looks.round;
-    others = one_then old.table is.read new.table n is.came.others
-        (one_then is.read is.loses.between.table new.table n is.loses.others is.loses.gives_up.link.others);
+  reads_keep remaining room journal terms now n old reading.NoMemory new (within, is) =
+      let lost = loses_keeps journal terms now n is.bytes (record old { table = is.read }) new is.loses in
+      record {
+        round = lost.round;
+        others = one_then old.table is.read new.table n is.came.others lost.others;
+      }
+
+  -- ---- a share
+
+  pub offers_keep : (journal : Bool) (terms : DeskTerms) (now n : ℕ) (old : TrafficState S) (came : Bool)
+      (new : TrafficState S) → OffersOne journal terms now n old came new → StaysBut old n new
+  offers_keep journal terms now n old true new is = record {
+    round = is.hands.hands.looks.round;
+    others = is.link.others;
+  }
+  offers_keep journal terms now n old false new is = record {
+    round = ap (λ (e : EngineState). e.round) is.engine;
+    others = same_one old.table new.table n is.table;
   }
 
   -- ---- a write
@@ -130,8 +160,7 @@ module _ {S : Type 0} where
       → (old : TrafficState S) (came : Option A) (new : TrafficState S) → DoesIfReady does old came new
       → StaysBut old n new
   ready_keeps does n keeps old came new is =
-      let stays = where_keeps does n keeps (record { engine = is.ready; table = old.table }) came new is.made
-      in
+      let stays = where_keeps does n keeps (record old { engine = is.ready }) came new is.made in
       record { round = stays.round ∙ is.gathers.looks.round; others = stays.others }
 
   again_keeps : (old : TrafficState S) (n : ℕ) (new : TrafficState S) → LooksAgain old n new
@@ -150,14 +179,38 @@ module _ {S : Type 0} where
     others = same_one old.table new.table n (ap (λ (s : TrafficState S). s.table) same);
   }
 
-  pub read_turn_keeps : (remaining : S → Option (List ℕ)) (journal : Bool) (terms : DeskTerms) (now : ℕ)
-      (old : TrafficState S) (turn : Turn Reading) (new : TrafficState S)
-      → ReadsTurn remaining journal terms now old turn new → StaysBut old turn.number new
-  read_turn_keeps remaining journal terms now old turn new is =
+  waits_keep : (old : TrafficState S) (n : ℕ) (new : TrafficState S) → WaitsForMore old n new
+      → StaysBut old n new
+  waits_keep old n new (inl (has, is)) = record {
+    round = ap (λ (e : EngineState). e.round) is.engine;
+    others = same_one old.table new.table n is.table;
+  }
+  waits_keep old n new (inr (not, same)) = record {
+    round = ap (λ (s : TrafficState S). s.engine.round) same;
+    others = same_one old.table new.table n (ap (λ (s : TrafficState S). s.table) same);
+  }
+
+  settles_keep : (old : TrafficState S) (n : ℕ) (new : TrafficState S) → Settles old n new
+      → StaysBut old n new
+  settles_keep old n new is =
+      stays_then old is.between new n (waits_keep old n is.between is.waits)
+      (again_keeps is.between n new is.again)
+
+  pub takes_keep : {A : Type 0} (does : ℕ → TrafficState S → A → TrafficState S → Type 0)
+      → ((n : ℕ) (s : TrafficState S) (a : A) (t : TrafficState S) → does n s a t → StaysBut s n t)
+      → (old : TrafficState S) (turn : Turn A) (new : TrafficState S) → TakesTurn does old turn new
+      → StaysBut old turn.number new
+  takes_keep does keeps old turn new is =
       stays_then old is.after new turn.number
-      (ready_keeps (ReadsOne remaining journal terms now turn.number) turn.number
-      (reads_keep remaining journal terms now turn.number) old turn.came is.after is.reads)
-      (again_keeps is.after turn.number new is.again)
+      (ready_keeps (does turn.number) turn.number (keeps turn.number) old turn.came is.after is.made)
+      (settles_keep is.after turn.number new is.settles)
+
+  pub read_turn_keeps : (remaining : S → Option (List ℕ)) (room : ℕ) (journal : Bool) (terms : DeskTerms)
+      (now : ℕ) (old : TrafficState S) (turn : Turn Reading) (new : TrafficState S)
+      → ReadsTurn remaining room journal terms now old turn new → StaysBut old turn.number new
+  read_turn_keeps remaining room journal terms now old turn new is =
+      takes_keep (λ (n : ℕ). ReadsOne remaining room journal terms now n)
+      (λ n. reads_keep remaining room journal terms now n) old turn new is
 
   pub write_turn_keeps : (contents : S → Option (List ℕ)) (journal : Bool) (terms : DeskTerms) (now : ℕ)
       (old : TrafficState S) (turn : Turn Writing) (new : TrafficState S)
@@ -166,4 +219,23 @@ module _ {S : Type 0} where
       stays_then old is.after new turn.number
       (ready_keeps (WritesOne contents journal terms now turn.number) turn.number
       (writes_keep contents journal terms now turn.number) old turn.came is.after is.writes)
-      (more_keeps turn.came is.after turn.number new is.again)
+      (stays_then is.after is.between new turn.number (waits_keep is.after turn.number is.between is.waits)
+      (more_keeps turn.came is.between turn.number new is.again))
+
+-- ---- shares
+
+-- who waits changes by one that waits for the next round alone: whose share is due stays
+pub settled_due : {S : Type 0} (old : TrafficState S) (n : ℕ) (new : TrafficState S) → Settles old n new
+    → new.waits.due ≡ old.waits.due
+settled_due {S} old n new is =
+    ap (λ (w : Waits). w.due) is.again.waits ∙ at is.waits
+  where
+    at : WaitsForMore old n is.between → is.between.waits.due ≡ old.waits.due
+    at (inl (has, to_wait)) = to_wait.waits.due
+    at (inr (not, same)) = ap (λ (s : TrafficState S). s.waits.due) same
+
+pub taken_due : {S A : Type 0} (does : ℕ → TrafficState S → A → TrafficState S → Type 0)
+    (old : TrafficState S) (turn : Turn A) (new : TrafficState S) → TakesTurn does old turn new
+    → new.waits.due ≡ old.waits.due
+taken_due does old turn new is =
+    settled_due is.after turn.number new is.settles ∙ ap (λ (w : Waits). w.due) is.made.waits

@@ -1,8 +1,8 @@
 -- What is read of a connection.
 use Rattle.std.proofs.Common.{◌≡◌, ◌∙◌, ◌++◌, ℕ, Bool, IsSome, List, [], None, Option, Some, ap}
-use Rattle.std.proofs.Common.{append-nil}
-use Rattle.std.proofs.Common.{◌<◌, arith, drop, inl, inr, length, refl, subst, sym}
-use Rattle.std.proofs.lemmas.List.{drop_all, length-drop, set-get_or}
+use Rattle.std.proofs.Common.{append-nil, length-append}
+use Rattle.std.proofs.Common.{◌<◌, ◌≤◌, arith, drop, take, inl, inr, length, refl, subst, sym}
+use Rattle.std.proofs.lemmas.List.{drop-append-le, drop_all, length-drop, set-get_or, take-append-drop}
 use Rattle.std.proofs.lemmas.Bool.{false≢true}
 use Rattle.std.proofs.lemmas.Option.{same_Some}
 use Rattle.std.specs.Io.KnownBytes.{Consumes}
@@ -16,10 +16,12 @@ use Rattle.rv_links.specs.declared.link.Socket.{Socket}
 use Rattle.rv_links.specs.Table.{ChangesOne, PendsSlot, ReadsSlot, link_at, pending_of}
 use Rattle.rv_traffic.specs.declared.outcomes.Reading.{Reading}
 use Rattle.rv_traffic.specs.declared.outcomes.Reading.TheVariants as reading
-use Rattle.rv_traffic.specs.Calls.{ChangesLink, GaveEnd, GivesUp, Hands, IsReadable, KeepsUntaken, LosesRest}
-use Rattle.rv_traffic.specs.Calls.{MayBeOffered, NoneCame, Offers, OffersPiece, ReadsOne, SameFlags}
+use Rattle.rv_traffic.specs.Calls.{ChangesLink, GaveEnd, GivesUp, Hands, IsReadable, KeepsUntaken, KeepsWhole}
+use Rattle.rv_traffic.specs.Calls.{LosesBytes, MayBeOffered, NoneCame, OffersPiece, ReadsNew, SameFlags}
+use Rattle.rv_traffic.specs.Calls.{IsWithin, ReadsOne, TellsGone}
+use Rattle.rv_traffic.specs.declared.traffic.TheConstants.{SHARE, SMALL}
 use Rattle.rv_traffic.specs.Views.{IsPieceOf, TrafficState}
-use Rattle.rv_traffic.proofs.Tables.{consumes_none, none_changed, one_then}
+use Rattle.rv_traffic.proofs.Tables.{none_changed, one_then}
 
 -- some of it wasn't taken
 pub some_left : (bytes : List ℕ) (given count : ℕ) → drop count bytes ≡ drop given bytes
@@ -30,36 +32,58 @@ some_left bytes given count same some =
     let lengths = ap length same in
     omega (arith, one, other, lengths, some)
 
+-- what is left of a front is in front of the rest
+front_dropped : (bytes : List ℕ) (most count given : ℕ) → count ≤ length (take most bytes)
+    → drop count (take most bytes) ≡ drop given (take most bytes)
+    → drop count bytes ≡ drop given (take most bytes) ++ drop most bytes
+front_dropped bytes most count given within same =
+    ap (drop count) (sym (take-append-drop most bytes))
+    ∙ drop-append-le count (take most bytes) (drop most bytes) within
+    ∙ ap (λ (l : List ℕ). l ++ drop most bytes) same
+
+-- so much of a front is no more than all
+pub share_within : (bytes : List ℕ) (most count : ℕ) → count ≤ length (take most bytes)
+    → count ≤ length bytes
+share_within bytes most count within =
+    let parts = ap length (take-append-drop most bytes) in
+    let sum = length-append (take most bytes) (drop most bytes) in
+    omega (arith, parts, sum, within)
+
 module _ {S : Type 0} where
-  -- what is pending was offered
-  pub pending_offered : (remaining : S → Option (List ℕ)) (old new : List (Option (Socket S))) (n : ℕ)
-      (what : HubEvent) (given count : ℕ) → IsSome (link_at old n)
-      → IsPieceOf what n (pending_of (link_at old n))
-      → drop count (pending_of (link_at old n)) ≡ drop given (pending_of (link_at old n))
+  -- a share of what is pending was offered
+  pub share_offered : (old new : List (Option (Socket S))) (n : ℕ) (what : HubEvent) (given count : ℕ)
+      → 0 < length (pending_of (link_at old n))
+      → IsPieceOf what n (take SHARE (pending_of (link_at old n)))
+      → count ≤ length (take SHARE (pending_of (link_at old n)))
+      → drop count (take SHARE (pending_of (link_at old n)))
+      ≡ drop given (take SHARE (pending_of (link_at old n)))
       → PendsSlot (link_at old n) (drop count (pending_of (link_at old n))) (link_at new n)
       → ChangesOne old n new
-      → ChangesLink old n (λ link after. Consumes (remaining link.stream) (remaining after.stream) []
-      × IsPieceOf what n (link.pending.items ++ [])
-      × (after.pending.items ≡ drop given (link.pending.items ++ [])) × SameFlags link after) new
-  pending_offered remaining old new n what given count there piece same pends others =
-      at (link_at old n) refl there piece same pends
+      → ChangesLink old n (λ link after. (after.stream ≡ link.stream)
+      × IsPieceOf what n (take SHARE link.pending.items)
+      × (after.pending.items ≡ drop given (take SHARE link.pending.items) ++ drop SHARE link.pending.items)
+      × SameFlags link after) new
+  share_offered old new n what given count some piece within same pends others =
+      at (link_at old n) refl some piece within same pends
     where
-      at : (o : Option (Socket S)) → link_at old n ≡ o → IsSome o → IsPieceOf what n (pending_of o)
-          → drop count (pending_of o) ≡ drop given (pending_of o)
+      at : (o : Option (Socket S)) → link_at old n ≡ o → 0 < length (pending_of o)
+          → IsPieceOf what n (take SHARE (pending_of o)) → count ≤ length (take SHARE (pending_of o))
+          → drop count (take SHARE (pending_of o)) ≡ drop given (take SHARE (pending_of o))
           → PendsSlot o (drop count (pending_of o)) (link_at new n)
-          → ChangesLink old n (λ link after. Consumes (remaining link.stream) (remaining after.stream) []
-          × IsPieceOf what n (link.pending.items ++ [])
-          × (after.pending.items ≡ drop given (link.pending.items ++ [])) × SameFlags link after) new
-      at None is some offered so is_new = absurd (false≢true some)
-      at (Some link) is some offered so (after, has, is_new) = record {
+          → ChangesLink old n (λ link after. (after.stream ≡ link.stream)
+          × IsPieceOf what n (take SHARE link.pending.items)
+          × (after.pending.items
+          ≡ drop given (take SHARE link.pending.items) ++ drop SHARE link.pending.items)
+          × SameFlags link after) new
+      at None is some offered short so is_new = absurd (let less : 0 < 0 = some in omega arith)
+      at (Some link) is some offered short so (after, has, is_new) = record {
         link = link;
         after = after;
         there = is;
         changes = (
-          subst (λ (s : S). Consumes (remaining link.stream) (remaining s) []) (sym has.stream)
-              (consumes_none (remaining link.stream)),
-          subst (IsPieceOf what n) (sym (append-nil link.pending.items)) offered,
-          has.pending ∙ so ∙ ap (drop given) (sym (append-nil link.pending.items)),
+          has.stream,
+          offered,
+          has.pending ∙ front_dropped link.pending.items SHARE count given short so,
           record { readable = has.readable; writable = has.writable; moved = has.moved },
         );
         is = is_new;
@@ -151,6 +175,43 @@ module _ {S : Type 0} where
             others = one_then old mid new n first later.others;
           }
 
+  whole_came : (remaining : S → Option (List ℕ)) (now : ℕ) (old mid new : List (Option (Socket S))) (n : ℕ)
+      (bytes : List ℕ) → pending_of (link_at old n) ≡ []
+      → ReadsSlot remaining now (link_at old n) input.Piece bytes (link_at mid n) → ChangesOne old n mid
+      → ChangesLink mid n (λ link after. (after.stream ≡ link.stream)
+      × (after.pending.items ≡ bytes) × SameFlags link after) new
+      → ChangesLink old n (λ link after. Consumes (remaining link.stream) (remaining after.stream) bytes
+      × (after.pending.items ≡ bytes) × SameFlags link after) new
+  whole_came remaining now old mid new n bytes none reads first later = at (link_at old n) refl reads
+    where
+      at : (o : Option (Socket S)) → link_at old n ≡ o
+          → ReadsSlot remaining now o input.Piece bytes (link_at mid n)
+          → ChangesLink old n (λ link after. Consumes (remaining link.stream) (remaining after.stream) bytes
+          × (after.pending.items ≡ bytes) × SameFlags link after) new
+      at None is (nothing, no_bytes, is_mid) =
+          absurd (let differ : input.Piece ≡ input.Nothing = nothing in cc)
+      at (Some link) is (between, read, is_mid) =
+          let same : later.link ≡ between = same_Some later.link between (sym later.there ∙ is_mid) in
+          record {
+            link = link;
+            after = later.after;
+            there = is;
+            changes = (
+              subst (λ (s : S). Consumes (remaining link.stream) (remaining s) bytes)
+                  (sym (later.changes.0 ∙ ap (λ (l : Socket S). l.stream) same)) read.gives.2,
+              later.changes.1,
+              record {
+                readable = later.changes.2.readable ∙ ap (λ (l : Socket S). l.is_readable) same
+                    ∙ read.readable;
+                writable = later.changes.2.writable ∙ ap (λ (l : Socket S). l.is_writable) same
+                    ∙ read.rest.writable;
+                moved = later.changes.2.moved ∙ ap (λ (l : Socket S). l.moved) same ∙ read.rest.moved;
+              },
+            );
+            is = later.is;
+            others = one_then old mid new n first later.others;
+          }
+
   piece_came : (remaining : S → Option (List ℕ)) (now : ℕ) (old new : List (Option (Socket S))) (n : ℕ)
       (bytes : List ℕ) → ReadsSlot remaining now (link_at old n) input.Piece bytes (link_at new n)
       → ChangesOne old n new
@@ -185,14 +246,15 @@ module _ {S : Type 0} where
       → MayBeOffered old.engine.hub n → mid.engine ≡ old.engine → pending_of (link_at old.table n) ≡ []
       → ReadsSlot remaining now (link_at old.table n) input.Piece bytes (link_at mid.table n)
       → ChangesOne old.table n mid.table → OffersPiece journal terms now n bytes mid result new
-      → ReadsOne remaining journal terms now n old result new
+      → ReadsNew remaining journal terms now n old result new
   piece_read remaining journal terms now n old mid bytes reading.Nothing new may same none reads first is =
       absurd is
   piece_read remaining journal terms now n old mid bytes reading.Offered new may same none reads first is =
       record {
         may = may;
+        none_pending = none;
         bytes = bytes;
-        in_turn = inr none;
+        small = is.small;
         what = is.what;
         given = is.given;
         hands = subst (λ (e : EngineState). Hands journal terms e now is.what is.given new.engine) same
@@ -200,6 +262,15 @@ module _ {S : Type 0} where
         link = came_then remaining now old.table mid.table new.table n bytes is.what is.given none reads first
             is.piece
             is.link;
+      }
+  piece_read remaining journal terms now n old mid bytes reading.Kept new may same none reads first is =
+      record {
+        may = may;
+        none_pending = none;
+        bytes = bytes;
+        many = is.many;
+        engine = is.engine ∙ same;
+        link = whole_came remaining now old.table mid.table new.table n bytes none reads first is.link;
       }
   piece_read remaining journal terms now n old mid bytes reading.Ended new may same none reads first is =
       absurd is
@@ -212,18 +283,47 @@ module _ {S : Type 0} where
         bytes = bytes;
         read = mid.table;
         came = piece_came remaining now old.table mid.table n bytes reads first;
-        loses = record {
-          what = is.what;
-          piece = is.piece;
-          given = is.given;
-          some = is.some;
-          between = is.between;
-          hands = subst (λ (e : EngineState). Hands journal terms e now is.what is.given is.between.engine)
-              same is.hands;
-          others = is.others;
-          gives_up = is.gives_up;
-        };
+        loses = lost_behind is;
       }
+    where
+      lost_behind : LosesBytes journal terms now n bytes mid new
+          → LosesBytes journal terms now n bytes (record old { table = mid.table }) new
+      lost_behind (inl rest) = inl (record {
+        small = rest.small;
+        what = rest.what;
+        piece = rest.piece;
+        given = rest.given;
+        some = rest.some;
+        between = rest.between;
+        hands = subst
+            (λ (e : EngineState). Hands journal terms e now rest.what rest.given rest.between.engine) same
+            rest.hands;
+        others = rest.others;
+        gives_up = rest.gives_up;
+      })
+      lost_behind (inr whole) = inr (record {
+        many = whole.many;
+        gives_up = record {
+          link = whole.gives_up.link;
+          told = subst (λ (e : EngineState). TellsGone journal terms e now n new.engine) same
+              whole.gives_up.told;
+        };
+      })
+
+  -- what came of a read is what came of a turn, where there was room
+  pub reads_within : (remaining : S → Option (List ℕ)) (room : ℕ) (journal : Bool) (terms : DeskTerms)
+      (now n : ℕ) (old : TrafficState S) (came : Reading) (new : TrafficState S) → IsWithin old room
+      → pending_of (link_at old.table n) ≡ [] → ReadsNew remaining journal terms now n old came new
+      → ReadsOne remaining room journal terms now n old came new
+  reads_within remaining room journal terms now n old reading.Nothing new within none is = record {
+    engine = is.0;
+    why = inr (within, none, is.1);
+  }
+  reads_within remaining room journal terms now n old reading.Offered new within none is = (within, is)
+  reads_within remaining room journal terms now n old reading.Kept new within none is = (within, is)
+  reads_within remaining room journal terms now n old reading.Ended new within none is = (within, is)
+  reads_within remaining room journal terms now n old reading.Broken new within none is = (within, is)
+  reads_within remaining room journal terms now n old reading.NoMemory new within none is = (within, is)
 
   -- nothing came
   pub nothing_came : (remaining : S → Option (List ℕ)) (now : ℕ) (old new : List (Option (Socket S))) (n : ℕ)
@@ -269,26 +369,6 @@ module _ {S : Type 0} where
         others = others;
       }
 
-  -- what is pending was offered, as a whole
-  pub offers_made : (remaining : S → Option (List ℕ)) (journal : Bool) (terms : DeskTerms) (now n : ℕ)
-      (old new : TrafficState S) (what : HubEvent) (made : List Entry) (given count : ℕ)
-      → MayBeOffered old.engine.hub n → HandsOn journal terms old.engine now what made given new.engine
-      → IsSome (link_at old.table n) → IsPieceOf what n (pending_of (link_at old.table n))
-      → drop count (pending_of (link_at old.table n)) ≡ drop given (pending_of (link_at old.table n))
-      → PendsSlot (link_at old.table n) (drop count (pending_of (link_at old.table n))) (link_at new.table n)
-      → ChangesOne old.table n new.table → Offers remaining journal terms now n old new
-  offers_made remaining journal terms now n old new what made given count may does there piece same pends
-      others
-      = record {
-        may = may;
-        bytes = [];
-        in_turn = inl refl;
-        what = what;
-        given = given;
-        hands = record { made = made; hands = does };
-        link = pending_offered remaining old.table new.table n what given count there piece same pends others;
-      }
-
   -- a piece was offered, and the rest is pending
   pub keeps_made : (journal : Bool) (terms : DeskTerms) (now n : ℕ) (bytes : List ℕ)
       (old new : TrafficState S) (what : HubEvent) (made : List Entry) (given count : ℕ)
@@ -297,15 +377,31 @@ module _ {S : Type 0} where
       → drop count bytes ≡ drop given bytes
       → PendsSlot (link_at old.table n) (pending_of (link_at old.table n) ++ drop count bytes)
       (link_at new.table n)
-      → ChangesOne old.table n new.table → KeepsUntaken journal terms now n bytes old new
-  keeps_made journal terms now n bytes old new what made given count does there none piece same pends others =
-      record {
+      → ChangesOne old.table n new.table → length bytes ≤ SMALL
+      → KeepsUntaken journal terms now n bytes old new
+  keeps_made journal terms now n bytes old new what made given count does there none piece same pends others
+      small
+      = record {
+        small = small;
         what = what;
         piece = piece;
         given = given;
         hands = record { made = made; hands = does };
         link = rest_kept old.table new.table n bytes given count there none same pends others;
       }
+
+  -- a piece that isn't small is pending
+  pub whole_made : (n : ℕ) (bytes : List ℕ) (old new : TrafficState S) → IsSome (link_at old.table n)
+      → pending_of (link_at old.table n) ≡ []
+      → PendsSlot (link_at old.table n) (pending_of (link_at old.table n) ++ drop 0 bytes)
+      (link_at new.table n)
+      → ChangesOne old.table n new.table → SMALL < length bytes → new.engine ≡ old.engine
+      → KeepsWhole n bytes old new
+  whole_made n bytes old new there none pends others many same = record {
+    many = many;
+    engine = same;
+    link = rest_kept old.table new.table n bytes 0 0 there none refl pends others;
+  }
 
   pends_none : (o : Option (Socket S)) → PendsSlot o (pending_of o ++ []) o
   pends_none None = refl
@@ -327,29 +423,31 @@ module _ {S : Type 0} where
       (engine : EngineState) (what : HubEvent) (made : List Entry) (given count : ℕ)
       → HandsOn journal terms old.engine now what made given engine → IsSome (link_at old.table n)
       → pending_of (link_at old.table n) ≡ [] → IsPieceOf what n bytes
-      → drop count bytes ≡ drop given bytes → count ≡ length bytes
-      → KeepsUntaken journal terms now n bytes old (record { engine = engine; table = old.table })
-  kept_whole journal terms now n bytes old engine what made given count does there none piece same all =
-      keeps_made journal terms now n bytes old (record { engine = engine; table = old.table }) what made given
+      → drop count bytes ≡ drop given bytes → count ≡ length bytes → length bytes ≤ SMALL
+      → KeepsUntaken journal terms now n bytes old (record old { engine = engine })
+  kept_whole journal terms now n bytes old engine what made given count does there none piece same all small =
+      keeps_made journal terms now n bytes old (record old { engine = engine }) what made given
       count does there none piece same
       (subst (λ (l : List ℕ). PendsSlot (link_at old.table n) (pending_of (link_at old.table n) ++ l)
       (link_at old.table n)) (sym (drop_all count bytes (omega (arith, all))))
-      (pends_none (link_at old.table n))) (sym (set-get_or old.table n None))
+      (pends_none (link_at old.table n))) (sym (set-get_or old.table n None)) small
 
   -- or the connection is given up
   pub loses_made : (journal : Bool) (terms : DeskTerms) (now n : ℕ) (bytes : List ℕ)
       (old between new : TrafficState S) (what : HubEvent) (made : List Entry) (given : ℕ)
-      → given < length bytes
+      → given < length bytes → length bytes ≤ SMALL
       → HandsOn journal terms old.engine now what made given between.engine → IsPieceOf what n bytes
       → ChangesOne old.table n between.table → GivesUp journal terms now n between new
-      → LosesRest journal terms now n bytes old new
-  loses_made journal terms now n bytes old between new what made given some does piece others gives = record {
-    what = what;
-    piece = piece;
-    given = given;
-    some = some;
-    between = between;
-    hands = record { made = made; hands = does };
-    others = others;
-    gives_up = gives;
-  }
+      → LosesBytes journal terms now n bytes old new
+  loses_made journal terms now n bytes old between new what made given some small does piece others gives =
+      inl (record {
+        small = small;
+        what = what;
+        piece = piece;
+        given = given;
+        some = some;
+        between = between;
+        hands = record { made = made; hands = does };
+        others = others;
+        gives_up = gives;
+      })

@@ -14,7 +14,7 @@ use Rattle.rv_engine.specs.Handing.{Gathers, HandsOn, HasWorked, IsNotTold, IsRe
 use Rattle.rv_engine.specs.Handing.{all_gone, unwritten}
 use Rattle.rv_traffic.specs.declared.outcomes.ReadFaults.{ReadFaults}
 use Rattle.rv_traffic.specs.Calls.{TellsGone}
-use Rattle.rv_traffic.specs.Rounds.{ReadsRound, WritesRound}
+use Rattle.rv_traffic.specs.Rounds.{ReadsRound, SharesOut, WritesRound}
 use Rattle.rv_traffic.specs.declared.traffic.Switchboard.{Switchboard}
 use Rattle.rv_traffic.specs.Views.{SameTerms, TrafficState}
 
@@ -61,9 +61,14 @@ EndsAreRuns = (journal : Bool) (terms : DeskTerms) (s t : EngineState) (now numb
     → TellsGone journal terms s now number t → RunsBehind journal terms s [] t
 
 abbrev pub ReadRoundsAreRuns : {S : Type 0} → (S → Option (List ℕ)) → Type 0
-ReadRoundsAreRuns {S} remaining = (journal : Bool) (terms : DeskTerms) (now : ℕ) (old new : TrafficState S)
-    (faults : ReadFaults) → ReadsRound remaining journal terms now old faults new
+ReadRoundsAreRuns {S} remaining = (journal : Bool) (terms : DeskTerms) (room now : ℕ)
+    (old new : TrafficState S) (faults : ReadFaults)
+    → ReadsRound remaining room journal terms now old faults new
     → RunsBehind journal terms old.engine [] new.engine
+
+abbrev pub SharesAreRuns : Type 0 → Type 0
+SharesAreRuns S = (journal : Bool) (terms : DeskTerms) (room now : ℕ) (old new : TrafficState S)
+    → SharesOut room journal terms now old new → RunsBehind journal terms old.engine [] new.engine
 
 abbrev pub WriteRoundsAreRuns : {S : Type 0} → (S → Option (List ℕ)) → Type 0
 WriteRoundsAreRuns {S} contents = (journal : Bool) (terms : DeskTerms) (now : ℕ) (old new : TrafficState S)

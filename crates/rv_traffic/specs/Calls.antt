@@ -1,10 +1,11 @@
 -- What is read, written and told of one connection, and of all.
 use Rattle.std.specs.Prelude.{ℕ, ◌≡◌, ◌<◌, ◌≤◌, ◌⊎◌, Bool, List, [], ◌∷◌, ◌++◌, None, Option, Some}
-use Rattle.std.specs.Prelude.{drop, false, length, take, true}
+use Rattle.std.specs.Prelude.{◌+◌, drop, false, length, take, true}
+use Rattle.std.specs.List.{sum_by}
 use Rattle.std.specs.Io.KnownBytes.{Appends, Consumes, IsAtEnd, Keeps}
 use Rattle.rv_account.specs.declared.entry.Entry.{Entry}
 use Rattle.rv_connection.specs.Traffic.{MayOffer, Traffic}
-use Rattle.rv_wires.specs.Connections.{HasWire}
+use Rattle.rv_wires.specs.Connections.{HasWire, IsTotalHeld, IsTotalUnread}
 use Rattle.rv_desk.specs.View.{DeskState, DeskTerms}
 use Rattle.rv_hub.specs.declared.events.HubEvent.{HubEvent}
 use Rattle.rv_hub.specs.declared.events.HubEvent.TheVariants as event
@@ -14,7 +15,9 @@ use Rattle.rv_links.specs.declared.link.Socket.{Socket}
 use Rattle.rv_links.specs.Reading.{KeepsOutput}
 use Rattle.rv_links.specs.declared.link.WriteOutcome.TheVariants as output
 use Rattle.rv_links.specs.Writing.{KeepsInput, WritesOnce}
-use Rattle.rv_links.specs.Table.{ChangesOne, IsFreshSlot, IsWritable, link_at, pending_of, rested}
+use Rattle.rv_links.specs.Table.{ChangesOne, IsFreshSlot, IsWritable, link_at, pending_at}
+use Rattle.rv_links.specs.Table.{pending_of, rested}
+use Rattle.rv_traffic.specs.declared.traffic.TheConstants.{SHARE, SMALL}
 use Rattle.rv_traffic.specs.declared.outcomes.Reading.{Reading}
 use Rattle.rv_traffic.specs.declared.outcomes.Reading.TheVariants as reading
 use Rattle.rv_traffic.specs.declared.outcomes.Writing.{Writing}
@@ -59,6 +62,23 @@ pub record LetsGo {S : Type 0} (old : List (Option (Socket S))) (number : ℕ)
     pub none : link_at new number ≡ None
     pub others : ChangesOne old number new
 
+-- ---- memory
+
+-- so many bytes are held of all connections: of answers, of frames that aren't whole, and pending
+pub record HoldsInAll {S : Type 0} (s : TrafficState S) (total : ℕ) : Type 0 where
+  pub answers : ℕ
+  pub unread : ℕ
+  pub are_held : IsTotalHeld s.engine.hub.open_wires.wires answers
+  pub are_unread : IsTotalUnread s.engine.hub.open_wires.wires unread
+  pub all : total ≡ answers + unread + sum_by pending_at s.table
+
+-- more is held than this, or no more
+abbrev pub IsOver : {S : Type 0} → TrafficState S → ℕ → Type 0
+IsOver s most = (total : ℕ) × HoldsInAll s total × (most < total)
+
+abbrev pub IsWithin : {S : Type 0} → TrafficState S → ℕ → Type 0
+IsWithin s most = (total : ℕ) × HoldsInAll s total × (total ≤ most)
+
 -- ---- an event
 
 -- an event was handed on: it made these entries and gave this
@@ -68,14 +88,15 @@ pub record Hands (journal : Bool) (terms : DeskTerms) (old : EngineState) (now :
     pub made : List Entry
     pub hands : HandsOn journal terms old now what made given new
 
--- what is pending of a connection that may be offered more is offered, or where nothing is, what came from
--- its socket; the hub takes some of it, and the others are pending
+-- a small piece came of a connection that may be offered more, of which nothing was pending, and is offered;
+-- the hub takes some of it, and the others are pending
 pub record Offers {S : Type 0} (remaining : S → Option (List ℕ)) (journal : Bool) (terms : DeskTerms)
     (now number : ℕ) (old new : TrafficState S) : Type 0
   where
     pub may : MayBeOffered old.engine.hub number
+    pub none_pending : pending_of (link_at old.table number) ≡ []
     pub bytes : List ℕ
-    pub in_turn : (bytes ≡ []) ⊎ (pending_of (link_at old.table number) ≡ [])
+    pub small : length bytes ≤ SMALL
     pub what : HubEvent
     pub given : ℕ
     pub hands : Hands journal terms old.engine now what given new.engine
@@ -149,15 +170,33 @@ pub record GaveEnd {S : Type 0} (remaining : S → Option (List ℕ)) (link afte
   pub rest : KeepsOutput link after
   pub heard : after.heard ≡ link.heard
 
--- nothing is handed on: it may not be offered more, or nothing is pending and nothing came
-pub record ReadsNothing {S : Type 0} (remaining : S → Option (List ℕ)) (number : ℕ) (old new :
-    TrafficState S) :
-    Type 0
+-- why a connection isn't read: more is held of all than there is room for, or it may not be offered more, or
+-- bytes of it are pending, which wait for their share
+abbrev pub IsNotRead : {S : Type 0} → TrafficState S → ℕ → ℕ → Type 0
+IsNotRead s room number = IsOver s room ⊎ ((¬ MayBeOffered s.engine.hub number)
+    ⊎ (0 < length (pending_of (link_at s.table number))))
+
+-- nothing is handed on: it isn't read, or nothing is pending and nothing came
+pub record ReadsNothing {S : Type 0} (remaining : S → Option (List ℕ)) (room number : ℕ)
+    (old new : TrafficState S) : Type 0
   where
     pub engine : new.engine ≡ old.engine
-    pub why : ((¬ MayBeOffered old.engine.hub number) × (new.table ≡ old.table))
-        ⊎ ((pending_of (link_at old.table number) ≡ [])
+    pub why : (IsNotRead old room number × (new.table ≡ old.table))
+        ⊎ (IsWithin old room × (pending_of (link_at old.table number) ≡ [])
         × NoneCame remaining number old.table new.table)
+
+-- a piece came that isn't small, of a connection that may be offered more, of which nothing was pending: all
+-- of it is pending now
+pub record KeepsPiece {S : Type 0} (remaining : S → Option (List ℕ)) (number : ℕ) (old new : TrafficState S) :
+    Type 0
+  where
+    pub may : MayBeOffered old.engine.hub number
+    pub none_pending : pending_of (link_at old.table number) ≡ []
+    pub bytes : List ℕ
+    pub many : SMALL < length bytes
+    pub engine : new.engine ≡ old.engine
+    pub link : ChangesLink old.table number (λ link after. Consumes (remaining link.stream)
+        (remaining after.stream) bytes × (after.pending.items ≡ bytes) × SameFlags link after) new.table
 
 -- its input ended, of which nothing was pending, and the hub is told so
 pub record EndsInput {S : Type 0} (remaining : S → Option (List ℕ)) (journal : Bool) (terms : DeskTerms)
@@ -169,10 +208,11 @@ pub record EndsInput {S : Type 0} (remaining : S → Option (List ℕ)) (journal
     pub hands : Hands journal terms old.engine now (event.Ended number) given new.engine
     pub link : ChangesLink old.table number (GaveEnd remaining) new.table
 
--- a piece was offered, of which the hub takes some: the others are pending
+-- a small piece was offered, of which the hub takes some: the others are pending
 pub record KeepsUntaken {S : Type 0} (journal : Bool) (terms : DeskTerms) (now number : ℕ) (bytes : List ℕ)
     (old new : TrafficState S) : Type 0
   where
+    pub small : length bytes ≤ SMALL
     pub what : HubEvent
     pub piece : IsPieceOf what number bytes
     pub given : ℕ
@@ -180,10 +220,18 @@ pub record KeepsUntaken {S : Type 0} (journal : Bool) (terms : DeskTerms) (now n
     pub link : ChangesLink old.table number (λ link after. (after.stream ≡ link.stream)
         × (after.pending.items ≡ drop given bytes) × SameFlags link after) new.table
 
+-- a piece that isn't small is pending, as a whole
+pub record KeepsWhole {S : Type 0} (number : ℕ) (bytes : List ℕ) (old new : TrafficState S) : Type 0 where
+  pub many : SMALL < length bytes
+  pub engine : new.engine ≡ old.engine
+  pub link : ChangesLink old.table number (λ link after. (after.stream ≡ link.stream)
+      × (after.pending.items ≡ bytes) × SameFlags link after) new.table
+
 -- or memory was refused to the others, of which there are some: the connection is given up
 pub record LosesRest {S : Type 0} (journal : Bool) (terms : DeskTerms) (now number : ℕ) (bytes : List ℕ)
     (old new : TrafficState S) : Type 0
   where
+    pub small : length bytes ≤ SMALL
     pub what : HubEvent
     pub piece : IsPieceOf what number bytes
     pub given : ℕ
@@ -193,8 +241,20 @@ pub record LosesRest {S : Type 0} (journal : Bool) (terms : DeskTerms) (now numb
     pub others : ChangesOne old.table number between.table
     pub gives_up : GivesUp journal terms now number between new
 
--- a piece came of its socket, of which nothing was pending, and was offered, but memory was refused to what
--- the hub didn't take of it
+-- or to a piece that isn't small, which was not offered
+pub record LosesWhole {S : Type 0} (journal : Bool) (terms : DeskTerms) (now number : ℕ) (bytes : List ℕ)
+    (old new : TrafficState S) : Type 0
+  where
+    pub many : SMALL < length bytes
+    pub gives_up : GivesUp journal terms now number old new
+
+abbrev pub LosesBytes : {S : Type 0} → Bool → DeskTerms → ℕ → ℕ → List ℕ → TrafficState S → TrafficState S
+    → Type 0
+LosesBytes journal terms now number bytes old new = LosesRest journal terms now number bytes old new
+    ⊎ LosesWhole journal terms now number bytes old new
+
+-- a piece came of its socket, of which nothing was pending, but memory was refused to it, or to what the hub
+-- didn't take of it
 pub record LosesPiece {S : Type 0} (remaining : S → Option (List ℕ)) (journal : Bool) (terms : DeskTerms)
     (now number : ℕ) (old new : TrafficState S) : Type 0
   where
@@ -204,7 +264,7 @@ pub record LosesPiece {S : Type 0} (remaining : S → Option (List ℕ)) (journa
     pub read : List (Option (Socket S))
     pub came : ChangesLink old.table number
         (λ link after. Consumes (remaining link.stream) (remaining after.stream) bytes) read
-    pub loses : LosesRest journal terms now number bytes (record old { table = read }) new
+    pub loses : LosesBytes journal terms now number bytes (record old { table = read }) new
 
 -- a read of its socket failed, of which nothing was pending: the connection is given up
 pub record FailsToRead {S : Type 0} (journal : Bool) (terms : DeskTerms) (now number : ℕ)
@@ -215,18 +275,37 @@ pub record FailsToRead {S : Type 0} (journal : Bool) (terms : DeskTerms) (now nu
     pub readable : IsReadable (link_at old.table number)
     pub gives_up : GivesUp journal terms now number old new
 
--- what comes of one connection's turn to be read
-abbrev pub ReadsOne : {S : Type 0} → (S → Option (List ℕ)) → Bool → DeskTerms → ℕ → ℕ → TrafficState S
+-- what comes of one connection of which nothing is pending, and which may be offered more
+abbrev pub ReadsNew : {S : Type 0} → (S → Option (List ℕ)) → Bool → DeskTerms → ℕ → ℕ → TrafficState S
     → Reading → TrafficState S → Type 0
-ReadsOne remaining journal terms now number old reading.Nothing new = ReadsNothing remaining number old new
-ReadsOne remaining journal terms now number old reading.Offered new =
+ReadsNew remaining journal terms now number old reading.Nothing new =
+    (new.engine ≡ old.engine) × NoneCame remaining number old.table new.table
+ReadsNew remaining journal terms now number old reading.Offered new =
     Offers remaining journal terms now number old new
-ReadsOne remaining journal terms now number old reading.Ended new =
+ReadsNew remaining journal terms now number old reading.Kept new = KeepsPiece remaining number old new
+ReadsNew remaining journal terms now number old reading.Ended new =
     EndsInput remaining journal terms now number old new
-ReadsOne remaining journal terms now number old reading.Broken new =
+ReadsNew remaining journal terms now number old reading.Broken new =
     FailsToRead journal terms now number old new
-ReadsOne remaining journal terms now number old reading.NoMemory new =
+ReadsNew remaining journal terms now number old reading.NoMemory new =
     LosesPiece remaining journal terms now number old new
+
+-- what comes of one connection's turn to be read, where there is room for so many bytes in all: if something
+-- came, no more were held
+abbrev pub ReadsOne : {S : Type 0} → (S → Option (List ℕ)) → ℕ → Bool → DeskTerms → ℕ → ℕ → TrafficState S
+    → Reading → TrafficState S → Type 0
+ReadsOne remaining room journal terms now number old reading.Nothing new =
+    ReadsNothing remaining room number old new
+ReadsOne remaining room journal terms now number old reading.Offered new =
+    IsWithin old room × Offers remaining journal terms now number old new
+ReadsOne remaining room journal terms now number old reading.Kept new =
+    IsWithin old room × KeepsPiece remaining number old new
+ReadsOne remaining room journal terms now number old reading.Ended new =
+    IsWithin old room × EndsInput remaining journal terms now number old new
+ReadsOne remaining room journal terms now number old reading.Broken new =
+    IsWithin old room × FailsToRead journal terms now number old new
+ReadsOne remaining room journal terms now number old reading.NoMemory new =
+    IsWithin old room × LosesPiece remaining journal terms now number old new
 
 -- what comes of a piece that was read of a connection of which nothing was pending
 abbrev pub OffersPiece : {S : Type 0} → Bool → DeskTerms → ℕ → ℕ → List ℕ → TrafficState S → Reading
@@ -234,10 +313,40 @@ abbrev pub OffersPiece : {S : Type 0} → Bool → DeskTerms → ℕ → ℕ →
 OffersPiece journal terms now number bytes old reading.Nothing new = ⊥
 OffersPiece journal terms now number bytes old reading.Offered new =
     KeepsUntaken journal terms now number bytes old new
+OffersPiece journal terms now number bytes old reading.Kept new = KeepsWhole number bytes old new
 OffersPiece journal terms now number bytes old reading.Ended new = ⊥
 OffersPiece journal terms now number bytes old reading.Broken new = ⊥
 OffersPiece journal terms now number bytes old reading.NoMemory new =
-    LosesRest journal terms now number bytes old new
+    LosesBytes journal terms now number bytes old new
+
+-- ---- shares
+
+-- the first of what is pending of a connection that may be offered more are offered, at most a share; the hub
+-- takes some of them, and the others are pending with the rest
+pub record OffersShare {S : Type 0} (journal : Bool) (terms : DeskTerms) (now number : ℕ)
+    (old new : TrafficState S) : Type 0
+  where
+    pub may : MayBeOffered old.engine.hub number
+    pub some : 0 < length (pending_of (link_at old.table number))
+    pub what : HubEvent
+    pub given : ℕ
+    pub hands : Hands journal terms old.engine now what given new.engine
+    pub link : ChangesLink old.table number (λ link after. (after.stream ≡ link.stream)
+        × IsPieceOf what number (take SHARE link.pending.items)
+        × (after.pending.items ≡ drop given (take SHARE link.pending.items) ++ drop SHARE link.pending.items)
+        × SameFlags link after) new.table
+
+-- or it may not be offered more, or nothing of it is pending
+pub record OffersNone {S : Type 0} (number : ℕ) (old new : TrafficState S) : Type 0 where
+  pub engine : new.engine ≡ old.engine
+  pub table : new.table ≡ old.table
+  pub why : (¬ MayBeOffered old.engine.hub number) ⊎ (pending_of (link_at old.table number) ≡ [])
+
+-- what comes of one connection's share
+abbrev pub OffersOne : {S : Type 0} → Bool → DeskTerms → ℕ → ℕ → TrafficState S → Bool → TrafficState S
+    → Type 0
+OffersOne journal terms now number old true new = OffersShare journal terms now number old new
+OffersOne journal terms now number old false new = OffersNone number old new
 
 -- ---- writing
 

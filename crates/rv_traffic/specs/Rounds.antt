@@ -1,5 +1,5 @@
 -- A round over all that are to be looked at: one turn for each, joined state to state.
-use Rattle.std.specs.Prelude.{ℕ, ◌≡◌, ◌≢◌, ◌<◌, ◌⊎◌, AllPairs, Bool, Contains, List, [], ◌∷◌, ◌++◌, None}
+use Rattle.std.specs.Prelude.{ℕ, ◌≡◌, ◌≢◌, ◌<◌, ◌≤◌, ◌⊎◌, AllPairs, Bool, Contains, List, [], ◌∷◌, ◌++◌, None}
 use Rattle.std.specs.Prelude.{Option, Some, false, length, map, true}
 use Rattle.std.specs.List.{count_by}
 use Rattle.rv_wires.specs.Connections.{HasWire}
@@ -7,13 +7,15 @@ use Rattle.rv_desk.specs.View.{DeskTerms}
 use Rattle.rv_engine.specs.Engines.{EngineState}
 use Rattle.rv_engine.specs.EngineRuns.{ChangesLooks}
 use Rattle.rv_engine.specs.Handing.{Gathers, LooksAt}
-use Rattle.rv_links.specs.Table.{HasInput, IsWritable, link_at}
+use Rattle.rv_links.specs.Table.{HasInput, IsWritable, link_at, pending_of}
+use Rattle.rv_traffic.specs.declared.traffic.TheConstants.{SHARES}
 use Rattle.rv_traffic.specs.declared.outcomes.ReadFaults.{ReadFaults}
 use Rattle.rv_traffic.specs.declared.outcomes.Reading.{Reading}
 use Rattle.rv_traffic.specs.declared.outcomes.Reading.TheVariants as reading
 use Rattle.rv_traffic.specs.declared.outcomes.Writing.{Writing}
 use Rattle.rv_traffic.specs.declared.outcomes.Writing.TheVariants as writing
-use Rattle.rv_traffic.specs.Calls.{MayBeOffered, ReadsOne, WritesOne}
+use Rattle.rv_traffic.specs.Calls.{IsOver, MayBeOffered, OffersOne, ReadsOne, WritesOne}
+use Rattle.rv_traffic.specs.Waiting.{HasToWait, IsToWait, shares_begun}
 use Rattle.rv_traffic.specs.Views.{TrafficState}
 
 -- ---- a turn
@@ -36,18 +38,26 @@ pub record DoesIfReady {S A : Type 0} (does : TrafficState S → A → TrafficSt
   where
     pub ready : EngineState
     pub gathers : Gathers old.engine ready
-    pub made : DoesWhere does (record { engine = ready; table = old.table }) came new
+    pub made : DoesWhere does (record old { engine = ready }) came new
+    pub waits : new.waits ≡ old.waits
 
 -- a connection is to be looked at once more, and nothing else changes
 pub record LooksAgain {S : Type 0} (old : TrafficState S) (number : ℕ) (new : TrafficState S) : Type 0 where
   pub looks : LooksAt old.engine (number ∷ []) new.engine
   pub same : ChangesLooks old.engine new.engine
   pub table : new.table ≡ old.table
+  pub waits : new.waits ≡ old.waits
 
--- more can be read of a connection's socket, or written to it, at once
+-- a connection of which bytes are pending that may be offered waits for a share
+abbrev pub WaitsForMore : {S : Type 0} → TrafficState S → ℕ → TrafficState S → Type 0
+WaitsForMore old number new =
+    (HasToWait old number × IsToWait old number new) ⊎ ((¬ HasToWait old number) × (new ≡ old))
+
+-- nothing is pending of a connection and more can be read of its socket at once, or written to it
 abbrev pub CanDoMore : {S : Type 0} → TrafficState S → ℕ → Type 0
 CanDoMore s number =
-    (MayBeOffered s.engine.hub number × HasInput (link_at s.table number))
+    (MayBeOffered s.engine.hub number × HasInput (link_at s.table number)
+    × (pending_of (link_at s.table number) ≡ []))
     ⊎ (HasWire s.engine.hub.open_wires number (λ wire. 0 < length wire.ready)
     × IsWritable (link_at s.table number))
 
@@ -57,13 +67,31 @@ LooksForMore None old number new = LooksAgain old number new
 LooksForMore (Some what) old number new =
     (CanDoMore old number × LooksAgain old number new) ⊎ ((¬ CanDoMore old number) × (new ≡ old))
 
--- it is read once, and is to be written to
-pub record ReadsTurn {S : Type 0} (remaining : S → Option (List ℕ)) (journal : Bool) (terms : DeskTerms)
-    (now : ℕ) (old : TrafficState S) (turn : Turn Reading) (new : TrafficState S) : Type 0
+-- a connection waits if more is pending, and is to be written to
+pub record Settles {S : Type 0} (old : TrafficState S) (number : ℕ) (new : TrafficState S) : Type 0 where
+  pub between : TrafficState S
+  pub waits : WaitsForMore old number between
+  pub again : LooksAgain between number new
+
+-- something is made of a connection's input, which waits if more is pending, and is to be written to
+pub record TakesTurn {S A : Type 0} (does : ℕ → TrafficState S → A → TrafficState S → Type 0)
+    (old : TrafficState S) (turn : Turn A) (new : TrafficState S) : Type 0
   where
     pub after : TrafficState S
-    pub reads : DoesIfReady (ReadsOne remaining journal terms now turn.number) old turn.came after
-    pub again : LooksAgain after turn.number new
+    pub made : DoesIfReady (does turn.number) old turn.came after
+    pub settles : Settles after turn.number new
+
+-- it is read once, where there is room for so many bytes in all
+abbrev pub ReadsTurn : {S : Type 0} → (S → Option (List ℕ)) → ℕ → Bool → DeskTerms → ℕ → TrafficState S
+    → Turn Reading → TrafficState S → Type 0
+ReadsTurn {S} remaining room journal terms now old turn new =
+    TakesTurn (λ (number : ℕ). ReadsOne {S = S} remaining room journal terms now number) old turn new
+
+-- its share is offered
+abbrev pub SharesTurn : {S : Type 0} → Bool → DeskTerms → ℕ → TrafficState S → Turn Bool → TrafficState S
+    → Type 0
+SharesTurn {S} journal terms now old turn new =
+    TakesTurn (λ (number : ℕ). OffersOne {S = S} journal terms now number) old turn new
 
 -- it is written to once
 pub record WritesTurn {S : Type 0} (contents : S → Option (List ℕ)) (journal : Bool) (terms : DeskTerms)
@@ -71,7 +99,9 @@ pub record WritesTurn {S : Type 0} (contents : S → Option (List ℕ)) (journal
   where
     pub after : TrafficState S
     pub writes : DoesIfReady (WritesOne contents journal terms now turn.number) old turn.came after
-    pub again : LooksForMore turn.came after turn.number new
+    pub between : TrafficState S
+    pub waits : WaitsForMore after turn.number between
+    pub again : LooksForMore turn.came between turn.number new
 
 -- ---- all turns
 
@@ -104,12 +134,53 @@ pub record GoesRound {S A : Type 0} (takes : TrafficState S → Turn A → Traff
     pub over : new.engine.round ≡ []
     pub others : (n : ℕ) → ¬ Contains old.engine.looks n → link_at new.table n ≡ link_at old.table n
 
+-- ---- shares
+
+-- the last of those whose share is due has its turn
+pub record TakesDue {S A : Type 0} (takes : TrafficState S → Turn A → TrafficState S → Type 0)
+    (old : TrafficState S) (turn : Turn A) (new : TrafficState S) : Type 0
+  where
+    pub due : List ℕ
+    pub last : old.waits.due ≡ due ++ turn.number ∷ []
+    pub taken : takes (record old { waits = record old.waits { due = due } }) turn new
+
+-- so have those before it, of which the last is taken first
+abbrev pub TakesShares : {S A : Type 0} → (TrafficState S → Turn A → TrafficState S → Type 0)
+    → TrafficState S → List (Turn A) → TrafficState S → Type 0
+TakesShares takes old [] new = new ≡ old
+TakesShares {S} takes old (turn ∷ turns) new =
+    (between : TrafficState S) × TakesShares takes old turns between × TakesDue takes between turn new
+
+-- one has its share
+abbrev pub SharesNext : {S : Type 0} → Bool → DeskTerms → ℕ → TrafficState S → TrafficState S → Type 0
+SharesNext journal terms now old new =
+    (turn : Turn Bool) × TakesDue (SharesTurn journal terms now) old turn new
+
+-- or none has: more is held of all than there is room for, or no share is due
+pub record SharesNone {S : Type 0} (room : ℕ) (old new : TrafficState S) : Type 0 where
+  pub same : new ≡ old
+  pub why : (old.waits.due ≡ []) ⊎ IsOver old room
+
+-- so many of those that wait have a share, one each and the last first, unless more is held of all than there
+-- is room for; those of the next round follow where none of this one is left
+pub record SharesOut {S : Type 0} (room : ℕ) (journal : Bool) (terms : DeskTerms) (now : ℕ)
+    (old new : TrafficState S) : Type 0
+  where
+    pub turns : List (Turn Bool)
+    pub taken : TakesShares (SharesTurn journal terms now)
+        (record old { waits = shares_begun old.waits }) turns new
+    pub numbers : (shares_begun old.waits).due ≡ new.waits.due ++ map (λ turn. turn.number) turns
+    pub once : AllPairs (λ one other. one ≢ other) (shares_begun old.waits).due
+    pub most : length turns ≤ SHARES
+    pub whole : (length turns ≡ SHARES) ⊎ ((new.waits.due ≡ []) ⊎ IsOver new room)
+
 -- ---- what is told of them
 
 abbrev pub is_read_broken : Option Reading → Bool
 is_read_broken None = false
 is_read_broken (Some reading.Nothing) = false
 is_read_broken (Some reading.Offered) = false
+is_read_broken (Some reading.Kept) = false
 is_read_broken (Some reading.Ended) = false
 is_read_broken (Some reading.Broken) = true
 is_read_broken (Some reading.NoMemory) = false
@@ -118,6 +189,7 @@ abbrev pub is_read_refused : Option Reading → Bool
 is_read_refused None = false
 is_read_refused (Some reading.Nothing) = false
 is_read_refused (Some reading.Offered) = false
+is_read_refused (Some reading.Kept) = false
 is_read_refused (Some reading.Ended) = false
 is_read_refused (Some reading.Broken) = false
 is_read_refused (Some reading.NoMemory) = true
@@ -141,11 +213,11 @@ abbrev pub write_faults : List (Turn Writing) → ℕ
 write_faults turns = count_by (λ turn. is_write_broken turn.came) turns
 
 -- each that was to be looked at is read once
-pub record ReadsRound {S : Type 0} (remaining : S → Option (List ℕ)) (journal : Bool) (terms : DeskTerms)
-    (now : ℕ) (old : TrafficState S) (faults : ReadFaults) (new : TrafficState S) : Type 0
+pub record ReadsRound {S : Type 0} (remaining : S → Option (List ℕ)) (room : ℕ) (journal : Bool)
+    (terms : DeskTerms) (now : ℕ) (old : TrafficState S) (faults : ReadFaults) (new : TrafficState S) : Type 0
   where
     pub turns : List (Turn Reading)
-    pub round : GoesRound (ReadsTurn remaining journal terms now) old turns new
+    pub round : GoesRound (ReadsTurn remaining room journal terms now) old turns new
     pub told : faults ≡ read_faults turns
 
 -- each that was to be looked at is written to once

@@ -1,19 +1,40 @@
 -- What contracts see of an engine over sockets.
-use Rattle.std.specs.Prelude.{ℕ, ◌≡◌, List, Option}
+use Rattle.std.specs.Prelude.{ℕ, ◌≡◌, List, Option, length}
 use Rattle.rv_hub.specs.declared.events.HubEvent.{HubEvent}
 use Rattle.rv_hub.specs.declared.events.HubEvent.TheVariants as event
 use Rattle.rv_hub.specs.Hubs.{hub_terms}
 use Rattle.rv_engine.specs.Engines.{EngineState, engine_state}
 use Rattle.rv_links.specs.declared.link.Socket.{Socket}
 use Rattle.rv_traffic.specs.declared.traffic.Switchboard.{Switchboard}
+use Rattle.rv_traffic.specs.declared.waiting.WaitingLists.{WaitingLists}
+
+-- the connections that wait for a share of input, each list without repeats
+pub record Waits : Type 0 where
+  -- whose share of this round is due, and who waits for one of the next
+  pub due : List ℕ
+  pub next : List ℕ
+  -- only connections below this number are listed
+  pub room : ℕ
+
+abbrev pub waits_of : WaitingLists → Waits
+waits_of w = record {
+  due = w.due.numbers.items;
+  next = w.next.numbers.items;
+  room = length w.due.flags.items;
+}
 
 pub record TrafficState (S : Type 0) : Type 0 where
   pub engine : EngineState
   -- the socket of each number, if there is one
   pub table : List (Option (Socket S))
+  pub waits : Waits
 
 abbrev pub traffic_state : {S : Type 0} → Switchboard S → TrafficState S
-traffic_state t = record { engine = engine_state t.engine; table = t.links.table.items }
+traffic_state t = record {
+  engine = engine_state t.engine;
+  table = t.links.table.items;
+  waits = waits_of t.waits;
+}
 
 -- what doesn't change of the hub
 pub record SameTerms {S : Type 0} (old new : Switchboard S) : Type 0 where

@@ -35,6 +35,7 @@ pub(crate) fn attach<S: Drop>(
     ensures attaches { Attaches traffic.old.engine.hub.has_journal (hub_terms traffic.old.engine.hub) now
         number stream (traffic_state traffic.old) result (traffic_state traffic.new) }
     ensures terms { SameTerms traffic.old traffic.new }
+    ensures waits { traffic.new.waits ≡ traffic.old.waits }
 {
     if number >= traffic.links.room() {
         give_up(traffic, now, number);

@@ -1,12 +1,14 @@
 //! What is asked of a connection before its turn.
-ghost use Rattle.std.specs.Prelude.{◌≡◌, ◌<◌, [], length, None, Some};
+ghost use Rattle.std.specs.Prelude.{◌≡◌, ◌<◌, ◌≤◌, ◌+◌, [], length, None, Some};
 ghost use Rattle.std.specs.Bool.{OnFalse, OnTrue};
 ghost use Rattle.rv_connection.specs.Traffic.{Traffic};
 ghost use Rattle.rv_wires.specs.Connections.{HasWire};
 ghost use Rattle.rv_links.specs.Table.{HasInput, IsWritable, link_at, pending_of};
 ghost use Rattle.rv_engine.specs.Engines.{engine_state};
-ghost use Rattle.rv_traffic.specs.Calls.{MayBeOffered};
+ghost use Rattle.rv_traffic.specs.Calls.{IsOver, IsWithin, MayBeOffered};
+ghost use Rattle.rv_traffic.specs.Views.{traffic_state};
 
+use crate::traffic::Switchboard;
 use rv_engine::Engine;
 use rv_hearers::ConnectionNumber;
 use rv_links::Links;
@@ -35,7 +37,8 @@ pub(crate) fn is_open(engine: &Engine, number: ConnectionNumber) -> bool
 
 // Whether nothing is pending of a connection.
 pub(crate) fn is_none_pending<S: Drop>(links: &Links<S>, number: ConnectionNumber) -> bool
-    ensures { OnTrue result (pending_of (link_at links.now.table.items number) ≡ []) }
+    ensures yes { OnTrue result (pending_of (link_at links.now.table.items number) ≡ []) }
+    ensures no { OnFalse result (0 < length (pending_of (link_at links.now.table.items number))) }
 {
     links.pending(number).is_empty()
 }
@@ -64,14 +67,57 @@ fn has_ready(engine: &Engine, number: ConnectionNumber) -> bool
     }
 }
 
-// Whether more of a connection's input may be offered, and there is some, or may be.
+// Whether more of a connection's input may be offered, of which nothing is pending, and there may be some.
 pub(crate) fn can_read<S: Drop>(engine: &Engine, links: &Links<S>, number: ConnectionNumber) -> bool
     ensures yes { OnTrue result (MayBeOffered (engine_state engine.now).hub number
-        × HasInput (link_at links.now.table.items number)) }
+        × HasInput (link_at links.now.table.items number)
+        × (pending_of (link_at links.now.table.items number) ≡ [])) }
     ensures no { OnFalse result (¬ (MayBeOffered (engine_state engine.now).hub number
-        × HasInput (link_at links.now.table.items number))) }
+        × HasInput (link_at links.now.table.items number)
+        × (pending_of (link_at links.now.table.items number) ≡ []))) }
 {
-    may_offer(engine, number) && links.has_input(number)
+    may_offer(engine, number) && links.has_input(number) && is_none_pending(links, number)
+}
+
+// Whether bytes of a connection are pending, and may be offered.
+pub(crate) fn has_to_wait<S: Drop>(
+    engine: &Engine,
+    links: &Links<S>,
+    number: ConnectionNumber,
+) -> bool
+    ensures yes { OnTrue result (MayBeOffered (engine_state engine.now).hub number
+        × (0 < length (pending_of (link_at links.now.table.items number)))) }
+    ensures no { OnFalse result (¬ (MayBeOffered (engine_state engine.now).hub number
+        × (0 < length (pending_of (link_at links.now.table.items number))))) }
+{
+    may_offer(engine, number) && !is_none_pending(links, number)
+}
+
+// Whether three counts are more in all than there is room for.
+fn exceed(answers: u128, unread: u128, pending: u128, room: u128) -> bool
+    ensures yes { OnTrue result (room < answers + unread + pending) }
+    ensures no { OnFalse result (answers + unread + pending ≤ room) }
+{
+    if answers > room {
+        return true;
+    }
+    let rest = room - answers;
+    if unread > rest {
+        return true;
+    }
+    pending > rest - unread
+}
+
+// Whether more is held of all connections than there is room for.
+pub(crate) fn is_over<S: Drop>(traffic: &Switchboard<S>, room: u128) -> bool
+    ensures yes { OnTrue result (IsOver (traffic_state traffic.now) room) }
+    ensures no { OnFalse result (IsWithin (traffic_state traffic.now) room) }
+{
+    let hub = traffic.engine.hub();
+    let answers = hub.held();
+    let unread = hub.unread_count();
+    let pending = traffic.links.pending_count();
+    exceed(answers, unread, pending, room)
 }
 
 // Whether bytes of a connection may leave, and its socket may take some.

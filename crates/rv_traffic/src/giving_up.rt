@@ -35,6 +35,7 @@ pub(crate) fn give_up<S: Drop>(traffic: &mut Switchboard<S>, now: u64, number: C
         number
         (traffic_state traffic.old) (traffic_state traffic.new) }
     ensures terms { SameTerms traffic.old traffic.new }
+    ensures waits { traffic.new.waits ≡ traffic.old.waits }
 {
     traffic.links.remove(number);
     tell_gone(&mut traffic.engine, now, number);

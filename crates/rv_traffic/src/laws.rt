@@ -1,7 +1,8 @@
 //! Laws of calls: each contract is one, and no body does anything.
 ghost use Rattle.rv_traffic.specs.CallRuns.{EndsAreRuns, EventsAreRuns, GatheringsAreRuns, LooksAreRuns};
 ghost use Rattle.rv_traffic.specs.CallRuns.{OthersAreOver, OversAreJoined, ReadRoundsAreRuns};
-ghost use Rattle.rv_traffic.specs.CallRuns.{RefusalsAreRuns, RunsAreJoined, UnwrittenLinesAreOver};
+ghost use Rattle.rv_traffic.specs.CallRuns.{RefusalsAreRuns, RunsAreJoined, SharesAreRuns};
+ghost use Rattle.rv_traffic.specs.CallRuns.{UnwrittenLinesAreOver};
 ghost use Rattle.rv_traffic.specs.CallRuns.{WriteRoundsAreRuns, WrittenLinesAreOver, WrittenLinesAreRuns};
 
 use std::io::{Read, Write};
@@ -16,6 +17,7 @@ pub fn calls_are_runs<S: Read + Write>()
     ensures gatherings { GatheringsAreRuns }
     ensures ends { EndsAreRuns }
     ensures read_rounds { ReadRoundsAreRuns S.remaining }
+    ensures shares { SharesAreRuns S }
     ensures write_rounds { WriteRoundsAreRuns S.contents }
     ensures written_lines { WrittenLinesAreRuns }
 {}

@@ -8,9 +8,12 @@ pub mod laws;
 mod outcomes;
 mod reading;
 mod rounds;
+mod sharing;
 mod traffic;
+mod waiting;
 mod writing;
 
 pub use accepting::Opened;
 pub use outcomes::{ReadFaults, Reading, Writing};
-pub use traffic::Switchboard;
+pub use traffic::{SHARE, SHARES, SMALL, Switchboard};
+pub use waiting::WaitingLists;

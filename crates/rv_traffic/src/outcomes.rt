@@ -7,11 +7,13 @@ pub enum Reading {
     Nothing,
     /// Bytes were.
     Offered,
+    /// A piece came that isn't small: it is pending, and waits for its share.
+    Kept,
     /// Its input ended.
     Ended,
     /// Its socket failed: it is given up.
     Broken,
-    /// Memory was refused to what the hub didn't take: it is given up.
+    /// Memory was refused to what is to be pending of it: it is given up.
     NoMemory,
 }
 
@@ -35,6 +37,6 @@ pub enum Writing {
 pub struct ReadFaults {
     /// The sockets of so many failed.
     pub broken: usize,
-    /// To what the hub didn't take of so many memory was refused.
+    /// To what was to be pending of so many memory was refused.
     pub no_memory: usize,
 }

@@ -4,11 +4,12 @@ ghost use Rattle.std.specs.Bool.{OnFalse, OnTrue};
 ghost use Rattle.rv_hub.specs.Hubs.{hub_terms};
 ghost use Rattle.rv_traffic.specs.Calls.{ReadsOne, WritesOne};
 ghost use Rattle.rv_traffic.specs.Rounds.{DoesIfReady, CanDoMore, LooksForMore, ReadsRound, ReadsTurn};
+ghost use Rattle.rv_traffic.specs.Rounds.{Settles, WaitsForMore};
 ghost use Rattle.rv_traffic.specs.Rounds.{WritesRound, WritesTurn, is_read_broken, is_read_refused};
 ghost use Rattle.rv_traffic.specs.Rounds.{is_write_broken};
 ghost use Rattle.rv_traffic.specs.Views.{SameTerms, traffic_state};
 
-use crate::asking::{can_read, can_write};
+use crate::asking::{can_read, can_write, has_to_wait};
 use crate::outcomes::{ReadFaults, Reading, Writing};
 use crate::reading::read_one;
 use crate::traffic::Switchboard;
@@ -35,6 +36,7 @@ fn count_read(faults: ReadFaults, came: Option<Reading>) -> ReadFaults
         },
         Some(Reading::Nothing) => faults,
         Some(Reading::Offered) => faults,
+        Some(Reading::Kept) => faults,
         Some(Reading::Ended) => faults,
         None => faults,
     }
@@ -58,10 +60,11 @@ fn count_write(broken: usize, what: Option<Writing>) -> usize
 // Reads once from a connection, unless lines of the account find no memory, since no event would be taken.
 fn read_if_ready<S: Read + Drop>(
     traffic: &mut Switchboard<S>,
+    room: u128,
     now: u64,
     number: ConnectionNumber,
 ) -> Option<Reading>
-    ensures reads { DoesIfReady (ReadsOne S.remaining traffic.old.engine.hub.has_journal
+    ensures reads { DoesIfReady (ReadsOne S.remaining room traffic.old.engine.hub.has_journal
         (hub_terms traffic.old.engine.hub) now number) (traffic_state traffic.old) result
         (traffic_state traffic.new) }
     ensures terms { SameTerms traffic.old traffic.new }
@@ -69,28 +72,52 @@ fn read_if_ready<S: Read + Drop>(
     if !traffic.engine.catch_up() {
         return None;
     }
-    Some(read_one(traffic, now, number))
+    Some(read_one(traffic, room, now, number))
 }
 
-// The same, and then it is to be written to.
+// A connection of which bytes are pending that may be offered waits for a share.
+fn wait_for_more<S: Drop>(traffic: &mut Switchboard<S>, number: ConnectionNumber)
+    ensures waits { WaitsForMore (traffic_state traffic.old) number (traffic_state traffic.new) }
+    ensures terms { SameTerms traffic.old traffic.new }
+{
+    if has_to_wait(&traffic.engine, &traffic.links, number) {
+        traffic.waits.add(number);
+    }
+}
+
+// The same, and it is to be written to.
+pub(crate) fn settle<S: Drop>(traffic: &mut Switchboard<S>, number: ConnectionNumber)
+    ensures settles { Settles (traffic_state traffic.old) number (traffic_state traffic.new) }
+    ensures terms { SameTerms traffic.old traffic.new }
+{
+    wait_for_more(traffic, number);
+    traffic.engine.look_at(number);
+}
+
+// Reads once from a connection, which then waits if more is pending, and is to be written to.
 fn read_turn<S: Read + Drop>(
     traffic: &mut Switchboard<S>,
+    room: u128,
     now: u64,
     number: ConnectionNumber,
 ) -> Option<Reading>
-    ensures reads { ReadsTurn S.remaining traffic.old.engine.hub.has_journal
+    ensures reads { ReadsTurn S.remaining room traffic.old.engine.hub.has_journal
         (hub_terms traffic.old.engine.hub) now (traffic_state traffic.old)
         (record { number = number; came = result }) (traffic_state traffic.new) }
     ensures terms { SameTerms traffic.old traffic.new }
 {
-    let came = read_if_ready(traffic, now, number);
-    traffic.engine.look_at(number);
+    let came = read_if_ready(traffic, room, now, number);
+    settle(traffic, number);
     came
 }
 
 // Reads once from each that is to be looked at, all of which are then to be written to.
-pub(crate) fn read_round<S: Read + Drop>(traffic: &mut Switchboard<S>, now: u64) -> ReadFaults
-    ensures reads { ReadsRound S.remaining traffic.old.engine.hub.has_journal
+pub(crate) fn read_round<S: Read + Drop>(
+    traffic: &mut Switchboard<S>,
+    room: u128,
+    now: u64,
+) -> ReadFaults
+    ensures reads { ReadsRound S.remaining room traffic.old.engine.hub.has_journal
         (hub_terms traffic.old.engine.hub) now (traffic_state traffic.old) result
         (traffic_state traffic.new) }
     ensures terms { SameTerms traffic.old traffic.new }
@@ -101,7 +128,7 @@ pub(crate) fn read_round<S: Read + Drop>(traffic: &mut Switchboard<S>, now: u64)
         no_memory: 0,
     };
     while let Some(number) = traffic.engine.next_look() {
-        let came = read_turn(traffic, now, number);
+        let came = read_turn(traffic, room, now, number);
         faults = count_read(faults, came);
     }
     faults
@@ -154,7 +181,8 @@ fn look_for_more<S: Drop>(
     }
 }
 
-// Writes once to a connection, which is to be looked at again if more can be done.
+// Writes once to a connection, which then waits if bytes are pending, and is to be looked at again if more can
+// be done.
 fn write_turn<S: Write + Drop>(
     traffic: &mut Switchboard<S>,
     now: u64,
@@ -166,6 +194,7 @@ fn write_turn<S: Write + Drop>(
     ensures terms { SameTerms traffic.old traffic.new }
 {
     let what = write_if_ready(traffic, now, number);
+    wait_for_more(traffic, number);
     look_for_more(traffic, number, what);
     what
 }

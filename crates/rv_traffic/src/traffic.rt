@@ -9,31 +9,49 @@ ghost use Rattle.rv_engine.specs.Handing.{unwritten};
 
 use crate::accepting::Opened;
 use crate::outcomes::ReadFaults;
-use crate::{accepting, giving_up, rounds};
+use crate::waiting::WaitingLists;
+use crate::{accepting, asking, giving_up, rounds, sharing};
 use rv_engine::{Engine, EngineFault, LinkEvent};
 use rv_frame::Sink;
 use rv_hearers::ConnectionNumber;
 use rv_links::Links;
 use std::io::{Read, Write};
 
-/// An engine with the sockets of its connections, each under the number that the hub gave it.
+/// A piece of at most so many bytes is small: it is offered as it comes.
+pub const SMALL: usize = 512;
+
+/// A share has at most so many bytes.
+pub const SHARE: usize = 4_096;
+
+/// At most so many that wait have a share at a time.
+pub const SHARES: usize = 4;
+
+/// An engine with the sockets of its connections, each under the number that the hub gave it, and those that
+/// wait for a share of input.
 #[derive(Drop)]
 pub struct Switchboard<S> {
     pub(crate) engine: Engine,
     pub(crate) links: Links<S>,
+    pub(crate) waits: WaitingLists,
 }
 
 impl<S: Drop> Switchboard<S> {
-    ghost use Rattle.rv_traffic.specs.Calls.{GivesUp};
+    ghost use Rattle.std.specs.Bool.{OnFalse, OnTrue};
+    ghost use Rattle.rv_traffic.specs.Calls.{GivesUp, IsOver, IsWithin};
     ghost use Rattle.rv_traffic.specs.CallRuns.{OnlyCalls};
     ghost use Rattle.rv_traffic.specs.Views.{SameTerms, traffic_state};
 
     /// An engine whose connections have no sockets yet.
-    pub fn new(engine: Engine, links: Links<S>) -> Switchboard<S>
+    pub fn new(engine: Engine, links: Links<S>, waits: WaitingLists) -> Switchboard<S>
         ensures engine { result.engine ≡ engine }
         ensures links { result.links ≡ links }
+        ensures waits { result.waits ≡ waits }
     {
-        Switchboard { engine, links }
+        Switchboard {
+            engine,
+            links,
+            waits,
+        }
     }
 
     /// The engine.
@@ -50,12 +68,29 @@ impl<S: Drop> Switchboard<S> {
         &self.links
     }
 
+    /// Those that wait for a share.
+    pub fn waits(&self) -> &WaitingLists
+        ensures { result.now ≡ self.now.waits }
+    {
+        &self.waits
+    }
+
+    /// Whether more bytes are held of all connections than there is room for: of answers, of frames that aren't
+    /// whole, and pending.
+    pub fn is_over(&self, room: u128) -> bool
+        ensures yes { OnTrue result (IsOver (traffic_state self.now) room) }
+        ensures no { OnFalse result (IsWithin (traffic_state self.now) room) }
+    {
+        asking::is_over(self, room)
+    }
+
     /// Lets a connection's socket go, and tells the hub that it is gone; where memory is refused to lines
     /// of the account it is to be looked at.
     pub fn give_up(&mut self, now: u64, number: ConnectionNumber)
         ensures gives_up { GivesUp self.old.engine.hub.has_journal (hub_terms self.old.engine.hub) now number
             (traffic_state self.old) (traffic_state self.new) }
         ensures terms { SameTerms self.old self.new }
+        ensures waits { self.new.waits ≡ self.old.waits }
         ensures runs { OnlyCalls self.old self.new }
     {
         giving_up::give_up(self, now, number);
@@ -82,6 +117,7 @@ impl<S: Drop> Switchboard<S> {
             (engine_state self.new.engine)) }
         ensures links { self.new.links ≡ self.old.links }
         ensures terms { SameTerms self.old self.new }
+        ensures waits { self.new.waits ≡ self.old.waits }
         ensures runs { OnlyCalls self.old self.new }
     {
         match self.engine.tell(now, LinkEvent::Opened) {
@@ -96,6 +132,7 @@ impl<S: Drop> Switchboard<S> {
         ensures attaches { Attaches self.old.engine.hub.has_journal (hub_terms self.old.engine.hub) now
             opened.number stream (traffic_state self.old) result (traffic_state self.new) }
         ensures terms { SameTerms self.old self.new }
+        ensures waits { self.new.waits ≡ self.old.waits }
         ensures runs { OnlyCalls self.old self.new }
     {
         let Opened { number } = opened;
@@ -107,6 +144,7 @@ impl<S: Drop> Switchboard<S> {
         ensures gives_up { GivesUp self.old.engine.hub.has_journal (hub_terms self.old.engine.hub) now
             opened.number (traffic_state self.old) (traffic_state self.new) }
         ensures terms { SameTerms self.old self.new }
+        ensures waits { self.new.waits ≡ self.old.waits }
         ensures runs { OnlyCalls self.old self.new }
     {
         let Opened { number } = opened;
@@ -124,6 +162,7 @@ impl<S: Drop> Switchboard<S> {
         ensures lines { (engine_state self.new.engine).lines ≡ (engine_state self.old.engine).lines }
         ensures left { (engine_state self.new.engine).left ≡ (engine_state self.old.engine).left }
         ensures stored { (engine_state self.new.engine).stored ≡ (engine_state self.old.engine).stored }
+        ensures waits { self.new.waits ≡ self.old.waits }
         ensures runs { OnlyCalls self.old self.new }
     {
         self.links.heed(number, is_readable, is_writable);
@@ -137,6 +176,7 @@ impl<S: Drop> Switchboard<S> {
             (engine_state self.old.engine) now event.Passed given (engine_state self.new.engine) }
         ensures links { self.new.links ≡ self.old.links }
         ensures terms { SameTerms self.old self.new }
+        ensures waits { self.new.waits ≡ self.old.waits }
         ensures runs { OnlyCalls self.old self.new }
     {
         self.engine.hand(now, LinkEvent::Passed);
@@ -149,6 +189,7 @@ impl<S: Drop> Switchboard<S> {
         ensures yes { OnTrue result ((engine_state self.new.engine).left ≡ []) }
         ensures no { OnFalse result (0 < length (engine_state self.new.engine).left) }
         ensures links { self.new.links ≡ self.old.links }
+        ensures waits { self.new.waits ≡ self.old.waits }
         ensures runs { OnlyCalls self.old self.new }
     {
         self.engine.catch_up()
@@ -170,6 +211,7 @@ impl<S: Drop> Switchboard<S> {
             why (engine_state self.new.engine) file.new) }
         ensures links { self.new.links ≡ self.old.links }
         ensures terms { SameTerms self.old self.new }
+        ensures waits { self.new.waits ≡ self.old.waits }
         ensures runs { RunsOver W.contents self.old.engine.hub.has_journal
             (hub_terms self.old.engine.hub) (engine_state self.old.engine) file.old
             (engine_state self.new.engine) file.new }
@@ -178,20 +220,38 @@ impl<S: Drop> Switchboard<S> {
     }
 }
 
+impl<S: Drop> Switchboard<S> {
+    ghost use Rattle.rv_traffic.specs.Rounds.{SharesOut};
+    ghost use Rattle.rv_traffic.specs.CallRuns.{OnlyCalls};
+    ghost use Rattle.rv_traffic.specs.Views.{SameTerms, traffic_state};
+
+    /// Offers a share of what is pending of some that wait, at a moment, unless more is held of all than there
+    /// is room for: each of them has one before any has another.
+    pub fn share_out(&mut self, room: u128, now: u64)
+        ensures shares { SharesOut room self.old.engine.hub.has_journal (hub_terms self.old.engine.hub) now
+            (traffic_state self.old) (traffic_state self.new) }
+        ensures terms { SameTerms self.old self.new }
+        ensures runs { OnlyCalls self.old self.new }
+    {
+        sharing::share_out(self, room, now);
+    }
+}
+
 impl<S: Read + Drop> Switchboard<S> {
     ghost use Rattle.rv_traffic.specs.Rounds.{ReadsRound};
     ghost use Rattle.rv_traffic.specs.CallRuns.{OnlyCalls};
     ghost use Rattle.rv_traffic.specs.Views.{SameTerms, traffic_state};
 
-    /// Reads once from each that is to be looked at, at a moment: all of them are to be written to. What is
-    /// pending of one that may be offered more goes first; else a piece is read. It gives how many failed.
-    pub fn read_round(&mut self, now: u64) -> ReadFaults
-        ensures reads { ReadsRound S.remaining self.old.engine.hub.has_journal
+    /// Reads once from each that is to be looked at, at a moment, if it may be offered more, nothing of it is
+    /// pending and no more is held of all than there is room for: all of them are to be written to. A small
+    /// piece is offered, and another is pending and waits for its share. It gives how many failed.
+    pub fn read_round(&mut self, room: u128, now: u64) -> ReadFaults
+        ensures reads { ReadsRound S.remaining room self.old.engine.hub.has_journal
             (hub_terms self.old.engine.hub) now (traffic_state self.old) result (traffic_state self.new) }
         ensures terms { SameTerms self.old self.new }
         ensures runs { OnlyCalls self.old self.new }
     {
-        rounds::read_round(self, now)
+        rounds::read_round(self, room, now)
     }
 }
 

@@ -29,6 +29,7 @@ fn send<S: Write + Drop>(
         (hub_terms traffic.old.engine.hub) now number (traffic_state traffic.old) result
         (traffic_state traffic.new) }
     ensures terms { SameTerms traffic.old traffic.new }
+    ensures waits { traffic.new.waits ≡ traffic.old.waits }
 {
     let ready = ready_of(&traffic.engine, number);
     if ready.is_empty() {
@@ -60,6 +61,7 @@ fn tell_lost<S: Write + Drop>(
         (hub_terms traffic.old.engine.hub) now number (traffic_state traffic.old) result
         (traffic_state traffic.new) }
     ensures terms { SameTerms traffic.old traffic.new }
+    ensures waits { traffic.new.waits ≡ traffic.old.waits }
 {
     if !is_open(&traffic.engine, number) {
         return Writing::Nothing;
@@ -80,6 +82,7 @@ pub(crate) fn write_one<S: Write + Drop>(
         (hub_terms traffic.old.engine.hub) now number (traffic_state traffic.old) result
         (traffic_state traffic.new) }
     ensures terms { SameTerms traffic.old traffic.new }
+    ensures waits { traffic.new.waits ≡ traffic.old.waits }
 {
     if !traffic.links.is_there(number) {
         return tell_lost(traffic, now, number);

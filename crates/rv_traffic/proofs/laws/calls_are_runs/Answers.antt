@@ -1,6 +1,6 @@
 -- By what came of each.
 use Rattle.rv_traffic.proofs.CallsRun.{events_run, gatherings_run, gone_run, looks_run}
-use Rattle.rv_traffic.proofs.CallsRun.{read_rounds_run, refusals_run, runs_join}
+use Rattle.rv_traffic.proofs.CallsRun.{read_rounds_run, refusals_run, runs_join, shared_run}
 use Rattle.rv_traffic.proofs.CallsRun.{write_rounds_run, written_lines_run}
 use Rattle.rv_traffic.proofs.laws.calls_are_runs.Goals as goal
 
@@ -24,6 +24,9 @@ returns-clause-ends g c = gone_run
 
 pub returns-clause-read_rounds : goal.returns-clause-read_rounds
 returns-clause-read_rounds g c = read_rounds_run g.S.Read.remaining
+
+pub returns-clause-shares : goal.returns-clause-shares
+returns-clause-shares g c = shared_run
 
 pub returns-clause-write_rounds : goal.returns-clause-write_rounds
 returns-clause-write_rounds g c = write_rounds_run g.S.Write.contents

@@ -5,7 +5,7 @@ use Rattle.rv_hub.specs.Hubs.{hub_terms}
 use Rattle.rv_engine.specs.Engines.{EngineState, engine_state}
 use Rattle.rv_traffic.specs.declared.outcomes.Reading.{Reading}
 use Rattle.rv_traffic.specs.Rounds.{ReadsTurn, Turn, read_faults}
-use Rattle.rv_traffic.specs.Views.{traffic_state}
+use Rattle.rv_traffic.specs.Views.{traffic_state, waits_of}
 use Rattle.rv_traffic.proofs.Counted.{few_broken, few_refused, read_counted, read_turn_at}
 use Rattle.rv_traffic.proofs.InRound.{SoFar, all_taken, few_taken, none_taken, one_taken, over_same}
 use Rattle.rv_traffic.proofs.InRound.{shorter}
@@ -14,13 +14,14 @@ use Rattle.rv_traffic.proofs.rounds.read_round.Goals as goal
 
 pub loop-number-init : goal.loop-number-init
 loop-number-init g c = (
-  none_taken (ReadsTurn g.S.Read.remaining c.args.traffic.now.engine.hub.has_journal
+  none_taken (ReadsTurn g.S.Read.remaining c.args.room c.args.traffic.now.engine.hub.has_journal
       (hub_terms c.args.traffic.now.engine.hub) c.args.now) read_faults (traffic_state c.args.traffic.now)
       (record {
         engine = engine_state c.begin_round.new.self;
         table = c.args.traffic.now.links.table.items;
+        waits = waits_of c.args.traffic.now.waits;
       }) (record { broken = 0; no_memory = 0 })
-      (ap (λ (e : EngineState). record { engine = e; table = c.args.traffic.now.links.table.items })
+      (ap (λ (e : EngineState). record (traffic_state c.args.traffic.now) { engine = e })
       c.begin_round.ensures.round) refl,
   record {
     terms = ap hub_terms c.begin_round.ensures.hub;
@@ -50,7 +51,7 @@ pub loop-number-smaller : goal.loop-number-smaller
 loop-number-smaller g c =
     shorter (engine_state c.loop-number.traffic.engine).round (engine_state c.next_look.new.self).round
     (engine_state c.read_turn-came.new.traffic.engine).round c.in-Some.number c.in-Some.ensures.some
-    (read_turn_keeps g.S.Read.remaining _ _ _ _ _ _ c.read_turn-came.ensures.reads).round
+    (read_turn_keeps g.S.Read.remaining c.args.room _ _ _ _ _ _ c.read_turn-came.ensures.reads).round
 
 pub loop-number-preserved : goal.loop-number-preserved
 loop-number-preserved g c =
@@ -60,16 +61,16 @@ loop-number-preserved g c =
     let same = c.loop-number.invariant.1 in
     let terms = ap hub_terms c.next_look.ensures.hub ∙ same.terms in
     let journal = ap (λ (h : HubParts). h.has_journal) c.next_look.ensures.hub ∙ same.journal in
-    let takes = ReadsTurn g.S.Read.remaining first.engine.hub.has_journal (hub_terms first.engine.hub)
+    let takes = ReadsTurn g.S.Read.remaining c.args.room first.engine.hub.has_journal (hub_terms first.engine.hub)
     c.args.now in
     let turn : Turn Reading = record { number = c.in-Some.number; came = c.read_turn-came.result } in (
       one_taken takes read_faults
-          (read_turn_keeps g.S.Read.remaining first.engine.hub.has_journal (hub_terms first.engine.hub)
+          (read_turn_keeps g.S.Read.remaining c.args.room first.engine.hub.has_journal (hub_terms first.engine.hub)
           c.args.now)
           (traffic_state first) (traffic_state before) (traffic_state after) c.loop-number.faults
           c.count_read-faults.result (engine_state c.next_look.new.self) turn c.in-Some.ensures.some
           c.next_look.ensures.rest
-          (read_turn_at g.S.Read.remaining first.engine.hub.has_journal c.next_look.new.self.hub.has_journal
+          (read_turn_at g.S.Read.remaining c.args.room first.engine.hub.has_journal c.next_look.new.self.hub.has_journal
           (hub_terms first.engine.hub) (hub_terms c.next_look.new.self.hub) c.args.now _ turn
           (traffic_state after) journal terms c.read_turn-came.ensures.reads)
           (read_counted turn c.loop-number.faults c.count_read-faults.result
@@ -85,21 +86,20 @@ pub returns-clause-reads : goal.returns-clause-reads
 returns-clause-reads g c =
     let first = c.args.traffic.now in
     let so_far = c.loop-number.invariant.0 in
-    let table = c.loop-number.traffic.links.table.items in
-    let last : SoFar (ReadsTurn g.S.Read.remaining first.engine.hub.has_journal
+    let last : SoFar (ReadsTurn g.S.Read.remaining c.args.room first.engine.hub.has_journal
     (hub_terms first.engine.hub) c.args.now) read_faults (traffic_state first)
-    (record { engine = engine_state c.next_look.new.self; table = table }) c.loop-number.faults =
-    subst (λ (e : EngineState). SoFar (ReadsTurn g.S.Read.remaining first.engine.hub.has_journal
+    (record (traffic_state c.loop-number.traffic) { engine = engine_state c.next_look.new.self }) c.loop-number.faults =
+    subst (λ (e : EngineState). SoFar (ReadsTurn g.S.Read.remaining c.args.room first.engine.hub.has_journal
     (hub_terms first.engine.hub) c.args.now) read_faults (traffic_state first)
-    (record { engine = e; table = table }) c.loop-number.faults)
+    (record (traffic_state c.loop-number.traffic) { engine = e }) c.loop-number.faults)
     (over_same (engine_state c.loop-number.traffic.engine) (engine_state c.next_look.new.self)
     c.in_default.ensures.none c.in_default.ensures.over c.next_look.ensures.rest) so_far in
     record {
       turns = last.turns;
       round = all_taken _ read_faults
-          (read_turn_keeps g.S.Read.remaining first.engine.hub.has_journal (hub_terms first.engine.hub)
+          (read_turn_keeps g.S.Read.remaining c.args.room first.engine.hub.has_journal (hub_terms first.engine.hub)
           c.args.now)
-          (traffic_state first) (record { engine = engine_state c.next_look.new.self; table = table })
+          (traffic_state first) (record (traffic_state c.loop-number.traffic) { engine = engine_state c.next_look.new.self })
           c.loop-number.faults c.begin_round.ensures.once c.in_default.ensures.over last;
       told = last.told;
     }

@@ -8,7 +8,7 @@ use Rattle.rv_traffic.proofs.rounds.read_round.Given as goal
 
 abbrev pub invariant-loop-number : goal.invariant-loop-number
 invariant-loop-number g l =
-    SoFar (ReadsTurn g.S.Read.remaining l.fn.traffic.engine.hub.has_journal
+    SoFar (ReadsTurn g.S.Read.remaining l.room l.fn.traffic.engine.hub.has_journal
     (hub_terms l.fn.traffic.engine.hub)
     l.now) read_faults (traffic_state l.fn.traffic) (traffic_state l.traffic) l.faults
     × SameTerms l.fn.traffic l.traffic

@@ -5,7 +5,7 @@ use Rattle.rv_hub.specs.Hubs.{hub_terms}
 use Rattle.rv_engine.specs.Engines.{EngineState, engine_state}
 use Rattle.rv_traffic.specs.declared.outcomes.Writing.{Writing}
 use Rattle.rv_traffic.specs.Rounds.{Turn, WritesTurn, write_faults}
-use Rattle.rv_traffic.specs.Views.{traffic_state}
+use Rattle.rv_traffic.specs.Views.{traffic_state, waits_of}
 use Rattle.rv_traffic.proofs.Counted.{few_unwritten, write_counted, write_turn_at}
 use Rattle.rv_traffic.proofs.InRound.{SoFar, all_taken, few_taken, none_taken, one_taken, over_same}
 use Rattle.rv_traffic.proofs.InRound.{shorter}
@@ -19,8 +19,9 @@ loop-number-init g c = (
       (record {
         engine = engine_state c.begin_round.new.self;
         table = c.args.traffic.now.links.table.items;
+        waits = waits_of c.args.traffic.now.waits;
       }) 0
-      (ap (λ (e : EngineState). record { engine = e; table = c.args.traffic.now.links.table.items })
+      (ap (λ (e : EngineState). record (traffic_state c.args.traffic.now) { engine = e })
       c.begin_round.ensures.round) refl,
   record {
     terms = ap hub_terms c.begin_round.ensures.hub;
@@ -76,13 +77,12 @@ pub returns-clause-writes : goal.returns-clause-writes
 returns-clause-writes g c =
     let first = c.args.traffic.now in
     let so_far = c.loop-number.invariant.0 in
-    let table = c.loop-number.traffic.links.table.items in
     let last : SoFar (WritesTurn g.S.Write.contents first.engine.hub.has_journal
     (hub_terms first.engine.hub) c.args.now) write_faults (traffic_state first)
-    (record { engine = engine_state c.next_look.new.self; table = table }) c.loop-number.broken =
+    (record (traffic_state c.loop-number.traffic) { engine = engine_state c.next_look.new.self }) c.loop-number.broken =
     subst (λ (e : EngineState). SoFar (WritesTurn g.S.Write.contents first.engine.hub.has_journal
     (hub_terms first.engine.hub) c.args.now) write_faults (traffic_state first)
-    (record { engine = e; table = table }) c.loop-number.broken)
+    (record (traffic_state c.loop-number.traffic) { engine = e }) c.loop-number.broken)
     (over_same (engine_state c.loop-number.traffic.engine) (engine_state c.next_look.new.self)
     c.in_default.ensures.none c.in_default.ensures.over c.next_look.ensures.rest) so_far in
     record {
@@ -90,7 +90,7 @@ returns-clause-writes g c =
       round = all_taken _ write_faults
           (write_turn_keeps g.S.Write.contents first.engine.hub.has_journal (hub_terms first.engine.hub)
           c.args.now)
-          (traffic_state first) (record { engine = engine_state c.next_look.new.self; table = table })
+          (traffic_state first) (record (traffic_state c.loop-number.traffic) { engine = engine_state c.next_look.new.self })
           c.loop-number.broken c.begin_round.ensures.once c.in_default.ensures.over last;
       told = last.told;
     }

@@ -3,7 +3,7 @@ use Rattle.std.proofs.Common.{◌<◌, ◌≤◌, ◌∙◌, ℕ, List, inr, len
 use Rattle.rv_hub.specs.Hubs.{hub_terms}
 use Rattle.rv_engine.specs.Engines.{engine_state}
 use Rattle.rv_traffic.specs.Calls.{ChangesLink, TookNone}
-use Rattle.rv_traffic.specs.Views.{traffic_state}
+use Rattle.rv_traffic.specs.Views.{traffic_state, waits_of}
 use Rattle.rv_traffic.proofs.Tables.{gives_up_then}
 use Rattle.rv_traffic.proofs.WhatLeft.{broken_writable, none_ready, rested_none, some_ready, took_none}
 use Rattle.rv_traffic.proofs.WhatLeft.{took_ready, took_within}
@@ -86,5 +86,6 @@ returns-in-Broken-clause-writes g c =
           (record {
             engine = engine_state c.args.traffic.now.engine;
             table = c.write.new.self.table.items;
+            waits = waits_of c.args.traffic.now.waits;
           }) (traffic_state c.give_up.new.traffic) refl c.write.ensures.others c.give_up.ensures.gives_up;
     }

@@ -3,4 +3,4 @@ use Rattle.rv_traffic.proofs.CallsRun.{calls_join}
 use Rattle.rv_host.proofs.shell.Shell.look_over.Goals as goal
 
 pub returns-clause-runs : goal.returns-clause-runs
-returns-clause-runs g c = calls_join _ _ _ c.make_room.ensures.runs c.look_over_all.ensures.runs
+returns-clause-runs g c = calls_join _ _ _ c.watch_room.ensures.runs c.look_over_all.ensures.runs
