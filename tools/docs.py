@@ -444,14 +444,16 @@ def kit():
 
 
 def versions():
-    """The clients have one version, which stands once in Python, and in Java once for programs and once for Maven."""
+    """The program and its clients have one version, which stands once in Rattle, once in Python, and in Java once for programs and
+    once for Maven."""
     told = {}
     for name, form in [("python/src/rendezvous/__init__.py", r'^__version__ = "(.+)"$'),
                        ("java/src/main/java/rendezvous/RvClients.java", r'^    public static final String VERSION = "(.+)";$'),
-                       ("java/pom.xml", r"^  <version>(.+)</version>$")]:
+                       ("java/pom.xml", r"^  <version>(.+)</version>$"),
+                       ("../crates/rv_options/src/version.rt", r'^pub const VERSION: &str = "(.+)";$')]:
         told[name] = re.findall(form, (ROOT / "clients" / name).read_text(), re.M)
     found = list(told.values())
-    check(len(found[0]) == 1 and all(each == found[0] for each in found), f"the clients have more versions than one: {told}")
+    check(len(found[0]) == 1 and all(each == found[0] for each in found), f"there are more versions than one: {told}")
 
 
 PARTS = [words, names, places, files, refusals, laws, promises, edits, made, functions, links, limits, standing, commands, sizes, widths,

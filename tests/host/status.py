@@ -4,8 +4,10 @@ from __future__ import annotations
 import contextlib
 import http.client
 import json
+import re
 import time
 
+from tests import ROOT
 from tests.host.hostile import beside_a_good_client, one_that_waits, still_waits
 from tests.host.many import closing, connected, no_descriptors
 from tests.host.options import LISTEN, listening, only, refused
@@ -22,14 +24,16 @@ CROWD, OFTEN = 20, 5
 PIECE, PAUSE = 9, 0.05
 # The seconds that a test gives a number which is read off once a second, and a connection that is to end.
 SOON = 30
+# The version of the program, which is that of its clients.
+VERSION = re.findall(r'^__version__ = "(.+)"$', (ROOT / "clients/python/src/rendezvous/__init__.py").read_text(), re.M)[0]
 HTML, JSON, METRICS, PLAIN = "text/html", "application/json", "text/plain; version=0.0.4", "text/plain"
 
 
-def asked(port: int, path: str, method: str = "GET", patience: float = SOON) -> tuple[int, str, str]:
-    """The status, the type and the body that are told for a path."""
+def asked(port: int, path: str, method: str = "GET", patience: float = SOON, host: str = "127.0.0.1") -> tuple[int, str, str]:
+    """The status, the type and the body that are told for a path, asked for under this host's name."""
     link = http.client.HTTPConnection("127.0.0.1", port, timeout=patience)
     with contextlib.closing(link):
-        link.request(method, path)
+        link.request(method, path, headers={"Host": host})
         answer = link.getresponse()
         demand(answer.getheader("connection") == "close", f"{method} {path}: the connection is to stay")
         return answer.status, answer.getheader("content-type", ""), answer.read().decode()
@@ -69,16 +73,75 @@ def pages_by_path(program: str) -> None:
         until("it tells its status address", lambda: f"http://127.0.0.1:{port}/".encode() in host.said)
         demand("<html" in page(port, "/", HTML), "the page is no HTML")
         status = json.loads(page(port, "/status.json", JSON))
-        demand(sorted(status) == ["history", "numbers", "queues", "unheard", "waiting"], f"the status has {sorted(status)}")
+        members = ["history", "numbers", "queues", "unheard", "version", "waiting"]
+        demand(sorted(status) == members, f"the status has {sorted(status)}")
+        demand(status["version"] == VERSION, f"the version is {status['version']}")
+        metrics = page(port, "/metrics", METRICS)
+        demand(f'\nrv_build_info{{version="{VERSION}"}} 1\n' in metrics, "the build isn't told")
+        demand(f", rv {VERSION}\n".encode() in host.said, f"it says {host.said!r}, without its version")
         demand("rv_uptime_seconds" in numbers(port), "no uptime is told")
         demand(page(port, "/healthz", PLAIN) == "turning\n", "it doesn't tell that it turns")
-        for path, kind in [("/", HTML), ("/status.json", JSON), ("/metrics", METRICS), ("/healthz", PLAIN)]:
+        demand(page(port, "/readyz", PLAIN) == "ready\n", "it doesn't tell that it is ready")
+        for path, kind in [("/", HTML), ("/status.json", JSON), ("/metrics", METRICS), ("/healthz", PLAIN), ("/readyz", PLAIN)]:
             demand(page(port, path, kind, "HEAD") == "", f"a head of {path} has a body")
         page(port, "/status.json?a=b", JSON)
         for path in ["/status", "/metrics/", "/index.html", "/%2e%2e"]:
             page(port, path, PLAIN, status=404)
         for method in ["POST", "PUT", "DELETE", "OPTIONS"]:
             page(port, "/", PLAIN, method, 405)
+        host.ended()
+
+
+# Hosts under whose names a page is told, where the names are NAMES, and others.
+NAMES, OWN, FOREIGN = "rv.example,box", [
+    "127.0.0.1", "127.0.0.1:80", "10.1.2.3", "[::1]", "[::1]:7412", "[fe80::1:2]", "localhost", "LocalHost:1", "box", "box:80", "RV.Example",
+], [
+    "", "a", "evil.example", "evil.example:7412", "127.0.0.1.evil.example", "127.0.0.1.", "localhost.evil.example", "localhosts",
+    "rv.example.com", "example", "rv", "boxes", "1.2.3", "0x7f.1", "256.1.1.1", "box.", "rv.example,box",
+]
+
+
+def pages_by_host(program: str) -> None:
+    """A page is told under an address, `localhost` or a name that was given; to a page of another origin nothing is."""
+    port = free_port()
+    with Host(program, options=("--status", f"127.0.0.1:{port}", "--status-name", NAMES)) as host:
+        until("it tells its status address", lambda: f"http://127.0.0.1:{port}/".encode() in host.said)
+        for name in OWN:
+            demand(asked(port, "/healthz", host=name)[0] == 200, f"nothing is told to {name!r}")
+        for name in FOREIGN:
+            for path, method in [("/", "GET"), ("/status.json", "GET"), ("/status.json", "HEAD"), ("/none", "GET"), ("/", "POST")]:
+                told = asked(port, path, method, host=name)
+                demand(told[0] == 421 and told[2] in ("", "no such host: --status-name\n"), f"{name!r} is told {told} for {path}")
+        with contextlib.closing(visitor(port, b"GET /healthz HTTP/1.0\r\n\r\n")) as peer:
+            demand(ends(peer, time.monotonic()).startswith(b"HTTP/1.0 200"), "HTTP/1.0 without a host is refused")
+        host.ended()
+    with Host(program, options=("--status", f"127.0.0.1:{port}")) as host:
+        until("it tells its status address", lambda: f"http://127.0.0.1:{port}/".encode() in host.said)
+        demand(asked(port, "/healthz", host="box")[0] == 421, "a name that wasn't given is answered")
+        demand(asked(port, "/healthz", host="localhost")[0] == 200, "nothing is told to localhost")
+        host.ended()
+
+
+def readiness(program: str) -> None:
+    """It isn't ready while clients, open places or connections are at their limit; it turns all the same."""
+    port, told = free_port(), lambda: asked(port, "/readyz")[::2]
+    limits = ("--clients", "2", "--open", "2", "--connections", "3")
+    with Host(program, options=("--status", f"127.0.0.1:{port}", *limits)) as host:
+        until("it is ready", lambda: told() == (200, "ready\n"), SOON)
+        with host.greeted(1) as giver:
+            for number in (1, 2):
+                key = Key(1, 1, 1, number)
+                giver.expect(request(key, give("put", "a", queue=5)), replied(key, reply="done"))
+            until("open places are full", lambda: told() == (503, "full\n"), SOON)
+            key = Key(1, 1, 1, 3)
+            giver.expect(request(key, take("now", queue=5)), replied(key, reply="item", item="a"))
+            until("open places are free", lambda: told() == (200, "ready\n"), SOON)
+            with host.connect(), host.connect():
+                until("connections are full", lambda: told() == (503, "full\n"), SOON)
+                demand(page(port, "/healthz", PLAIN) == "turning\n", "it doesn't tell that it turns")
+            until("connections are free", lambda: told() == (200, "ready\n"), SOON)
+            with host.greeted(2):
+                until("clients are full", lambda: told() == (503, "full\n"), SOON)
         host.ended()
 
 
@@ -137,7 +200,7 @@ def ends(peer: Peer, began: float) -> bytes:
 
 def a_request_in_pieces(program: str) -> None:
     """A request that comes piece by piece, each of which the host can see alone, is answered as one that comes whole."""
-    port, whole = free_port(), b"GET /healthz HTTP/1.1\r\nhost: a\r\nconnection: close\r\n\r\n"
+    port, whole = free_port(), b"GET /healthz HTTP/1.1\r\nhost: [::1]\r\nconnection: close\r\n\r\n"
     with Host(program, options=("--status", f"127.0.0.1:{port}")) as host:
         until("it listens", lambda: f"127.0.0.1:{port}".encode() in host.said)
         began = time.monotonic()
@@ -156,7 +219,7 @@ def hostile_visitors(program: str) -> None:
     with beside_a_good_client(program, "--status", f"127.0.0.1:{port}") as host, one_that_waits(host) as waiting:
         until("it listens", lambda: f"127.0.0.1:{port}".encode() in host.said)
         began = time.monotonic()
-        half = b"GET /status.json HTTP/1.1\r\nhost: a\r\n"
+        half = b"GET /status.json HTTP/1.1\r\nhost: 127.0.0.1\r\n"
         data = [b"", half, half + b"x-a: ", half + b"content-length: 5\r\n\r\n1", b"\0" * 9, (half + b"x: ").ljust(HEAD, b"a")]
         with closing([visitor(port, part) for part in data]) as peers:
             answers = [ends(peer, began) for peer in peers]
@@ -183,5 +246,5 @@ def told_without_descriptors(program: str) -> None:
 
 
 CASES = [
-    addresses, pages_by_path, nothing_listens, a_worked_scene, a_request_in_pieces, hostile_visitors, told_without_descriptors,
+    addresses, pages_by_path, pages_by_host, readiness, nothing_listens, a_worked_scene, a_request_in_pieces, hostile_visitors, told_without_descriptors,
 ]

@@ -27,7 +27,7 @@ pub use rv_run::{OutputFault, RunFault};
 use rv_server::ServeFault;
 use rv_text::Version;
 pub use rv_turns::book_run;
-use rv_words::{HelpAnswer, read_help, words_of_host};
+use rv_words::{HelpAnswer, asks_version, read_help, version_text, words_of_host};
 pub use rv_words::{read_record, read_verify};
 use server::{ServerPlan, serve_epoch};
 use std::alloc::Global;
@@ -73,6 +73,9 @@ fn run_words<T: Threads + Wait + AllocGlobal + time::Clock + Sync>(
     if let Some(own) = words_of_host(words) {
         return Ok(ExitCode::from(run_host(rt, own)));
     }
+    if asks_version(words) {
+        return tell_version(rt);
+    }
     if let Some(code) = run_help(rt, words)? {
         return Ok(code);
     }
@@ -116,6 +119,16 @@ fn run_command<T: Threads + Wait + AllocGlobal + time::Clock + Sync>(
             speak,
         } => return run_call(rt, connect, client, incarnation, speak, tries),
     }
+    Ok(ExitCode::SUCCESS)
+}
+
+// Prints the version of this build.
+fn tell_version(rt: &HostRuntime) -> Result<ExitCode, ProgramFault> {
+    let text = match version_text(rt.alloc()) {
+        Ok(text) => text,
+        Err(_) => return Err(ProgramFault::Command(CommandFault::NoMemory)),
+    };
+    let _ = println!(rt; "{text}");
     Ok(ExitCode::SUCCESS)
 }
 

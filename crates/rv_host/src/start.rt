@@ -21,7 +21,7 @@ use rv_engine::Engine;
 use rv_hub::DEFAULT_PATIENCE;
 use rv_log::{StartSaid, call_text, start_text};
 use rv_machine::Machine;
-use rv_options::HostOptions;
+use rv_options::{HostOptions, VERSION};
 use rv_rules::Limits;
 use std::fs::{File, OpenOptions};
 use std::io;
@@ -280,6 +280,7 @@ fn tell_start(
         clients: options.clients,
         open_places: options.open_places,
         memory: options.memory,
+        version: VERSION,
     };
     report.say(rt, &start_text(rt.alloc(), &said)?);
     if !address.ip().is_loopback() {

@@ -8,7 +8,7 @@ use crate::reserve::Reserve;
 use crate::shell::Shell;
 use mio::net::{TcpListener, TcpStream};
 use rv_hub::Hub;
-use rv_options::HostOptions;
+use rv_options::{HostOptions, VERSION};
 use rv_status::{FaultCounts, HostStatus, StatusNumbers, StatusPages, StatusSample, take_sample};
 use rv_survey::{list_queues, renew, unheard_row, waiting_row};
 use std::alloc::{AllocError, Global};
@@ -42,6 +42,8 @@ pub(crate) struct StatusDesk {
     reserve: Reserve,
     visitors: rv_status::Visitors<TcpStream>,
     status: HostStatus,
+    // The names under which it is asked.
+    names: Vec<String>,
     // How far the clients are looked at, and how many more are to be.
     after: Option<u64>,
     left: usize,
@@ -73,9 +75,22 @@ fn first_numbers(options: &HostOptions<'_>, faults: FaultCounts) -> StatusNumber
     }
 }
 
+// The names that an option has, with commas between them.
+fn names_of(alloc: Global, option: Option<&str>) -> Result<Vec<String>, AllocError> {
+    let mut names = Vec::new(alloc);
+    let Some(text) = option else {
+        return Ok(names);
+    };
+    for name in text.split(',') {
+        names.push(String::from_str(alloc, name)?)?;
+    }
+    Ok(names)
+}
+
 // A status with these numbers, and room for its lists.
 fn with_room(alloc: Global, numbers: StatusNumbers) -> Result<HostStatus, AllocError> {
     Ok(HostStatus {
+        version: VERSION,
         numbers,
         history: Vec::with_capacity(alloc, SAMPLES)?,
         queues: Vec::with_capacity(alloc, QUEUES)?,
@@ -95,12 +110,14 @@ impl StatusDesk {
         let keys = RandomState::new(rt)?;
         let visitors = rv_status::Visitors::new(alloc, keys)?;
         let status = with_room(alloc, first_numbers(options, fault_counts(report, 0)))?;
+        let names = names_of(alloc, options.status_names)?;
         Ok(StatusDesk {
             alloc,
             door: Door::new(listener),
             reserve: Reserve::new(rt),
             visitors,
             status,
+            names,
             after: None,
             left: 0,
             next_second: 0,
@@ -180,6 +197,7 @@ impl StatusDesk {
         let mut pages = StatusPages {
             alloc: self.alloc,
             status: &self.status,
+            names: &self.names,
         };
         self.visitors.visit(now, &mut pages)
     }

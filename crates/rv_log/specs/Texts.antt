@@ -40,7 +40,7 @@ book_words clients places memory =
 -- all of these
 abbrev pub start_words : StartSaid → List ℕ
 start_words said = place_words said.address.now said.epoch ++ link_words said.connections said.open_files
-    ++ book_words said.clients said.open_places said.memory
+    ++ book_words said.clients said.open_places said.memory ++ codes ", rv " ++ said.version.now
 
 -- how a client makes a call of a server at an address
 abbrev pub call_words : List ℕ → List ℕ → ℕ → List ℕ

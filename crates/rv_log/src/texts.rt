@@ -23,15 +23,19 @@ pub struct StartSaid<'a> {
     pub open_places: u64,
     /// How many MiB the bytes of all connections take.
     pub memory: u64,
+    /// The version of this build.
+    pub version: &'a str,
 }
 
-/// Where a server listens, its epoch and its limits.
+/// Where a server listens, its epoch, its limits, and its version.
 pub fn start_text(alloc: Global, said: &StartSaid<'_>) -> Result<String, AllocError>
     ensures { IfOk result (λ text. string_bytes text ≡ start_words said.now) }
 {
     let mut text = place_text(alloc, said.address, said.epoch)?;
     text.push_str(&link_text(alloc, said.connections, said.open_files)?)?;
     text.push_str(&book_text(alloc, said.clients, said.open_places, said.memory)?)?;
+    text.push_str(", rv ")?;
+    text.push_str(said.version)?;
     Ok(text)
 }
 

@@ -37,6 +37,10 @@ status_row : first_of (codes "status") rows ≡ None
 unfolding clap_on_literals
 status_row = refl
 
+names_row : first_of (codes "status-name") rows ≡ None
+unfolding clap_on_literals
+names_row = refl
+
 epoch_row : given_for number.Epoch rows ≡ None
 unfolding clap_on_literals
 epoch_row = refl
@@ -165,6 +169,7 @@ bare_named options bare = record {
     listens = listen_row ∙ ap Some (sym bare.listens);
     keeps = account_row ∙ ap (option_map (λ (f : Bor Text). f.now)) (sym bare.keeps_none);
     tells = status_row ∙ ap (option_map (λ (t : Bor Text). t.now)) (sym bare.tells_none);
+    tells_as = names_row ∙ ap (option_map (λ (t : Bor Text). t.now)) (sym bare.tells_as_none);
     in_epoch = subst (λ (rule : EpochRule). SaysRule rows rule) (sym bare.by_clock) (epoch_row, above_row);
     clients = given number.Clients rows (codes "65536") 65536 options.clients clients_row clients_written
         bare.clients;
@@ -188,6 +193,7 @@ bare_alone options named = record {
   by_clock = by_clock options.epoch named.said.in_epoch;
   keeps_none = no_text options.account (sym account_row ∙ named.said.keeps);
   tells_none = no_text options.status (sym status_row ∙ named.said.tells);
+  tells_as_none = no_text options.status_names (sym names_row ∙ named.said.tells_as);
   clients = given_alone number.Clients rows (codes "65536") options.clients clients_row named.said.clients;
   opens = given_alone number.Open rows (codes "100000") options.open_places open_row named.said.opens;
   connects = given_alone number.Connections rows (codes "10000") options.connections connections_row

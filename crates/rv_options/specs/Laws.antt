@@ -15,6 +15,7 @@ pub record AreBare (options : HostOptions) : Type 0 where
   pub by_clock : options.epoch ≡ Clock
   pub keeps_none : options.account ≡ None
   pub tells_none : options.status ≡ None
+  pub tells_as_none : options.status_names ≡ None
   pub clients : options.clients ≡ 65536
   pub opens : options.open_places ≡ 100000
   pub connects : options.connections ≡ 10000

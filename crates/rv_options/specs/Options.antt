@@ -12,6 +12,7 @@ pub record SaysOptions (rows : List Row) (options : HostOptions) : Type 0 where
   pub listens : first_of (codes "listen") rows ≡ Some options.listen.now
   pub keeps : first_of (codes "account") rows ≡ option_map (λ file. file.now) options.account
   pub tells : first_of (codes "status") rows ≡ option_map (λ address. address.now) options.status
+  pub tells_as : first_of (codes "status-name") rows ≡ option_map (λ names. names.now) options.status_names
   pub in_epoch : SaysRule rows options.epoch
   pub clients : GivesNumber number.Clients rows options.clients
   pub opens : GivesNumber number.Open rows options.open_places

@@ -30,6 +30,7 @@ host_app = with_rules (new_app (codes "host"))
     (text_rule (codes "listen") true
     ∷ text_rule (codes "account") false
     ∷ text_rule (codes "status") false
+    ∷ text_rule (codes "status-name") false
     ∷ number_rule number.Epoch []
     ∷ number_rule number.EpochAbove []
     ∷ number_rule number.Clients (codes "65536" ∷ [])

@@ -26,6 +26,9 @@ pub struct HostOptions<'a> {
     pub account: Option<&'a str>,
     /// The HTTP address at which it tells how it is, as it was written, if there is one.
     pub status: Option<&'a str>,
+    /// The names under which it tells that, beside `localhost` and each address, as they were written, with
+    /// commas between them, if there are any.
+    pub status_names: Option<&'a str>,
     /// How many clients its book takes.
     pub clients: u64,
     /// How many items and requests are open in it at most.
@@ -77,6 +80,7 @@ fn options_of<'a>(given: &ArgMatches<'a>) -> Result<HostOptions<'a>, HostFault<'
         epoch: epoch_of(given)?,
         account: text_of(given, "account"),
         status: text_of(given, "status"),
+        status_names: text_of(given, "status-name"),
         clients: number_of(given, HostNumber::Clients)?,
         open_places: number_of(given, HostNumber::Open)?,
         connections: number_of(given, HostNumber::Connections)?,

@@ -94,6 +94,14 @@ const OPTIONS: &[ListedOption] = &[
         help: "Where it tells over HTTP how it is",
     },
     ListedOption {
+        name: "status-name",
+        values: &["NAME"],
+        required: false,
+        action: ArgAction::Set,
+        usual: &[],
+        help: "The name that is asked there, or names with commas between them, beside any address",
+    },
+    ListedOption {
         name: "epoch",
         values: &["N"],
         required: false,

@@ -17,11 +17,11 @@ use Rattle.rv_status.specs.declared.status.QueueRow.{QueueRow}
 use Rattle.rv_status.specs.declared.status.StatusSample.{StatusSample}
 use Rattle.rv_status.specs.declared.status.WaitingRow.{WaitingRow}
 use Rattle.rv_status.specs.Rows.{MetricRow, number_rows}
-use Rattle.rv_status.specs.Texts.{family_text, family_head, labelled_text, metrics_text, row_text, side_help}
+use Rattle.rv_status.specs.Texts.{families_text, family_text, family_head, labelled_text, row_text, side_help}
 use Rattle.rv_status.specs.Texts.{side_name}
 use Rattle.rv_status.specs.Values.{list_tokens, number_members, number_tokens, numbers_value}
 use Rattle.rv_status.specs.Values.{queue_value}
-use Rattle.rv_status.specs.Values.{sample_value, status_value, tokens_of, waiting_value}
+use Rattle.rv_status.specs.Values.{sample_value, status_value, tokens_of, version_tokens, waiting_value}
 
 -- lists whose first and whose others are the same
 pub cons_same : {A : Type 0} {a b : A} {xs ys : List A} → a ≡ b → xs ≡ ys → a ∷ xs ≡ b ∷ ys
@@ -108,23 +108,25 @@ worded_told word said same old begun named each ended mid is_begun is_named is_e
     all ∙ bracketed old begin_array (token.string word) end_array mid
     ∙ ap (λ w. old ++ begin_array ∷ token.string w ∷ (mid ++ end_array ∷ [])) same
 
-five : {A : Type 0} (old a b c d e : List A) (begin end : A)
-    → ((((((old ++ begin ∷ []) ++ a) ++ b) ++ c) ++ d) ++ e) ++ end ∷ []
-    ≡ old ++ begin ∷ (a ++ (b ++ (c ++ (d ++ (e ++ end ∷ [])))))
-five old a b c d e begin end = simp append_assoc
+six : {A : Type 0} (old a b c d e f : List A) (begin end : A)
+    → (((((((old ++ begin ∷ []) ++ a) ++ b) ++ c) ++ d) ++ e) ++ f) ++ end ∷ []
+    ≡ old ++ begin ∷ (a ++ (b ++ (c ++ (d ++ (e ++ (f ++ end ∷ []))))))
+six old a b c d e f begin end = simp append_assoc
 
-stacked : {A : Type 0} (old begun ta tb tc td te ended a b c d e : List A) (begin end : A)
+stacked : {A : Type 0} (old begun ta tb tc td te tf ended a b c d e f : List A) (begin end : A)
     → begun ≡ old ++ begin ∷ []
     → ta ≡ begun ++ a
     → tb ≡ ta ++ b
     → tc ≡ tb ++ c
     → td ≡ tc ++ d
     → te ≡ td ++ e
-    → ended ≡ te ++ end ∷ []
-    → ended ≡ old ++ begin ∷ (a ++ (b ++ (c ++ (d ++ (e ++ end ∷ [])))))
-stacked old begun ta tb tc td te ended a b c d e begin end is_begun is_a is_b is_c is_d is_e is_ended =
-    let all : ended ≡ ((((((old ++ begin ∷ []) ++ a) ++ b) ++ c) ++ d) ++ e) ++ end ∷ [] = cc in
-    all ∙ five old a b c d e begin end
+    → tf ≡ te ++ f
+    → ended ≡ tf ++ end ∷ []
+    → ended ≡ old ++ begin ∷ (a ++ (b ++ (c ++ (d ++ (e ++ (f ++ end ∷ []))))))
+stacked old begun ta tb tc td te tf ended a b c d e f begin end is_begun is_a is_b is_c is_d is_e is_f
+    is_ended =
+    let all : ended ≡ (((((((old ++ begin ∷ []) ++ a) ++ b) ++ c) ++ d) ++ e) ++ f) ++ end ∷ [] = cc in
+    all ∙ six old a b c d e f begin end
 
 -- a status, from the lists that its parts were read off
 pub status_told : (s : HostStatus) (history : List StatusSample) → history ≡ s.history.items
@@ -132,30 +134,32 @@ pub status_told : (s : HostStatus) (history : List StatusSample) → history ≡
     → (queues : List QueueRow) → queues ≡ s.queues.items
     → (unheard : List WaitingRow) → unheard ≡ s.unheard.items
     → (waiting : List WaitingRow) → waiting ≡ s.waiting.items
-    → (old begun ta tb tc td te ended : List Token)
+    → (old begun ta tb tc td te tf ended : List Token)
     → begun ≡ old ++ begin_object ∷ []
     → ta ≡ begun ++ list_tokens (codes "history") (map sample_value history)
     → tb ≡ ta ++ key (codes "numbers") ∷ tokens_of (numbers_value rows)
     → tc ≡ tb ++ list_tokens (codes "queues") (map queue_value queues)
     → td ≡ tc ++ list_tokens (codes "unheard") (map waiting_value unheard)
-    → te ≡ td ++ list_tokens (codes "waiting") (map waiting_value waiting)
-    → ended ≡ te ++ end_object ∷ []
+    → te ≡ td ++ version_tokens s.version.now
+    → tf ≡ te ++ list_tokens (codes "waiting") (map waiting_value waiting)
+    → ended ≡ tf ++ end_object ∷ []
     → ended ≡ old ++ tokens_of (status_value s)
-status_told s history h rows r queues q unheard u waiting w old begun ta tb tc td te ended
-    is_begun is_a is_b is_c is_d is_e is_ended =
+status_told s history h rows r queues q unheard u waiting w old begun ta tb tc td te tf ended
+    is_begun is_a is_b is_c is_d is_e is_f is_ended =
     let a = list_tokens (codes "history") (map sample_value s.history.items) in
     let b = key (codes "numbers") ∷ tokens_of (numbers_value (number_rows s.numbers)) in
     let c = list_tokens (codes "queues") (map queue_value s.queues.items) in
     let d = list_tokens (codes "unheard") (map waiting_value s.unheard.items) in
-    let e = list_tokens (codes "waiting") (map waiting_value s.waiting.items) in
+    let e = version_tokens s.version.now in
+    let f = list_tokens (codes "waiting") (map waiting_value s.waiting.items) in
     let to_a : ta ≡ begun ++ a = is_a ∙ ap (λ l. begun ++ list_tokens (codes "history") (map sample_value l))
     h in
     let to_b : tb ≡ ta ++ b = is_b ∙ ap (λ l. ta ++ key (codes "numbers") ∷ tokens_of (numbers_value l)) r in
     let to_c : tc ≡ tb ++ c = is_c ∙ ap (λ l. tb ++ list_tokens (codes "queues") (map queue_value l)) q in
     let to_d : td ≡ tc ++ d = is_d ∙ ap (λ l. tc ++ list_tokens (codes "unheard") (map waiting_value l)) u in
-    let to_e : te ≡ td ++ e = is_e ∙ ap (λ l. td ++ list_tokens (codes "waiting") (map waiting_value l)) w in
-    stacked old begun ta tb tc td te ended a b c d e begin_object end_object
-    is_begun to_a to_b to_c to_d to_e is_ended
+    let to_f : tf ≡ te ++ f = is_f ∙ ap (λ l. te ++ list_tokens (codes "waiting") (map waiting_value l)) w in
+    stacked old begun ta tb tc td te tf ended a b c d e f begin_object end_object
+    is_begun to_a to_b to_c to_d is_e to_f is_ended
 
 -- what is printed of a value's tokens, behind nothing
 pub value_told : (d : Data) (before text : List ℕ) (tokens : List Token)
@@ -191,7 +195,7 @@ pub metrics_told : {A : Type 0} (g : A → MetricRow) (xs : List A) (s : HostSta
     → first ≡ old ++ flat_map (λ x. row_text (g x)) xs
     → second ≡ first ++ family_text Items items
     → text ≡ second ++ family_text Consumers consumers
-    → text ≡ old ++ metrics_text s
+    → text ≡ old ++ families_text s
 metrics_told g xs s same items i consumers k old first second text is_first is_second is_text =
     let a = flat_map row_text (number_rows s.numbers) in
     let b = family_text Items s.queues.items in
@@ -202,3 +206,11 @@ metrics_told g xs s same items i consumers k old first second text is_first is_s
     let to_c : text ≡ second ++ c = is_text ∙ ap (λ l. second ++ family_text Consumers l) k in
     to_c ∙ ap (λ t. t ++ c) to_b ∙ ap (λ t. (t ++ b) ++ c) to_a
     ∙ append_assoc (old ++ a) b c ∙ append_assoc old a (b ++ c)
+
+-- what stands behind a head
+pub headed : (head rest old first text : List ℕ)
+    → first ≡ old ++ head
+    → text ≡ first ++ rest
+    → text ≡ old ++ (head ++ rest)
+headed head rest old first text is_first is_text =
+    is_text ∙ ap (λ f. f ++ rest) is_first ∙ append_assoc old head rest

@@ -1,4 +1,5 @@
 -- The definitions that the contracts cite.
+pub mod Hosts
 pub mod Pages
 pub mod Rows
 pub mod Samples

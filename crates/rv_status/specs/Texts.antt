@@ -43,8 +43,21 @@ abbrev pub family_text : QueueSide → List QueueRow → List ℕ
 family_text side rows = family_head (side_name side) (side_help side) Gauge ++ flat_map (labelled_text side)
     rows
 
+-- the version between quotation marks (34), as a label of 1
+abbrev pub version_text : List ℕ → List ℕ
+version_text version =
+    codes "rv_build_info" ++ ((codes "{version=" ++ 34 ∷ []) ++ (version ++ ((34 ∷ codes "} 1") ++ 10 ∷ [])))
+
+abbrev pub build_text : List ℕ → List ℕ
+build_text version =
+    family_head (codes "rv_build_info") (codes "The version of this build.") Gauge ++ version_text version
+
 -- all numbers, then the items and the consumers of each queue
-abbrev pub metrics_text : HostStatus → List ℕ
-metrics_text s =
+abbrev pub families_text : HostStatus → List ℕ
+families_text s =
     flat_map row_text (number_rows s.numbers)
     ++ (family_text Items s.queues.items ++ family_text Consumers s.queues.items)
+
+-- all of these, and the build
+abbrev pub metrics_text : HostStatus → List ℕ
+metrics_text s = families_text s ++ build_text s.version.now

@@ -55,7 +55,8 @@ status_value s =
     (member (codes "numbers") (numbers_value (number_rows s.numbers))
     (member (codes "queues") (listed (map queue_value s.queues.items))
     (member (codes "unheard") (listed (map waiting_value s.unheard.items))
-    (member (codes "waiting") (listed (map waiting_value s.waiting.items)) no_members)))))
+    (member (codes "version") (string s.version.now)
+    (member (codes "waiting") (listed (map waiting_value s.waiting.items)) no_members))))))
 
 -- ---- for private clauses: tokens
 
@@ -72,3 +73,7 @@ list_tokens name values = key name ∷ tokens_of (listed values)
 -- a number's name and its value
 abbrev pub number_tokens : MetricRow → List Token
 number_tokens r = key r.name ∷ cell_token r.value ∷ []
+
+-- the member of the version
+abbrev pub version_tokens : List ℕ → List Token
+version_tokens version = key (codes "version") ∷ token.string version ∷ []

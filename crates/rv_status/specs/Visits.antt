@@ -1,13 +1,14 @@
 -- What a visit of a connection does.
-use Rattle.std.specs.Prelude.{ℕ, ◌≡◌, ◌+◌, ◌<◌, ◌≤◌, ◌++◌, ◌∷◌, ◌⊎◌, ◌↔◌, [], Bool, false, IsTrue, length}
-use Rattle.std.specs.Prelude.{List, Option, take}
+use Rattle.std.specs.Prelude.{ℕ, ◌≡◌, ◌+◌, ◌-◌, ◌<◌, ◌≤◌, ◌++◌, ◌∷◌, ◌⊎◌, ◌↔◌, [], Bool, false, IsTrue}
+use Rattle.std.specs.Prelude.{length}
+use Rattle.std.specs.Prelude.{List, Option, drop, take}
 use Rattle.std.specs.Io.KnownBytes.{Appends, Consumes}
 use Rattle.http.specs.declared.request.Request.{Request}
 use Rattle.http_server.specs.declared.response.Response.{Response}
 use Rattle.http_server.specs.declared.state.Config.{Config}
 use Rattle.http_server.specs.Connection.{config_of, history}
 use Rattle.http_server.specs.Exchange.{Calls}
-use Rattle.http_server.specs.History.{History, IsDone, Rests, after_sent, new_history}
+use Rattle.http_server.specs.History.{History, IsDone, Rests, WantsRead, after_sent, new_history}
 use Rattle.rv_status.specs.declared.visitor.Visitor.{Visitor}
 
 -- heads of 4,096 bytes and no bodies; nothing is read while bytes wait to be sent
@@ -27,10 +28,16 @@ pub record IsFresh {S : Type 0} (stream : S) (now : ℕ) (visitor : Visitor S) :
   pub came : visitor.came ≡ now
   pub whole : visitor.is_broken ≡ false
 
--- its socket failed, all is said, or it came ten seconds ago
+-- it came a second ago, and its connection takes more of what it asks for
+abbrev pub IsLateToAsk : {S : Type 0} → ℕ → Visitor S → Type 0
+IsLateToAsk now visitor = (visitor.came + 1000 ≤ now)
+    × WantsRead (config_of visitor.connection) (history visitor.connection)
+
+-- its socket failed, all is said, it came ten seconds ago, or hasn't said within one what it asks for
 abbrev pub IsLeaving : {S : Type 0} → ℕ → Visitor S → Type 0
 IsLeaving now visitor =
-    IsTrue visitor.is_broken ⊎ (IsDone (history visitor.connection) ⊎ (visitor.came + 10000 ≤ now))
+    IsTrue visitor.is_broken ⊎ (IsDone (history visitor.connection) ⊎ ((visitor.came + 10000 ≤ now)
+    ⊎ IsLateToAsk now visitor))
 
 -- the socket gave these bytes, which the connection received, and no more
 pub record ReceivesOnce {S : Type 0} (remaining : S → Option (List ℕ)) (old new : Visitor S) : Type 0 where
@@ -87,8 +94,8 @@ Visits {S} remaining contents answers now (first ∷ rest) new before after some
     (left : Visitor S) × IsVisit remaining contents answers first left before after some
     × StaysUnlessLeaving now left rest new
 
--- a fresh connection stands behind the first 31
+-- a fresh connection stands in front of the last 31
 pub record Admits {S : Type 0} (now : ℕ) (stream : S) (old new : List (Visitor S)) : Type 0 where
   pub visitor : Visitor S
   pub fresh : IsFresh stream now visitor
-  pub last : new ≡ take 31 old ++ visitor ∷ []
+  pub first : new ≡ visitor ∷ drop (length old - 31) old

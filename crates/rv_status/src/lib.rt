@@ -2,6 +2,7 @@
 //! and the connections that ask for it, few and not for long.
 #![tactic(auto)]
 
+mod hosts;
 mod members;
 mod metrics;
 mod numbers;

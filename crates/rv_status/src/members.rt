@@ -12,6 +12,7 @@ ghost use Rattle.rv_status.specs.Values.{
   sample_value,
   status_value,
   tokens_of,
+  version_tokens,
   waiting_value,
 };
 
@@ -43,8 +44,18 @@ fn put_status(writer: &mut Writer, status: &HostStatus) -> Result<(), AllocError
     put_numbers(writer, &readings(&status.numbers))?;
     put_queues(writer, status.queues.as_slice())?;
     put_requests(writer, "unheard", status.unheard.as_slice())?;
+    put_version(writer, status.version)?;
     put_requests(writer, "waiting", status.waiting.as_slice())?;
     writer.end_object()
+}
+
+// The member of the version.
+fn put_version(writer: &mut Writer, version: &str) -> Result<(), AllocError>
+    ensures tokens { OnOk result (writer.new.tokens ≡ writer.old.tokens ++ version_tokens version.now) }
+    ensures before { writer.new.before ≡ writer.old.before }
+{
+    writer.key("version")?;
+    writer.string(version)
 }
 
 // The member of the samples.

@@ -2,6 +2,8 @@
 ghost use Rattle.std.specs.Prelude.{◌≡◌, ◌++◌, flat_map, IfOk, OnOk, string_bytes};
 ghost use Rattle.rv_status.specs.Rows.{reading_row};
 ghost use Rattle.rv_status.specs.Texts.{
+  build_text,
+  families_text,
   family_text,
   family_head,
   labelled_text,
@@ -10,6 +12,7 @@ ghost use Rattle.rv_status.specs.Texts.{
   side_help,
   side_name,
   value_on,
+  version_text,
 };
 
 use crate::numbers::{MetricKind, StatusReading, readings};
@@ -18,6 +21,8 @@ use std::alloc::{AllocError, Global};
 
 // The room that a text begins with: most need no more.
 const ROOM: usize = 16_384;
+
+const BUILD: &str = "rv_build_info";
 
 /// The sides of a queue.
 #[derive(Clone, Copy)]
@@ -66,12 +71,28 @@ pub fn metrics_of(alloc: Global, status: &HostStatus) -> Result<Vec<u8>, AllocEr
 {
     let mut text = String::with_capacity(alloc, ROOM)?;
     put_all(&mut text, status)?;
+    put_build(&mut text, status.version)?;
     Ok(text.into_bytes())
+}
+
+// The version of the build, as a label.
+fn put_build(text: &mut String, version: &str) -> Result<(), AllocError>
+    ensures { OnOk result (string_bytes text.new ≡ string_bytes text.old ++ build_text version.now) }
+{
+    put_head(text, BUILD, "The version of this build.", MetricKind::Gauge)?;
+    put_version(text, version)
+}
+
+// The line of the version.
+fn put_version(text: &mut String, version: &str) -> Result<(), AllocError>
+    ensures { OnOk result (string_bytes text.new ≡ string_bytes text.old ++ version_text version.now) }
+{
+    write!(text, "{BUILD}{{version=\"{version}\"}} 1\n")
 }
 
 // All numbers, and the values of both sides of each queue.
 fn put_all(text: &mut String, status: &HostStatus) -> Result<(), AllocError>
-    ensures { OnOk result (string_bytes text.new ≡ string_bytes text.old ++ metrics_text status.now) }
+    ensures { OnOk result (string_bytes text.new ≡ string_bytes text.old ++ families_text status.now) }
 {
     put_readings(text, &readings(&status.numbers))?;
     put_family(text, QueueSide::Items, status.queues.as_slice())?;

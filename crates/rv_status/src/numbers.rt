@@ -1,5 +1,6 @@
 //! The numbers of a server, each with the name, the kind and the meaning that it is told with.
 ghost use Rattle.std.specs.Prelude.{◌≡◌, map};
+ghost use Rattle.rv_status.specs.Pages.{is_full};
 ghost use Rattle.rv_status.specs.Rows.{counter_row, gauge_row, kind_word, number_rows, reading_row};
 
 /// How often each kind of fault came since the start.
@@ -64,6 +65,17 @@ pub struct StatusNumbers {
     pub status_connections: u64,
     /// Seconds since the start.
     pub uptime: u64,
+}
+
+impl StatusNumbers {
+    // Whether new clients, items or connections find no place.
+    pub(crate) fn is_full(&self) -> bool
+        ensures { result ≡ is_full self.now }
+    {
+        self.clients >= self.clients_limit
+            || self.open_places >= self.open_places_limit
+            || self.connections >= self.connections_limit
+    }
 }
 
 /// How a number goes on.

@@ -2,18 +2,23 @@
 ghost use Rattle.std.specs.Prelude.{◌≡◌, IfOk, OnOk};
 ghost use Rattle.http_server.specs.Response.{IsBlank, IsResponse};
 ghost use Rattle.rv_status.specs.Pages.{
+  IsToAnswerBy,
   IsShown,
   fields_for,
-  page_asked,
   page_body,
   page_code,
   page_for,
+  page_of,
   page_named,
   page_type,
+  ready_code,
+  ready_word,
 };
 
+use crate::hosts::is_own;
 use crate::members::status_json;
 use crate::metrics::metrics_of;
+use crate::numbers::StatusNumbers;
 use crate::page::PAGE;
 use crate::status::HostStatus;
 use bytes::Bytes;
@@ -32,6 +37,10 @@ pub enum StatusPage {
     Metrics,
     /// Whether the server turns.
     Health,
+    /// Whether it takes new clients, items and connections.
+    Ready,
+    /// It is asked for under another host's name.
+    Elsewhere,
     /// There is no such page.
     Unknown,
     /// Its method neither gets a page nor asks for its head.
@@ -45,24 +54,45 @@ pub struct StatusPages<'a> {
     pub alloc: Global,
     /// What is told.
     pub status: &'a HostStatus,
+    /// The names under which it is told, beside `localhost` and each address.
+    pub names: &'a [String],
 }
 
 impl Service for StatusPages<'_> {
+    ghost use Rattle.rv_status.specs.declared.pages.StatusPage.{StatusPage};
+
     ghost answers = { λ old request response new.
-        (new ≡ old) × IsShown old.status.now (page_asked request) response };
+        (new ≡ old) × (page : StatusPage) × IsToAnswerBy old.names.now request page
+        × IsShown old.status.now page response };
 
     fn call(
         &mut self,
         request: &Request<Bytes>,
         response: &mut Response,
     ) -> Result<(), AllocError> {
-        show(self.alloc, self.status, asked(request), response)
+        show(
+            self.alloc,
+            self.status,
+            asked(request, self.names),
+            response,
+        )
     }
 }
 
-// The page that a request is for.
-fn asked(request: &Request<Bytes>) -> StatusPage
-    ensures { result ≡ page_asked request.now }
+// The page that a request is for, where the server has these names.
+fn asked(request: &Request<Bytes>, names: &[String]) -> StatusPage
+    ensures { IsToAnswerBy names.now request.now result }
+{
+    if is_own(request, names) {
+        here(request)
+    } else {
+        StatusPage::Elsewhere
+    }
+}
+
+// That of a request for this server.
+fn here(request: &Request<Bytes>) -> StatusPage
+    ensures { result ≡ page_of request.now }
 {
     page_of(request.method().as_str(), request.uri().path())
 }
@@ -90,6 +120,8 @@ fn page_at(path: &str) -> StatusPage
         StatusPage::Metrics
     } else if path == "/healthz" {
         StatusPage::Health
+    } else if path == "/readyz" {
+        StatusPage::Ready
     } else {
         StatusPage::Unknown
     }
@@ -106,15 +138,20 @@ fn show(
     ensures { OnOk result (IsShown status.now page response.new) }
 {
     let body = page.body(alloc, status)?;
-    fill(response, page, body)
+    fill(response, page, &status.numbers, body)
 }
 
 // Fills a response with a page's status, its fields, and this body.
-fn fill(response: &mut Response, page: StatusPage, body: Bytes) -> Result<(), AllocError>
+fn fill(
+    response: &mut Response,
+    page: StatusPage,
+    numbers: &StatusNumbers,
+    body: Bytes,
+) -> Result<(), AllocError>
     requires { IsBlank response.old }
-    ensures { OnOk result (IsResponse (page_code page) (fields_for page) body response.new) }
+    ensures { OnOk result (IsResponse (page_code numbers.now page) (fields_for page) body response.new) }
 {
-    response.status = page.code();
+    response.status = page.code(numbers);
     response.add_header(HeaderName::from_static("content-type"), page.content_type())?;
     response.add_header(
         HeaderName::from_static("cache-control"),
@@ -132,15 +169,17 @@ fn fill(response: &mut Response, page: StatusPage, body: Bytes) -> Result<(), Al
 }
 
 impl StatusPage {
-    // Its status.
-    fn code(self) -> StatusCode
-        ensures { result ≡ page_code self }
+    // Its status, by these numbers.
+    fn code(self, numbers: &StatusNumbers) -> StatusCode
+        ensures { result ≡ page_code numbers.now self }
     {
         match self {
             StatusPage::Front => StatusCode::OK,
             StatusPage::Status => StatusCode::OK,
             StatusPage::Metrics => StatusCode::OK,
             StatusPage::Health => StatusCode::OK,
+            StatusPage::Ready => ready_code(numbers.is_full()),
+            StatusPage::Elsewhere => StatusCode::MISDIRECTED_REQUEST,
             StatusPage::Unknown => StatusCode::NOT_FOUND,
             StatusPage::NotAllowed => StatusCode::METHOD_NOT_ALLOWED,
         }
@@ -155,6 +194,8 @@ impl StatusPage {
             StatusPage::Status => HeaderValue::from_static("application/json"),
             StatusPage::Metrics => HeaderValue::from_static("text/plain; version=0.0.4"),
             StatusPage::Health => HeaderValue::from_static("text/plain"),
+            StatusPage::Ready => HeaderValue::from_static("text/plain"),
+            StatusPage::Elsewhere => HeaderValue::from_static("text/plain"),
             StatusPage::Unknown => HeaderValue::from_static("text/plain"),
             StatusPage::NotAllowed => HeaderValue::from_static("text/plain"),
         }
@@ -169,8 +210,28 @@ impl StatusPage {
             StatusPage::Status => Ok(Bytes::from_vec(status_json(alloc, status)?)?),
             StatusPage::Metrics => Ok(Bytes::from_vec(metrics_of(alloc, status)?)?),
             StatusPage::Health => Ok(Bytes::from_static(b"turning\n")),
+            StatusPage::Ready => Ok(Bytes::from_static(ready_word(status.numbers.is_full()))),
+            StatusPage::Elsewhere => Ok(Bytes::from_static(b"no such host: --status-name\n")),
             StatusPage::Unknown => Ok(Bytes::from_static(b"no such page\n")),
             StatusPage::NotAllowed => Ok(Bytes::from_static(b"GET or HEAD\n")),
         }
     }
+}
+
+// Whether a server takes what is new, as a status.
+fn ready_code(is_full: bool) -> StatusCode
+    ensures { result ≡ ready_code is_full }
+{
+    if is_full {
+        StatusCode::SERVICE_UNAVAILABLE
+    } else {
+        StatusCode::OK
+    }
+}
+
+// The same in a word.
+fn ready_word(is_full: bool) -> &'static [u8]
+    ensures { result.now ≡ ready_word is_full }
+{
+    if is_full { b"full\n" } else { b"ready\n" }
 }

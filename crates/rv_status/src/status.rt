@@ -7,6 +7,8 @@ use crate::numbers::StatusNumbers;
 /// What a server tells of itself at one moment. Who fills it keeps each list at 100 rows at most.
 #[derive(Drop)]
 pub struct HostStatus {
+    /// The version of its build, of digits and points.
+    pub version: &'static str,
     /// Its numbers.
     pub numbers: StatusNumbers,
     /// Samples of the last ten minutes, the oldest first.

@@ -11,8 +11,10 @@ use std::io::{Error, ErrorKind, Read, Write};
 // A request's head has so many bytes at most, and as many are read at once.
 const MOST_HEAD: usize = 4_096;
 
-// A connection lasts so many milliseconds at most.
+// A connection lasts so many milliseconds at most, and says within so many what it asks for.
 const LONGEST: u64 = 10_000;
+
+const LONGEST_SILENCE: u64 = 1_000;
 
 /// A connection with its socket.
 #[derive(Drop)]
@@ -52,7 +54,11 @@ impl<S> Visitor<S> {
     pub(crate) fn is_over(&self, now: u64) -> bool
         ensures { IsTrue result ↔ IsLeaving now self.now }
     {
-        self.is_broken || self.connection.is_done() || now.saturating_sub(self.came) >= LONGEST
+        let age = now.saturating_sub(self.came);
+        self.is_broken
+            || self.connection.is_done()
+            || age >= LONGEST
+            || (age >= LONGEST_SILENCE && self.connection.wants_read())
     }
 }
 

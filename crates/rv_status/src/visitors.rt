@@ -1,5 +1,5 @@
 //! All connections to an HTTP address, in a line.
-ghost use Rattle.std.specs.Prelude.{◌≡◌, ◌<◌, ◌≤◌, ◌↔◌, [], IfOk, IsTrue, length};
+ghost use Rattle.std.specs.Prelude.{◌≡◌, ◌<◌, ◌≤◌, ◌-◌, ◌↔◌, [], drop, IfOk, IsTrue, length};
 ghost use Rattle.std.specs.VecDeque.{deque_capacity, deque_len};
 ghost use Rattle.rv_status.specs.Visits.{Admits, StaysUnlessLeaving, Visits};
 
@@ -49,14 +49,27 @@ impl<S: Drop> Visitors<S> {
         self.line.is_empty()
     }
 
-    /// Takes a connection in behind all others, at a moment in milliseconds. Where 32 are there the last
-    /// makes way, which was visited last.
+    /// Takes a connection in, at a moment in milliseconds, to be visited next. Where 32 are there the first
+    /// makes way, which was visited longest ago.
     pub fn admit(&mut self, now: u64, stream: S)
         ensures { Admits now stream self.old.line.items self.new.line.items }
     {
         let visitor = Visitor::new(self.alloc, self.keys, stream, now);
-        self.line.truncate(MOST - 1);
-        self.line.push_back_reserved(visitor);
+        self.make_way();
+        self.line.push_front_reserved(visitor);
+    }
+
+    // Where 32 are there the first is let go.
+    fn make_way(&mut self)
+        ensures left { self.new.line.items ≡ drop (length self.old.line.items - 31) self.old.line.items }
+        ensures room { deque_len self.new.line < 32 }
+    {
+        if self.line.len() < MOST {
+            return;
+        }
+        if let Some(first) = self.line.pop_front() {
+            drop(first);
+        }
     }
 
     // Takes one who was visited in again, behind all others, or lets go who is over.
@@ -73,8 +86,9 @@ impl<S: Drop> Visitors<S> {
 
 impl<S: Read + Write + Drop> Visitors<S> {
     /// Reads the first once, answers it by the pages, and writes once to it. It then stands behind all
-    /// others, or is let go: if its socket failed, if all is said, or ten seconds after it came. True where
-    /// there was something to be sent: an answer was made, or an earlier one isn't gone yet.
+    /// others, or is let go: if its socket failed, if all is said, a second after it came where it hasn't
+    /// said what it asks for, or ten seconds after it came. True where there was something to be sent: an
+    /// answer was made, or an earlier one isn't gone yet.
     pub fn visit<P: Service>(&mut self, now: u64, pages: &mut P) -> bool
         ensures { Visits S.remaining S.contents P.answers now self.old.line.items self.new.line.items
             pages.old pages.new result }

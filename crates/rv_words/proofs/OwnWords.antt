@@ -1,5 +1,5 @@
 -- Words that begin by a command's name.
-use Rattle.std.proofs.Common.{◌≡◌, ◌≤◌, ◌-◌, ◌∷◌, ◌∙◌, [], Bor, List, arith, drop, length}
+use Rattle.std.proofs.Common.{◌≡◌, ◌≤◌, ◌<◌, ◌-◌, ◌∷◌, ◌∙◌, [], Bor, List, arith, drop, length}
 use Rattle.std.proofs.Common.{slice_index_or, take}
 use Rattle.std.proofs.lemmas.List.{take_rest}
 use Rattle.clap.specs.Words.{Text}
@@ -17,3 +17,11 @@ begin_by word (a ∷ b ∷ rest) d long is = (
   λ i. a.now ∷ is i ∷ texts rest,
   (λ i. texts (take_rest (a ∷ b ∷ rest) 1 i)) ∙ (λ i. is i ∷ texts rest),
 )
+
+pub two_words : (word : Text) (words : List (Bor Text)) (d : Bor Text) → 2 ≤ length words → length words < 3
+    → (slice_index_or words 1 d).now ≡ word
+    → (name : Text) × (texts words ≡ name ∷ word ∷ [])
+two_words word [] d long short is = absurd (omega (arith, long))
+two_words word (a ∷ []) d long short is = absurd (omega (arith, long))
+two_words word (a ∷ b ∷ []) d long short is = (a.now, λ i. a.now ∷ is i ∷ [])
+two_words word (a ∷ b ∷ c ∷ rest) d long short is = absurd (omega (arith, short))

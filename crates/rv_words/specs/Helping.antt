@@ -8,10 +8,10 @@ use Rattle.rv_words.specs.Program.{rv_app, with_commands}
 use Rattle.rv_words.specs.Verifying.{verify_app}
 use Rattle.rv_words.specs.declared.helping.HelpAnswer.{HelpAnswer}
 
--- the program with all its commands: `record --to FILE`, as help tells it, `verify` and `host` too
+-- the program with all its commands: `record --to FILE`, as help tells it, `version`, `verify` and `host` too
 abbrev pub help_app : App
 help_app =
-    let recording = with_commands rv_app ((codes "record", codes "to" ∷ []) ∷ []) in
+    let recording = with_commands rv_app ((codes "record", codes "to" ∷ []) ∷ (codes "version", []) ∷ []) in
     with_subcommand (with_subcommand recording verify_app.top) host_app.top
 
 -- the answer is of a kind that clap finds for the words

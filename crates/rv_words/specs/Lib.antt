@@ -4,3 +4,4 @@ pub mod Helping
 pub mod Program
 pub mod Recorded
 pub mod Verifying
+pub mod Versions

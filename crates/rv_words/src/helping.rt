@@ -88,7 +88,7 @@ fn whole_program<'a>(alloc: Global) -> Result<clap::Command<'a>, AllocError>
     ensures { IfOk result (λ c. app_of c ≡ help_app) }
 {
     let program = program(alloc)?.bin_name("rv")?;
-    let recording = with_commands(alloc, program, &[("record", &["to"])])?;
+    let recording = with_commands(alloc, program, &[("record", &["to"]), ("version", &[])])?;
     let verifying = with_command(recording, verifying::command(alloc))?;
     with_command(verifying, host_words(alloc))
 }

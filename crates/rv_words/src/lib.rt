@@ -9,6 +9,7 @@ mod reading;
 mod recorded;
 mod texts;
 mod verifying;
+mod versions;
 mod words;
 
 pub use fault::CommandFault;
@@ -17,4 +18,5 @@ pub use program::matches_of;
 pub use reading::text_of;
 pub use recorded::read_record;
 pub use verifying::{STANDARD_INPUT, VerifyWords, read_verify};
+pub use versions::{asks_version, version_text};
 pub use words::words_of_host;

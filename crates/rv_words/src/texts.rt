@@ -23,6 +23,7 @@ const ABOUT: &[(&str, &str)] = &[
         "play",
         "Act out the events of standard input, over links that lose and delay",
     ),
+    ("version", "Print the version of this build"),
     ("audit", "Audit the account on standard input"),
     (
         "serve",

@@ -13,7 +13,8 @@ returns c =
     ap app_of_fields c.in_ok-program-2.ensures.0 ∙ c.in_ok-program.ensures in
     let verifying = c.in_ok-verifying.ensures _ c.command.ensures.shape
     ∙ ap (λ (a : App). with_subcommand a verify_app.top) c.in_ok-recording.ensures
-    ∙ ap (λ (a : App). with_subcommand (with_commands a ((codes "record", codes "to" ∷ []) ∷ []))
+    ∙ ap (λ (a : App). with_subcommand (with_commands a
+    ((codes "record", codes "to" ∷ []) ∷ (codes "version", []) ∷ []))
     verify_app.top) named in
     subst (λ (a : App). IfOk c.with_command-2.result (λ p. app_of p ≡ with_subcommand a host_app.top))
     verifying (c.with_command-2.ensures _ c.host_words.ensures.shape)

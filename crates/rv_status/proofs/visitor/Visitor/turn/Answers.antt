@@ -1,7 +1,7 @@
 -- The read, the answers and the write, one behind another.
 use Rattle.std.proofs.Common.{◌∙◌, List, subst}
 use Rattle.http_server.specs.declared.state.Config.{Config}
-use Rattle.http_server.specs.Connection.{config_of, history}
+use Rattle.http_server.specs.Connection.{history}
 use Rattle.http_server.specs.Exchange.{Call, Calls}
 use Rattle.http_server.specs.History.{Rests}
 use Rattle.rv_status.proofs.visitor.Visitor.turn.Goals as goal
