@@ -44,13 +44,15 @@ class HostEnds(Exception):
 
 @dataclass
 class Link:
-    """A connection's socket, what of its input isn't taken, when it last heard and wrote, and when it last could not be read."""
+    """A connection's socket, what of its input isn't taken, when it last heard and wrote, and when it last could not be read;
+    when the first byte of its unfinished frame came, if it has one."""
 
     socket: socket.socket
     heard: float
     moved: float
     barred: float = 0.0
     pending: bytes = field(default=b"")
+    first: float | None = None
 
 
 class DoubleHost:
@@ -269,7 +271,11 @@ class DoubleHost:
         """Offers what came and isn't taken yet."""
         link, view = self.links[number], self.hub.view(number)
         if view is not None and view.may_offer and link.pending:
-            taken = self.tell(Came(number, link.pending))
+            taken, before = self.tell(Came(number, link.pending)), view.unread
+            after = self.hub.view(number)
+            goes_on = after is not None and 0 < before < after.unread and after.unread == before + taken
+            if not goes_on or WRONG == "counts each byte as a first":
+                link.first = time.monotonic()
             link.pending = b"" if WRONG == "loses what stands behind a wait" else link.pending[taken:]
 
     def write(self, number: int) -> None:
@@ -344,7 +350,8 @@ class DoubleHost:
             return False
         since = link.heard if WRONG in ("counts from the last read", "ends who waits") else max(link.heard, link.barred)
         if view.unread or link.pending:
-            return now - since >= self.options.stall and WRONG != "keeps half a frame"
+            first = since if link.first is None else max(link.first, link.barred)
+            return now - min(since, first) >= self.options.stall and WRONG != "keeps half a frame"
         return now - since >= self.options.idle and WRONG != "keeps who is idle"
 
 

@@ -23,6 +23,8 @@ ASKED = LOOK_OVER
 TOLD, AGAIN, SAMPLE, VISIT = 10_000, 100, 10_000, 20
 # The seconds after which a host that is told so ends who stalls, and who is idle.
 STALL, IDLE = 4, 6
+# The first bytes of a frame that isn't whole yet.
+PART = 5
 # So often a page may be looked for, and so many times more than it is to.
 LOOKS = 5_000
 # Questions whose answers are more than a host and all systems on the way keep of one connection.
@@ -129,6 +131,32 @@ def stalled_and_idle_ends(program: str) -> None:
             host.ended()
 
 
+def a_byte_a_second(program: str) -> None:
+    """With --stall who sends a frame byte by byte, one a second, is ended at the look at which the time is over, and who is within
+    another frame at each look, each of which is answered, is not. What comes after an answer has its whole time."""
+    with Stopped(program, options=("--stall", str(STALL))) as host:
+        with closing([host.greeted(client) for client in (1, 2)]) as (slow, busy):
+            parts, moment = frame(hello(1)), ASKED
+            busy.send(frame(hello(2))[:PART])
+            for second in range(STALL):
+                host.at(moment)
+                slow.send(parts[second:second + 1])
+                until("the host rests", host.rests)
+                host.at(moment + LOOK_OVER // 2)
+                busy.send(frame(hello(2))[PART:] + frame(hello(2))[:PART])
+                demand(busy.hear() == welcome(2), "who is within another frame at each look is told something else")
+                until("the host rests", host.rests)
+                moment += LOOK_OVER
+            demand(host.accepted() == 2, f"before {STALL} seconds {host.accepted()} of 2 connections are left")
+            host.at(moment)
+            slow.send(parts[STALL:STALL + 1])
+            host.at(moment + LOOK_OVER)
+            demand(host.accepted() == 1, f"who sent a byte a second is there after {STALL} seconds")
+            busy.send(frame(hello(2))[PART:])
+            demand(busy.hear() == welcome(2), "who ends its frame in time is not answered")
+            host.ended()
+
+
 def accepting_is_tried_again(program: str) -> None:
     """Where accepting fails for want of something it is tried again a tenth of a second later, with nothing that wakes the
     host."""
@@ -177,6 +205,7 @@ def told_at(host: Stopped, port: int, moment: int) -> bytes:
 
 
 CASES = [
-    waits_end_at_their_moment, told_that_it_waits_at_ten_seconds, stalled_and_idle_ends, accepting_is_tried_again,
+    waits_end_at_their_moment, told_that_it_waits_at_ten_seconds, stalled_and_idle_ends, a_byte_a_second,
+    accepting_is_tried_again,
     samples_of_the_status,
 ]

@@ -58,6 +58,7 @@ WRONGS = [
     ("ends a connection with its input", "waits, an end behind a take"),
     ("loses what stands behind a wait", "waits, frames behind one that waits"),
     ("keeps half a frame", "hostile, half frames"),
+    ("counts each byte as a first", "moments, a byte a second"),
     ("ends who waits", "hostile, idle connections"),
     ("keeps who is idle", "hostile, idle connections"),
     ("keeps who takes no answer", "hostile, deaf peers"),

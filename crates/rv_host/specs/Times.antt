@@ -1,5 +1,6 @@
 -- When a connection's time is over.
-use Rattle.std.specs.Prelude.{ℕ, ◌≡◌, ◌<◌, ◌≤◌, ◌-◌, ◌⊎◌, false, length, max}
+use Rattle.std.specs.Prelude.{ℕ, ◌≡◌, ◌<◌, ◌≤◌, ◌-◌, ◌⊎◌, None, Option, Some, false, if◌then◌else◌, length, max}
+use Rattle.std.specs.Prelude.{ltb}
 use Rattle.rv_connection.specs.Traffic.{Traffic, held_count}
 use Rattle.rv_host.specs.declared.overdue.TimeLimits.{TimeLimits}
 
@@ -7,14 +8,37 @@ use Rattle.rv_host.specs.declared.overdue.TimeLimits.{TimeLimits}
 abbrev pub IsServed : Traffic → Type 0
 IsServed wire = (wire.owes ≡ false) × (held_count wire ≡ 0)
 
--- its peer takes none of the bytes that may leave, for so long; or it is served and sends no more of a frame
--- that it began, for so long since bytes last came, and since bytes last left or none were there to leave
-abbrev pub IsStalled : Traffic → ℕ → ℕ → ℕ → ℕ → Type 0
-IsStalled wire heard moved now limit = ((0 < length wire.ready) × (limit ≤ now - moved))
-    ⊎ (IsServed wire × (0 < length wire.unread) × (limit ≤ now - max heard moved))
+-- it is, and has sent a part of the next frame
+abbrev pub IsMidFrame : Traffic → Type 0
+IsMidFrame wire = IsServed wire × (0 < length wire.unread)
+
+-- since when it is in the middle of one frame, at a look at a moment, and by the look before: if it was then,
+-- and no byte of an answer left at that moment or later, the frame is the same; else this look is the first
+abbrev pub first_look : Option ℕ → ℕ → ℕ → ℕ
+first_look None sent now = now
+first_look (Some look) sent now = if ltb sent look then look else now
+
+-- since which look, up to this one, it is seen in the middle of one frame, if it is
+pub record IsSeenSince (wire : Traffic) (before : Option ℕ) (sent now : ℕ) (since : Option ℕ) : Type 0 where
+  pub within : IsMidFrame wire → since ≡ Some (first_look before sent now)
+  pub without : ¬ IsMidFrame wire → since ≡ None
+
+-- for how long it is so seen
+abbrev pub seen_for : Option ℕ → ℕ → ℕ
+seen_for None now = 0
+seen_for (Some look) now = now - look
+
+-- its peer takes none of the bytes that may leave, for so long; or it is in the middle of a frame, and sends
+-- no more of it, for so long since bytes last came, and since bytes last left or none were there to leave, or
+-- is seen in the middle of this one for so long
+abbrev pub IsStalled : Traffic → ℕ → ℕ → Option ℕ → ℕ → ℕ → Type 0
+IsStalled wire heard moved since now limit = ((0 < length wire.ready) × (limit ≤ now - moved))
+    ⊎ (IsServed wire × (0 < length wire.unread) × (limit ≤ max (now - max heard moved) (seen_for since now)))
 
 -- it is served and says nothing for so long, and hasn't stalled
-pub record IsSilent (wire : Traffic) (heard moved now : ℕ) (limits : TimeLimits) : Type 0 where
-  pub served : IsServed wire
-  pub still : limits.idle ≤ now - max heard moved
-  pub apart : ¬ IsStalled wire heard moved now limits.stall
+pub record IsSilent (wire : Traffic) (heard moved : ℕ) (since : Option ℕ) (now : ℕ) (limits : TimeLimits) :
+    Type 0
+  where
+    pub served : IsServed wire
+    pub still : limits.idle ≤ now - max heard moved
+    pub apart : ¬ IsStalled wire heard moved since now limits.stall

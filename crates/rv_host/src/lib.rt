@@ -3,6 +3,7 @@
 
 mod door;
 mod fault;
+mod frames;
 mod host;
 mod journal;
 mod overdue;

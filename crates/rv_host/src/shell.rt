@@ -5,6 +5,7 @@ ghost use Rattle.rv_traffic.specs.CallRuns.{OnlyCalls, RunsOnDevice};
 
 use crate::door::{Accepted, Door};
 use crate::fault::HostEnd;
+use crate::frames::FrameLooks;
 use crate::journal::Journal;
 use crate::overdue::TimeLimits;
 use crate::report::{FaultKind, HostReport};
@@ -150,8 +151,9 @@ pub(crate) struct Shell<W> {
     // How many connections were accepted, and in how many turns the clock failed.
     pub(crate) opened: u64,
     pub(crate) clock_faults: u64,
-    // When all were looked over.
+    // When all were looked over, and who was in the middle of a frame then.
     pub(crate) looked_over: u64,
+    pub(crate) frames: FrameLooks,
 }
 
 /// A shell without its engine: where it is asked, what it keeps, a poll that tells who comes, and room for
@@ -167,6 +169,7 @@ pub(crate) struct ShellParts<W> {
     events: Events,
     links: Links<TcpStream>,
     waits: WaitingLists,
+    frames: FrameLooks,
 }
 
 /// Where a server is asked: for connections, and how it is.
@@ -210,6 +213,7 @@ impl<W: Drop> ShellParts<W> {
             events: Events::with_capacity(rt.alloc(), EVENTS)?,
             links: Links::new(rt.alloc(), connections)?,
             waits: WaitingLists::new(rt.alloc(), connections)?,
+            frames: FrameLooks::new(rt.alloc(), connections)?,
             doors,
             account,
             connections,
@@ -247,6 +251,7 @@ impl<W: Drop> Shell<W> {
             opened: 0,
             clock_faults: 0,
             looked_over: 0,
+            frames: parts.frames,
         }
     }
 

@@ -34,12 +34,13 @@ impl<W: Drop> Shell<W> {
     }
 
     // Ends a connection whose time is over. Where lines of the account are left nobody is read or written to,
-    // so nobody's time is.
+    // so nobody's time is, and a frame has all of its own anew.
     fn look_over_one(&mut self, now: u64, number: ConnectionNumber)
         ensures runs { OnlyCalls self.old.traffic self.new.traffic }
         ensures account { self.new.account ≡ self.old.account }
     {
         if !self.traffic.catch_up() {
+            self.frames.forget(number);
             return;
         }
         let Some(kind) = self.overdue(now, number) else {
@@ -50,11 +51,16 @@ impl<W: Drop> Shell<W> {
     }
 
     // Why a connection is to be ended by time, if it is.
-    fn overdue(&self, now: u64, number: ConnectionNumber) -> Option<FaultKind> {
+    fn overdue(&mut self, now: u64, number: ConnectionNumber) -> Option<FaultKind>
+        ensures traffic { self.new.traffic ≡ self.old.traffic }
+        ensures account { self.new.account ≡ self.old.account }
+    {
         let heard = self.traffic.links().heard(number)?;
         let moved = self.traffic.links().moved(number)?;
+        let sent = self.traffic.links().sent(number)?;
         let wire = self.traffic.engine().hub().wire(number)?;
-        overdue(wire, heard, moved, now, self.limits)
+        let since = self.frames.look(number, wire, sent, now);
+        overdue(wire, heard, moved, since, now, self.limits)
     }
 
     // Closes those that hold most, if all have held too much for as long as a peer may stall.

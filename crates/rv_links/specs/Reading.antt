@@ -14,6 +14,7 @@ fresh_link stream now spare = record {
   is_writable = true;
   heard = now;
   moved = now;
+  sent = now;
 }
 
 -- what a read leaves as it was
@@ -21,6 +22,7 @@ pub record KeepsOutput {S : Type 0} (old new : Socket S) : Type 0 where
   pub pending : new.pending ≡ old.pending
   pub writable : new.is_writable ≡ old.is_writable
   pub moved : new.moved ≡ old.moved
+  pub sent : new.sent ≡ old.sent
 
 -- bytes came from the socket, if it may be read, and these are all that it gave
 abbrev pub GivesInput : {S : Type 0} → (S → Option (List ℕ)) → Socket S → ReadOutcome → List ℕ → Socket S

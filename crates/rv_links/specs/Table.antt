@@ -48,6 +48,7 @@ pub record HasPending {S : Type 0} (old : Socket S) (bytes : List ℕ) (new : So
   pub writable : new.is_writable ≡ old.is_writable
   pub heard : new.heard ≡ old.heard
   pub moved : new.moved ≡ old.moved
+  pub sent : new.sent ≡ old.sent
 
 abbrev pub PendsSlot : {S : Type 0} → Option (Socket S) → List ℕ → Option (Socket S) → Type 0
 PendsSlot None bytes new = new ≡ None

@@ -20,7 +20,7 @@ TakesOutput contents old ready output.Nothing new = Keeps (contents old.stream) 
 TakesOutput contents old ready output.Broken new = (old.is_writable ≡ true)
     × Keeps (contents old.stream) (contents new.stream)
 
--- when bytes last left to a socket, behind a write at a moment
+-- when bytes last left to a socket, or also none were there to leave, behind a write at a moment
 abbrev pub moved_after : ℕ → ℕ → WriteOutcome → ℕ
 moved_after now before (output.Took count) = now
 moved_after now before output.Nothing = before
@@ -40,3 +40,4 @@ pub record WritesOnce {S : Type 0} (contents : S → Option (List ℕ)) (now : �
     pub rest : KeepsInput old new
     pub writable : StaysWritable what old.is_writable new.is_writable
     pub moved : new.moved ≡ moved_after now old.moved what
+    pub sent : new.sent ≡ moved_after now old.sent what

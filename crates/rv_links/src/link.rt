@@ -39,9 +39,11 @@ pub struct Socket<S> {
     pub(crate) pending: BytesMut,
     pub(crate) is_readable: bool,
     pub(crate) is_writable: bool,
-    // When bytes last came, and when bytes last left or none were there to leave, in milliseconds.
+    // When bytes last came, when bytes last left or none were there to leave, and when bytes last left, in
+    // milliseconds.
     pub(crate) heard: u64,
     pub(crate) moved: u64,
+    pub(crate) sent: u64,
 }
 
 // Why a call on a socket gave nothing.
@@ -75,6 +77,7 @@ impl<S> Socket<S> {
             is_writable: true,
             heard: now,
             moved: now,
+            sent: now,
         }
     }
 }
@@ -121,6 +124,7 @@ impl<S: Write> Socket<S> {
             Ok(0) => return WriteOutcome::Broken,
             Ok(count) => {
                 self.moved = now;
+                self.sent = now;
                 return WriteOutcome::Took(count);
             }
             Err(error) => error,

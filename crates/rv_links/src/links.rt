@@ -135,6 +135,16 @@ impl<S: Drop> Links<S> {
         }
     }
 
+    /// The moment at which bytes of a connection last left, or its socket was taken in.
+    pub fn sent(&self, number: usize) -> Option<u64>
+        ensures { result ≡ option_map (λ link. link.sent) (link_at self.now.table.items number) }
+    {
+        match self.table.get(number) {
+            Some(Some(link)) => Some(link.sent),
+            _ => None,
+        }
+    }
+
     /// The bytes of the last read.
     pub fn piece(&self) -> &[u8]
         ensures { result.now ≡ self.now.buffer.items }

@@ -84,7 +84,12 @@ module _ {S : Type 0} where
           has.stream,
           offered,
           has.pending ∙ front_dropped link.pending.items SHARE count given short so,
-          record { readable = has.readable; writable = has.writable; moved = has.moved },
+          record {
+            readable = has.readable;
+            writable = has.writable;
+            moved = has.moved;
+            sent = has.sent;
+          },
         );
         is = is_new;
         others = others;
@@ -112,7 +117,12 @@ module _ {S : Type 0} where
         changes = (
           has.stream,
           has.pending ∙ ap (λ (l : List ℕ). l ++ drop count bytes) empty ∙ same,
-          record { readable = has.readable; writable = has.writable; moved = has.moved },
+          record {
+            readable = has.readable;
+            writable = has.writable;
+            moved = has.moved;
+            sent = has.sent;
+          },
         );
         is = is_new;
         others = others;
@@ -169,6 +179,7 @@ module _ {S : Type 0} where
                 writable = later.changes.2.writable ∙ ap (λ (l : Socket S). l.is_writable) same
                     ∙ read.rest.writable;
                 moved = later.changes.2.moved ∙ ap (λ (l : Socket S). l.moved) same ∙ read.rest.moved;
+                sent = later.changes.2.sent ∙ ap (λ (l : Socket S). l.sent) same ∙ read.rest.sent;
               },
             );
             is = later.is;
@@ -206,6 +217,7 @@ module _ {S : Type 0} where
                 writable = later.changes.2.writable ∙ ap (λ (l : Socket S). l.is_writable) same
                     ∙ read.rest.writable;
                 moved = later.changes.2.moved ∙ ap (λ (l : Socket S). l.moved) same ∙ read.rest.moved;
+                sent = later.changes.2.sent ∙ ap (λ (l : Socket S). l.sent) same ∙ read.rest.sent;
               },
             );
             is = later.is;
@@ -414,6 +426,7 @@ module _ {S : Type 0} where
       writable = refl;
       heard = refl;
       moved = refl;
+      sent = refl;
     },
     refl,
   )

@@ -58,6 +58,7 @@ module _ {S : Type 0} where
           rest = wrote.rest;
           writable = wrote.writable;
           moved = wrote.moved;
+          sent = wrote.sent;
         };
         is = is_new;
         others = others;

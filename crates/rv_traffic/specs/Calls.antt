@@ -48,11 +48,12 @@ pub record ChangesLink {S : Type 0} (old : List (Option (Socket S))) (number : �
     pub is : link_at new number ≡ Some after
     pub others : ChangesOne old number new
 
--- its readiness, and when bytes last left, are as they were
+-- its readiness, and when bytes last left or none were there to leave, are as they were
 pub record SameFlags {S : Type 0} (link after : Socket S) : Type 0 where
   pub readable : after.is_readable ≡ link.is_readable
   pub writable : after.is_writable ≡ link.is_writable
   pub moved : after.moved ≡ link.moved
+  pub sent : after.sent ≡ link.sent
 
 -- it has none
 pub record LetsGo {S : Type 0} (old : List (Option (Socket S))) (number : ℕ)
@@ -358,6 +359,7 @@ pub record TookSome {S : Type 0} (contents : S → Option (List ℕ)) (now : ℕ
     pub rest : KeepsInput link after
     pub writable : after.is_writable ≡ link.is_writable
     pub moved : after.moved ≡ now
+    pub sent : after.sent ≡ now
 
 -- the socket took the first of the bytes that the hub offers, at least one, and the hub is told exactly how
 -- many

@@ -16,6 +16,7 @@ returns-then-is_empty g c =
       writable = refl;
       heard = refl;
       moved = refl;
+      sent = refl;
     })
 
 pub returns-else-is_empty : goal.returns-else-is_empty
@@ -28,4 +29,5 @@ returns-else-is_empty g c =
       writable = refl;
       heard = refl;
       moved = refl;
+      sent = refl;
     })

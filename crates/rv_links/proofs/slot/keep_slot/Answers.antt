@@ -15,6 +15,7 @@ returns-in-Some-clause-kept g c =
       writable = refl;
       heard = refl;
       moved = refl;
+      sent = refl;
     })) c.extend_from_slice-kept.ensures.ok
 
 pub returns-in-Some-clause-refused : goal.returns-in-Some-clause-refused
@@ -28,4 +29,5 @@ returns-in-Some-clause-refused g c =
       writable = refl;
       heard = refl;
       moved = refl;
+      sent = refl;
     })) c.extend_from_slice-kept.ensures.err

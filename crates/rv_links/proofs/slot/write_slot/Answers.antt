@@ -11,4 +11,5 @@ returns-in-Some g c =
       rest = c.write.ensures.rest;
       writable = c.write.ensures.writable;
       moved = c.write.ensures.moved;
+      sent = c.write.ensures.sent;
     })

@@ -1,0 +1,56 @@
+//! Since which look each connection is seen in the middle of one frame.
+ghost use Rattle.std.specs.Prelude.{◌≡◌, get_or, replicate, slice_set, IfOk, None};
+ghost use Rattle.rv_host.specs.Times.{IsSeenSince};
+
+use crate::overdue::seen_since;
+use rv_connection::Wire;
+use rv_hearers::ConnectionNumber;
+use std::alloc::{AllocError, Global};
+
+/// By the number of each connection the look since which it is seen in the middle of one frame, if it is.
+#[derive(Drop)]
+pub(crate) struct FrameLooks {
+    since: Vec<Option<u64>>,
+}
+
+impl FrameLooks {
+    /// No connection is, and there is room for all numbers below this one.
+    pub(crate) fn new(alloc: Global, most: usize) -> Result<FrameLooks, AllocError>
+        ensures none { IfOk result (λ looks. looks.since.items ≡ replicate most None) }
+    {
+        Ok(FrameLooks {
+            since: Vec::from_elem(alloc, None, most)?,
+        })
+    }
+
+    /// Looks at a connection at a moment, and gives since which look it is seen in the middle of one frame.
+    pub(crate) fn look(
+        &mut self,
+        number: ConnectionNumber,
+        wire: &Wire,
+        sent: u64,
+        now: u64,
+    ) -> Option<u64>
+        ensures since { IsSeenSince wire.now (get_or self.old.since.items number None) sent now result }
+        ensures kept { self.new.since.items ≡ slice_set self.old.since.items number result }
+    {
+        let before = match self.since.get(number) {
+            Some(since) => *since,
+            None => None,
+        };
+        let since = seen_since(wire, before, sent, now);
+        if number < self.since.len() {
+            self.since[number] = since;
+        }
+        since
+    }
+
+    /// A connection isn't looked at: its time begins anew.
+    pub(crate) fn forget(&mut self, number: ConnectionNumber)
+        ensures { self.new.since.items ≡ slice_set self.old.since.items number None }
+    {
+        if number < self.since.len() {
+            self.since[number] = None;
+        }
+    }
+}
