@@ -38,8 +38,8 @@ pub(crate) const LOOK_OVER: u64 = 1_000;
 
 const LONGEST_WAIT: u64 = 60_000;
 
-// Lines that found no memory are tried again after so many milliseconds, and so is a read for which there was no
-// room.
+// Lines that found no memory are tried again after so many milliseconds, and so is a read for which there was
+// no room.
 const MEMORY_AGAIN: u64 = 10;
 
 // The system asks a silent peer whether it is there, and gives up one that takes nothing for a minute. If it
@@ -316,8 +316,8 @@ impl<W: Drop> Shell<W> {
         self.traffic.engine().is_quiet() && self.traffic.waits().is_empty()
     }
 
-    // Whether something is to be done at once: entries are to be written, or somebody is to be looked at or waits
-    // for a share. Where there is no room for what is read, that has time.
+    // Whether something is to be done at once: entries are to be written, or somebody is to be looked at or
+    // waits for a share. Where there is no room for what is read, that has time.
     fn is_asked_at_once(&self) -> bool {
         let hub = self.traffic.engine().hub();
         if hub.written() < hub.machine().length() as u64 {

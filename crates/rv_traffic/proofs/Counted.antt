@@ -11,7 +11,8 @@ use Rattle.rv_traffic.specs.Rounds.{is_write_broken, read_faults, write_faults}
 use Rattle.rv_traffic.specs.Views.{TrafficState}
 
 module _ {S : Type 0} where
-  pub read_turn_at : (remaining : S → Option (List ℕ)) (room : ℕ) (journal same : Bool) (terms as_before : DeskTerms)
+  pub read_turn_at : (remaining : S → Option (List ℕ)) (room : ℕ) (journal same : Bool) (terms as_before :
+      DeskTerms)
       (now : ℕ) (old : TrafficState S) (turn : Turn Reading) (new : TrafficState S) → same ≡ journal
       → as_before ≡ terms → ReadsTurn remaining room same as_before now old turn new
       → ReadsTurn remaining room journal terms now old turn new

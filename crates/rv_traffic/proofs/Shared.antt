@@ -38,12 +38,15 @@ module _ {S : Type 0} (journal : Bool) (terms : DeskTerms) (now : ℕ) where
       → waits ≡ record old.waits { due = waits.due }
       → SharesTurn journal terms now (record old { waits = waits }) turn new
       → SharesNext journal terms now old new
-  due_taken old waits turn new last rest taken = (turn, record {
-    due = waits.due;
-    last = last;
-    taken = subst (λ (w : Waits). SharesTurn journal terms now (record old { waits = w }) turn new) rest
-        taken;
-  })
+  due_taken old waits turn new last rest taken = (
+    turn,
+    record {
+      due = waits.due;
+      last = last;
+      taken = subst (λ (w : Waits). SharesTurn journal terms now (record old { waits = w }) turn new) rest
+          taken;
+    },
+  )
 
   pub none_shared : (old s : TrafficState S) → s ≡ record old { waits = shares_begun old.waits }
       → SharedSoFar journal terms now old s 0

@@ -181,8 +181,8 @@ fn look_for_more<S: Drop>(
     }
 }
 
-// Writes once to a connection, which then waits if bytes are pending, and is to be looked at again if more can
-// be done.
+// Writes once to a connection, which then waits if bytes are pending, and is to be looked at again if more
+// can be done.
 fn write_turn<S: Write + Drop>(
     traffic: &mut Switchboard<S>,
     now: u64,

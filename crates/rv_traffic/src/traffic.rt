@@ -75,8 +75,8 @@ impl<S: Drop> Switchboard<S> {
         &self.waits
     }
 
-    /// Whether more bytes are held of all connections than there is room for: of answers, of frames that aren't
-    /// whole, and pending.
+    /// Whether more bytes are held of all connections than there is room for: of answers, of frames that
+    /// aren't whole, and pending.
     pub fn is_over(&self, room: u128) -> bool
         ensures yes { OnTrue result (IsOver (traffic_state self.now) room) }
         ensures no { OnFalse result (IsWithin (traffic_state self.now) room) }
@@ -225,8 +225,8 @@ impl<S: Drop> Switchboard<S> {
     ghost use Rattle.rv_traffic.specs.CallRuns.{OnlyCalls};
     ghost use Rattle.rv_traffic.specs.Views.{SameTerms, traffic_state};
 
-    /// Offers a share of what is pending of some that wait, at a moment, unless more is held of all than there
-    /// is room for: each of them has one before any has another.
+    /// Offers a share of what is pending of some that wait, at a moment, unless more is held of all than
+    /// there is room for: each of them has one before any has another.
     pub fn share_out(&mut self, room: u128, now: u64)
         ensures shares { SharesOut room self.old.engine.hub.has_journal (hub_terms self.old.engine.hub) now
             (traffic_state self.old) (traffic_state self.new) }

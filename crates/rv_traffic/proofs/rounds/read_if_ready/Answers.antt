@@ -21,7 +21,8 @@ returns-clause-reads g c = record {
   gathers = c.catch_up.ensures.gathers;
   made = (
     c.if-not-catch_up.ensures.yes,
-    subst (λ (h : HubParts). ReadsOne g.S.Read.remaining c.args.room h.has_journal (hub_terms h) c.args.now c.args.number
+    subst (λ (h : HubParts). ReadsOne g.S.Read.remaining c.args.room h.has_journal (hub_terms h) c.args.now
+        c.args.number
         (record {
           engine = engine_state c.catch_up.new.self;
           table = c.args.traffic.now.links.table.items;

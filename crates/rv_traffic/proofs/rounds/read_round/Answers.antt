@@ -61,16 +61,19 @@ loop-number-preserved g c =
     let same = c.loop-number.invariant.1 in
     let terms = ap hub_terms c.next_look.ensures.hub ∙ same.terms in
     let journal = ap (λ (h : HubParts). h.has_journal) c.next_look.ensures.hub ∙ same.journal in
-    let takes = ReadsTurn g.S.Read.remaining c.args.room first.engine.hub.has_journal (hub_terms first.engine.hub)
+    let takes = ReadsTurn g.S.Read.remaining c.args.room first.engine.hub.has_journal
+    (hub_terms first.engine.hub)
     c.args.now in
     let turn : Turn Reading = record { number = c.in-Some.number; came = c.read_turn-came.result } in (
       one_taken takes read_faults
-          (read_turn_keeps g.S.Read.remaining c.args.room first.engine.hub.has_journal (hub_terms first.engine.hub)
+          (read_turn_keeps g.S.Read.remaining c.args.room first.engine.hub.has_journal
+          (hub_terms first.engine.hub)
           c.args.now)
           (traffic_state first) (traffic_state before) (traffic_state after) c.loop-number.faults
           c.count_read-faults.result (engine_state c.next_look.new.self) turn c.in-Some.ensures.some
           c.next_look.ensures.rest
-          (read_turn_at g.S.Read.remaining c.args.room first.engine.hub.has_journal c.next_look.new.self.hub.has_journal
+          (read_turn_at g.S.Read.remaining c.args.room first.engine.hub.has_journal
+          c.next_look.new.self.hub.has_journal
           (hub_terms first.engine.hub) (hub_terms c.next_look.new.self.hub) c.args.now _ turn
           (traffic_state after) journal terms c.read_turn-came.ensures.reads)
           (read_counted turn c.loop-number.faults c.count_read-faults.result
@@ -88,7 +91,8 @@ returns-clause-reads g c =
     let so_far = c.loop-number.invariant.0 in
     let last : SoFar (ReadsTurn g.S.Read.remaining c.args.room first.engine.hub.has_journal
     (hub_terms first.engine.hub) c.args.now) read_faults (traffic_state first)
-    (record (traffic_state c.loop-number.traffic) { engine = engine_state c.next_look.new.self }) c.loop-number.faults =
+    (record (traffic_state c.loop-number.traffic) { engine = engine_state c.next_look.new.self })
+    c.loop-number.faults =
     subst (λ (e : EngineState). SoFar (ReadsTurn g.S.Read.remaining c.args.room first.engine.hub.has_journal
     (hub_terms first.engine.hub) c.args.now) read_faults (traffic_state first)
     (record (traffic_state c.loop-number.traffic) { engine = e }) c.loop-number.faults)
@@ -97,9 +101,13 @@ returns-clause-reads g c =
     record {
       turns = last.turns;
       round = all_taken _ read_faults
-          (read_turn_keeps g.S.Read.remaining c.args.room first.engine.hub.has_journal (hub_terms first.engine.hub)
+          (read_turn_keeps g.S.Read.remaining c.args.room first.engine.hub.has_journal
+          (hub_terms first.engine.hub)
           c.args.now)
-          (traffic_state first) (record (traffic_state c.loop-number.traffic) { engine = engine_state c.next_look.new.self })
+          (traffic_state first) (record (traffic_state c.loop-number.traffic) {
+            engine =
+                engine_state c.next_look.new.self;
+          })
           c.loop-number.faults c.begin_round.ensures.once c.in_default.ensures.over last;
       told = last.told;
     }

@@ -79,7 +79,8 @@ returns-clause-writes g c =
     let so_far = c.loop-number.invariant.0 in
     let last : SoFar (WritesTurn g.S.Write.contents first.engine.hub.has_journal
     (hub_terms first.engine.hub) c.args.now) write_faults (traffic_state first)
-    (record (traffic_state c.loop-number.traffic) { engine = engine_state c.next_look.new.self }) c.loop-number.broken =
+    (record (traffic_state c.loop-number.traffic) { engine = engine_state c.next_look.new.self })
+    c.loop-number.broken =
     subst (λ (e : EngineState). SoFar (WritesTurn g.S.Write.contents first.engine.hub.has_journal
     (hub_terms first.engine.hub) c.args.now) write_faults (traffic_state first)
     (record (traffic_state c.loop-number.traffic) { engine = e }) c.loop-number.broken)
@@ -90,7 +91,10 @@ returns-clause-writes g c =
       round = all_taken _ write_faults
           (write_turn_keeps g.S.Write.contents first.engine.hub.has_journal (hub_terms first.engine.hub)
           c.args.now)
-          (traffic_state first) (record (traffic_state c.loop-number.traffic) { engine = engine_state c.next_look.new.self })
+          (traffic_state first) (record (traffic_state c.loop-number.traffic) {
+            engine =
+                engine_state c.next_look.new.self;
+          })
           c.loop-number.broken c.begin_round.ensures.once c.in_default.ensures.over last;
       told = last.told;
     }

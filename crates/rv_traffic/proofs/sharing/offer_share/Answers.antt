@@ -31,7 +31,10 @@ returns-clause-offers g c =
       some = c.requires.some;
       what = event.Came c.args.number c.share_of-share.result;
       given = c.hand-taken.result;
-      hands = record { made = c.hand-taken.new.self.hub.desk.entries.items; hands = c.hand-taken.ensures.takes };
+      hands = record {
+        made = c.hand-taken.new.self.hub.desk.entries.items;
+        hands = c.hand-taken.ensures.takes;
+      };
       link = share_offered c.args.traffic.now.links.table.items c.advance.new.self.table.items c.args.number
           (event.Came c.args.number c.share_of-share.result) c.hand-taken.result c.at_most-count.result
           c.requires.some (refl, is)

@@ -45,4 +45,5 @@ returns-then-not-share_next-clause-shares g c =
     none_more _ _ _ c.args.room (traffic_state c.args.traffic.now) (traffic_state c.loop-share.traffic)
     (traffic_state c.share_next.new.traffic) c.loop-share._share
     (subst (λ (w : Waits). AllPairs (λ one other. one ≢ other) w.due) c.begin.ensures.begins
-    c.begin.ensures.once) c.loop-share.auto._share-end c.if-not-share_next.ensures.none c.loop-share.invariant.0
+    c.begin.ensures.once) c.loop-share.auto._share-end c.if-not-share_next.ensures.none
+    c.loop-share.invariant.0
