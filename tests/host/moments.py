@@ -21,6 +21,8 @@ START, LOOK_OVER = 1_000_000, 1_000
 ASKED = LOOK_OVER
 # Milliseconds until a request is told that it waits, accepting is tried again, a sample is taken, and a page is served on.
 TOLD, AGAIN, SAMPLE, VISIT = 10_000, 100, 10_000, 20
+# So many stand in line at the status address, who have so many milliseconds to say what they ask for; so many are visited in a turn.
+LINE, TO_ASK, VISITED = 32, 1_000, 8
 # The seconds after which a host that is told so ends who stalls, and who is idle.
 STALL, IDLE = 4, 6
 # The first bytes of a frame that isn't whole yet.
@@ -193,7 +195,7 @@ def samples_of_the_status(program: str) -> None:
 def told_at(host: Stopped, port: int, moment: int) -> bytes:
     """The status at a moment, from which on the clock goes on as pages want it."""
     with closing(connected(port, 1)) as (visitor,):
-        visitor.send(b"GET /status.json HTTP/1.1\r\nhost: a\r\nconnection: close\r\n\r\n")
+        visitor.send(b"GET /status.json HTTP/1.1\r\nhost: 127.0.0.1\r\nconnection: close\r\n\r\n")
         visitor.socket.settimeout(VISIT / 1_000)
         for look in range(LOOKS):
             with contextlib.suppress(TimeoutError, ConnectionError):
@@ -204,8 +206,40 @@ def told_at(host: Stopped, port: int, moment: int) -> bytes:
         return visitor.got.partition(b"\r\n\r\n")[2]
 
 
+def silent_visitors_end(program: str) -> None:
+    """Who says nothing at the status address, or half of what it asks for, is let go after a second, and at once where the line is
+    full and others come. Beside them a page is told in the turn in which it is asked for."""
+    port, more = free_port(), 2 * LINE
+    with Stopped(program, options=("--status", f"127.0.0.1:{port}")) as host:
+        until("the host rests", host.rests)
+        with closing(connected(port, LINE + more)) as silent:
+            silent[-1].send(b"GET /healthz HTTP/1.1\r\nhost: 127.0.0.1\r\n")
+            host.at(VISIT)
+            over = sum(map(has_ended, silent))
+            demand(over == more, f"of {len(silent)} who say nothing {over} had to go, not {more}")
+            with closing(connected(port, 1)) as (visitor,):
+                visitor.send(b"GET /healthz HTTP/1.1\r\nhost: 127.0.0.1\r\n\r\n")
+                host.at(2 * VISIT)
+                until("the page is told", visitor.more)
+                demand(visitor.got.startswith(b"HTTP/1.1 200"), f"it is told {visitor.got!r}")
+            host.at(VISIT + TO_ASK - 1)
+            over = sum(map(has_ended, silent))
+            demand(over == more + 1, f"within a second {over} had to go, not {more + 1}")
+            for turn in range(LINE // VISITED):
+                host.at((1 + turn) * VISIT + TO_ASK)
+            demand(all(map(has_ended, silent)), f"after a second {sum(map(has_ended, silent))} of {len(silent)} had to go")
+        host.ended()
+
+
+def has_ended(peer: Peer) -> bool:
+    """Whether the host has ended a connection over which it says nothing."""
+    ready, _, _ = select.select([peer.socket], [], [], 0)
+    with contextlib.suppress(ConnectionError):
+        return bool(ready) and not peer.more()
+    return True
+
+
 CASES = [
     waits_end_at_their_moment, told_that_it_waits_at_ten_seconds, stalled_and_idle_ends, a_byte_a_second,
-    accepting_is_tried_again,
-    samples_of_the_status,
+    accepting_is_tried_again, samples_of_the_status, silent_visitors_end,
 ]

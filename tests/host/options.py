@@ -3,12 +3,14 @@ from __future__ import annotations
 
 import contextlib
 import pathlib
+import re
 import socket
 import subprocess
 import tempfile
 import time
 from collections.abc import Iterator
 
+from tests import ROOT
 from tests.sockets.programs import free_port
 from tests.sockets.hosts import Host
 from tests.sockets.wire import PATIENCE, demand, frame, hello, until
@@ -22,8 +24,10 @@ NUMBERS = {
 }
 # Texts that are no number within any of these limits.
 NO_NUMBERS = ["0", "", "x", "-1", "1.0", " 1", "1 ", "0x1", "1" + "0" * 19, "1" + "0" * 30, "１"]
-FLAGS = ["--listen", "--account", *(f"--{name}" for name in NUMBERS), "--status", "--quiet"]
-COMMANDS = ["book", "play", "serve", "call", "record", "audit", "verify", "host"]
+FLAGS = ["--listen", "--account", *(f"--{name}" for name in NUMBERS), "--status", "--status-name", "--quiet"]
+COMMANDS = ["book", "play", "serve", "call", "record", "audit", "verify", "host", "version"]
+# The version of the program, which is that of its clients.
+VERSION = re.findall(r'^__version__ = "(.+)"$', (ROOT / "clients/python/src/rendezvous/__init__.py").read_text(), re.M)[0]
 
 
 def ran(program: str, *words: str) -> subprocess.CompletedProcess[str]:
@@ -129,6 +133,14 @@ def help_tells(program: str) -> None:
     demand(ran(program, "help", "nothing").returncode == 2, "help of no command has another status than 2")
 
 
+def its_version(program: str) -> None:
+    """`rv version` tells the version of the program; with more words it is no command, and no option tells it."""
+    got = ran(program, "version")
+    demand((got.returncode, got.stdout, got.stderr) == (0, f"rv {VERSION}\n", ""), f"version: {got}")
+    for words in (["version", "further"], ["version", "--help"], ["--version"], ["-V"], ["versions"]):
+        only(program, words, 2, "command fault 1")
+
+
 def its_first_lines(program: str) -> None:
     """Standard error tells the address, the epoch and how many connections there may be; --quiet tells nothing."""
     with Host(program, epoch=77) as host:
@@ -156,4 +168,4 @@ def it_is_open_to_others(program: str) -> None:
         process.communicate()
 
 
-CASES = [numbers, limits_are_taken, misspelt, addresses, accounts, help_tells, its_first_lines, it_is_open_to_others]
+CASES = [numbers, limits_are_taken, misspelt, addresses, accounts, help_tells, its_version, its_first_lines, it_is_open_to_others]

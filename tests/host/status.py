@@ -4,13 +4,11 @@ from __future__ import annotations
 import contextlib
 import http.client
 import json
-import re
 import time
 
-from tests import ROOT
 from tests.host.hostile import beside_a_good_client, one_that_waits, still_waits
 from tests.host.many import closing, connected, no_descriptors
-from tests.host.options import LISTEN, listening, only, refused
+from tests.host.options import LISTEN, VERSION, listening, only, refused
 from tests.model.account import Key
 from tests.sockets.hosts import Host
 from tests.sockets.programs import free_port
@@ -20,12 +18,10 @@ from tests.sockets.wire import Peer, demand, frame, give, replied, request, take
 HEAD, LONGEST, FLOOD = 4_096, 10, 1_000
 # So many connections take the last descriptors, and so often a page is asked for then.
 CROWD, OFTEN = 20, 5
-# A request's bytes in a piece, and the seconds from one to the next: more than those between two visits.
-PIECE, PAUSE = 9, 0.05
+# A request's bytes in a piece, and the seconds from one to the next: more than those between two visits. All is to be said in one.
+PIECE, PAUSE, TO_ASK = 18, 0.05, 1
 # The seconds that a test gives a number which is read off once a second, and a connection that is to end.
 SOON = 30
-# The version of the program, which is that of its clients.
-VERSION = re.findall(r'^__version__ = "(.+)"$', (ROOT / "clients/python/src/rendezvous/__init__.py").read_text(), re.M)[0]
 HTML, JSON, METRICS, PLAIN = "text/html", "application/json", "text/plain; version=0.0.4", "text/plain"
 
 
@@ -203,14 +199,20 @@ def a_request_in_pieces(program: str) -> None:
     port, whole = free_port(), b"GET /healthz HTTP/1.1\r\nhost: [::1]\r\nconnection: close\r\n\r\n"
     with Host(program, options=("--status", f"127.0.0.1:{port}")) as host:
         until("it listens", lambda: f"127.0.0.1:{port}".encode() in host.said)
-        began = time.monotonic()
-        with contextlib.closing(visitor(port, b"")) as peer:
-            for at in range(0, len(whole), PIECE):
-                peer.send(whole[at : at + PIECE])
-                time.sleep(PAUSE)
-            answer = ends(peer, began)
-        demand(answer.startswith(b"HTTP/1.1 200"), f"it is answered {answer!r}")
+        until("it is answered in time", lambda: said_in_pieces(port, whole), SOON)
         host.ended()
+
+
+def said_in_pieces(port: int, whole: bytes) -> bool:
+    """Whether a request is said piece by piece within its time; then it must be answered."""
+    began, answer = time.monotonic(), b""
+    with contextlib.closing(visitor(port, b"")) as peer, contextlib.suppress(ConnectionError):
+        for at in range(0, len(whole), PIECE):
+            peer.send(whole[at : at + PIECE])
+            time.sleep(PAUSE)
+        took, answer = time.monotonic() - began, ends(peer, began)
+        demand(took >= TO_ASK or answer.startswith(b"HTTP/1.1 200"), f"said within {took:.2f} seconds it is answered {answer!r}")
+    return answer.startswith(b"HTTP/1.1 200")
 
 
 def hostile_visitors(program: str) -> None:

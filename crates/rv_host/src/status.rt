@@ -22,8 +22,11 @@ const CLIENTS_A_SECOND: usize = 2_560;
 
 const CLIENTS_A_TURN: usize = 256;
 
-// Once in so many milliseconds so many of those who ask are visited at most, until one is answered.
+// Once in so many milliseconds so many are accepted at most, each of whom is visited at once, until one is
+// answered; and then so many of those who stand in line are visited at most, until one is answered.
 const PAUSE: u64 = 20;
+
+const ACCEPTS: usize = 256;
 
 const VISITS: usize = 8;
 
@@ -173,43 +176,64 @@ impl StatusDesk {
         Ok(())
     }
 
-    // Visits those who ask, if it is time to, until one is answered. Behind each visit one more is accepted.
+    // Accepts those who come and visits those who ask, if it is time to.
     fn serve(&mut self, rt: &HostRuntime, now: u64) {
         if now < self.next_visit {
             return;
         }
-        for _ in 0..VISITS {
-            if self.visitors.is_empty() && !self.door.is_asked(now) {
+        if self.visitors.is_empty() && !self.door.is_asked(now) {
+            return;
+        }
+        self.next_visit = now.saturating_add(PAUSE);
+        self.welcome(rt, now);
+        self.go_round(rt, now);
+    }
+
+    // Accepts those who come, and visits each at once, until one is answered.
+    fn welcome(&mut self, rt: &HostRuntime, now: u64) {
+        for _ in 0..ACCEPTS {
+            if !self.door.is_asked(now) {
                 break;
             }
-            self.next_visit = now.saturating_add(PAUSE);
-            let is_answered = self.visit(now);
-            self.reserve.hold(rt);
-            self.accept(rt, now);
-            if is_answered {
+            if self.accept(rt, now) && self.visit(rt, now) {
                 break;
             }
         }
     }
 
-    // Visits one who asks, and gives whether an answer was to be sent.
-    fn visit(&mut self, now: u64) -> bool {
+    // Visits those who stand in line, until one is answered.
+    fn go_round(&mut self, rt: &HostRuntime, now: u64) {
+        for _ in 0..VISITS {
+            if self.visitors.is_empty() || self.visit(rt, now) {
+                break;
+            }
+        }
+    }
+
+    // Visits the first in line, and gives whether an answer was to be sent. A descriptor that is free then is
+    // held back.
+    fn visit(&mut self, rt: &HostRuntime, now: u64) -> bool {
         let mut pages = StatusPages {
             alloc: self.alloc,
             status: &self.status,
             names: &self.names,
         };
-        self.visitors.visit(now, &mut pages)
+        let is_answered = self.visitors.visit(now, &mut pages);
+        self.reserve.hold(rt);
+        is_answered
     }
 
-    // Accepts one more. A descriptor that nobody took is held back again.
-    fn accept(&mut self, rt: &HostRuntime, now: u64) {
-        if !self.door.is_asked(now) {
-            return;
-        }
+    // Accepts one more, and gives whether one came. A descriptor that nobody took is held back again.
+    fn accept(&mut self, rt: &HostRuntime, now: u64) -> bool {
         match self.ask_door(now) {
-            Accepted::Stream(stream) => self.visitors.admit(now, stream),
-            _ => self.reserve.hold(rt),
+            Accepted::Stream(stream) => {
+                self.visitors.admit(now, stream);
+                true
+            }
+            _ => {
+                self.reserve.hold(rt);
+                false
+            }
         }
     }
 
