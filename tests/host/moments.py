@@ -226,7 +226,7 @@ def silent_visitors_end(program: str) -> None:
             over = sum(map(has_ended, silent))
             demand(over == more + 1, f"within a second {over} had to go, not {more + 1}")
             for turn in range(LINE // VISITED):
-                host.at((1 + turn) * VISIT + TO_ASK)
+                host.at((2 + turn) * VISIT + TO_ASK - 1)
             demand(all(map(has_ended, silent)), f"after a second {sum(map(has_ended, silent))} of {len(silent)} had to go")
         host.ended()
 

@@ -122,7 +122,7 @@ fn run_command<T: Threads + Wait + AllocGlobal + time::Clock + Sync>(
     Ok(ExitCode::SUCCESS)
 }
 
-// Prints the version of this build.
+/// `rv version`: prints the version of this build.
 fn tell_version(rt: &HostRuntime) -> Result<ExitCode, ProgramFault> {
     let text = match version_text(rt.alloc()) {
         Ok(text) => text,
