@@ -9,7 +9,7 @@ from typing import Any
 from tests.faults.system import HostileHost, System
 from tests.host.hostile import ask_and_never_read
 from tests.host.many import closing, connected, no_descriptors
-from tests.host.memory import half_frame
+from tests.host.memory import BEHIND, MORE, half_frame, wait_behind
 from tests.host.moments import KEPT, QUESTIONS, is_silent
 from tests.model.account import Key
 from tests.host.status import numbers, shows
@@ -18,8 +18,8 @@ from tests.sockets.wire import demand, frame, give, hello, request, together, un
 
 # Connections that take the last descriptors.
 CROWD = 20
-# Half frames of so many bytes are more than the MiB of --memory, by less than one of them.
-HALVES, HALF, MEBIBYTE = 17, 64_000, 1
+# The MiB of --memory, and the seconds for which it may be full.
+MEBIBYTE, FULL = 1, 1
 # The clock fails once in so many times that it is read.
 CLOCK = 3
 # A put of an item whose line is long takes fewer growths than this; and so many are refused, turn after turn, where lines find
@@ -78,13 +78,12 @@ def broken_connections(program: str) -> None:
 
 
 def closed_for_memory(program: str) -> None:
-    """Half frames beyond --memory count by those that are closed."""
-    with Counting(program, "--memory", str(MEBIBYTE), "--stall", "3600") as host:
-        with closing([host.connect() for _ in range(HALVES)]) as peers:
-            for peer in peers:
-                peer.send(half_frame(HALF))
-            left = HALVES - 1
-            shows(host.status_port, {"rv_connections": left, "rv_buffer_bytes": left * HALF,
+    """What is held beyond --memory for as long as --stall counts by those that are closed."""
+    with Counting(program, "--memory", str(MEBIBYTE), "--stall", str(FULL)) as host:
+        held = [*BEHIND, MORE]
+        with closing([host.greeted(client) for client in range(1, len(held) + 1)]) as peers:
+            wait_behind(peers, held)
+            shows(host.status_port, {"rv_connections": len(BEHIND), "rv_buffer_bytes": sum(held) - max(held),
                                      "rv_buffer_limit_bytes": MEBIBYTE << 20})
             host.counts({"most_held": 1})
 

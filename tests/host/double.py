@@ -62,6 +62,8 @@ class DoubleHost:
         self.options, self.links, self.again, self.looked = options, {}, 0.0, 0.0
         # how many bytes were unread when all were looked at
         self.unread = 0
+        # since when more is held than may be
+        self.full: float | None = None
         self.began = self.clock()
         self.epoch = self.chosen_epoch()
         self.listener = self.listening()
@@ -243,7 +245,7 @@ class DoubleHost:
         link, view = self.links.get(number), self.hub.view(number)
         if WRONG == "ends a connection with its input" and link is not None and self.has_ended(link):
             return self.drop(number)
-        if link is None or view is None or not view.may_offer or link.pending:
+        if link is None or view is None or not view.may_offer or link.pending or self.is_full():
             return
         try:
             piece = link.socket.recv(READ)
@@ -324,11 +326,26 @@ class DoubleHost:
         if WRONG == "counts what was answered":
             self.unread = max(self.unread, sum(view.unread for number in self.links if (view := self.hub.view(number)) is not None))
 
-    def make_room(self) -> None:
-        """Ends those that hold most, where all hold too much."""
+    def held(self) -> dict[int, int]:
+        """How many bytes are held of each connection."""
         answers = WRONG != "counts no answers"
-        held = {number: len(link.pending) + view.unread + view.held * answers for number, link in self.links.items()
+        return {number: len(link.pending) + view.unread + view.held * answers for number, link in self.links.items()
                 if (view := self.hub.view(number)) is not None}
+
+    def is_full(self) -> bool:
+        """Whether more is held than may be."""
+        return self.unread + sum(self.held().values()) > self.options.memory << 20
+
+    def make_room(self) -> None:
+        """Ends those that hold most, where all have held too much for as long as a peer may stall."""
+        now = time.monotonic()
+        if not self.is_full():
+            self.full = None
+            return
+        self.full = now if self.full is None else self.full
+        if now - self.full < self.options.stall:
+            return
+        held = self.held()
         while self.unread + sum(held.values()) > self.options.memory << 20 and held and WRONG != "closes nobody who holds much":
             number = max(held, key=lambda number: held[number])
             if WRONG == "closes the first who holds anything":

@@ -3,43 +3,56 @@ host itself."""
 from __future__ import annotations
 
 import resource
+import time
 
 from tests.host.hostile import ask_and_never_read
 from tests.host.many import closing, connected
 from tests.host.moments import ASKED, KEPT, LOOK_OVER, QUESTIONS, Stopped, is_silent
-from tests.host.status import shows
+from tests.host.status import numbers, shows
+from tests.model.account import Key
 from tests.sockets.hosts import Host
 from tests.sockets.programs import free_port
-from tests.sockets.wire import demand, frame, until
+from tests.sockets.wire import Peer, demand, frame, hello, request, take, until, welcome
 
 # The MiB that all buffers may have, and their bytes.
 MEBIBYTE, BYTES = 1, 1 << 20
-# Bytes of half frames that just fit, one of which is the largest; and those of one more, after which that one is to go.
-HALVES, LARGEST, MORE = [40_000] * 12 + [48_000] + [40_000] * 13, 12, 1_000
-# Bytes of half frames beside peers that take no answer, of each of which a host holds more than so many.
-BESIDE, DEAF, HELD = [64_000] * 15, 2, 65_536
+# Bytes behind requests that wait, which just fit, one of which are the most; and those of one more, after which that one is to go.
+BEHIND, LARGEST, MORE = [3_900] * 12 + [3_950] + [3_900] * 255, 12, 3_900
+# The seconds for which the memory may be full, and the first queue of those who wait, which nobody else asks for.
+STALL, BESIDE = 4, 64
+# Peers that take no answers, of each of which a host holds more than so many bytes.
+DEAF, HELD = 2, 65_536
+# A client that comes where nothing more may be held.
+LATE = 1_000
+# Half frames that are far more than may be held, the most bytes that come at a time, and so often it is looked how much is held.
+HALVES, HALF, PIECE, LOOKS = 60, 64_000, 4_096, 10
 # The open files that a host may have, how many it keeps for itself without and with a status address, and who comes beyond those.
 FILES, SPARE, STATUS_SPARE, BEYOND = 100, 16, 49, 2
 
 
 def the_largest_is_closed(program: str) -> None:
-    """Half frames just fit into --memory. After some bytes more the connection that holds most is closed, and no other one."""
-    with Stopped(program, options=("--memory", str(MEBIBYTE), "--stall", "3600")) as host:
-        with closing([host.connect() for _ in range(len(HALVES) + 1)]) as peers:
-            demand(sum(HALVES) <= BYTES < sum(HALVES) + MORE, "the half frames are not such that just one is too much")
-            for peer, count in zip(peers, HALVES):
-                peer.send(half_frame(count))
+    """Bytes behind requests that wait just fit into --memory. After some more, once that has lasted for --stall, the connection that
+    holds most is closed, and no other one."""
+    with Stopped(program, options=("--memory", str(MEBIBYTE), "--stall", str(STALL))) as host:
+        with closing([host.greeted(client) for client in range(1, len(BEHIND) + 2)]) as peers:
+            demand(sum(BEHIND) <= BYTES < sum(BEHIND) + MORE, "what is held is not such that just one is too much")
+            wait_behind(peers, BEHIND)
             until("the host rests", host.rests)
-            for moment in (ASKED, ASKED + LOOK_OVER):
-                host.at(moment)
-                demand(host.accepted() == len(peers), f"of {len(peers)} that fit {host.accepted()} are left")
-            peers[-1].send(half_frame(MORE))
+            host.at(ASKED)
+            wait_behind(peers[-1:], [MORE], len(peers))
             until("the host rests", host.rests)
-            host.at(ASKED + 2 * LOOK_OVER)
-            host.at(ASKED + 3 * LOOK_OVER)
+            host.at(ASKED + 1_000 * STALL - 1)
+            demand(host.accepted() == len(peers), f"of {len(peers)} {host.accepted()} are left before it was full for so long")
+            host.at(ASKED + 1_000 * STALL + LOOK_OVER)
             closed = [number for number, peer in enumerate(peers) if not is_silent(peer)]
             demand(closed == [LARGEST], f"closed are {closed}, and number {LARGEST} holds most")
         host.ended()
+
+
+def wait_behind(peers: list[Peer], counts: list[int], first: int = 1) -> None:
+    """Clients from the first on wait, each with so many bytes of a frame behind its request."""
+    for client, (peer, count) in enumerate(zip(peers, counts), first):
+        peer.send(frame(request(Key(1, client, 1, 1), take("forever", queue=BESIDE + client % 64))) + half_frame(count))
 
 
 def half_frame(count: int) -> bytes:
@@ -48,23 +61,46 @@ def half_frame(count: int) -> bytes:
 
 
 def answers_count(program: str) -> None:
-    """Half frames fit into --memory, but not beside the answers of peers that take none: of these, which hold most, so many are
-    closed that the rest fits."""
-    with Stopped(program, options=("--memory", str(MEBIBYTE), "--stall", "3600")) as host:
-        demand(sum(BESIDE) <= BYTES < sum(BESIDE) + DEAF * HELD and max(BESIDE) < HELD, "the answers are not too much")
-        halves, deaf = [host.connect() for _ in BESIDE], [host.connect(receive=KEPT) for _ in range(DEAF)]
-        with closing(halves), closing(deaf):
-            for peer, count in zip(halves, BESIDE):
-                peer.send(half_frame(count))
-            for client, peer in enumerate(deaf, 1):
-                ask_and_never_read(peer, client, QUESTIONS)
+    """Bytes behind requests that wait fit into --memory, but not beside the answers of peers that take none: who comes then is read
+    once that has lasted for --stall, when those that hold most are closed, and no others."""
+    with Stopped(program, options=("--memory", str(MEBIBYTE), "--stall", str(STALL))) as host:
+        demand(sum(BEHIND) <= BYTES < sum(BEHIND) + HELD and max(BEHIND) < HELD, "the answers are not too much")
+        deaf = [host.connect(receive=KEPT) for _ in range(DEAF)]
+        with closing([host.greeted(client) for client in range(1, len(BEHIND) + 1)]) as waiting, closing(deaf), host.connect() as late:
+            wait_behind(waiting, BEHIND)
             until("the host rests", host.rests)
             host.at(ASKED)
-            host.at(ASKED + LOOK_OVER)
-            demand(all(map(is_silent, halves)), "of those that hold less some are closed")
-            left = host.accepted() - len(halves)
-            demand(left < DEAF, f"nobody is closed of {DEAF} that take no answers")
+            for client, peer in enumerate(deaf, len(BEHIND) + 1):
+                ask_and_never_read(peer, client, QUESTIONS)
+            until("the host rests", host.rests)
+            late.send(frame(hello(LATE)))
+            host.at(ASKED + 1_000 * STALL - 1)
+            demand(is_silent(late), "who comes is read where nothing more may be held")
+            host.at(ASKED + 1_000 * STALL + LOOK_OVER)
+            demand(late.hear() == welcome(LATE), "who came isn't welcome where there is room again")
+            demand(all(map(is_silent, waiting)), "of those that hold less some are closed")
         host.ended()
+
+
+def a_bound_stands(program: str) -> None:
+    """Half frames are far more than --memory: as many bytes are read as may be held, and no more, and nobody is closed for that."""
+    port = free_port()
+    with Host(program, options=("--status", f"127.0.0.1:{port}", "--memory", str(MEBIBYTE), "--stall", "3600")) as host:
+        with closing(connected(host.port, HALVES)) as peers:
+            for peer in peers:
+                peer.send(half_frame(HALF))
+            until("as much is held as may be", lambda: held_bytes(port) > BYTES)
+            for _ in range(LOOKS):
+                demand(held_bytes(port) <= BYTES + PIECE, f"{held_bytes(port)} bytes are held, and {BYTES} may be")
+                time.sleep(0.1)
+            left = numbers(port)["rv_connections"]
+            demand(left == HALVES, f"of {HALVES} {left} are left")
+        host.ended()
+
+
+def held_bytes(port: int) -> int:
+    """How many bytes of connections a host holds."""
+    return numbers(port)["rv_buffer_bytes"]
 
 
 def descriptors_are_spared(program: str) -> None:
@@ -88,4 +124,4 @@ def few_files() -> None:
     resource.setrlimit(resource.RLIMIT_NOFILE, (FILES, FILES))
 
 
-CASES = [the_largest_is_closed, answers_count, descriptors_are_spared]
+CASES = [the_largest_is_closed, answers_count, a_bound_stands, descriptors_are_spared]

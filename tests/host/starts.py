@@ -5,6 +5,7 @@ import contextlib
 import time
 
 from tests.host.many import closing, connected, greeted
+from tests.host.memory import wait_behind
 from tests.model.account import Key
 from tests.sockets.hosts import Host
 from tests.sockets.wire import demand, frame, give, hello, refused, replied, request, take, until, welcome
@@ -13,8 +14,8 @@ from tests.sockets.wire import demand, frame, give, hello, refused, replied, req
 BACK = 10
 # So many seconds later no more of them are closed.
 SETTLES = 2
-# Peers that send a part of a frame, its bytes, and the MiB that all buffers may have.
-HOLDERS, HELD, MEBIBYTES = 40, 40_000, 1
+# Peers that wait, the bytes behind their requests, the MiB that all may have, and the seconds for which that may be full.
+HOLDERS, HELD, MEBIBYTES, FULL = 270, 3_900, 1, 1
 
 
 def back_at_once(program: str, many: int, seconds: float | None = None) -> str:
@@ -45,21 +46,17 @@ def in_time(program: str, many: int) -> str:
 
 
 def holders_are_closed(program: str) -> str:
-    """Peers send a part of a frame, in all more than --memory: so many of them are closed that the rest fits, and not more than would
-    fit; who holds nothing is served on."""
-    with Host(program, options=("--memory", str(MEBIBYTES), "--stall", "3600")) as host, host.greeted(1) as peer:
-        part = frame(b"x" * HELD)[:-1]
-        fits = (MEBIBYTES << 20) // len(part)
-        with closing(connected(host.port, HOLDERS)) as holders:
-            until("all are accepted", lambda: host.accepted() == 1 + HOLDERS)
-            for holder in holders:
-                with contextlib.suppress(ConnectionError):
-                    holder.send(part)
+    """Peers wait with bytes behind their requests, in all more than --memory: each time that this has lasted for --stall one is closed,
+    until the rest fits, and not more than would fit; who holds nothing is served on."""
+    with Host(program, options=("--memory", str(MEBIBYTES), "--stall", str(FULL))) as host, host.greeted(HOLDERS + 1) as peer:
+        fits = (MEBIBYTES << 20) // HELD
+        with closing([host.greeted(client) for client in range(1, HOLDERS + 1)]) as holders:
+            wait_behind(holders, [HELD] * HOLDERS)
             until("those that hold most are closed", lambda: host.accepted() <= 1 + fits)
             time.sleep(SETTLES)
             left = host.accepted() - 1
-            demand(left >= HOLDERS - fits, f"of {HOLDERS} only {left} are left, and {fits} fit")
-            peer.expect(hello(1), welcome(1))
+            demand(left == fits, f"of {HOLDERS} only {left} are left, and {fits} fit")
+            peer.expect(hello(HOLDERS + 1), welcome(HOLDERS + 1))
         host.ended()
     return f"{left} of {HOLDERS} are left, and {fits} fit"
 

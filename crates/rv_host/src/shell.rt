@@ -313,17 +313,20 @@ impl<W: Drop> Shell<W> {
 
     // Whether nobody is to be looked at, or waits for a share.
     fn is_quiet(&self) -> bool {
-        self.traffic.engine().is_quiet() && self.traffic.waits().is_empty()
+        self.traffic.engine().is_quiet() && self.traffic.has_none_waiting()
     }
 
-    // Whether something is to be done at once: entries are to be written, or somebody is to be looked at or
-    // waits for a share. Where there is no room for what is read, that has time.
+    // Whether something is to be done at once: entries are to be written, or somebody waits for a share or is
+    // to be looked at. Where there is no room for what comes of that, it has time.
     fn is_asked_at_once(&self) -> bool {
         let hub = self.traffic.engine().hub();
         if hub.written() < hub.machine().length() as u64 {
             return true;
         }
-        !self.is_quiet() && !self.traffic.is_over(self.memory)
+        if !self.traffic.has_none_waiting() && !self.traffic.is_over(self.room_to_answer()) {
+            return true;
+        }
+        !self.traffic.engine().is_quiet() && !self.traffic.is_over(self.memory)
     }
 
     // Room for answers to what is pending where there is none for more to be pending.

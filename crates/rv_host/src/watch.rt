@@ -8,8 +8,8 @@ use crate::shell::{LOOK_OVER, Shell};
 use rv_hearers::ConnectionNumber;
 
 impl<W: Drop> Shell<W> {
-    /// Once a second ends those that are idle or stall, and tells faults; and ends who holds most, if all have
-    /// held too much for as long as a peer may stall.
+    /// Once a second ends those that are idle or stall, and tells faults; and ends who holds most, if all
+    /// have held too much for as long as a peer may stall.
     pub(crate) fn look_over(&mut self, rt: &HostRuntime, now: u64)
         ensures runs { OnlyCalls self.old.traffic self.new.traffic }
         ensures account { self.new.account ≡ self.old.account }
@@ -74,6 +74,7 @@ impl<W: Drop> Shell<W> {
             return;
         }
         self.make_room(now);
+        self.full_since = None;
     }
 
     // Since when all hold too much, if they do now.

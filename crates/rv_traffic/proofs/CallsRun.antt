@@ -20,7 +20,7 @@ use Rattle.rv_traffic.specs.CallRuns.{LooksAreRuns, ReadRoundsAreRuns, RefusalsA
 use Rattle.rv_traffic.specs.CallRuns.{RunsBehind, SharesAreRuns, WriteRoundsAreRuns}
 use Rattle.rv_traffic.specs.CallRuns.{WrittenLinesAreRuns}
 use Rattle.rv_traffic.specs.Rounds.{DoesIfReady, DoesWhere, LooksAgain, LooksForMore, ReadsTurn, TakesTurns}
-use Rattle.rv_traffic.specs.Rounds.{SharesTurn, TakesShares, TakesTurn, Turn, WaitsForMore, WritesTurn}
+use Rattle.rv_traffic.specs.Rounds.{SharesTurn, TakesShares, MakesTurn, Turn, WaitsForMore, WritesTurn}
 use Rattle.rv_traffic.specs.Rounds.{round_begun}
 use Rattle.rv_traffic.specs.Views.{TrafficState}
 
@@ -238,7 +238,7 @@ module _ {S : Type 0} (journal : Bool) (terms : DeskTerms) where
   takes_run : {A : Type 0} (does : ℕ → TrafficState S → A → TrafficState S → Type 0)
       → ((n : ℕ) (s : TrafficState S) (a : A) (t : TrafficState S) → does n s a t
       → RunsBehind journal terms s.engine [] t.engine)
-      → (old : TrafficState S) (turn : Turn A) (new : TrafficState S) → TakesTurn does old turn new
+      → (old : TrafficState S) (turn : Turn A) (new : TrafficState S) → MakesTurn does old turn new
       → RunsBehind journal terms old.engine [] new.engine
   takes_run does run old turn new is =
       runs_on journal terms old.engine is.after.engine new.engine

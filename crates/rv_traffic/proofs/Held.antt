@@ -4,7 +4,7 @@ use Rattle.std.specs.Bool.{OnFalse, OnTrue}
 use Rattle.std.specs.List.{sum_by}
 use Rattle.rv_wires.specs.Connections.{IsTotalHeld, IsTotalUnread}
 use Rattle.rv_links.specs.Table.{pending_at}
-use Rattle.rv_traffic.specs.Calls.{HoldsInAll, IsOver, IsWithin}
+use Rattle.rv_traffic.specs.Calls.{HoldsInAll, IsOverfull, HasRoomLeft}
 use Rattle.rv_traffic.specs.Views.{TrafficState}
 
 module _ {S : Type 0} (s : TrafficState S) (room answers unread pending : ℕ) where
@@ -21,14 +21,14 @@ module _ {S : Type 0} (s : TrafficState S) (room answers unread pending : ℕ) w
 
   pub is_over_then : (result : Bool) → IsTotalHeld s.engine.hub.open_wires.wires answers
       → IsTotalUnread s.engine.hub.open_wires.wires unread → pending ≡ sum_by pending_at s.table
-      → OnTrue result (room < answers + unread + pending) → OnTrue result (IsOver s room)
+      → OnTrue result (room < answers + unread + pending) → OnTrue result (IsOverfull s room)
   is_over_then true are_held are_unread are_pending over =
       (answers + unread + pending, holds_in_all are_held are_unread are_pending, over)
   is_over_then false are_held are_unread are_pending over = over
 
   pub is_within_then : (result : Bool) → IsTotalHeld s.engine.hub.open_wires.wires answers
       → IsTotalUnread s.engine.hub.open_wires.wires unread → pending ≡ sum_by pending_at s.table
-      → OnFalse result (answers + unread + pending ≤ room) → OnFalse result (IsWithin s room)
+      → OnFalse result (answers + unread + pending ≤ room) → OnFalse result (HasRoomLeft s room)
   is_within_then true are_held are_unread are_pending within = within
   is_within_then false are_held are_unread are_pending within =
       (answers + unread + pending, holds_in_all are_held are_unread are_pending, within)

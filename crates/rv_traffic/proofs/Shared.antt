@@ -4,9 +4,9 @@ use Rattle.std.proofs.Common.{append_assoc, arith, inr, length, map, refl, subst
 use Rattle.std.specs.Prelude.{AllPairs}
 use Rattle.rv_desk.specs.View.{DeskTerms}
 use Rattle.rv_traffic.specs.declared.traffic.TheConstants.{SHARES}
-use Rattle.rv_traffic.specs.Calls.{IsOver, OffersOne}
+use Rattle.rv_traffic.specs.Calls.{IsOverfull, OffersOne}
 use Rattle.rv_traffic.specs.Rounds.{SharesNext, SharesNone, SharesOut, SharesTurn, TakesShares, Turn}
-use Rattle.rv_traffic.specs.Views.{TrafficState, Waits}
+use Rattle.rv_traffic.specs.Views.{TrafficState, WaitLists}
 use Rattle.rv_traffic.specs.Waiting.{shares_begun}
 use Rattle.rv_traffic.proofs.Staying.{taken_due}
 
@@ -20,7 +20,7 @@ pub record SharedSoFar {S : Type 0} (journal : Bool) (terms : DeskTerms) (now : 
     pub count_is : length turns ≡ count
 
 -- nothing changes where none is listed
-pub none_popped : (old new : Waits) → old.due ≡ [] → new.due ≡ [] → new ≡ record old { due = new.due }
+pub none_popped : (old new : WaitLists) → old.due ≡ [] → new.due ≡ [] → new ≡ record old { due = new.due }
     → new ≡ old
 none_popped old new none over rest =
     rest ∙ ap (λ (l : List ℕ). record old { due = l }) (over ∙ sym none)
@@ -33,7 +33,7 @@ module _ {S : Type 0} (journal : Bool) (terms : DeskTerms) (now : ℕ) where
       (subst (λ (t : DeskTerms). SharesNext same t now old new) terms_keep is)
 
   -- one that was listed last has its share
-  pub due_taken : (old : TrafficState S) (waits : Waits) (turn : Turn Bool) (new : TrafficState S)
+  pub due_taken : (old : TrafficState S) (waits : WaitLists) (turn : Turn Bool) (new : TrafficState S)
       → old.waits.due ≡ waits.due ++ turn.number ∷ []
       → waits ≡ record old.waits { due = waits.due }
       → SharesTurn journal terms now (record old { waits = waits }) turn new
@@ -43,7 +43,7 @@ module _ {S : Type 0} (journal : Bool) (terms : DeskTerms) (now : ℕ) where
     record {
       due = waits.due;
       last = last;
-      taken = subst (λ (w : Waits). SharesTurn journal terms now (record old { waits = w }) turn new) rest
+      taken = subst (λ (w : WaitLists). SharesTurn journal terms now (record old { waits = w }) turn new) rest
           taken;
     },
   )
@@ -75,7 +75,7 @@ module _ {S : Type 0} (journal : Bool) (terms : DeskTerms) (now : ℕ) where
   -- all have had theirs, or no more are given
   pub all_shared : (room : ℕ) (old s : TrafficState S) (count : ℕ)
       → AllPairs (λ one other. one ≢ other) (shares_begun old.waits).due → count ≤ SHARES
-      → (count ≡ SHARES) ⊎ ((s.waits.due ≡ []) ⊎ IsOver s room)
+      → (count ≡ SHARES) ⊎ ((s.waits.due ≡ []) ⊎ IsOverfull s room)
       → SharedSoFar journal terms now old s count → SharesOut room journal terms now old s
   all_shared room old s count once few why so_far = record {
     turns = so_far.turns;
@@ -83,7 +83,8 @@ module _ {S : Type 0} (journal : Bool) (terms : DeskTerms) (now : ℕ) where
     numbers = so_far.parts;
     once = once;
     most = subst (λ (n : ℕ). n ≤ SHARES) (sym so_far.count_is) few;
-    whole = subst (λ (n : ℕ). (n ≡ SHARES) ⊎ ((s.waits.due ≡ []) ⊎ IsOver s room)) (sym so_far.count_is) why;
+    whole = subst (λ (n : ℕ). (n ≡ SHARES) ⊎ ((s.waits.due ≡ []) ⊎ IsOverfull s room))
+        (sym so_far.count_is) why;
   }
 
   pub none_more : (room : ℕ) (old s t : TrafficState S) (count : ℕ)

@@ -13,8 +13,8 @@ use Rattle.rv_traffic.specs.declared.outcomes.Writing.TheVariants as writing
 use Rattle.rv_traffic.specs.Calls.{LosesBytes, NoneCame, OffersOne, ReadsNothing, ReadsOne, SendsNothing}
 use Rattle.rv_traffic.specs.Calls.{TellsGone, WritesOne}
 use Rattle.rv_traffic.specs.Rounds.{DoesIfReady, DoesWhere, LooksAgain, LooksForMore, ReadsTurn, Turn}
-use Rattle.rv_traffic.specs.Rounds.{Settles, TakesTurn, WaitsForMore, WritesTurn}
-use Rattle.rv_traffic.specs.Views.{TrafficState, Waits}
+use Rattle.rv_traffic.specs.Rounds.{ComesToRest, MakesTurn, WaitsForMore, WritesTurn}
+use Rattle.rv_traffic.specs.Views.{TrafficState, WaitLists}
 use Rattle.rv_traffic.proofs.Tables.{one_then}
 
 gone_keeps : (journal : Bool) (terms : DeskTerms) (s : EngineState) (now n : ℕ) (t : EngineState)
@@ -190,7 +190,7 @@ module _ {S : Type 0} where
     others = same_one old.table new.table n (ap (λ (s : TrafficState S). s.table) same);
   }
 
-  settles_keep : (old : TrafficState S) (n : ℕ) (new : TrafficState S) → Settles old n new
+  settles_keep : (old : TrafficState S) (n : ℕ) (new : TrafficState S) → ComesToRest old n new
       → StaysBut old n new
   settles_keep old n new is =
       stays_then old is.between new n (waits_keep old n is.between is.waits)
@@ -198,7 +198,7 @@ module _ {S : Type 0} where
 
   pub takes_keep : {A : Type 0} (does : ℕ → TrafficState S → A → TrafficState S → Type 0)
       → ((n : ℕ) (s : TrafficState S) (a : A) (t : TrafficState S) → does n s a t → StaysBut s n t)
-      → (old : TrafficState S) (turn : Turn A) (new : TrafficState S) → TakesTurn does old turn new
+      → (old : TrafficState S) (turn : Turn A) (new : TrafficState S) → MakesTurn does old turn new
       → StaysBut old turn.number new
   takes_keep does keeps old turn new is =
       stays_then old is.after new turn.number
@@ -225,17 +225,17 @@ module _ {S : Type 0} where
 -- ---- shares
 
 -- who waits changes by one that waits for the next round alone: whose share is due stays
-pub settled_due : {S : Type 0} (old : TrafficState S) (n : ℕ) (new : TrafficState S) → Settles old n new
+pub settled_due : {S : Type 0} (old : TrafficState S) (n : ℕ) (new : TrafficState S) → ComesToRest old n new
     → new.waits.due ≡ old.waits.due
 settled_due {S} old n new is =
-    ap (λ (w : Waits). w.due) is.again.waits ∙ at is.waits
+    ap (λ (w : WaitLists). w.due) is.again.waits ∙ at is.waits
   where
     at : WaitsForMore old n is.between → is.between.waits.due ≡ old.waits.due
     at (inl (has, to_wait)) = to_wait.waits.due
     at (inr (not, same)) = ap (λ (s : TrafficState S). s.waits.due) same
 
 pub taken_due : {S A : Type 0} (does : ℕ → TrafficState S → A → TrafficState S → Type 0)
-    (old : TrafficState S) (turn : Turn A) (new : TrafficState S) → TakesTurn does old turn new
+    (old : TrafficState S) (turn : Turn A) (new : TrafficState S) → MakesTurn does old turn new
     → new.waits.due ≡ old.waits.due
 taken_due does old turn new is =
-    settled_due is.after turn.number new is.settles ∙ ap (λ (w : Waits). w.due) is.made.waits
+    settled_due is.after turn.number new is.settles ∙ ap (λ (w : WaitLists). w.due) is.made.waits

@@ -18,7 +18,7 @@ use Rattle.rv_traffic.specs.declared.outcomes.Reading.{Reading}
 use Rattle.rv_traffic.specs.declared.outcomes.Reading.TheVariants as reading
 use Rattle.rv_traffic.specs.Calls.{ChangesLink, GaveEnd, GivesUp, Hands, IsReadable, KeepsUntaken, KeepsWhole}
 use Rattle.rv_traffic.specs.Calls.{LosesBytes, MayBeOffered, NoneCame, OffersPiece, ReadsNew, SameFlags}
-use Rattle.rv_traffic.specs.Calls.{IsWithin, ReadsOne, TellsGone}
+use Rattle.rv_traffic.specs.Calls.{HasRoomLeft, ReadsOne, TellsGone}
 use Rattle.rv_traffic.specs.declared.traffic.TheConstants.{SHARE, SMALL}
 use Rattle.rv_traffic.specs.Views.{IsPieceOf, TrafficState}
 use Rattle.rv_traffic.proofs.Tables.{none_changed, one_then}
@@ -324,7 +324,7 @@ module _ {S : Type 0} where
 
   -- what came of a read is what came of a turn, where there was room
   pub reads_within : (remaining : S → Option (List ℕ)) (room : ℕ) (journal : Bool) (terms : DeskTerms)
-      (now n : ℕ) (old : TrafficState S) (came : Reading) (new : TrafficState S) → IsWithin old room
+      (now n : ℕ) (old : TrafficState S) (came : Reading) (new : TrafficState S) → HasRoomLeft old room
       → pending_of (link_at old.table n) ≡ [] → ReadsNew remaining journal terms now n old came new
       → ReadsOne remaining room journal terms now n old came new
   reads_within remaining room journal terms now n old reading.Nothing new within none is = record {

@@ -74,11 +74,11 @@ pub record HoldsInAll {S : Type 0} (s : TrafficState S) (total : ℕ) : Type 0 w
   pub all : total ≡ answers + unread + sum_by pending_at s.table
 
 -- more is held than this, or no more
-abbrev pub IsOver : {S : Type 0} → TrafficState S → ℕ → Type 0
-IsOver s most = (total : ℕ) × HoldsInAll s total × (most < total)
+abbrev pub IsOverfull : {S : Type 0} → TrafficState S → ℕ → Type 0
+IsOverfull s most = (total : ℕ) × HoldsInAll s total × (most < total)
 
-abbrev pub IsWithin : {S : Type 0} → TrafficState S → ℕ → Type 0
-IsWithin s most = (total : ℕ) × HoldsInAll s total × (total ≤ most)
+abbrev pub HasRoomLeft : {S : Type 0} → TrafficState S → ℕ → Type 0
+HasRoomLeft s most = (total : ℕ) × HoldsInAll s total × (total ≤ most)
 
 -- ---- an event
 
@@ -174,7 +174,7 @@ pub record GaveEnd {S : Type 0} (remaining : S → Option (List ℕ)) (link afte
 -- why a connection isn't read: more is held of all than there is room for, or it may not be offered more, or
 -- bytes of it are pending, which wait for their share
 abbrev pub IsNotRead : {S : Type 0} → TrafficState S → ℕ → ℕ → Type 0
-IsNotRead s room number = IsOver s room ⊎ ((¬ MayBeOffered s.engine.hub number)
+IsNotRead s room number = IsOverfull s room ⊎ ((¬ MayBeOffered s.engine.hub number)
     ⊎ (0 < length (pending_of (link_at s.table number))))
 
 -- nothing is handed on: it isn't read, or nothing is pending and nothing came
@@ -183,13 +183,13 @@ pub record ReadsNothing {S : Type 0} (remaining : S → Option (List ℕ)) (room
   where
     pub engine : new.engine ≡ old.engine
     pub why : (IsNotRead old room number × (new.table ≡ old.table))
-        ⊎ (IsWithin old room × (pending_of (link_at old.table number) ≡ [])
+        ⊎ (HasRoomLeft old room × (pending_of (link_at old.table number) ≡ [])
         × NoneCame remaining number old.table new.table)
 
 -- a piece came that isn't small, of a connection that may be offered more, of which nothing was pending: all
 -- of it is pending now
-pub record KeepsPiece {S : Type 0} (remaining : S → Option (List ℕ)) (number : ℕ) (old new : TrafficState S) :
-    Type 0
+pub record LaysPieceBy {S : Type 0} (remaining : S → Option (List ℕ)) (number : ℕ)
+    (old new : TrafficState S) : Type 0
   where
     pub may : MayBeOffered old.engine.hub number
     pub none_pending : pending_of (link_at old.table number) ≡ []
@@ -283,7 +283,7 @@ ReadsNew remaining journal terms now number old reading.Nothing new =
     (new.engine ≡ old.engine) × NoneCame remaining number old.table new.table
 ReadsNew remaining journal terms now number old reading.Offered new =
     Offers remaining journal terms now number old new
-ReadsNew remaining journal terms now number old reading.Kept new = KeepsPiece remaining number old new
+ReadsNew remaining journal terms now number old reading.Kept new = LaysPieceBy remaining number old new
 ReadsNew remaining journal terms now number old reading.Ended new =
     EndsInput remaining journal terms now number old new
 ReadsNew remaining journal terms now number old reading.Broken new =
@@ -298,15 +298,15 @@ abbrev pub ReadsOne : {S : Type 0} → (S → Option (List ℕ)) → ℕ → Boo
 ReadsOne remaining room journal terms now number old reading.Nothing new =
     ReadsNothing remaining room number old new
 ReadsOne remaining room journal terms now number old reading.Offered new =
-    IsWithin old room × Offers remaining journal terms now number old new
+    HasRoomLeft old room × Offers remaining journal terms now number old new
 ReadsOne remaining room journal terms now number old reading.Kept new =
-    IsWithin old room × KeepsPiece remaining number old new
+    HasRoomLeft old room × LaysPieceBy remaining number old new
 ReadsOne remaining room journal terms now number old reading.Ended new =
-    IsWithin old room × EndsInput remaining journal terms now number old new
+    HasRoomLeft old room × EndsInput remaining journal terms now number old new
 ReadsOne remaining room journal terms now number old reading.Broken new =
-    IsWithin old room × FailsToRead journal terms now number old new
+    HasRoomLeft old room × FailsToRead journal terms now number old new
 ReadsOne remaining room journal terms now number old reading.NoMemory new =
-    IsWithin old room × LosesPiece remaining journal terms now number old new
+    HasRoomLeft old room × LosesPiece remaining journal terms now number old new
 
 -- what comes of a piece that was read of a connection of which nothing was pending
 abbrev pub OffersPiece : {S : Type 0} → Bool → DeskTerms → ℕ → ℕ → List ℕ → TrafficState S → Reading

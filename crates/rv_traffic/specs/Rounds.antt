@@ -14,7 +14,7 @@ use Rattle.rv_traffic.specs.declared.outcomes.Reading.{Reading}
 use Rattle.rv_traffic.specs.declared.outcomes.Reading.TheVariants as reading
 use Rattle.rv_traffic.specs.declared.outcomes.Writing.{Writing}
 use Rattle.rv_traffic.specs.declared.outcomes.Writing.TheVariants as writing
-use Rattle.rv_traffic.specs.Calls.{IsOver, MayBeOffered, OffersOne, ReadsOne, WritesOne}
+use Rattle.rv_traffic.specs.Calls.{IsOverfull, MayBeOffered, OffersOne, ReadsOne, WritesOne}
 use Rattle.rv_traffic.specs.Waiting.{HasToWait, IsToWait, shares_begun}
 use Rattle.rv_traffic.specs.Views.{TrafficState}
 
@@ -68,30 +68,30 @@ LooksForMore (Some what) old number new =
     (CanDoMore old number × LooksAgain old number new) ⊎ ((¬ CanDoMore old number) × (new ≡ old))
 
 -- a connection waits if more is pending, and is to be written to
-pub record Settles {S : Type 0} (old : TrafficState S) (number : ℕ) (new : TrafficState S) : Type 0 where
+pub record ComesToRest {S : Type 0} (old : TrafficState S) (number : ℕ) (new : TrafficState S) : Type 0 where
   pub between : TrafficState S
   pub waits : WaitsForMore old number between
   pub again : LooksAgain between number new
 
 -- something is made of a connection's input, which waits if more is pending, and is to be written to
-pub record TakesTurn {S A : Type 0} (does : ℕ → TrafficState S → A → TrafficState S → Type 0)
+pub record MakesTurn {S A : Type 0} (does : ℕ → TrafficState S → A → TrafficState S → Type 0)
     (old : TrafficState S) (turn : Turn A) (new : TrafficState S) : Type 0
   where
     pub after : TrafficState S
     pub made : DoesIfReady (does turn.number) old turn.came after
-    pub settles : Settles after turn.number new
+    pub settles : ComesToRest after turn.number new
 
 -- it is read once, where there is room for so many bytes in all
 abbrev pub ReadsTurn : {S : Type 0} → (S → Option (List ℕ)) → ℕ → Bool → DeskTerms → ℕ → TrafficState S
     → Turn Reading → TrafficState S → Type 0
 ReadsTurn {S} remaining room journal terms now old turn new =
-    TakesTurn (λ (number : ℕ). ReadsOne {S = S} remaining room journal terms now number) old turn new
+    MakesTurn (λ (number : ℕ). ReadsOne {S = S} remaining room journal terms now number) old turn new
 
 -- its share is offered
 abbrev pub SharesTurn : {S : Type 0} → Bool → DeskTerms → ℕ → TrafficState S → Turn Bool → TrafficState S
     → Type 0
 SharesTurn {S} journal terms now old turn new =
-    TakesTurn (λ (number : ℕ). OffersOne {S = S} journal terms now number) old turn new
+    MakesTurn (λ (number : ℕ). OffersOne {S = S} journal terms now number) old turn new
 
 -- it is written to once
 pub record WritesTurn {S : Type 0} (contents : S → Option (List ℕ)) (journal : Bool) (terms : DeskTerms)
@@ -159,7 +159,7 @@ SharesNext journal terms now old new =
 -- or none has: more is held of all than there is room for, or no share is due
 pub record SharesNone {S : Type 0} (room : ℕ) (old new : TrafficState S) : Type 0 where
   pub same : new ≡ old
-  pub why : (old.waits.due ≡ []) ⊎ IsOver old room
+  pub why : (old.waits.due ≡ []) ⊎ IsOverfull old room
 
 -- so many of those that wait have a share, one each and the last first, unless more is held of all than there
 -- is room for; those of the next round follow where none of this one is left
@@ -172,7 +172,7 @@ pub record SharesOut {S : Type 0} (room : ℕ) (journal : Bool) (terms : DeskTer
     pub numbers : (shares_begun old.waits).due ≡ new.waits.due ++ map (λ turn. turn.number) turns
     pub once : AllPairs (λ one other. one ≢ other) (shares_begun old.waits).due
     pub most : length turns ≤ SHARES
-    pub whole : (length turns ≡ SHARES) ⊎ ((new.waits.due ≡ []) ⊎ IsOver new room)
+    pub whole : (length turns ≡ SHARES) ⊎ ((new.waits.due ≡ []) ⊎ IsOverfull new room)
 
 -- ---- what is told of them
 

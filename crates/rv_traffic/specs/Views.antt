@@ -9,14 +9,14 @@ use Rattle.rv_traffic.specs.declared.traffic.Switchboard.{Switchboard}
 use Rattle.rv_traffic.specs.declared.waiting.WaitingLists.{WaitingLists}
 
 -- the connections that wait for a share of input, each list without repeats
-pub record Waits : Type 0 where
+pub record WaitLists : Type 0 where
   -- whose share of this round is due, and who waits for one of the next
   pub due : List ℕ
   pub next : List ℕ
   -- only connections below this number are listed
   pub room : ℕ
 
-abbrev pub waits_of : WaitingLists → Waits
+abbrev pub waits_of : WaitingLists → WaitLists
 waits_of w = record {
   due = w.due.numbers.items;
   next = w.next.numbers.items;
@@ -27,7 +27,7 @@ pub record TrafficState (S : Type 0) : Type 0 where
   pub engine : EngineState
   -- the socket of each number, if there is one
   pub table : List (Option (Socket S))
-  pub waits : Waits
+  pub waits : WaitLists
 
 abbrev pub traffic_state : {S : Type 0} → Switchboard S → TrafficState S
 traffic_state t = record {

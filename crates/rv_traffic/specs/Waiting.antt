@@ -3,20 +3,20 @@ use Rattle.std.specs.Prelude.{ℕ, ◌≡◌, ◌<◌, List, [], ◌∷◌, leng
 use Rattle.rv_engine.specs.Handing.{AddsLooks}
 use Rattle.rv_links.specs.Table.{link_at, pending_of}
 use Rattle.rv_traffic.specs.Calls.{MayBeOffered}
-use Rattle.rv_traffic.specs.Views.{TrafficState, Waits}
+use Rattle.rv_traffic.specs.Views.{TrafficState, WaitLists}
 
 -- one more waits for a share of the next round, if its number is below the room
-pub record WaitsToo (old : Waits) (number : ℕ) (new : Waits) : Type 0 where
+pub record WaitsToo (old : WaitLists) (number : ℕ) (new : WaitLists) : Type 0 where
   pub next : AddsLooks old.room old.next (number ∷ []) new.next
   pub due : new.due ≡ old.due
   pub room : new.room ≡ old.room
 
-abbrev pub due_or_next : List ℕ → Waits → Waits
+abbrev pub due_or_next : List ℕ → WaitLists → WaitLists
 due_or_next [] w = record w { due = w.next; next = [] }
 due_or_next (number ∷ rest) w = w
 
 -- where no share of a round is due any more, those of the next are
-abbrev pub shares_begun : Waits → Waits
+abbrev pub shares_begun : WaitLists → WaitLists
 shares_begun w = due_or_next w.due w
 
 -- bytes of a connection are pending, and may be offered

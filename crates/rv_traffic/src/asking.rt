@@ -5,7 +5,7 @@ ghost use Rattle.rv_connection.specs.Traffic.{Traffic};
 ghost use Rattle.rv_wires.specs.Connections.{HasWire};
 ghost use Rattle.rv_links.specs.Table.{HasInput, IsWritable, link_at, pending_of};
 ghost use Rattle.rv_engine.specs.Engines.{engine_state};
-ghost use Rattle.rv_traffic.specs.Calls.{IsOver, IsWithin, MayBeOffered};
+ghost use Rattle.rv_traffic.specs.Calls.{IsOverfull, HasRoomLeft, MayBeOffered};
 ghost use Rattle.rv_traffic.specs.Views.{traffic_state};
 
 use crate::traffic::Switchboard;
@@ -110,8 +110,8 @@ fn exceed(answers: u128, unread: u128, pending: u128, room: u128) -> bool
 
 // Whether more is held of all connections than there is room for.
 pub(crate) fn is_over<S: Drop>(traffic: &Switchboard<S>, room: u128) -> bool
-    ensures yes { OnTrue result (IsOver (traffic_state traffic.now) room) }
-    ensures no { OnFalse result (IsWithin (traffic_state traffic.now) room) }
+    ensures yes { OnTrue result (IsOverfull (traffic_state traffic.now) room) }
+    ensures no { OnFalse result (HasRoomLeft (traffic_state traffic.now) room) }
 {
     let hub = traffic.engine.hub();
     let answers = hub.held();

@@ -4,7 +4,7 @@ ghost use Rattle.std.specs.Bool.{OnFalse, OnTrue};
 ghost use Rattle.rv_hub.specs.Hubs.{hub_terms};
 ghost use Rattle.rv_traffic.specs.Calls.{ReadsOne, WritesOne};
 ghost use Rattle.rv_traffic.specs.Rounds.{DoesIfReady, CanDoMore, LooksForMore, ReadsRound, ReadsTurn};
-ghost use Rattle.rv_traffic.specs.Rounds.{Settles, WaitsForMore};
+ghost use Rattle.rv_traffic.specs.Rounds.{ComesToRest, WaitsForMore};
 ghost use Rattle.rv_traffic.specs.Rounds.{WritesRound, WritesTurn, is_read_broken, is_read_refused};
 ghost use Rattle.rv_traffic.specs.Rounds.{is_write_broken};
 ghost use Rattle.rv_traffic.specs.Views.{SameTerms, traffic_state};
@@ -87,7 +87,7 @@ fn wait_for_more<S: Drop>(traffic: &mut Switchboard<S>, number: ConnectionNumber
 
 // The same, and it is to be written to.
 pub(crate) fn settle<S: Drop>(traffic: &mut Switchboard<S>, number: ConnectionNumber)
-    ensures settles { Settles (traffic_state traffic.old) number (traffic_state traffic.new) }
+    ensures settles { ComesToRest (traffic_state traffic.old) number (traffic_state traffic.new) }
     ensures terms { SameTerms traffic.old traffic.new }
 {
     wait_for_more(traffic, number);

@@ -36,8 +36,9 @@ pub struct Switchboard<S> {
 }
 
 impl<S: Drop> Switchboard<S> {
+    ghost use Rattle.std.specs.Prelude.{◌↔◌, IsTrue};
     ghost use Rattle.std.specs.Bool.{OnFalse, OnTrue};
-    ghost use Rattle.rv_traffic.specs.Calls.{GivesUp, IsOver, IsWithin};
+    ghost use Rattle.rv_traffic.specs.Calls.{GivesUp, IsOverfull, HasRoomLeft};
     ghost use Rattle.rv_traffic.specs.CallRuns.{OnlyCalls};
     ghost use Rattle.rv_traffic.specs.Views.{SameTerms, traffic_state};
 
@@ -68,18 +69,19 @@ impl<S: Drop> Switchboard<S> {
         &self.links
     }
 
-    /// Those that wait for a share.
-    pub fn waits(&self) -> &WaitingLists
-        ensures { result.now ≡ self.now.waits }
+    /// Whether no connection waits for a share.
+    pub fn has_none_waiting(&self) -> bool
+        ensures { IsTrue result ↔ (((traffic_state self.now).waits.due ≡ [])
+            × ((traffic_state self.now).waits.next ≡ [])) }
     {
-        &self.waits
+        self.waits.is_empty()
     }
 
     /// Whether more bytes are held of all connections than there is room for: of answers, of frames that
     /// aren't whole, and pending.
     pub fn is_over(&self, room: u128) -> bool
-        ensures yes { OnTrue result (IsOver (traffic_state self.now) room) }
-        ensures no { OnFalse result (IsWithin (traffic_state self.now) room) }
+        ensures yes { OnTrue result (IsOverfull (traffic_state self.now) room) }
+        ensures no { OnFalse result (HasRoomLeft (traffic_state self.now) room) }
     {
         asking::is_over(self, room)
     }

@@ -1,7 +1,7 @@
 -- Who has a share, or why none has.
 use Rattle.std.proofs.Common.{ap, inl, inr, refl}
 use Rattle.rv_hub.specs.Hubs.{hub_terms}
-use Rattle.rv_traffic.specs.Views.{Waits, traffic_state, waits_of}
+use Rattle.rv_traffic.specs.Views.{WaitLists, traffic_state, waits_of}
 use Rattle.rv_traffic.proofs.Shared.{due_taken, none_popped}
 use Rattle.rv_traffic.proofs.sharing.share_next.Goals as goal
 
@@ -16,7 +16,7 @@ returns-in-Some-clause-shared g c =
 
 pub returns-in-None-clause-none : goal.returns-in-None-clause-none
 returns-in-None-clause-none g c = record {
-  same = ap (λ (w : Waits). record (traffic_state c.args.traffic.now) { waits = w })
+  same = ap (λ (w : WaitLists). record (traffic_state c.args.traffic.now) { waits = w })
       (none_popped (waits_of c.args.traffic.now.waits) (waits_of c.pop.new.self) c.in-None.ensures.none
       c.in-None.ensures.none_same c.pop.ensures.rest);
   why = inl c.in-None.ensures.none;

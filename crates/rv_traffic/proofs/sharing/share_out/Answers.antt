@@ -2,14 +2,15 @@
 use Rattle.std.proofs.Common.{◌≡◌, ◌≢◌, ◌∙◌, ap, arith, inl, refl, subst}
 use Rattle.std.specs.Prelude.{AllPairs}
 use Rattle.rv_hub.specs.Hubs.{hub_terms}
-use Rattle.rv_traffic.specs.Views.{Waits, traffic_state}
+use Rattle.rv_traffic.specs.Views.{WaitLists, traffic_state}
 use Rattle.rv_traffic.proofs.Shared.{all_shared, next_at, none_more, none_shared, one_shared}
 use Rattle.rv_traffic.proofs.sharing.share_out.Goals as goal
 
 pub loop-share-init : goal.loop-share-init
 loop-share-init g c = (
   none_shared _ _ _ (traffic_state c.args.traffic.now) _
-      (ap (λ (w : Waits). record (traffic_state c.args.traffic.now) { waits = w }) c.begin.ensures.begins),
+      (ap (λ (w : WaitLists). record (traffic_state c.args.traffic.now) { waits = w })
+      c.begin.ensures.begins),
   record { terms = refl; journal = refl },
 )
 
@@ -32,7 +33,7 @@ pub returns-after-loop-share-clause-shares : goal.returns-after-loop-share-claus
 returns-after-loop-share-clause-shares g c =
     all_shared _ _ _ c.args.room (traffic_state c.args.traffic.now) (traffic_state c.loop-share.traffic)
     c.loop-share._share
-    (subst (λ (w : Waits). AllPairs (λ one other. one ≢ other) w.due) c.begin.ensures.begins
+    (subst (λ (w : WaitLists). AllPairs (λ one other. one ≢ other) w.due) c.begin.ensures.begins
     c.begin.ensures.once) c.loop-share.auto._share-end
     (inl (let is : c.loop-share._share ≡ 4 = omega (
       arith,
@@ -44,6 +45,6 @@ pub returns-then-not-share_next-clause-shares : goal.returns-then-not-share_next
 returns-then-not-share_next-clause-shares g c =
     none_more _ _ _ c.args.room (traffic_state c.args.traffic.now) (traffic_state c.loop-share.traffic)
     (traffic_state c.share_next.new.traffic) c.loop-share._share
-    (subst (λ (w : Waits). AllPairs (λ one other. one ≢ other) w.due) c.begin.ensures.begins
+    (subst (λ (w : WaitLists). AllPairs (λ one other. one ≢ other) w.due) c.begin.ensures.begins
     c.begin.ensures.once) c.loop-share.auto._share-end c.if-not-share_next.ensures.none
     c.loop-share.invariant.0
