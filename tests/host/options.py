@@ -19,7 +19,7 @@ LISTEN = ["--listen", "127.0.0.1:0"]
 # Each number's option, and its limits as they are told.
 NUMBERS = {
     "epoch": "1 to 9,007,199,254,740,991", "epoch-above": "1 to 9,007,199,254,740,990", "clients": "1 to 65,536",
-    "open": "1 to 100,000", "connections": "1 to 1,000,000", "memory": "1 to 1,048,576", "idle": "1 to 31,536,000",
+    "open": "1 to 100,000", "connections": "1 to 1,000,000", "connections-from": "1 to 1,000,000", "memory": "1 to 1,048,576", "idle": "1 to 31,536,000",
     "stall": "1 to 31,536,000",
 }
 # Texts that are no number within any of these limits.

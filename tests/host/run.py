@@ -23,7 +23,7 @@ from tests.faults.system import systems  # noqa: E402
 from tests.clients import cancelled_tasks, drains, interrupted, java, receipts  # noqa: E402
 from tests.clients import crowds as client_crowds  # noqa: E402
 from tests.host import (  # noqa: E402
-    counters, ends, fair, hostile, many, memory, moments, options, says, sockets, starts, status, system, waits)
+    addresses, counters, ends, fair, files, hostile, many, memory, moments, options, says, sockets, starts, status, system, waits)
 from tests.sockets import calls, crowds, plain, times  # noqa: E402
 from tests.sockets import hostile as noisy  # noqa: E402
 from tests.sockets.cases import Count, came_of  # noqa: E402
@@ -32,7 +32,7 @@ from tests import left_out  # noqa: E402
 
 # The cases that are a host's own.
 OWN = [*options.CASES, *says.CASES, *waits.CASES, *moments.CASES, *sockets.CASES, *hostile.CASES, *memory.CASES, *system.CASES,
-       *starts.CASES, *ends.CASES, *status.CASES, *counters.CASES, *fair.CASES]
+       *starts.CASES, *ends.CASES, *status.CASES, *counters.CASES, *fair.CASES, *files.CASES, *addresses.CASES]
 # Those of `rv serve` that say nothing of workers, of numbers of connections, or of how long a request waits in its frame.
 SHARED = [
     plain.a_hand_over, plain.one_after_the_other, plain.a_consumer_that_waits, plain.an_answer_before_a_wait, plain.a_drain,

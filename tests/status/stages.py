@@ -131,6 +131,8 @@ def symptoms(first: tuple[int, Reading], last: tuple[int, Reading | None]) -> se
         "RvNoMemory": rises["rv_fault_memory_total"] + rises["rv_fault_unwritten_total"] > 0,
         "RvLinesDropped": rises["rv_fault_line_total"] > 0,
         "RvClockStands": rises["rv_fault_clock_total"] > 0,
+        "RvAccountFile": rises["rv_fault_account_total"] > 0,
+        "RvManyFromOne": rises["rv_fault_address_total"] > 0,
         "RvAccountGrows": rises["rv_account_bytes_total"] * DAY > GIGABYTE * seconds,
     }
     return {name for name, is_there in holds.items() if is_there}

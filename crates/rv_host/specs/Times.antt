@@ -1,6 +1,6 @@
 -- When a connection's time is over.
-use Rattle.std.specs.Prelude.{ℕ, ◌≡◌, ◌<◌, ◌≤◌, ◌-◌, ◌⊎◌, None, Option, Some, false, if◌then◌else◌, length, max}
-use Rattle.std.specs.Prelude.{ltb}
+use Rattle.std.specs.Prelude.{ℕ, ◌≡◌, ◌<◌, ◌≤◌, ◌-◌, ◌⊎◌, None, Option, Some, false, if◌then◌else◌, length}
+use Rattle.std.specs.Prelude.{ltb, max}
 use Rattle.rv_connection.specs.Traffic.{Traffic, held_count}
 use Rattle.rv_host.specs.declared.overdue.TimeLimits.{TimeLimits}
 

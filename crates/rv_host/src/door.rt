@@ -1,4 +1,5 @@
 //! The listener, and when it may be asked.
+use crate::origins::number_of;
 use mio::net::{TcpListener, TcpStream};
 use mio::{Interest, Poll, Token};
 use std::io;
@@ -26,8 +27,8 @@ enum DoorState {
 /// What came of asking the listener.
 #[derive(Drop)]
 pub(crate) enum Accepted {
-    /// A connection.
-    Stream(TcpStream),
+    /// A connection, and the number of its address.
+    Stream(TcpStream, u128),
     /// Nobody waits.
     Nobody,
     /// No descriptor was left.
@@ -90,7 +91,7 @@ impl Door {
     /// Asks for one connection.
     pub(crate) fn accept(&mut self, now: u64) -> Accepted {
         let error = match self.listener.accept() {
-            Ok((stream, _)) => return Accepted::Stream(stream),
+            Ok((stream, address)) => return Accepted::Stream(stream, number_of(&address)),
             Err(error) => error,
         };
         match error.kind() {

@@ -13,6 +13,8 @@ pub(crate) enum HostEnd {
     Named(String, io::Error),
     /// The account's file didn't take all lines.
     Account(WriteFault),
+    /// The account's file may not be as long as that.
+    TooLong,
     /// The book takes no such limits.
     Limits,
     /// Memory was refused.
@@ -36,6 +38,7 @@ impl fmt::Display for HostEnd {
                 None => write!(f, "{name}: {error}"),
             },
             HostEnd::Account(fault) => write!(f, "the account: {fault}"),
+            HostEnd::TooLong => f.write_str("no longer file is allowed (ulimit -f)"),
             HostEnd::Limits => f.write_str("no such limits"),
             HostEnd::NoMemory => f.write_str("no memory"),
         }

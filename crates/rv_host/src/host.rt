@@ -81,6 +81,7 @@ fn tell_end(rt: &HostRuntime, options: &HostOptions<'_>, report: &HostReport, en
         (HostEnd::Account(fault), Some(path)) => {
             format!(in rt.alloc(); "rv host ends: {path}: {fault}: {why}")
         }
+        (HostEnd::TooLong, Some(path)) => { format!(in rt.alloc(); "rv host ends: {path}: {end}") }
         _ => format!(in rt.alloc(); "rv host ends: {end}"),
     };
     match text {

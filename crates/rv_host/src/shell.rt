@@ -1,5 +1,5 @@
 //! The shell of a server: what the poll tells is handed to the traffic of its sockets, turn by turn.
-ghost use Rattle.std.specs.Prelude.{◌≡◌, false, IfOk, OnOk};
+ghost use Rattle.std.specs.Prelude.{◌≡◌, false, OnOk};
 ghost use Rattle.rv_frame.specs.Sink.{sink_failed};
 ghost use Rattle.rv_traffic.specs.CallRuns.{OnlyCalls, RunsOnDevice};
 
@@ -7,6 +7,7 @@ use crate::door::{Accepted, Door};
 use crate::fault::HostEnd;
 use crate::frames::FrameLooks;
 use crate::journal::Journal;
+use crate::origins::Origins;
 use crate::overdue::TimeLimits;
 use crate::report::{FaultKind, HostReport};
 use crate::status::StatusDesk;
@@ -154,14 +155,14 @@ pub(crate) struct Shell<W> {
     // When all were looked over, and who was in the middle of a frame then.
     pub(crate) looked_over: u64,
     pub(crate) frames: FrameLooks,
+    origins: Origins,
 }
 
-/// A shell without its engine: where it is asked, what it keeps, a poll that tells who comes, and room for
+/// A shell without its engine and its account: where it is asked, a poll that tells who comes, and room for
 /// sockets.
 #[derive(Drop)]
-pub(crate) struct ShellParts<W> {
+pub(crate) struct ShellParts {
     doors: ShellDoors,
-    account: Option<Journal<W>>,
     // How many connections there may be.
     connections: usize,
     start: Duration,
@@ -170,6 +171,7 @@ pub(crate) struct ShellParts<W> {
     links: Links<TcpStream>,
     waits: WaitingLists,
     frames: FrameLooks,
+    origins: Origins,
 }
 
 /// Where a server is asked: for connections, and how it is.
@@ -197,16 +199,16 @@ fn watching(rt: &HostRuntime, doors: &mut ShellDoors) -> io::Result<Poll> {
     Ok(poll)
 }
 
-impl<W: Drop> ShellParts<W> {
-    /// A poll that tells of these doors, and room for so many sockets.
+impl ShellParts {
+    /// A poll that tells of these doors, and room for so many sockets, of which so many may come from one
+    /// address.
     pub(crate) fn new(
         rt: &HostRuntime,
         mut doors: ShellDoors,
-        account: Option<Journal<W>>,
         connections: usize,
-    ) -> Result<ShellParts<W>, HostEnd>
-        ensures account { IfOk result (λ parts. parts.account ≡ account) }
-    {
+        most_from: usize,
+    ) -> Result<ShellParts, HostEnd> {
+        let most = (most_from < connections).then_some(most_from);
         Ok(ShellParts {
             start: rt.monotonic()?,
             poll: watching(rt, &mut doors)?,
@@ -214,8 +216,8 @@ impl<W: Drop> ShellParts<W> {
             links: Links::new(rt.alloc(), connections)?,
             waits: WaitingLists::new(rt.alloc(), connections)?,
             frames: FrameLooks::new(rt.alloc(), connections)?,
+            origins: Origins::new(rt.alloc(), connections, most)?,
             doors,
-            account,
             connections,
         })
     }
@@ -224,12 +226,13 @@ impl<W: Drop> ShellParts<W> {
 impl<W: Drop> Shell<W> {
     /// A shell that has not turned yet.
     pub(crate) fn new(
-        parts: ShellParts<W>,
+        parts: ShellParts,
+        account: Option<Journal<W>>,
         engine: Engine,
         report: HostReport,
         options: &HostOptions<'_>,
     ) -> Shell<W>
-        ensures account { result.account ≡ parts.account }
+        ensures account { result.account ≡ account }
         ensures engine { result.traffic.engine ≡ engine }
     {
         Shell {
@@ -238,7 +241,7 @@ impl<W: Drop> Shell<W> {
             events: parts.events,
             door: parts.doors.door,
             traffic: Switchboard::new(engine, parts.links, parts.waits),
-            account: parts.account,
+            account,
             status: parts.doors.status,
             report,
             connections: parts.connections,
@@ -252,6 +255,7 @@ impl<W: Drop> Shell<W> {
             clock_faults: 0,
             looked_over: 0,
             frames: parts.frames,
+            origins: parts.origins,
         }
     }
 
@@ -299,7 +303,7 @@ impl<W: Drop> Shell<W> {
         if !self.is_quiet() {
             until = until.min(now.saturating_add(MEMORY_AGAIN));
         }
-        if self.traffic.links().len() > 0 || self.report.has_untold() {
+        if self.traffic.links().len() > 0 || self.account.is_some() || self.report.has_untold() {
             until = until.min(self.looked_over.saturating_add(LOOK_OVER));
         }
         if may_accept {
@@ -383,6 +387,20 @@ impl<W: Drop> Shell<W> {
         self.traffic.catch_up()
     }
 
+    // Takes in a connection that was accepted, unless its address has as many as it may.
+    #[tactic(auto, using(crate::proofs::Turning::none_called))]
+    fn admit(&mut self, now: u64, stream: TcpStream, from: u128)
+        ensures runs { OnlyCalls self.old.traffic self.new.traffic }
+        ensures account { self.new.account ≡ self.old.account }
+    {
+        self.opened = self.opened.saturating_add(1);
+        if !self.origins.takes(self.traffic.links(), from) {
+            self.report.note(FaultKind::TooManyFrom);
+            return;
+        }
+        self.open(now, stream, from);
+    }
+
     // Takes in what came of asking for one.
     #[tactic(auto, using(crate::proofs::Turning::none_called))]
     fn take_in(&mut self, now: u64, accepted: Accepted)
@@ -390,10 +408,7 @@ impl<W: Drop> Shell<W> {
         ensures account { self.new.account ≡ self.old.account }
     {
         match accepted {
-            Accepted::Stream(stream) => {
-                self.opened = self.opened.saturating_add(1);
-                self.open(now, stream);
-            }
+            Accepted::Stream(stream, from) => self.admit(now, stream, from),
             Accepted::Nobody => {}
             Accepted::NoDescriptor => self.report.note(FaultKind::NoDescriptor),
             Accepted::Failed => self.report.note(FaultKind::NotAccepted),
@@ -426,7 +441,7 @@ impl<W: Drop> Shell<W> {
     }
 
     // Opens a connection that was accepted.
-    fn open(&mut self, now: u64, mut stream: TcpStream)
+    fn open(&mut self, now: u64, mut stream: TcpStream, from: u128)
         ensures runs { OnlyCalls self.old.traffic self.new.traffic }
         ensures account { self.new.account ≡ self.old.account }
     {
@@ -436,6 +451,7 @@ impl<W: Drop> Shell<W> {
             self.report.note(FaultKind::NotOpened);
             return;
         };
+        self.origins.note(opened.number(), from);
         if !self.register(opened.number(), &mut stream) {
             self.report.note(FaultKind::NotOpened);
             self.traffic.turn_away(now, opened);
@@ -540,12 +556,23 @@ impl<W: Write + Drop> Shell<W> {
         ensures works { OnOk result (TakesAllLines self.new.account) }
     {
         self.take_all(now);
+        if !self.has_room() {
+            return Err(HostEnd::TooLong);
+        }
         match self.write_account(now) {
             Ok(()) => {
                 self.send_all(rt, now);
                 Ok(())
             }
             Err(end) => Err(end),
+        }
+    }
+
+    // Whether the account's file may take what was gathered, if one is kept.
+    fn has_room(&self) -> bool {
+        match &self.account {
+            Some(journal) => journal.takes(self.traffic.engine().lines().len() as u64),
+            None => true,
         }
     }
 

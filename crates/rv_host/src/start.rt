@@ -9,7 +9,8 @@ ghost use Rattle.rv_options.specs.declared.number.HostNumber.TheVariants as numb
 
 use crate::door::Door;
 use crate::fault::HostEnd;
-use crate::journal::{Journal, begin_account};
+use crate::journal::{BegunAccount, Journal, begin_account};
+use crate::place::{AccountPlace, OpenAccount};
 use crate::report::HostReport;
 use crate::shell::{Shell, ShellDoors, ShellParts};
 use crate::status::StatusDesk;
@@ -23,7 +24,7 @@ use rv_log::{StartSaid, call_text, start_text};
 use rv_machine::Machine;
 use rv_options::{HostOptions, VERSION};
 use rv_rules::Limits;
-use std::fs::{File, OpenOptions};
+use std::fs::File;
 use std::io;
 use std::io::IsTerminal;
 use std::net::ToSocketAddrs;
@@ -33,6 +34,11 @@ use std::time::Clock;
 const SPARE: u64 = 16;
 
 const STATUS_SPARE: u64 = 33;
+
+// The system's number of the limit of a file's length, and of the error of a file that is too long.
+const RLIMIT_FSIZE: i32 = 1;
+
+const EFBIG: i32 = 27;
 
 const MOST_ENTRIES: usize = 9_007_199_254_740_991;
 
@@ -47,34 +53,39 @@ pub(crate) fn begin(
     ensures begins { IfOk result (λ shell. BeginsStored (engine_state shell.traffic.engine)) }
 {
     let epoch = options.epoch.epoch(wall_clock(rt));
-    let ground = ground_of(rt, options, epoch)?;
     let descriptors = descriptors_of(options);
     let engine = engine_of(rt, options, epoch, descriptors.connections as usize)?;
+    let ground = ground_of(rt, options)?;
+    let account = account_of(rt, options, epoch)?;
     match open_doors(rt, options, &mut report, ground, epoch, descriptors) {
-        Ok(parts) => Ok(Shell::new(parts, engine, report, options)),
+        Ok(parts) => Ok(Shell::new(parts, account, engine, report, options)),
         Err(end) => {
+            leave(rt, &account);
             drop(engine);
             Err(end)
         }
     }
 }
 
-// Where a server listens, and the account that it keeps.
+// A start failed: the account's file is as it was before.
+fn leave(rt: &HostRuntime, account: &Option<Journal<File>>) {
+    if let Some(journal) = account {
+        journal.place.leave(rt);
+    }
+}
+
+// Where a server listens.
 #[derive(Drop)]
 struct Ground {
     listener: TcpListener,
     status: Option<TcpListener>,
-    account: Option<Journal<File>>,
 }
 
-// The addresses and the file that the words name.
-fn ground_of(rt: &HostRuntime, options: &HostOptions<'_>, epoch: u64) -> Result<Ground, HostEnd>
-    ensures account { IfOk result (λ ground. IsSome ground.account ↔ IsSome options.now.account) }
-{
+// The addresses that the words name.
+fn ground_of(rt: &HostRuntime, options: &HostOptions<'_>) -> Result<Ground, HostEnd> {
     Ok(Ground {
         listener: listening(rt, options.listen)?,
         status: status_of(rt, options)?,
-        account: account_of(rt, options, epoch)?,
     })
 }
 
@@ -87,7 +98,7 @@ struct Descriptors {
 
 // What the system's limit leaves of the connections that the words name.
 fn descriptors_of(options: &HostOptions<'_>) -> Descriptors {
-    let open_files = open_files();
+    let open_files = limit_of(RLIMIT_NOFILE, 1_024);
     Descriptors {
         open_files,
         connections: open_files
@@ -105,15 +116,18 @@ fn open_doors(
     ground: Ground,
     epoch: u64,
     descriptors: Descriptors,
-) -> Result<ShellParts<File>, HostEnd>
-    ensures account { IfOk result (λ parts. parts.account ≡ ground.account) }
-{
+) -> Result<ShellParts, HostEnd> {
     tell_start(rt, options, report, &ground.listener, epoch, descriptors)?;
     let doors = ShellDoors {
         status: status_desk(rt, options, report, ground.status)?,
         door: Door::new(ground.listener),
     };
-    ShellParts::new(rt, doors, ground.account, descriptors.connections as usize)
+    ShellParts::new(
+        rt,
+        doors,
+        descriptors.connections as usize,
+        options.connections_from as usize,
+    )
 }
 
 // The wall clock's milliseconds.
@@ -174,7 +188,7 @@ fn status_desk(
     Ok(Some(StatusDesk::new(rt, listener, options, report)?))
 }
 
-// The account of an epoch, begun in a new file, if one is named.
+// The account of an epoch, begun in a new file or an empty one, if one is named.
 fn account_of(
     rt: &HostRuntime,
     options: &HostOptions<'_>,
@@ -185,30 +199,40 @@ fn account_of(
     let Some(path) = options.account else {
         return Ok(None);
     };
-    match OpenOptions::new()
-        .write(true)
-        .create_new(true)
-        .open(rt, path)
-    {
-        Ok(file) => begun(rt, path, file, epoch),
+    let name = String::from_str(rt.alloc(), path)?;
+    match AccountPlace::open(rt, name) {
+        Ok(account) => begun(rt, path, account, epoch),
         Err(error) => Err(named(rt, path, error)),
     }
 }
 
-// The account of an epoch, begun in an open file. What the system had against a write it still tells.
+// The account of an epoch, begun in an open file, which is as it was before if that fails. What the system
+// had against a write it still tells.
 fn begun(
     rt: &HostRuntime,
     path: &str,
-    file: File,
+    account: OpenAccount,
     epoch: u64,
 ) -> Result<Option<Journal<File>>, HostEnd>
     ensures some { IfOk result IsSome }
 {
-    match begin_account(rt.alloc(), file, epoch) {
-        Ok(journal) => Ok(Some(journal)),
-        Err(HostEnd::Account(_)) => Err(named(rt, path, io::Error::from_raw_os_error(errno()))),
-        Err(end) => Err(end),
-    }
+    let OpenAccount { file, place } = account;
+    let most = limit_of(RLIMIT_FSIZE, u64::MAX);
+    let end = match begin_account(rt.alloc(), file, epoch, most) {
+        Ok(BegunAccount { file, bytes }) => {
+            return Ok(Some(Journal {
+                file,
+                bytes,
+                most,
+                place,
+            }));
+        }
+        Err(HostEnd::Account(_)) => named(rt, path, io::Error::from_raw_os_error(errno())),
+        Err(HostEnd::TooLong) => named(rt, path, io::Error::from_raw_os_error(EFBIG)),
+        Err(end) => end,
+    };
+    place.leave(rt);
+    Err(end)
 }
 
 // The end of a server that finds no such address or file.
@@ -248,16 +272,16 @@ fn engine_of(
     Ok(engine)
 }
 
-// The limit of open files.
-fn open_files() -> u64 {
+// What the system limits, or so much if it doesn't tell.
+fn limit_of(resource: i32, usual: u64) -> u64 {
     let mut limit = rlimit {
         rlim_cur: 0,
         rlim_max: 0,
     };
-    if getrlimit(RLIMIT_NOFILE, &mut limit) == 0 {
+    if getrlimit(resource, &mut limit) == 0 {
         limit.rlim_cur
     } else {
-        1_024
+        usual
     }
 }
 

@@ -226,7 +226,7 @@ impl StatusDesk {
     // Accepts one more, and gives whether one came. A descriptor that nobody took is held back again.
     fn accept(&mut self, rt: &HostRuntime, now: u64) -> bool {
         match self.ask_door(now) {
-            Accepted::Stream(stream) => {
+            Accepted::Stream(stream, _) => {
                 self.visitors.admit(now, stream);
                 true
             }
@@ -314,6 +314,8 @@ impl<W: Drop> Shell<W> {
 fn fault_counts(report: &HostReport, clock: u64) -> FaultCounts {
     FaultCounts {
         accept: report.count(FaultKind::NotAccepted),
+        account: report.count(FaultKind::AccountFile),
+        address: report.count(FaultKind::TooManyFrom),
         clock,
         descriptor: report.count(FaultKind::NoDescriptor),
         idle: report.count(FaultKind::Idle),

@@ -8,8 +8,8 @@ use crate::shell::{LOOK_OVER, Shell};
 use rv_hearers::ConnectionNumber;
 
 impl<W: Drop> Shell<W> {
-    /// Once a second ends those that are idle or stall, and tells faults; and ends who holds most, if all
-    /// have held too much for as long as a peer may stall.
+    /// Once a second ends those that are idle or stall, looks at the account's file, and tells faults; and ends
+    /// who holds most, if all have held too much for as long as a peer may stall.
     pub(crate) fn look_over(&mut self, rt: &HostRuntime, now: u64)
         ensures runs { OnlyCalls self.old.traffic self.new.traffic }
         ensures account { self.new.account ≡ self.old.account }
@@ -20,7 +20,22 @@ impl<W: Drop> Shell<W> {
         }
         self.looked_over = now;
         self.look_over_all(now);
+        self.look_at_account(rt);
         self.report.tell(rt, now);
+    }
+
+    // Looks whether the account's file is in its place, if one is kept.
+    fn look_at_account(&mut self, rt: &HostRuntime)
+        ensures traffic { self.new.traffic ≡ self.old.traffic }
+        ensures account { self.new.account ≡ self.old.account }
+    {
+        let is_kept = match &self.account {
+            Some(journal) => journal.place.is_kept(rt, journal.bytes),
+            None => true,
+        };
+        if !is_kept {
+            self.report.note(FaultKind::AccountFile);
+        }
     }
 
     // Ends all whose time is over.

@@ -16,6 +16,8 @@ kind_words kind.Stall = codes "stalled connections closed (--stall)"
 kind_words kind.Behind = codes "turns in which lines of the account found no memory"
 kind_words kind.MostHeld = codes "connections closed that held most (--memory)"
 kind_words kind.Dropped = codes "lines that standard error didn't take"
+kind_words kind.TooManyFrom = codes "connections closed of one address (--connections-from)"
+kind_words kind.AccountFile = codes "looks that found the account removed, renamed or cut"
 
 -- a kind of fault, and how often it came
 abbrev pub fault_words : FaultKind → ℕ → List ℕ

@@ -23,11 +23,15 @@ pub enum FaultKind {
     MostHeld,
     /// A line that standard error didn't take.
     Dropped,
+    /// A connection was closed since its address had as many as it may.
+    TooManyFrom,
+    /// The account's file wasn't in its place, or not as long as what was written to it.
+    AccountFile,
 }
 
 impl FaultKind {
     /// All kinds, in the order in which they are told.
-    pub const ALL: [FaultKind; 9] = [
+    pub const ALL: [FaultKind; 11] = [
         FaultKind::NotOpened,
         FaultKind::NoDescriptor,
         FaultKind::NotAccepted,
@@ -37,6 +41,8 @@ impl FaultKind {
         FaultKind::Behind,
         FaultKind::MostHeld,
         FaultKind::Dropped,
+        FaultKind::TooManyFrom,
+        FaultKind::AccountFile,
     ];
 
     /// What is counted of it, in words.
@@ -53,6 +59,8 @@ impl FaultKind {
             FaultKind::Behind => "turns in which lines of the account found no memory",
             FaultKind::MostHeld => "connections closed that held most (--memory)",
             FaultKind::Dropped => "lines that standard error didn't take",
+            FaultKind::TooManyFrom => "connections closed of one address (--connections-from)",
+            FaultKind::AccountFile => "looks that found the account removed, renamed or cut",
         }
     }
 }

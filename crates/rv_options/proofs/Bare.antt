@@ -61,6 +61,10 @@ connections_row : given_for number.Connections rows ≡ Some (codes "10000")
 unfolding clap_on_literals
 connections_row = refl
 
+from_row : given_for number.ConnectionsFrom rows ≡ Some (codes "1000000")
+unfolding clap_on_literals
+from_row = refl
+
 memory_row : given_for number.Memory rows ≡ Some (codes "256")
 unfolding clap_on_literals
 memory_row = refl
@@ -94,6 +98,13 @@ open_written = record {
 connections_written : WritesWithin number.Connections (codes "10000") 10000
 connections_written = record {
   digits = (lit< tt, (lit< tt, (lit< tt, (lit< tt, (lit< tt, (lit< tt, tt))))));
+  of_number = refl;
+  fits = (lit≤ tt, lit≤ tt);
+}
+
+from_written : WritesWithin number.ConnectionsFrom (codes "1000000") 1000000
+from_written = record {
+  digits = (lit< tt, (lit< tt, (lit< tt, (lit< tt, (lit< tt, (lit< tt, (lit< tt, (lit< tt, tt))))))));
   of_number = refl;
   fits = (lit≤ tt, lit≤ tt);
 }
@@ -177,6 +188,8 @@ bare_named options bare = record {
         bare.opens;
     connects = given number.Connections rows (codes "10000") 10000 options.connections connections_row
         connections_written bare.connects;
+    connects_from = given number.ConnectionsFrom rows (codes "1000000") 1000000 options.connections_from
+        from_row from_written bare.connects_from;
     holds = given number.Memory rows (codes "256") 256 options.memory memory_row memory_written bare.holds;
     idles = given number.Idle rows (codes "3600") 3600 options.idle idle_row idle_written bare.idles;
     stalls = given number.Stall rows (codes "30") 30 options.stall stall_row stall_written bare.stalls;
@@ -198,6 +211,8 @@ bare_alone options named = record {
   opens = given_alone number.Open rows (codes "100000") options.open_places open_row named.said.opens;
   connects = given_alone number.Connections rows (codes "10000") options.connections connections_row
       named.said.connects;
+  connects_from = given_alone number.ConnectionsFrom rows (codes "1000000") options.connections_from from_row
+      named.said.connects_from;
   holds = given_alone number.Memory rows (codes "256") options.memory memory_row named.said.holds;
   idles = given_alone number.Idle rows (codes "3600") options.idle idle_row named.said.idles;
   stalls = given_alone number.Stall rows (codes "30") options.stall stall_row named.said.stalls;

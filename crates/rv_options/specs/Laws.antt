@@ -19,6 +19,7 @@ pub record AreBare (options : HostOptions) : Type 0 where
   pub clients : options.clients ≡ 65536
   pub opens : options.open_places ≡ 100000
   pub connects : options.connections ≡ 10000
+  pub connects_from : options.connections_from ≡ 1000000
   pub holds : options.memory ≡ 256
   pub idles : options.idle ≡ 3600
   pub stalls : options.stall ≡ 30

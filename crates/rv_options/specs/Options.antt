@@ -17,6 +17,7 @@ pub record SaysOptions (rows : List Row) (options : HostOptions) : Type 0 where
   pub clients : GivesNumber number.Clients rows options.clients
   pub opens : GivesNumber number.Open rows options.open_places
   pub connects : GivesNumber number.Connections rows options.connections
+  pub connects_from : GivesNumber number.ConnectionsFrom rows options.connections_from
   pub holds : GivesNumber number.Memory rows options.memory
   pub idles : GivesNumber number.Idle rows options.idle
   pub stalls : GivesNumber number.Stall rows options.stall
@@ -33,6 +34,7 @@ pub record FitOptions (options : HostOptions) : Type 0 where
   pub clients : Fits number.Clients options.clients
   pub opens : Fits number.Open options.open_places
   pub connects : Fits number.Connections options.connections
+  pub connects_from : Fits number.ConnectionsFrom options.connections_from
   pub holds : Fits number.Memory options.memory
   pub idles : Fits number.Idle options.idle
   pub stalls : Fits number.Stall options.stall

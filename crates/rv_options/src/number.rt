@@ -15,6 +15,8 @@ pub enum HostNumber {
     Open,
     /// `--connections`: how many connections are open at once, 1 to 1,000,000.
     Connections,
+    /// `--connections-from`: how many of them may come from one address, 1 to 1,000,000.
+    ConnectionsFrom,
     /// `--memory`: how many MiB all buffers take, 1 to 1,048,576.
     Memory,
     /// `--idle`: after how many seconds a connection ends that says nothing and waits for nothing,
@@ -36,6 +38,7 @@ impl HostNumber {
             HostNumber::Clients => "clients",
             HostNumber::Open => "open",
             HostNumber::Connections => "connections",
+            HostNumber::ConnectionsFrom => "connections-from",
             HostNumber::Memory => "memory",
             HostNumber::Idle => "idle",
             HostNumber::Stall => "stall",
@@ -59,6 +62,7 @@ impl HostNumber {
             HostNumber::Clients => 65_536,
             HostNumber::Open => 100_000,
             HostNumber::Connections => 1_000_000,
+            HostNumber::ConnectionsFrom => 1_000_000,
             HostNumber::Memory => 1_048_576,
             HostNumber::Idle => 31_536_000,
             HostNumber::Stall => 31_536_000,

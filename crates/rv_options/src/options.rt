@@ -35,6 +35,8 @@ pub struct HostOptions<'a> {
     pub open_places: u64,
     /// How many connections are open at once.
     pub connections: u64,
+    /// How many of them may come from one address.
+    pub connections_from: u64,
     /// How many MiB the bytes of all connections take.
     pub memory: u64,
     /// The seconds of a connection that says nothing and waits for nothing.
@@ -84,6 +86,7 @@ fn options_of<'a>(given: &ArgMatches<'a>) -> Result<HostOptions<'a>, HostFault<'
         clients: number_of(given, HostNumber::Clients)?,
         open_places: number_of(given, HostNumber::Open)?,
         connections: number_of(given, HostNumber::Connections)?,
+        connections_from: number_of(given, HostNumber::ConnectionsFrom)?,
         memory: number_of(given, HostNumber::Memory)?,
         idle: number_of(given, HostNumber::Idle)?,
         stall: number_of(given, HostNumber::Stall)?,

@@ -142,6 +142,14 @@ const OPTIONS: &[ListedOption] = &[
         help: "How many connections are open at once; others wait",
     },
     ListedOption {
+        name: "connections-from",
+        values: &["N"],
+        required: false,
+        action: ArgAction::Set,
+        usual: &["1000000"],
+        help: "How many of them one address has; one more is closed",
+    },
+    ListedOption {
         name: "memory",
         values: &["N"],
         required: false,

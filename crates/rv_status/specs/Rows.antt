@@ -44,6 +44,10 @@ number_rows n =
     (codes "Entries of the account: hellos, requests, cancels, and moments at which waits ended.") n.entries ∷
     gauge_row (codes "rv_epoch") (codes "The epoch, which is one start of the server.") n.epoch ∷
     counter_row (codes "rv_fault_accept_total") (codes "Accepts that failed.") n.faults.accept ∷
+    counter_row (codes "rv_fault_account_total")
+    (codes "Looks, one a second, that found the account file removed, renamed or cut.") n.faults.account ∷
+    counter_row (codes "rv_fault_address_total")
+    (codes "Connections closed since their address had as many as it may.") n.faults.address ∷
     counter_row (codes "rv_fault_clock_total")
     (codes "Turns in which the clock could not be read, so that time stood still.") n.faults.clock ∷
     counter_row (codes "rv_fault_descriptor_total")

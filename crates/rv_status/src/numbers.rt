@@ -8,6 +8,10 @@ ghost use Rattle.rv_status.specs.Rows.{counter_row, gauge_row, kind_word, number
 pub struct FaultCounts {
     /// Accepts that failed.
     pub accept: u64,
+    /// Looks that found the account's file not in its place, or not as long as what was written to it.
+    pub account: u64,
+    /// Connections closed since their address had as many as it may.
+    pub address: u64,
     /// Turns in which the clock could not be read, so that time stood still.
     pub clock: u64,
     /// Accepts for which no descriptor was left.
@@ -133,7 +137,7 @@ fn gauge(name: &'static str, help: &'static str, value: u64) -> StatusReading
 }
 
 /// All numbers, in the byte order of their names.
-pub(crate) fn readings(numbers: &StatusNumbers) -> [StatusReading; 26]
+pub(crate) fn readings(numbers: &StatusNumbers) -> [StatusReading; 28]
     ensures { map reading_row result ≡ number_rows numbers.now }
 {
     let faults = numbers.faults;
@@ -192,6 +196,16 @@ pub(crate) fn readings(numbers: &StatusNumbers) -> [StatusReading; 26]
             "rv_fault_accept_total",
             "Accepts that failed.",
             faults.accept,
+        ),
+        counter(
+            "rv_fault_account_total",
+            "Looks, one a second, that found the account file removed, renamed or cut.",
+            faults.account,
+        ),
+        counter(
+            "rv_fault_address_total",
+            "Connections closed since their address had as many as it may.",
+            faults.address,
         ),
         counter(
             "rv_fault_clock_total",

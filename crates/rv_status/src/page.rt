@@ -86,8 +86,10 @@ const span = s => s < 120 ? s + \" s\" : s < 7200 ? Math.floor(s / 60) + \" min\
 h.floor(s / 3600) + \" h\" : Math.floor(s / 86400) + \" d\";\n\
 // What each kind of fault is.\n\
 const FAULTS = {\n\
-accept: \"accepts that failed\", clock: \"turns in which the clock could not be read: no wait ends\"\
-,\n\
+accept: \"accepts that failed\", account: \"looks that found the account file removed, renamed or c\
+ut\",\n\
+address: \"connections closed of an address that had as many as it may (--connections-from)\", clo\
+ck: \"turns in which the clock could not be read: no wait ends\",\n\
 descriptor: \"accepts for which no descriptor was left (ulimit -n)\", idle: \"connections closed th\
 at said nothing for long (--idle)\",\n\
 line: \"lines that standard error did not take\", link: \"connections that broke\",\n\

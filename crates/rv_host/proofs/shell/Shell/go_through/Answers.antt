@@ -26,3 +26,7 @@ returns-in-Err-clause-turns g c =
 
 pub returns-in-Ok-clause-works : goal.returns-in-Ok-clause-works
 returns-in-Ok-clause-works g c = subst TakesAllLines (sym c.send_all.ensures.account) c.in-Ok.ensures.works
+
+pub returns-then-not-has_room-clause-turns : goal.returns-then-not-has_room-clause-turns
+returns-then-not-has_room-clause-turns g c =
+    calls_turn g.W.Write.contents _ _ _ _ c.take_all.ensures.account c.take_all.ensures.runs
