@@ -18,8 +18,8 @@ from tests.sockets.wire import Peer, demand, frame, hello, request, take, until,
 MEBIBYTE, BYTES = 1, 1 << 20
 # Bytes behind requests that wait, which just fit, one of which are the most; and those of one more, after which that one is to go.
 BEHIND, LARGEST, MORE = [3_900] * 12 + [3_950] + [3_900] * 255, 12, 3_900
-# The seconds for which the memory may be full, and the first queue of those who wait, which nobody else asks for.
-STALL, BESIDE = 4, 64
+# The seconds for which the memory may be full, and the queues of those who wait, from 0 on, for which nobody else asks.
+STALL, QUEUES = 4, 7
 # Peers that take no answers, of each of which a host holds more than so many bytes.
 DEAF, HELD = 2, 65_536
 # A client that comes where nothing more may be held.
@@ -52,7 +52,7 @@ def the_largest_is_closed(program: str) -> None:
 def wait_behind(peers: list[Peer], counts: list[int], first: int = 1) -> None:
     """Clients from the first on wait, each with so many bytes of a frame behind its request."""
     for client, (peer, count) in enumerate(zip(peers, counts), first):
-        peer.send(frame(request(Key(1, client, 1, 1), take("forever", queue=BESIDE + client % 64))) + half_frame(count))
+        peer.send(frame(request(Key(1, client, 1, 1), take("forever", queue=client % QUEUES))) + half_frame(count))
 
 
 def half_frame(count: int) -> bytes:
@@ -95,7 +95,7 @@ def a_bound_stands(program: str) -> None:
                 time.sleep(0.1)
             left = numbers(port)["rv_connections"]
             demand(left == HALVES, f"of {HALVES} {left} are left")
-        host.ended()
+        host.kill()
 
 
 def held_bytes(port: int) -> int:
