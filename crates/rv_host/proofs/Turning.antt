@@ -1,6 +1,5 @@
 -- Calls of a server's traffic, one behind another.
-use Rattle.std.proofs.Common.{◌≡◌, None, Option, Some, List, ap, subst, sym, ℕ}
-use Rattle.rv_frame.specs.declared.sink.Sink.{Sink}
+use Rattle.std.proofs.Common.{◌≡◌, Option, Some, List, subst, sym, ℕ}
 use Rattle.rv_traffic.specs.declared.traffic.Switchboard.{Switchboard}
 use Rattle.rv_traffic.specs.CallRuns.{OnlyCalls, RunsOnDevice, RunsWith}
 use Rattle.rv_traffic.proofs.CallsRun.{calls_none}
