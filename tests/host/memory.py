@@ -60,6 +60,28 @@ def half_frame(count: int) -> bytes:
     return frame(b"x" * (count - 1))[:-1]
 
 
+def a_begun_frame_waits_for_room(program: str) -> None:
+    """Who has begun a frame isn't ended for its rest, which isn't read where nothing more may be held; it is answered once there is
+    room, though that lasted for --stall."""
+    with Stopped(program, options=("--memory", str(MEBIBYTE), "--stall", str(STALL))) as host:
+        deaf = [host.connect(receive=KEPT) for _ in range(DEAF)]
+        with closing([host.greeted(client) for client in range(1, len(BEHIND) + 1)]) as waiting, closing(deaf), host.connect() as late:
+            whole = frame(hello(LATE))
+            late.send(whole[:-1])
+            wait_behind(waiting, BEHIND)
+            until("the host rests", host.rests)
+            host.at(ASKED)
+            for client, peer in enumerate(deaf, len(BEHIND) + 1):
+                ask_and_never_read(peer, client, QUESTIONS)
+            until("the host rests", host.rests)
+            late.send(whole[-1:])
+            host.at(ASKED + 1_000 * STALL - 1)
+            demand(is_silent(late), "the rest of a frame is read where nothing more may be held")
+            host.at(ASKED + 1_000 * STALL + LOOK_OVER)
+            demand(late.hear() == welcome(LATE), "who began a frame isn't welcome where there is room again")
+        host.ended()
+
+
 def answers_count(program: str) -> None:
     """Bytes behind requests that wait fit into --memory, but not beside the answers of peers that take none: who comes then is read
     once that has lasted for --stall, when those that hold most are closed, and no others."""
@@ -124,4 +146,4 @@ def few_files() -> None:
     resource.setrlimit(resource.RLIMIT_NOFILE, (FILES, FILES))
 
 
-CASES = [the_largest_is_closed, answers_count, a_bound_stands, descriptors_are_spared]
+CASES = [the_largest_is_closed, a_begun_frame_waits_for_room, answers_count, a_bound_stands, descriptors_are_spared]

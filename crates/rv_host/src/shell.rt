@@ -148,6 +148,8 @@ pub(crate) struct Shell<W> {
     pub(crate) memory: u128,
     // Since when more is held than that, if it is.
     pub(crate) full_since: Option<u64>,
+    // When it was last.
+    pub(crate) last_full: u64,
     pub(crate) limits: TimeLimits,
     // How many connections were accepted, and in how many turns the clock failed.
     pub(crate) opened: u64,
@@ -247,6 +249,7 @@ impl<W: Drop> Shell<W> {
             connections: parts.connections,
             memory: options.memory as u128 * 1_048_576,
             full_since: None,
+            last_full: 0,
             limits: TimeLimits {
                 stall: options.stall.saturating_mul(1_000),
                 idle: options.idle.saturating_mul(1_000),

@@ -73,9 +73,20 @@ impl<W: Drop> Shell<W> {
         let heard = self.traffic.links().heard(number)?;
         let moved = self.traffic.links().moved(number)?;
         let sent = self.traffic.links().sent(number)?;
+        let unread = self.unread_at(number, now);
         let wire = self.traffic.engine().hub().wire(number)?;
         let since = self.frames.look(number, wire, sent, now);
-        overdue(wire, heard, moved, since, now, self.limits)
+        let seen = since.map(|look| look.max(unread));
+        overdue(wire, heard.max(unread), moved, seen, now, self.limits)
+    }
+
+    // The moment at which bytes of a connection that came may not have been read last: there was no room for
+    // them, or they wait for their share.
+    fn unread_at(&self, number: ConnectionNumber, now: u64) -> u64 {
+        if self.traffic.links().pending(number).is_empty() {
+            return self.last_full;
+        }
+        now
     }
 
     // Closes those that hold most, if all have held too much for as long as a peer may stall.
@@ -85,6 +96,9 @@ impl<W: Drop> Shell<W> {
         ensures account { self.new.account ≡ self.old.account }
     {
         self.full_since = self.full_at(now);
+        if self.full_since.is_some() {
+            self.last_full = now;
+        }
         if now.saturating_sub(self.full_since.unwrap_or(now)) < self.limits.stall {
             return;
         }
