@@ -12,7 +12,7 @@ from tests.host.options import LISTEN, VERSION, listening, only, refused
 from tests.model.account import Key
 from tests.sockets.hosts import Host
 from tests.sockets.programs import free_port
-from tests.sockets.wire import Peer, demand, frame, give, replied, request, take, until
+from tests.sockets.wire import Peer, demand, drain, frame, give, hello, replied, request, take, until
 
 # A head has fewer bytes, and a connection lasts so many seconds at most; so many come in a flood.
 HEAD, LONGEST, FLOOD = 4_096, 10, 1_000
@@ -141,6 +141,31 @@ def readiness(program: str) -> None:
         host.ended()
 
 
+def answers_are_counted(program: str) -> None:
+    """Each answer that left is counted by its kind: refusals by their number, other answers by their word."""
+    port = free_port()
+    key = {number: Key(1, 1, 5, number) for number in range(1, 12)}
+    with Host(program, options=("--status", f"127.0.0.1:{port}", "--clients", "2", "--open", "2")) as host:
+        with host.greeted(1, 5) as peer, host.greeted(2), host.connect() as third:
+            calls = [give("put", "a", queue=5), give("put", "\"reply\":\"done\"}", queue=5), {"call": "count", "queue": 5},
+                     {"call": "peek", "queue": 5}, drain(3, queue=5), take("now", queue=5), give("transfer", "b", "now", queue=6)]
+            for number, call in enumerate(calls, 1):
+                peer.ask(request(key[number], call))
+            peer.ask(request(key[8], take(1, queue=7)))
+            wanted = {"done": 2, "counted": 1, "peeked": 1, "drained": 1, "empty": 1, "nobody": 1, "timed_out": 1}
+            for body, code in [(b"{", 1), (request(Key(2, 1, 5, 1), calls[0]), 2), (request(Key(1, 9, 1, 1), calls[0]), 3),
+                               (hello(1), 4), (request(key[7], calls[0]), 5), (request(key[8], calls[0]), 6),
+                               (request(key[10], calls[0]), 8)]:
+                demand(peer.told(body)["code"] == code, f"{body!r} isn't refused {code}")
+            demand(third.told(hello(3))["code"] == 9, "a third client is welcome")
+            told = {f"rv_told_{word}_total": count for word, count in wanted.items()}
+            refused = {f"rv_refused_{name}_total": 1 for name in ("bad_text", "other_epoch", "no_session", "old_incarnation",
+                       "old_number", "other_call", "gap", "clients_full")}
+            shows(port, {**told, **refused, "rv_refused_busy_total": 0, "rv_refused_epoch_full_total": 0, "rv_told_item_total": 0})
+            until("it says so", lambda: b"hellos of new clients refused 9 (--clients): 1\n" in host.said, SOON)
+        host.ended()
+
+
 def nothing_listens(program: str) -> None:
     """Without the option nothing listens but the server."""
     with Host(program) as host:
@@ -248,5 +273,5 @@ def told_without_descriptors(program: str) -> None:
 
 
 CASES = [
-    addresses, pages_by_path, pages_by_host, readiness, nothing_listens, a_worked_scene, a_request_in_pieces, hostile_visitors, told_without_descriptors,
+    addresses, pages_by_path, pages_by_host, readiness, answers_are_counted, nothing_listens, a_worked_scene, a_request_in_pieces, hostile_visitors, told_without_descriptors,
 ]

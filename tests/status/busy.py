@@ -6,6 +6,8 @@ from typing import Any, Dict, List
 
 Status = Dict[str, Any]
 
+# The version of its build, in the form of one.
+VERSION = "3.14.1"
 # So long the made-up server is up, in seconds, and so often it takes a sample of itself.
 UP, SAMPLE = 86_400, 10
 SAMPLES = 61
@@ -47,7 +49,7 @@ def busy(numbers: Dict[str, int]) -> Status:
             "rv_requests_waiting": 1_240, "rv_requests_unheard": 3, "rv_account_bytes_total": account}
     return {"history": samples, "numbers": {**numbers, **told},
             "queues": [[queue, places if queue == 3 else 0, 12 if queue in (1, 5) else 0] for queue in range(64)],
-            "unheard": rows[2:60:20], "waiting": rows}
+            "unheard": rows[2:60:20], "version": VERSION, "waiting": rows}
 
 
 def text(status: Status) -> bytes:

@@ -23,8 +23,8 @@ from tests import left_out  # noqa: E402
 
 ROWS, RULES = ROOT / "crates/rv_status/specs/Rows.antt", ROOT / "packaging/rv.rules.yml"
 DASHBOARD = ROOT / "packaging/rv.dashboard.json"
-# Metrics that the rows don't list: those of each queue.
-QUEUES = {"rv_queue_items", "rv_queue_consumers"}
+# Metrics that the rows don't list: those of each queue, and the build.
+QUEUES = {"rv_queue_items", "rv_queue_consumers", "rv_build_info"}
 # What a text that a peer chose might try, were it markup.
 MARKUP = "<img src=x onerror=document.title='bad'>"
 counts = {True: 0, False: 0}
@@ -70,14 +70,15 @@ def the_page_is_written() -> None:
     check(bool(read) and read <= set(names), f"the page reads {read - set(names)}")
     kinds = re.search(r"const FAULTS = \{(.*?)\};", standin.PAGE.read_text(), re.S)
     told = re.findall(r"(\w+): \"", kinds[1]) if kinds else []
-    check(sorted(told) == re.findall(r"rv_fault_(\w+)_total", " ".join(names)), f"the page has words for the faults {told}")
+    wanted = [fault or refusal for fault, refusal in re.findall(r"\brv_(?:fault_(\w+)|(refused_\w+))_total\b", " ".join(names))]
+    check(sorted(told) == sorted(wanted), f"the page has words for the faults {told}")
 
 
 def a_busy_server_is_shown() -> None:
     """Numbers, limits, at most 100 rows and how many more, and the words that end a request."""
     status = busy.busy({**numbers(), "rv_fault_descriptor_total": 17})
     page = shown(status, "--dump-dom")
-    check("turning" in page and "epoch 1785000000000" in page, "the page doesn't tell that the server turns")
+    check("turning" in page and f"rv {busy.VERSION}, epoch 1785000000000" in page, "the page doesn't tell that the server turns")
     check("<b" in page and "8,421" in page and "of 10,000" in page, "connections are not beside their limit")
     waiting = table(page, "waiting")
     check("<td>130 s" not in waiting and "<td>2 min" in waiting and "<td>31 s" in waiting, "not how long each waits")
@@ -102,7 +103,8 @@ def texts_stay_texts() -> None:
 
 def an_empty_server_is_shown() -> None:
     """A server that has just started has no row, no sample and no fault."""
-    status = {"history": [], "numbers": numbers(), "queues": [[queue, 0, 0] for queue in range(64)], "unheard": [], "waiting": []}
+    status = {"history": [], "numbers": numbers(), "queues": [[queue, 0, 0] for queue in range(64)], "unheard": [],
+              "version": busy.VERSION, "waiting": []}
     page = shown(status, "--dump-dom")
     check("turning" in page and "all are empty" in page and table(page, "waiting").count("none") == 1, "an empty server isn't shown")
 

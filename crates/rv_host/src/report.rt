@@ -17,9 +17,9 @@ const GONE: i16 = POLLERR | POLLHUP | POLLNVAL;
 /// How often each kind of fault came, and how lines are written.
 #[derive(Drop)]
 pub(crate) struct HostReport {
-    tallies: [FaultTally; 11],
+    tallies: [FaultTally; 14],
     // How often each kind came since the start.
-    counts: [u64; 11],
+    counts: [u64; 14],
     is_quiet: bool,
     has_times: bool,
     // Whether standard error was open at the start.
@@ -68,8 +68,8 @@ impl HostReport {
     pub(crate) fn new(rt: &HostRuntime, is_quiet: bool) -> HostReport {
         let is_journal = is_set(rt, "JOURNAL_STREAM") || is_set(rt, "INVOCATION_ID");
         HostReport {
-            tallies: [FaultTally::new(); 11],
-            counts: [0; 11],
+            tallies: [FaultTally::new(); 14],
+            counts: [0; 14],
             is_quiet,
             has_times: !is_journal,
             is_there: !is_closed(),

@@ -3,6 +3,7 @@ ghost use Rattle.std.specs.Prelude.{◌≡◌, false, OnOk};
 ghost use Rattle.rv_frame.specs.Sink.{sink_failed};
 ghost use Rattle.rv_traffic.specs.CallRuns.{OnlyCalls, RunsOnDevice};
 
+use crate::counted::{AnswerTally, CountedStream};
 use crate::door::{Accepted, Door};
 use crate::fault::HostEnd;
 use crate::frames::FrameLooks;
@@ -81,7 +82,7 @@ fn write_to<S: Drop, W: Write>(
 }
 
 // The poll told of a connection's socket.
-fn heed_one(traffic: &mut Switchboard<TcpStream>, event: &Event)
+fn heed_one(traffic: &mut Switchboard<CountedStream>, event: &Event)
     ensures { OnlyCalls traffic.old traffic.new }
 {
     let is_over = event.is_error();
@@ -95,7 +96,7 @@ fn heed_one(traffic: &mut Switchboard<TcpStream>, event: &Event)
 fn heed_event(
     door: &mut Door,
     status: &mut Option<StatusDesk>,
-    traffic: &mut Switchboard<TcpStream>,
+    traffic: &mut Switchboard<CountedStream>,
     event: &Event,
 )
     ensures { OnlyCalls traffic.old traffic.new }
@@ -116,7 +117,7 @@ fn heed_all(
     events: &Events,
     door: &mut Door,
     status: &mut Option<StatusDesk>,
-    traffic: &mut Switchboard<TcpStream>,
+    traffic: &mut Switchboard<CountedStream>,
 )
     ensures { OnlyCalls traffic.old traffic.new }
 {
@@ -139,7 +140,8 @@ pub(crate) struct Shell<W> {
     poll: Poll,
     events: Events,
     door: Door,
-    pub(crate) traffic: Switchboard<TcpStream>,
+    pub(crate) traffic: Switchboard<CountedStream>,
+    pub(crate) answers: AnswerTally,
     pub(crate) account: Option<Journal<W>>,
     pub(crate) status: Option<StatusDesk>,
     pub(crate) report: HostReport,
@@ -170,10 +172,11 @@ pub(crate) struct ShellParts {
     start: Duration,
     poll: Poll,
     events: Events,
-    links: Links<TcpStream>,
+    links: Links<CountedStream>,
     waits: WaitingLists,
     frames: FrameLooks,
     origins: Origins,
+    answers: AnswerTally,
 }
 
 /// Where a server is asked: for connections, and how it is.
@@ -219,6 +222,7 @@ impl ShellParts {
             waits: WaitingLists::new(rt.alloc(), connections)?,
             frames: FrameLooks::new(rt.alloc(), connections)?,
             origins: Origins::new(rt.alloc(), connections, most)?,
+            answers: AnswerTally::new(rt.alloc())?,
             doors,
             connections,
         })
@@ -243,6 +247,7 @@ impl<W: Drop> Shell<W> {
             events: parts.events,
             door: parts.doors.door,
             traffic: Switchboard::new(engine, parts.links, parts.waits),
+            answers: parts.answers,
             account,
             status: parts.doors.status,
             report,
@@ -460,6 +465,7 @@ impl<W: Drop> Shell<W> {
             self.traffic.turn_away(now, opened);
             return;
         }
+        let stream = self.answers.over(stream);
         if self.traffic.attach(now, opened, stream) {
             return;
         }

@@ -1,6 +1,7 @@
 //! The status address: its listener, who asks there, and what they are told.
 ghost use Rattle.std.specs.Prelude.{◌≡◌};
 
+use crate::counted::note_refusals;
 use crate::door::{Accepted, Door};
 use crate::fault::HostEnd;
 use crate::report::{FaultKind, HostReport};
@@ -9,7 +10,9 @@ use crate::shell::Shell;
 use mio::net::{TcpListener, TcpStream};
 use rv_hub::Hub;
 use rv_options::{HostOptions, VERSION};
-use rv_status::{FaultCounts, HostStatus, StatusNumbers, StatusPages, StatusSample, take_sample};
+use rv_status::{
+    ANSWERS, FaultCounts, HostStatus, StatusNumbers, StatusPages, StatusSample, take_sample,
+};
 use rv_survey::{list_queues, renew, unheard_row, waiting_row};
 use std::alloc::{AllocError, Global};
 use std::hash::RandomState;
@@ -59,6 +62,7 @@ pub(crate) struct StatusDesk {
 fn first_numbers(options: &HostOptions<'_>, faults: FaultCounts) -> StatusNumbers {
     StatusNumbers {
         account_bytes: 0,
+        answers: [0; ANSWERS],
         buffer_bytes: 0,
         buffer_limit: 0,
         clients: 0,
@@ -254,6 +258,7 @@ impl<W: Drop> Shell<W> {
         ensures traffic { self.new.traffic ≡ self.old.traffic }
         ensures account { self.new.account ≡ self.old.account }
     {
+        note_refusals(&mut self.answers, &mut self.report);
         self.learn(now);
         let Some(desk) = &mut self.status else {
             return;
@@ -290,6 +295,7 @@ impl<W: Drop> Shell<W> {
         let machine = hub.machine();
         StatusNumbers {
             account_bytes: self.account_bytes(),
+            answers: self.answers.counts(),
             buffer_bytes: u64::try_from(self.total()).unwrap_or(u64::MAX),
             buffer_limit: u64::try_from(self.memory).unwrap_or(u64::MAX),
             clients: machine.clients() as u64,

@@ -18,6 +18,9 @@ kind_words kind.MostHeld = codes "connections closed that held most (--memory)"
 kind_words kind.Dropped = codes "lines that standard error didn't take"
 kind_words kind.TooManyFrom = codes "connections closed of one address (--connections-from)"
 kind_words kind.AccountFile = codes "looks that found the account removed, renamed or cut"
+kind_words kind.ClientsFull = codes "hellos of new clients refused 9 (--clients)"
+kind_words kind.BookFull = codes "requests refused 10 (--open)"
+kind_words kind.NoMemory = codes "messages refused 11: no memory"
 
 -- a kind of fault, and how often it came
 abbrev pub fault_words : FaultKind → ℕ → List ℕ

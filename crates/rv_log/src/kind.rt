@@ -27,11 +27,17 @@ pub enum FaultKind {
     TooManyFrom,
     /// The account's file wasn't in its place, or not as long as what was written to it.
     AccountFile,
+    /// A hello of a new client was refused 9.
+    ClientsFull,
+    /// A request was refused 10.
+    BookFull,
+    /// A message was refused 11.
+    NoMemory,
 }
 
 impl FaultKind {
     /// All kinds, in the order in which they are told.
-    pub const ALL: [FaultKind; 11] = [
+    pub const ALL: [FaultKind; 14] = [
         FaultKind::NotOpened,
         FaultKind::NoDescriptor,
         FaultKind::NotAccepted,
@@ -43,6 +49,9 @@ impl FaultKind {
         FaultKind::Dropped,
         FaultKind::TooManyFrom,
         FaultKind::AccountFile,
+        FaultKind::ClientsFull,
+        FaultKind::BookFull,
+        FaultKind::NoMemory,
     ];
 
     /// What is counted of it, in words.
@@ -61,6 +70,9 @@ impl FaultKind {
             FaultKind::Dropped => "lines that standard error didn't take",
             FaultKind::TooManyFrom => "connections closed of one address (--connections-from)",
             FaultKind::AccountFile => "looks that found the account removed, renamed or cut",
+            FaultKind::ClientsFull => "hellos of new clients refused 9 (--clients)",
+            FaultKind::BookFull => "requests refused 10 (--open)",
+            FaultKind::NoMemory => "messages refused 11: no memory",
         }
     }
 }

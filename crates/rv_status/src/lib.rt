@@ -2,6 +2,7 @@
 //! and the connections that ask for it, few and not for long.
 #![tactic(auto)]
 
+mod answers;
 mod hosts;
 mod members;
 mod metrics;
@@ -13,6 +14,7 @@ mod status;
 mod visitor;
 mod visitors;
 
+pub use answers::{ANSWERS, AnswerCounts, AnswerMeter};
 pub use members::status_json;
 pub use metrics::metrics_of;
 pub use numbers::{FaultCounts, StatusNumbers};

@@ -3,6 +3,8 @@ ghost use Rattle.std.specs.Prelude.{◌≡◌, map};
 ghost use Rattle.rv_status.specs.Pages.{is_full};
 ghost use Rattle.rv_status.specs.Rows.{counter_row, gauge_row, kind_word, number_rows, reading_row};
 
+use crate::answers::ANSWERS;
+
 /// How often each kind of fault came since the start.
 #[derive(Clone, Copy)]
 pub struct FaultCounts {
@@ -37,6 +39,8 @@ pub struct FaultCounts {
 pub struct StatusNumbers {
     /// Bytes that were written to the account's file; 0 without one.
     pub account_bytes: u64,
+    /// How many answers of each kind have left: refusals 1 to 12, and then the others by their words.
+    pub answers: [u64; ANSWERS],
     /// Bytes that are held for all connections.
     pub buffer_bytes: u64,
     /// Bytes above which the connection that holds most is closed.
@@ -137,10 +141,10 @@ fn gauge(name: &'static str, help: &'static str, value: u64) -> StatusReading
 }
 
 /// All numbers, in the byte order of their names.
-pub(crate) fn readings(numbers: &StatusNumbers) -> [StatusReading; 28]
+pub(crate) fn readings(numbers: &StatusNumbers) -> [StatusReading; 52]
     ensures { map reading_row result ≡ number_rows numbers.now }
 {
-    let faults = numbers.faults;
+    let (faults, answers) = (numbers.faults, numbers.answers);
     [
         counter(
             "rv_account_bytes_total",
@@ -262,6 +266,66 @@ pub(crate) fn readings(numbers: &StatusNumbers) -> [StatusReading; 28]
             "How many items and requests may be open.",
             numbers.open_places_limit,
         ),
+        counter(
+            "rv_refused_bad_text_total",
+            "Refusals 1 that left: bodies that are no message.",
+            answers[0],
+        ),
+        counter(
+            "rv_refused_busy_total",
+            "Refusals 7 that left: requests while another one of the client waits.",
+            answers[6],
+        ),
+        counter(
+            "rv_refused_clients_full_total",
+            "Refusals 9 that left: hellos of new clients where there are --clients.",
+            answers[8],
+        ),
+        counter(
+            "rv_refused_epoch_full_total",
+            "Refusals 10 that left: requests for which no room is left (--open).",
+            answers[9],
+        ),
+        counter(
+            "rv_refused_gap_total",
+            "Refusals 8 that left: requests and cancels whose number leaves one out.",
+            answers[7],
+        ),
+        counter(
+            "rv_refused_no_memory_total",
+            "Refusals 11 that left: messages for which memory was refused.",
+            answers[10],
+        ),
+        counter(
+            "rv_refused_no_session_total",
+            "Refusals 3 that left: messages of a client with no session.",
+            answers[2],
+        ),
+        counter(
+            "rv_refused_old_incarnation_total",
+            "Refusals 4 that left: messages of an earlier incarnation.",
+            answers[3],
+        ),
+        counter(
+            "rv_refused_old_number_total",
+            "Refusals 5 that left: requests and cancels of an earlier number.",
+            answers[4],
+        ),
+        counter(
+            "rv_refused_other_call_total",
+            "Refusals 6 that left: requests of the last number with another call.",
+            answers[5],
+        ),
+        counter(
+            "rv_refused_other_epoch_total",
+            "Refusals 2 that left: messages of another epoch.",
+            answers[1],
+        ),
+        counter(
+            "rv_refused_other_version_total",
+            "Refusals 12 that left: hellos of another version than the session's.",
+            answers[11],
+        ),
         gauge(
             "rv_requests_unheard",
             "Requests that wait with no connection of their client.",
@@ -276,6 +340,66 @@ pub(crate) fn readings(numbers: &StatusNumbers) -> [StatusReading; 28]
             "rv_status_connections",
             "Connections to this page that are open.",
             numbers.status_connections,
+        ),
+        counter(
+            "rv_told_cancelled_total",
+            "Answers that left: that a request was cancelled.",
+            answers[12],
+        ),
+        counter(
+            "rv_told_counted_total",
+            "Answers that left: how many items and consumers there are.",
+            answers[13],
+        ),
+        counter(
+            "rv_told_done_total",
+            "Answers that left: that an item was put.",
+            answers[14],
+        ),
+        counter(
+            "rv_told_drained_total",
+            "Answers that left: items that were drained.",
+            answers[15],
+        ),
+        counter(
+            "rv_told_empty_total",
+            "Answers that left: that nothing was there.",
+            answers[16],
+        ),
+        counter(
+            "rv_told_item_total",
+            "Answers that left: an item.",
+            answers[17],
+        ),
+        counter(
+            "rv_told_nobody_total",
+            "Answers that left: that nobody took an item.",
+            answers[18],
+        ),
+        counter(
+            "rv_told_peeked_total",
+            "Answers that left: an item that stays.",
+            answers[19],
+        ),
+        counter(
+            "rv_told_received_total",
+            "Answers that left: that an item was received.",
+            answers[20],
+        ),
+        counter(
+            "rv_told_swapped_total",
+            "Answers that left: an item that was swapped.",
+            answers[21],
+        ),
+        counter(
+            "rv_told_timed_out_total",
+            "Answers that left: that a wait timed out.",
+            answers[22],
+        ),
+        counter(
+            "rv_told_waiting_total",
+            "Answers that left: that a request still waits.",
+            answers[23],
         ),
         gauge(
             "rv_uptime_seconds",

@@ -61,7 +61,7 @@ n minutes\"></svg></figure>\n\
 <p class=\"soft\">Their client is gone, or comes back soon. A hello of a greater incarnation ends \
 such a request, for good:</p>\n\
 <div class=\"scroll\"><table id=\"unheard\"></table></div>\n\
-<h2>Faults</h2>\n\
+<h2>Faults and refusals</h2>\n\
 <div class=\"scroll\"><table id=\"faults\"></table></div>\n\
 <h2>Queues</h2>\n\
 <div class=\"scroll\"><table id=\"queues\"></table></div>\n\
@@ -97,6 +97,18 @@ memory: \"connections that found no memory\", most_held: \"connections closed th
 ll held too much (--memory)\",\n\
 stall: \"connections closed within a frame, or whose peer took no answer (--stall)\", unwritten: \"\
 turns in which lines of the account found no memory\",\n\
+refused_bad_text: \"refused 1: no message\", refused_other_epoch: \"refused 2: of another epoch, a\
+s after a restart\",\n\
+refused_no_session: \"refused 3: a client that said no hello\", refused_old_incarnation: \"refused \
+4: a client that was started anew\",\n\
+refused_old_number: \"refused 5: an earlier request\", refused_other_call: \"refused 6: another cal\
+l under the same number\",\n\
+refused_busy: \"refused 7: while another request of the client waits\", refused_gap: \"refused 8: \
+a number was left out\",\n\
+refused_clients_full: \"refused 9: new clients, where there are as many as may be (--clients)\",\n\
+refused_epoch_full: \"refused 10: no room for what would stay (--open)\", refused_no_memory: \"refu\
+sed 11: no memory\",\n\
+refused_other_version: \"refused 12: another version than the session's\",\n\
 };\n\
 let heard = 0;\n\
 function card(name, value, part, limit, text = count) {\n\
@@ -167,7 +179,8 @@ const n = told.numbers, history = told.history, now = n.rv_uptime_seconds, last 
 const gain = (samples, column) => samples.length < 2 ? 0\n\
 : (samples[samples.length - 1][column] - samples[0][column]) / Math.max(1, samples[samples.lengt\
 h - 1][0] - samples[0][0]);\n\
-at(\"since\").textContent = \"epoch \" + n.rv_epoch + \", up for \" + span(now);\n\
+at(\"since\").textContent = \"rv \" + told.version + \", epoch \" + n.rv_epoch + \", up for \" + span(no\
+w);\n\
 const cards = [\n\
 card(\"connections\", n.rv_connections, \"of\", n.rv_connections_limit), card(\"clients\", n.rv_client\
 s, \"of\", n.rv_clients_limit),\n\
@@ -182,15 +195,15 @@ picture(history, now);\n\
 const who = row => [row[0], row[1], span(Math.max(0, now - Math.floor(row[2] / 1000))), ...row.s\
 lice(3)];\n\
 const heads = [\"<call\", \"at\", \"waits for\", \"client\", \"incarnation\", \"number\"];\n\
-const name = /^rv_fault_(\\w+)_total$/, faults = Object.entries(n).filter(each => name.test(each[\
-0]) && each[1]);\n\
+const name = /^rv_(?:fault_(\\w+)|(refused_\\w+))_total$/, faults = Object.entries(n).filter(each \
+=> name.test(each[0]) && each[1]);\n\
 fill(\"unheard\", [...heads, \"<what ends it\"], told.unheard.map(row => [...who(row),\n\
 \"rv call --connect ADDR --client \" + row[3] + \" --incarnation \" + (row[4] + 1) + \" --tries 1 --s\
 peak 1 < /dev/null\"]),\n\
 \"none\", n.rv_requests_unheard - told.unheard.length);\n\
 fill(\"waiting\", heads, told.waiting.map(who), \"none\", n.rv_requests_waiting - told.waiting.lengt\
 h);\n\
-const kinds = faults.map(each => [each[0].match(name)[1], each[1]]);\n\
+const kinds = faults.map(each => [each[0].match(name)[1] || each[0].match(name)[2], each[1]]);\n\
 fill(\"faults\", [\"<kind\", \"since the start\", \"<what it is\"], kinds.map(each => [each[0], count(ea\
 ch[1]), FAULTS[each[0]] || \"\"]), \"none\", 0);\n\
 const used = told.queues.filter(row => row[1] + row[2]).sort((a, b) => b[1] + b[2] - a[1] - a[2]\
