@@ -11,7 +11,8 @@ returns c =
     (cons_same c.gauge-7.ensures (cons_same c.counter-4.ensures (cons_same c.counter-5.ensures
     (cons_same c.counter-6.ensures (cons_same c.counter-7.ensures (cons_same c.counter-8.ensures
     (cons_same c.counter-9.ensures (cons_same c.counter-10.ensures (cons_same c.counter-11.ensures
-    (cons_same c.counter-12.ensures (cons_same c.counter-13.ensures (cons_same c.counter-14.ensures (cons_same c.counter-15.ensures (cons_same c.gauge-8.ensures
+    (cons_same c.counter-12.ensures (cons_same c.counter-13.ensures (cons_same c.counter-14.ensures
+    (cons_same c.counter-15.ensures (cons_same c.gauge-8.ensures
     (cons_same c.gauge-9.ensures (cons_same c.counter-16.ensures (cons_same c.counter-17.ensures
     (cons_same c.counter-18.ensures (cons_same c.counter-19.ensures (cons_same c.counter-20.ensures
     (cons_same c.counter-21.ensures (cons_same c.counter-22.ensures (cons_same c.counter-23.ensures
