@@ -34,8 +34,9 @@ from tests.sockets.accounts import read_account  # noqa: E402
 WRONG = os.environ.get("RV_WRONG", "")
 PATIENCES = {"tells early that it waits": 5_000, "tells late that it waits": 25_000, "never tells that it waits": 10**9}
 PATIENCE = PATIENCES.get(WRONG, 10_000)
-# The bytes of a read, and the seconds between two looks at all connections, and between two accepts without a descriptor.
-READ, LOOK, AGAIN = 65_536, 0.5, 0.1
+# The bytes of a read, and the seconds between two looks at all connections, between two accepts without a descriptor, and for which
+# it pauses where no more may be held.
+READ, LOOK, AGAIN, FULL_PAUSE = 65_536, 0.5, 0.1, 0.01
 
 
 class HostEnds(Exception):
@@ -62,7 +63,8 @@ class DoubleHost:
         self.options, self.links, self.again, self.looked = options, {}, 0.0, 0.0
         # how many bytes were unread when all were looked at
         self.unread = 0
-        # since when more is held than may be
+        # how many bytes are held in all, as a turn goes on, and since when they are more than may be
+        self.total = 0
         self.full: float | None = None
         self.began = self.clock()
         self.epoch = self.chosen_epoch()
@@ -71,7 +73,7 @@ class DoubleHost:
         self.unwritten: list[bytes] = []
         self.hub = model.Hub(Terms(Limits(2**53 - 1, 65_536, 100_000), PATIENCE, self.account is not None))
         self.hub.state = State(self.epoch, 0)
-        self.poll = selectors.DefaultSelector()
+        self.poll, self.nothing = selectors.DefaultSelector(), selectors.DefaultSelector()
         self.poll.register(self.listener, selectors.EVENT_READ)
         self.listens = True
         self.write_account([b"epoch %d opened 0\n" % self.epoch])
@@ -118,7 +120,8 @@ class DoubleHost:
     def run(self) -> None:
         """Turns for ever."""
         while True:
-            events = self.poll.select(self.wait())
+            events = self.events()
+            self.total = self.held_in_all()
             self.bar()
             self.tell(Passed())
             for key, mask in events:
@@ -134,11 +137,18 @@ class DoubleHost:
                 self.write(number)
             self.look_over()
 
+    def events(self) -> list[tuple[selectors.SelectorKey, int]]:
+        """What the poll tells; where no more may be held, only who comes, after a pause, since nobody is read."""
+        if not self.is_full():
+            return self.poll.select(self.wait())
+        self.nothing.select(FULL_PAUSE)
+        return [(key, mask) for key, mask in self.poll.select(0) if key.fileobj is self.listener]
+
     def bar(self) -> None:
         """Who could not be read until now has all its time from now on."""
         for number, link in self.links.items():
             view = self.hub.view(number)
-            if link.pending or (view is not None and not view.may_offer):
+            if link.pending or self.is_full() or (view is not None and not view.may_offer):
                 link.barred = time.monotonic()
 
     def wait(self) -> float:
@@ -256,6 +266,7 @@ class DoubleHost:
                 raise HostEnds("a link broke") from None
             return self.drop(number)
         if piece:
+            self.total += len(piece)
             link.heard, link.pending = time.monotonic(), piece
             self.offer(number)
         else:
@@ -332,20 +343,24 @@ class DoubleHost:
         return {number: len(link.pending) + view.unread + view.held * answers for number, link in self.links.items()
                 if (view := self.hub.view(number)) is not None}
 
+    def held_in_all(self) -> int:
+        """How many bytes are held of all connections."""
+        return self.unread + sum(self.held().values())
+
     def is_full(self) -> bool:
-        """Whether more is held than may be."""
-        return self.unread + sum(self.held().values()) > self.options.memory << 20
+        """Whether more is held than may be, as far as is known in this turn."""
+        return self.total > self.options.memory << 20
 
     def make_room(self) -> None:
         """Ends those that hold most, where all have held too much for as long as a peer may stall."""
-        now = time.monotonic()
+        now, self.total = time.monotonic(), self.held_in_all()
         if not self.is_full():
             self.full = None
             return
         self.full = now if self.full is None else self.full
         if now - self.full < self.options.stall:
             return
-        held = self.held()
+        held, self.full = self.held(), None
         while self.unread + sum(held.values()) > self.options.memory << 20 and held and WRONG != "closes nobody who holds much":
             number = max(held, key=lambda number: held[number])
             if WRONG == "closes the first who holds anything":
