@@ -36,7 +36,7 @@ PATIENCES = {"tells early that it waits": 5_000, "tells late that it waits": 25_
 PATIENCE = PATIENCES.get(WRONG, 10_000)
 # The bytes of a read, and the seconds between two looks at all connections, between two accepts without a descriptor, and for which
 # it pauses where no more may be held.
-READ, LOOK, AGAIN, FULL_PAUSE = 65_536, 0.5, 0.1, 0.01
+READ, LOOK, AGAIN, FULL_PAUSE = 4_096, 0.5, 0.1, 0.01
 
 
 class HostEnds(Exception):
@@ -54,6 +54,9 @@ class Link:
     barred: float = 0.0
     pending: bytes = field(default=b"")
     first: float | None = None
+    # whether the poll tells of it, and whether its input has ended
+    polled: bool = True
+    ended: bool = False
 
 
 class DoubleHost:
@@ -124,7 +127,8 @@ class DoubleHost:
             self.total = self.held_in_all()
             self.bar()
             self.tell(Passed())
-            for key, mask in events:
+            # whoever connected last is read first, since the room may be for one alone
+            for key, mask in sorted(events, key=lambda event: event[0].data or 0, reverse=True):
                 if key.fileobj is self.listener:
                     self.accept()
                 elif mask & selectors.EVENT_READ:
@@ -136,6 +140,8 @@ class DoubleHost:
             for number in list(self.links):
                 self.write(number)
             self.look_over()
+            for number in list(self.links):
+                self.heed(number)
 
     def events(self) -> list[tuple[selectors.SelectorKey, int]]:
         """What the poll tells; where no more may be held, only who comes, after a pause, since nobody is read."""
@@ -143,6 +149,18 @@ class DoubleHost:
             return self.poll.select(self.wait())
         self.nothing.select(FULL_PAUSE)
         return [(key, mask) for key, mask in self.poll.select(0) if key.fileobj is self.listener]
+
+    def heed(self, number: int) -> None:
+        """The poll tells of a connection as long as it may be read."""
+        link, view = self.links[number], self.hub.view(number)
+        may_be = view is not None and view.may_offer and not link.pending and not link.ended
+        if may_be == link.polled:
+            return
+        link.polled = may_be
+        if may_be:
+            self.poll.register(link.socket, selectors.EVENT_READ, number)
+        else:
+            self.poll.unregister(link.socket)
 
     def bar(self) -> None:
         """Who could not be read until now has all its time from now on."""
@@ -270,7 +288,7 @@ class DoubleHost:
             link.heard, link.pending = time.monotonic(), piece
             self.offer(number)
         else:
-            self.poll.unregister(link.socket)
+            link.ended = True
             self.tell(Ended(number))
 
     @staticmethod
@@ -312,7 +330,7 @@ class DoubleHost:
     def drop(self, number: int) -> None:
         """A connection whose peer is gone."""
         if WRONG == "forgets who is gone":
-            self.poll.unregister(self.links[number].socket)
+            self.links[number].ended = True
             return
         self.tell(Gone(number))
         self.let_go(number)
@@ -369,6 +387,7 @@ class DoubleHost:
             self.drop(number)
             if WRONG == "closes all that hold anything":
                 held = {number: size for number, size in held.items() if size and not self.drop(number)}
+        self.total = self.held_in_all()
 
     def is_over(self, number: int, now: float) -> bool:
         """Whether a connection's time is over."""

@@ -22,6 +22,8 @@ BEHIND, LARGEST, MORE = [3_900] * 12 + [3_950] + [3_900] * 255, 12, 3_900
 STALL, QUEUES = 4, 7
 # Peers that take no answers, of each of which a host holds more than so many bytes.
 DEAF, HELD = 2, 65_536
+# So many wait fewer where there is to be room for what peers that take no answers have sent.
+ROOM = 4
 # A client that comes where nothing more may be held.
 LATE = 1_000
 # Half frames that are far more than may be held, the most bytes that come at a time, and so often it is looked how much is held.
@@ -85,14 +87,15 @@ def a_begun_frame_waits_for_room(program: str) -> None:
 def answers_count(program: str) -> None:
     """Bytes behind requests that wait fit into --memory, but not beside the answers of peers that take none: who comes then is read
     once that has lasted for --stall, when those that hold most are closed, and no others."""
+    behind = BEHIND[:-ROOM]
     with Stopped(program, options=("--memory", str(MEBIBYTE), "--stall", str(STALL))) as host:
-        demand(sum(BEHIND) <= BYTES < sum(BEHIND) + HELD and max(BEHIND) < HELD, "the answers are not too much")
+        demand(sum(behind) + DEAF * PIECE < BYTES < sum(behind) + HELD and max(behind) < HELD, "the answers are not just too much")
         deaf = [host.connect(receive=KEPT) for _ in range(DEAF)]
-        with closing([host.greeted(client) for client in range(1, len(BEHIND) + 1)]) as waiting, closing(deaf), host.connect() as late:
-            wait_behind(waiting, BEHIND)
+        with closing([host.greeted(client) for client in range(1, len(behind) + 1)]) as waiting, closing(deaf), host.connect() as late:
+            wait_behind(waiting, behind)
             until("the host rests", host.rests)
             host.at(ASKED)
-            for client, peer in enumerate(deaf, len(BEHIND) + 1):
+            for client, peer in enumerate(deaf, len(behind) + 1):
                 ask_and_never_read(peer, client, QUESTIONS)
             until("the host rests", host.rests)
             late.send(frame(hello(LATE)))
