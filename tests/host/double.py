@@ -154,7 +154,7 @@ class DoubleHost:
         """The poll tells of a connection as long as it may be read."""
         link, view = self.links[number], self.hub.view(number)
         may_be = view is not None and view.may_offer and not link.pending and not link.ended
-        if may_be == link.polled:
+        if may_be == link.polled or WRONG == "ends a connection with its input":
             return
         link.polled = may_be
         if may_be:
