@@ -288,7 +288,8 @@ class DoubleHost:
             link.heard, link.pending = time.monotonic(), piece
             self.offer(number)
         else:
-            link.ended = True
+            self.poll.unregister(link.socket)
+            link.ended, link.polled = True, False
             self.tell(Ended(number))
 
     @staticmethod
@@ -330,7 +331,10 @@ class DoubleHost:
     def drop(self, number: int) -> None:
         """A connection whose peer is gone."""
         if WRONG == "forgets who is gone":
-            self.links[number].ended = True
+            link = self.links[number]
+            if link.polled:
+                self.poll.unregister(link.socket)
+            link.ended, link.polled = True, False
             return
         self.tell(Gone(number))
         self.let_go(number)
