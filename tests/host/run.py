@@ -23,7 +23,8 @@ from tests.faults.system import systems  # noqa: E402
 from tests.clients import cancelled_tasks, drains, interrupted, java, receipts  # noqa: E402
 from tests.clients import crowds as client_crowds  # noqa: E402
 from tests.host import (  # noqa: E402
-    addresses, counters, ends, fair, files, hostile, many, memory, moments, options, says, sockets, starts, status, system, waits)
+    addresses, counters, ends, fair, files, hostile, many, memory, moments, options, says, sockets, starts, status, storm, system,
+    waits)
 from tests.sockets import calls, crowds, plain, times  # noqa: E402
 from tests.sockets import hostile as noisy  # noqa: E402
 from tests.sockets.cases import Count, came_of  # noqa: E402
@@ -146,6 +147,7 @@ def main() -> None:
     parser.add_argument("--seconds", type=float, default=CROWD, help="how long the clients' crowd asks")
     parser.add_argument("--silent", type=int, default=SILENT, help="silent connections, at most")
     parser.add_argument("--back", type=int, help="in place of all that so many clients that come back within ten seconds")
+    parser.add_argument("--storm", action="store_true", help="in place of all that thousands of peers that send without end")
     parser.add_argument("--torture", type=float, help="in place of all that the random cases, for so many seconds")
     parser.add_argument("--selftest", action="store_true", help="test the cases themselves, on hosts that are wrong")
     parser.add_argument("--only", default="", help="only the cases with these words in their name")
@@ -160,6 +162,8 @@ def main() -> None:
             count.try_doubles(WRONGS, of_double)
         elif asked.back:
             count.run(name_of(starts.in_time), starts.in_time, program, min(asked.back, many.room()))
+        elif asked.storm:
+            count.run(name_of(storm.beside_a_storm), storm.beside_a_storm, program)
         elif asked.torture:
             torture(program, asked, count)
         else:
