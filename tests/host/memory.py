@@ -2,8 +2,10 @@
 host itself."""
 from __future__ import annotations
 
+import contextlib
 import resource
 import time
+from collections.abc import Iterator
 
 from tests.host.hostile import ask_and_never_read
 from tests.host.many import closing, connected
@@ -20,9 +22,9 @@ MEBIBYTE, BYTES = 1, 1 << 20
 BEHIND, LARGEST, MORE = [3_900] * 12 + [3_950] + [3_900] * 255, 12, 3_900
 # The seconds for which the memory may be full, and the queues of those who wait, from 0 on, for which nobody else asks.
 STALL, QUEUES = 4, 7
-# Peers that take no answers, of each of which a host holds more than so many bytes.
-DEAF, HELD = 2, 65_536
-# So many wait fewer where there is to be room for what peers that take no answers have sent.
+# A host holds more than so many bytes of a peer that takes no answers.
+HELD = 65_536
+# So many wait fewer where there is to be room for what a peer that takes no answers has sent.
 ROOM = 4
 # A client that comes where nothing more may be held.
 LATE = 1_000
@@ -65,46 +67,45 @@ def half_frame(count: int) -> bytes:
 def a_begun_frame_waits_for_room(program: str) -> None:
     """Who has begun a frame isn't ended for its rest, which isn't read where nothing more may be held; it is answered once there is
     room, though that lasted for --stall."""
+    whole = frame(hello(LATE))
+    with filled(program, BEHIND[:-ROOM], whole[:-1]) as (host, late, _):
+        late.send(whole[-1:])
+        host.at(ASKED + 1_000 * STALL - 1)
+        demand(is_silent(late), "the rest of a frame is read where nothing more may be held")
+        host.at(ASKED + 1_000 * STALL + LOOK_OVER)
+        demand(late.hear() == welcome(LATE), "who began a frame isn't welcome where there is room again")
+
+
+@contextlib.contextmanager
+def filled(program: str, behind: list[int], begun: bytes = b"") -> Iterator[tuple[Stopped, Peer, list[Peer]]]:
+    """A host in which nothing more may be held: a peer takes none of its answers, and others wait with so many bytes behind their
+    requests, which alone would fit. One more peer has begun by these bytes. It has been so since ASKED."""
+    demand(sum(behind) + PIECE < BYTES < sum(behind) + HELD and max(behind) < HELD, "the answers are not just too much")
     with Stopped(program, options=("--memory", str(MEBIBYTE), "--stall", str(STALL))) as host:
-        deaf = [host.connect(receive=KEPT) for _ in range(DEAF)]
-        with closing([host.greeted(client) for client in range(1, len(BEHIND) + 1)]) as waiting, closing(deaf), host.connect() as late:
-            whole = frame(hello(LATE))
-            late.send(whole[:-1])
-            wait_behind(waiting, BEHIND)
+        deaf = host.connect(receive=KEPT)
+        with deaf, closing([host.greeted(client) for client in range(1, len(behind) + 1)]) as waiting, host.connect() as late:
+            late.send(begun)
             until("the host rests", host.rests)
             host.at(ASKED)
-            for client, peer in enumerate(deaf, len(BEHIND) + 1):
-                ask_and_never_read(peer, client, QUESTIONS)
+            ask_and_never_read(deaf, len(behind) + 1, QUESTIONS)
+            # it takes no more for good, before others make the bound full
             until("the host rests", host.rests)
-            late.send(whole[-1:])
-            host.at(ASKED + 1_000 * STALL - 1)
-            demand(is_silent(late), "the rest of a frame is read where nothing more may be held")
-            host.at(ASKED + 1_000 * STALL + LOOK_OVER)
-            demand(late.hear() == welcome(LATE), "who began a frame isn't welcome where there is room again")
+            wait_behind(waiting, behind)
+            until("the host rests", host.rests)
+            yield host, late, waiting
         host.ended()
 
 
 def answers_count(program: str) -> None:
-    """Bytes behind requests that wait fit into --memory, but not beside the answers of peers that take none: who comes then is read
-    once that has lasted for --stall, when those that hold most are closed, and no others."""
-    behind = BEHIND[:-ROOM]
-    with Stopped(program, options=("--memory", str(MEBIBYTE), "--stall", str(STALL))) as host:
-        demand(sum(behind) + DEAF * PIECE < BYTES < sum(behind) + HELD and max(behind) < HELD, "the answers are not just too much")
-        deaf = [host.connect(receive=KEPT) for _ in range(DEAF)]
-        with closing([host.greeted(client) for client in range(1, len(behind) + 1)]) as waiting, closing(deaf), host.connect() as late:
-            wait_behind(waiting, behind)
-            until("the host rests", host.rests)
-            host.at(ASKED)
-            for client, peer in enumerate(deaf, len(behind) + 1):
-                ask_and_never_read(peer, client, QUESTIONS)
-            until("the host rests", host.rests)
-            late.send(frame(hello(LATE)))
-            host.at(ASKED + 1_000 * STALL - 1)
-            demand(is_silent(late), "who comes is read where nothing more may be held")
-            host.at(ASKED + 1_000 * STALL + LOOK_OVER)
-            demand(late.hear() == welcome(LATE), "who came isn't welcome where there is room again")
-            demand(all(map(is_silent, waiting)), "of those that hold less some are closed")
-        host.ended()
+    """Bytes behind requests that wait fit into --memory, but not beside the answers of a peer that takes none: who comes then is read
+    once that has lasted for --stall, when that one is closed, and no other."""
+    with filled(program, BEHIND[:-ROOM]) as (host, late, waiting):
+        late.send(frame(hello(LATE)))
+        host.at(ASKED + 1_000 * STALL - 1)
+        demand(is_silent(late), "who comes is read where nothing more may be held")
+        host.at(ASKED + 1_000 * STALL + LOOK_OVER)
+        demand(late.hear() == welcome(LATE), "who came isn't welcome where there is room again")
+        demand(all(map(is_silent, waiting)), "of those that hold less some are closed")
 
 
 def a_bound_stands(program: str) -> None:
