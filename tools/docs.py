@@ -10,6 +10,7 @@ import re
 import shutil
 import subprocess
 import sys
+from typing import Iterator, List, Tuple
 
 ROOT = pathlib.Path(__file__).resolve().parents[1]
 sys.dont_write_bytecode, sys.path[0] = True, str(ROOT)
@@ -88,6 +89,8 @@ GROWTHS = [
     (False, "pub enum Fault { Bad, NoMemory(AllocError), Of { refused: AllocError } }"),
     (False, "// Err(AllocError)\nlet text = \"Err(AllocError)\";"),
 ]
+# Names between backticks in MODEL that are of no definition and of no function.
+NO_WORDS = ("rv", "serde_json", "timedout", "SynchronousQueue", "getWaitingConsumerCount")
 counts = collections.Counter()
 
 
@@ -131,20 +134,46 @@ def quoted(cell):
     return re.findall(r"`([^`]+)`", cell)
 
 
-def words():
-    """Each word that MODEL says stands in the specifications is declared there, in the crate that it says."""
-    for header, rows in tables(MODEL):
-        for row in rows if "Word" in header else []:
-            crate = row[header.index("Crate")] if "Crate" in header else "*"
-            for word in quoted(row[header.index("Word")]):
-                check(declared(word, crate), f"MODEL: no word {word} in crates/{crate}/specs")
+def sections(path: pathlib.Path) -> Iterator[Tuple[str, List[str]]]:
+    """The headings of a document, without their marks, each with the lines up to the next one."""
+    heading, lines = "", []
+    for line in prose(path):
+        if re.match(r"#+ ", line):
+            yield heading, lines
+            heading, lines = line.lstrip("#").strip(), []
+        else:
+            lines.append(line)
+    yield heading, lines
 
 
-def declared(word, crate):
-    """Whether a crate's specifications declare a word, or are a module of that name."""
-    form = re.compile(rf"^ *((abbrev|record|data|pub|unfoldable)\s+)+{re.escape(word)}(?![\w-])", re.M)
-    paths = list(ROOT.glob(f"crates/{crate}/specs/**/*.antt"))
-    return any(path.stem == word or form.search(path.read_text()) for path in paths)
+def items(path: pathlib.Path, wanted: str) -> List[str]:
+    """The items of the list under a heading, each in one line."""
+    lines = next(lines for heading, lines in sections(path) if heading == wanted)
+    found: List[str] = []
+    for line in lines:
+        if line.startswith("- "):
+            found.append(line[2:])
+        elif line.startswith("  ") and found:
+            found[-1] += " " + line.strip()
+    return found
+
+
+def named(item: str) -> List[Tuple[str, str]]:
+    """The names of an item, each with its crate: "rv_one: `name`, `name`; rv_other: `name`"."""
+    pieces = re.findall(r"\b(rv_\w+): (`[\w.]+`(?:, `[\w.]+`)*)", item)
+    return [(crate, name) for crate, names in pieces for name in quoted(names)]
+
+
+def words() -> None:
+    """Each name that MODEL has in its text is a definition, one of its cases, or a function."""
+    lists = ("15. The promises", "Laws", "17. Wrong bodies")
+    text = "\n".join(line for heading, lines in sections(MODEL) if heading not in lists for line in lines)
+    specs = "\n".join(path.read_text(encoding="utf-8") for path in ROOT.glob("crates/*/specs/**/*.antt"))
+    sources = "\n".join(path.read_text(encoding="utf-8") for path in ROOT.glob("crates/*/src/**/*.rt"))
+    declared = set(re.findall(r"^ *(?:(?:abbrev|record|data|pub|unfoldable)\s+)+([\w'-]+)|^ +(\w+) :", specs, re.M))
+    known = {name for pair in declared for name in pair} | set(re.findall(r"\bfn (\w+)", sources)) | set(NO_WORDS)
+    for word in sorted(set(re.findall(r"`([A-Za-z]\w*)`", text))):
+        check(word in known, f"MODEL: there is no {word} in crates/*/specs, nor in crates/*/src")
 
 
 def names():
@@ -198,25 +227,24 @@ def refusals():
 
 
 def laws():
-    """MODEL names each law of the code, and no other."""
-    rows = [row for header, rows in tables(MODEL) if "Statement" in header and header[-1] == "Crate" for row in rows]
-    named = {law for row in rows for law in quoted(row[-1])}
-    texts = [path.read_text() for path in ROOT.glob("crates/*/src/laws.rt")]
-    standing = {law for text in texts for law in re.findall(r"^pub fn (\w+)", text, re.M)}
-    for law in sorted(named | standing):
-        check(law in named, f"MODEL: the law {law} is not named")
-        check(law in standing, f"MODEL: there is no law {law}")
+    """MODEL names each law of the code, and no other; `.._end` is each law of its crate that ends so."""
+    told = {pair for item in items(MODEL, "Laws") for pair in named(item)}
+    standing = {(path.parts[-3], law) for path in ROOT.glob("crates/*/src/laws.rt")
+                for law in re.findall(r"^pub fn (\w+)", path.read_text(), re.M)}
+    families = {(crate, name[2:]) for crate, name in told if name.startswith("..")}
+    for crate, law in sorted(standing):
+        in_family = any(crate == other and law.endswith(end) for other, end in families)
+        check((crate, law) in told or in_family, f"MODEL: the law {law} of {crate} is not named")
+    for crate, name in sorted(told):
+        there = any(crate == other and (name == law or name[:2] == ".." and law.endswith(name[2:])) for other, law in standing)
+        check(there, f"MODEL: there is no law {name} in {crate}")
 
 
 def promises():
     """Each function that MODEL names beside a promise stands in the sources of the crate that it says."""
-    for header, rows in tables(MODEL):
-        for row in rows if header[-1] == "Function" else []:
-            for piece in row[-1].split(";") if row[-1] != "all" else []:
-                crate, *_ = re.findall(r"\brv_\w+", piece)
-                sources = "\n".join(path.read_text(encoding="utf-8") for path in ROOT.glob(f"crates/{crate}/src/**/*.rt"))
-                for name in quoted(piece):
-                    check(re.search(rf"\bfn {name}\b", sources), f"MODEL: there is no function {name} in {crate}")
+    for crate, name in [pair for item in items(MODEL, "15. The promises") for pair in named(item)]:
+        sources = "\n".join(path.read_text(encoding="utf-8") for path in ROOT.glob(f"crates/{crate}/src/**/*.rt"))
+        check(re.search(rf"\bfn {name}\b", sources), f"MODEL: there is no function {name} in {crate}")
 
 
 def edits():
@@ -224,20 +252,14 @@ def edits():
     found = [path for kind in KINDS for path in ROOT.glob(f"crates/*/{kind}/*.edit")]
     paths = {path: (path.parts[-3], path.stem) for path in found}
     there = set(paths.values())
-    for header, rows in tables(MODEL):
-        for row in rows if header[-1] == "Edit" else []:
-            crates = re.findall(r"\brv_\w+", f"{row[-1]} {row[0]}")
-            for word in quoted(row[-1]):
-                check((crates[0], word) in there, f"MODEL: there is no edit {word} of {crates[0]}")
+    for crate, word in [pair for item in items(MODEL, "17. Wrong bodies") for pair in named(item)]:
+        check((crate, word) in there, f"MODEL: there is no edit {word} of {crate}")
     for path in sorted(paths):
         check(path.read_text().startswith("# "), f"{path.relative_to(ROOT)} does not begin by a line '# ..' that says what it does")
     check(len(there) == len(paths), f"an edit stands in two of {KINDS}")
     gate = {paths[path] for path in paths if path.parts[-2] in ("must-fail", "test-edits")}
-    for header, rows in tables(MODEL):
-        for row in rows if header == ["Wrong body", "Edit"] else []:
-            crates, words = re.findall(r"\brv_\w+", row[-1]), quoted(row[-1])
-            stands = any((crate, word) in gate for crate in crates for word in words)
-            check(stands or not words, f"MODEL: {row[0]}: no edit of the gate, nor one that a test must see")
+    for item in items(MODEL, "17. Wrong bodies"):
+        check(gate & set(named(item)), f"MODEL: {item}: no edit of the gate, nor one that a test must see")
 
 
 def made():
