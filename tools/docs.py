@@ -25,8 +25,7 @@ TESTS_PAGE = ROOT / "tests/README.md"
 # The rows of the tables of limits in FORMATS, by their first cell without marks, and the constant in the code that
 # the greatest number of the second cell is.
 LIMITS = {
-    "client, epoch, incarnation, number": "MAX_IDENTIFIER",
-    "by_client, by_incarnation, by_number": "MAX_IDENTIFIER",
+    "client, epoch, incarnation, number, by_client, by_incarnation, by_number, current, open": "MAX_IDENTIFIER",
     "version": "Version::number",
     "queue, exchanger": "MAX_QUEUE",
     "item": "MAX_ITEM_BYTES",
@@ -35,7 +34,6 @@ LIMITS = {
     "wait": "MAX_WAIT",
     "items, consumers": "MAX_COUNTED",
     "code": "Refusal::code",
-    "current, open": "MAX_IDENTIFIER",
     "current of code 12": "Version::number",
     "last": "MAX_IDENTIFIER",
     "a body": "MAX_BODY_BYTES",
