@@ -1,8 +1,10 @@
 #!/usr/bin/env python3
 """Checks what a machine can of the documents: words, names, files, laws, edits, printed lists, public functions, links, limits, rows
-of commands, lengths and the logic of the kit; and that no source makes want of memory of nothing.
+of commands, lengths and the logic of the kit; that none says 'behind' for 'after'; that no source makes want of memory of nothing.
 
-usage: tools/docs.py
+usage: tools/docs.py [--behind]
+
+With --behind it checks nothing, but lists the comments of sources, definitions and proofs that say 'behind' for 'after'.
 """
 import collections
 import pathlib
@@ -89,6 +91,19 @@ GROWTHS = [
 ]
 # Names between backticks in MODEL that are of no definition and of no function.
 NO_WORDS = ("rv", "serde_json", "timedout", "SynchronousQueue", "getWaitingConsumerCount")
+# What may stand behind something, and texts that say 'behind' for 'after', and texts that do not.
+IN_PLACE = re.compile(r"`[^`]*`|\b(?:lea\w+|left) behind\b|\bbehind (?:(?:an?|its|the|their) )?\[?(?:lock|proxy|sockets|tunnel)\b",
+                      re.IGNORECASE)
+LATE = [
+    (True, "What holds behind each event."),
+    (True, "Behind the last byte none is taken"),
+    (True, "an item is put behind the others"),
+    (True, "the lock `of` which, behind it"),
+    (False, "A desk behind its lock."),
+    (False, "Behind a [tunnel](#encryption-by-stunnel) all have one address"),
+    (False, "what a run leaves behind, for each of its outcomes"),
+    (False, "`giver_behind` and `behind` search by halves"),
+]
 counts = collections.Counter()
 
 
@@ -440,6 +455,32 @@ def growths():
         check(not made_up, f"{path.relative_to(ROOT)} makes want of memory of nothing in lines {made_up}")
 
 
+def late(text: str) -> bool:
+    """Whether a text says 'behind' where it means 'after'."""
+    return re.search(r"\bbehind\b", IN_PLACE.sub("", text), re.IGNORECASE) is not None
+
+
+def behind() -> None:
+    """No document says 'behind' for 'after'."""
+    for is_late, text in LATE:
+        check(late(text) == is_late, f"{text!r} says {'' if is_late else 'no '}'behind' for 'after'")
+    for path in documents():
+        lines = path.read_text(encoding="utf-8").split("\n")
+        found = [number for number, line in enumerate(lines, 1) if late(line)]
+        check(not found, f"{path.relative_to(ROOT)} says 'behind' for 'after' in lines {found}")
+
+
+def late_comments() -> Iterator[str]:
+    """The public comments of sources, and all of definitions and proofs, that say 'behind' for 'after', each at its place."""
+    comments = r"(?:.*\s)?--\s(.*)"
+    for form, mark in (("src/**/*.rt", r"\s*//[/!](.*)"), ("specs/**/*.antt", comments), ("proofs/**/*.antt", comments)):
+        for path in sorted(ROOT.glob(f"crates/*/{form}")):
+            for number, line in enumerate(path.read_text(encoding="utf-8").split("\n"), 1):
+                comment = re.match(mark, line)
+                if comment and late(comment[1]):
+                    yield f"{path.relative_to(ROOT)}:{number}:{comment[1]}"
+
+
 def lengths():
     """The first page is short, and so is the Python client's."""
     pages = {"README.md": {"lines": README_LINES, "words": README_WORDS}, "clients/python/README.md": {"words": README_WORDS}}
@@ -477,7 +518,12 @@ def versions():
 
 
 PARTS = [words, names, places, files, refusals, laws, promises, edits, made, functions, links, limits, standing, commands, sizes, widths,
-         growths, lengths, kit, versions]
+         growths, behind, lengths, kit, versions]
+if sys.argv[1:] == ["--behind"]:
+    print("\n".join(late_comments()))
+    sys.exit()
+if sys.argv[1:]:
+    sys.exit(__doc__.strip().split("\n\n")[1])
 for part in PARTS:
     part()
 print(f"{counts[True]} passed, {counts[False]} failed")
