@@ -39,10 +39,12 @@ def connected(port: int, count: int, patience: float = PATIENCE) -> list[Peer]:
     return [Peer(link) for link in links]
 
 
-def begun(port: int) -> socket.socket:
-    """A connection that may not be made yet."""
+def begun(port: int, receive: int | None = None) -> socket.socket:
+    """A connection that may not be made yet. The system keeps little of what comes and isn't read, where it is told how much."""
     link = socket.socket()
     link.setblocking(False)
+    if receive is not None:
+        link.setsockopt(socket.SOL_SOCKET, socket.SO_RCVBUF, receive)
     with contextlib.suppress(BlockingIOError):
         link.connect(("127.0.0.1", port))
     return link

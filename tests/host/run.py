@@ -23,8 +23,8 @@ from tests.faults.system import systems  # noqa: E402
 from tests.clients import cancelled_tasks, drains, interrupted, java, receipts  # noqa: E402
 from tests.clients import crowds as client_crowds  # noqa: E402
 from tests.host import (  # noqa: E402
-    addresses, counters, ends, fair, files, hostile, many, memory, moments, options, says, sockets, starts, status, storm, system,
-    waits)
+    addresses, counters, ends, fair, files, hostile, many, memory, moments, options, peers, says, sockets, starts, status, storm,
+    system, waits)
 from tests.sockets import calls, crowds, plain, times  # noqa: E402
 from tests.sockets import hostile as noisy  # noqa: E402
 from tests.sockets.cases import Count, came_of  # noqa: E402
@@ -124,6 +124,15 @@ def run_random(program: HostProgram, seed: int, count: Count) -> None:
     count.run(f"{name_of(spoilt)}, seed {seed}", spoilt, program, seed, SPOILT)
 
 
+def in_a_storm(program: HostProgram, peers: int, count: Count) -> None:
+    """Runs what is measured beside so many peers that send without end, and beside silent ones at the status address."""
+    count.run(name_of(storm.beside_a_storm), storm.beside_a_storm, program, peers)
+    for mebibytes in storm.MEMORIES:
+        name = f"{name_of(storm.memory_in_a_storm)}, --memory {mebibytes}"
+        count.run(name, storm.memory_in_a_storm, program, peers, mebibytes)
+    count.run(name_of(storm.status_beside_the_silent), storm.status_beside_the_silent, program)
+
+
 def torture(program: HostProgram, asked: argparse.Namespace, count: Count) -> None:
     """Runs the random cases with one seed after another, for so many seconds."""
     ends, seed = time.monotonic() + asked.torture, asked.seed
@@ -148,6 +157,7 @@ def main() -> None:
     parser.add_argument("--silent", type=int, default=SILENT, help="silent connections, at most")
     parser.add_argument("--back", type=int, help="in place of all that so many clients that come back within ten seconds")
     parser.add_argument("--storm", action="store_true", help="in place of all that thousands of peers that send without end")
+    parser.add_argument("--peers", type=int, default=peers.ALL, help="with --storm: how many such peers")
     parser.add_argument("--torture", type=float, help="in place of all that the random cases, for so many seconds")
     parser.add_argument("--selftest", action="store_true", help="test the cases themselves, on hosts that are wrong")
     parser.add_argument("--only", default="", help="only the cases with these words in their name")
@@ -163,7 +173,7 @@ def main() -> None:
         elif asked.back:
             count.run(name_of(starts.in_time), starts.in_time, program, min(asked.back, many.room()))
         elif asked.storm:
-            count.run(name_of(storm.beside_a_storm), storm.beside_a_storm, program)
+            in_a_storm(program, min(asked.peers, many.room()), count)
         elif asked.torture:
             torture(program, asked, count)
         else:

@@ -10,7 +10,17 @@ TICKS = os.sysconf("SC_CLK_TCK")
 
 def memory(pid: int) -> int:
     """The bytes of memory that a process has now."""
-    found = re.search(r"^VmRSS:\s+(\d+) kB$", pathlib.Path(f"/proc/{pid}/status").read_text(), re.MULTILINE)
+    return bytes_of(pid, "VmRSS")
+
+
+def most_memory(pid: int) -> int:
+    """The most bytes of memory that a process has had at once."""
+    return bytes_of(pid, "VmHWM")
+
+
+def bytes_of(pid: int, name: str) -> int:
+    """The bytes that the system tells of a process under a name."""
+    found = re.search(rf"^{name}:\s+(\d+) kB$", pathlib.Path(f"/proc/{pid}/status").read_text(), re.MULTILINE)
     return 1_024 * int(found[1]) if found else 0
 
 
