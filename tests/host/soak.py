@@ -1,10 +1,12 @@
 #!/usr/bin/env python3
-"""A soak of `rv host`: crowds on bad links, whose clients are killed, for so many seconds; and then so many entries.
+"""A soak of `rv host`: crowds on bad links, whose clients are killed, for so many seconds, beside peers that send without end or take no
+answers; and then so many entries.
 
-Memory must be flat behind the first tenth, a hand-over as prompt as at the start, the account legal, each record kept. All of
-it stays on this machine's loopback, and stops by itself. The last line counts the parts.
+The host must serve to the end, a hand-over be as prompt as at the start, the account legal, each record kept. Beside peers memory must
+be within what --memory lets it be, and without them flat behind the first tenth. All of it stays on this machine's loopback, and stops
+by itself. The last line counts the parts.
 
-usage: tests/host/soak.py PROGRAM [--seconds 600] [--entries 20000000]
+usage: tests/host/soak.py PROGRAM [--seconds 600] [--peers 400] [--memory 16] [--entries 20000000]
 """
 from __future__ import annotations
 
@@ -22,7 +24,8 @@ ROOT = pathlib.Path(__file__).resolve().parents[2]
 sys.dont_write_bytecode, sys.path[0] = True, str(ROOT)
 from tests.clients.proxy import Proxy  # noqa: E402
 from tests.host import many  # noqa: E402
-from tests.host.watch import memory, processor  # noqa: E402
+from tests.host.peers import kinds_of, peers  # noqa: E402
+from tests.host.watch import memory, most_memory, processor  # noqa: E402
 from tests.model.account import Key  # noqa: E402
 from tests.sockets.cases import Count  # noqa: E402
 from tests.sockets.hosts import Host, HostProgram  # noqa: E402
@@ -37,6 +40,8 @@ LINKS, TAKER, GIVER = 10**9, 60_001, 60_002
 # Behind the first tenth memory may grow by so many parts, and by so many bytes; a hand-over may take so many times as long at
 # the median as in the first tenth, and so many seconds more.
 MORE, MORE_BYTES, SLOWER, SLOWER_SECONDS = 1.10, 4 << 20, 2.0, 0.002
+# Peers that send without end, the MiB of --memory, and those by which the process may have more.
+PEERS, MEMORY, BESIDE = 400, 16, 40
 # Connections of the long load, requests in one piece, hand-overs that are measured in each tenth, and the clients of these.
 CONNECTIONS, PIECE, ROUNDS, FIRST, FIRST_OF_HANDS = 16, 16, 200, 1, 10_000
 # The seconds that `rv verify` may take.
@@ -49,16 +54,22 @@ class Measured:
     def __init__(self) -> None:
         self.memory: list[list[int]] = [[] for _ in range(10)]
         self.seconds: list[list[float]] = [[] for _ in range(10)]
+        # the most memory at once
+        self.most = 0
 
-    def judge(self) -> str:
-        """Memory is flat behind the first tenth, and the last hand-overs are as prompt as the first."""
+    def judge(self, bound: int | None = None) -> str:
+        """Memory is within a bound, or where there is none flat behind the first tenth, and the last hand-overs are as prompt as the
+        first."""
         demand(all(self.memory) and all(self.seconds), "a tenth was too short to measure")
         least, most = max(self.memory[0]), max(map(max, self.memory[1:]))
-        demand(most <= MORE * least + MORE_BYTES, f"memory grew from {least} to {most} bytes")
+        if bound is None:
+            demand(most <= MORE * least + MORE_BYTES, f"memory grew from {least} to {most} bytes")
+        else:
+            demand(self.most <= bound, f"memory was {self.most} bytes, and may be {bound}")
         first, last = (statistics.median(self.seconds[tenth]) for tenth in (0, 9))
         demand(last <= SLOWER * first + SLOWER_SECONDS, f"a hand-over took {first:.6f} seconds, and takes {last:.6f}")
         return (f"memory {least >> 10} KiB in the first tenth, {most >> 10} at most behind it; hand-overs "
-                f"{first * 1e6:.0f} µs in the first tenth, {last * 1e6:.0f} in the last")
+                f"{first * 1e6:.0f} µs in the first tenth, {last * 1e6:.0f} in the last, {max(map(max, self.seconds)) * 1e6:.0f} at most")
 
 
 class Probe:
@@ -120,31 +131,41 @@ class Crowd:
         return b"".join(text[: text.rfind(b"\n") + 1] for text in (path.read_bytes() for path in sorted(self.folder.iterdir())))
 
 
-def bad_links(program: HostProgram, seconds: float, seed: int) -> str:
-    """Crowds on bad links, whose clients are killed."""
-    chance, measured = random.Random(seed), Measured()
-    with tempfile.TemporaryDirectory(prefix="rv-soak-") as name, Host(program) as host, Proxy(host, seed, LINKS) as proxy:
-        crowd, probe = Crowd(proxy.port, pathlib.Path(name), chance), Probe(host)
-        try:
-            began = time.monotonic()
-            killing = began + KILLED_EACH
-            while (past := time.monotonic() - began) < seconds:
-                tenth = int(10 * past / seconds)
-                measured.memory[tenth].append(memory(host.process.pid))
-                measured.seconds[tenth].append(probe.seconds())
-                if time.monotonic() >= killing:
-                    crowd.kill_one()
-                    killing += KILLED_EACH
-                time.sleep(0.1)
-            proxy.calm = True
-            crowd.end()
-        finally:
-            for one in crowd.running.values():
-                one.kill()
+def bad_links(program: HostProgram, seconds: float, seed: int, count: int, mebibytes: int) -> str:
+    """Crowds on bad links, whose clients are killed, beside so many peers that send without end or take no answers."""
+    measured = Measured()
+    with tempfile.TemporaryDirectory(prefix="rv-soak-") as name, Host(program, options=("--memory", str(mebibytes))) as host:
+        with peers(host.port, kinds_of(count)) as sent, Proxy(host, seed, LINKS) as proxy:
+            crowd = Crowd(proxy.port, pathlib.Path(name), random.Random(seed))
+            try:
+                watched(host, crowd, seconds, measured)
+                proxy.calm = True
+                crowd.end()
+            finally:
+                for one in crowd.running.values():
+                    one.kill()
+            demand(all(sent().values()), f"of some kinds of peers nothing was sent: {sent()}")
         host.halt()
         record = crowd.records()
         entries, replies = verified(host, record), record.count(b"\n")
-    return f"{entries} entries, {replies} replies kept, {crowd.kills} clients killed; {measured.judge()}"
+    beside = f", beside {count} peers that sent {sum(sent().values()) >> 20} MiB" if count else ""
+    told = measured.judge((mebibytes + BESIDE) << 20 if count else None)
+    return f"{entries} entries, {replies} replies kept, {crowd.kills} clients killed{beside}; {told}"
+
+
+def watched(host: Host, crowd: Crowd, seconds: float, measured: Measured) -> None:
+    """For so many seconds a crowd's clients are killed one by one, and it is measured what the host has and how prompt it is."""
+    probe, began = Probe(host), time.monotonic()
+    killing = began + KILLED_EACH
+    while (past := time.monotonic() - began) < seconds:
+        tenth = int(10 * past / seconds)
+        measured.memory[tenth].append(memory(host.process.pid))
+        measured.seconds[tenth].append(probe.seconds())
+        if time.monotonic() >= killing:
+            crowd.kill_one()
+            killing += KILLED_EACH
+        time.sleep(0.1)
+    measured.most = most_memory(host.process.pid)
 
 
 def verified(host: Host, record: bytes) -> int:
@@ -183,6 +204,8 @@ def main() -> None:
     parser = argparse.ArgumentParser(description=__doc__, formatter_class=argparse.RawDescriptionHelpFormatter)
     parser.add_argument("program", nargs="?", default="crates/rv_app/out/rv_app")
     parser.add_argument("--seconds", type=float, default=600, help="how long the crowds ask; 0: not at all")
+    parser.add_argument("--peers", type=int, default=PEERS, help="how many send without end or take no answers meanwhile; 0: none")
+    parser.add_argument("--memory", type=int, default=MEMORY, help="the MiB of the host's --memory then")
     parser.add_argument("--entries", type=int, default=20_000_000, help="how many entries the second part makes; 0: none")
     parser.add_argument("--seed", type=int, default=random.randrange(10**6), help="default: any")
     asked = parser.parse_args()
@@ -190,7 +213,7 @@ def main() -> None:
     program, count = HostProgram(os.path.abspath(asked.program)), Count("", True)
     print(f"seed {asked.seed}", flush=True)
     if asked.seconds:
-        count.run("crowds on bad links", bad_links, program, asked.seconds, asked.seed)
+        count.run("crowds on bad links", bad_links, program, asked.seconds, asked.seed, asked.peers, asked.memory)
     if asked.entries and driver.missing():
         left_out.tell("the long load", driver.missing())
     elif asked.entries:
@@ -198,4 +221,6 @@ def main() -> None:
     count.end()
 
 
-main()
+# the processes of the peers read this file too
+if __name__ == "__main__":
+    main()
