@@ -11,11 +11,12 @@
 
    The system. Growths are refused, what is read from and written to sockets is cut short or fails, connections can't be
    accepted, threads can't be started, the clock can't be read, a sleep ends at once, the time-outs of sockets are
-   shorter, the disk is full, the wall clock shows another time, and the steady clock stands. How often stands in the file
-   FAULT_PAGE, a row of 32-bit numbers that may be changed at any time from outside. Of the odds, 0 is never, and n is once
-   in n at random, with the seed FAULT_SEED; so 1 is always. A read and a write fail once in so many bytes. After them stand
-   how many times each of these was done, how many reads and writes of sockets were asked for, how often epoll was asked to
-   wait, how often it had nothing to tell while the steady clock stood, and the options of the socket that was read last. */
+   shorter, the disk is full, the wall clock shows another time, and the steady clock stands, or goes on by looks at epoll. How
+   often stands in the file FAULT_PAGE, a row of 32-bit numbers that may be changed at any time from outside. Of the odds, 0 is
+   never, and n is once in n at random, with the seed FAULT_SEED; so 1 is always. A read and a write fail once in so many bytes.
+   After them stand how many times each of these was done, how many reads and writes of sockets were asked for, how often epoll
+   was asked to wait, how often it had nothing to tell while the steady clock stood, and the options of the socket that was read
+   last. */
 #define _GNU_SOURCE
 #include <dlfcn.h>
 #include <errno.h>
@@ -66,9 +67,10 @@ enum { POLLS, RESTS, KEEPS_ALIVE, USER_TIME_OUT, NO_DELAY, SEEN };
    be started. Time-outs are `haste` times as short, where it is not 0, and of what is written to a connection that was
    accepted the system keeps `kept` bytes, about. Files take `disk` - 1 bytes more, and then there is no space; with 0 there
    always is. The wall clock is so many seconds ahead by `wall`, a number with a sign. The steady clock stands at `stopped`
-   milliseconds, where that is not 0, and waits of epoll end by it. */
+   milliseconds, where that is not 0, and waits of epoll end by it. It goes on by `pace` with each look at epoll that doesn't
+   wait. */
 struct page {
-    uint32_t odds[ODDS], most, growth_at, read_at, room, calm, thread_at, haste, kept, disk, wall, stopped;
+    uint32_t odds[ODDS], most, growth_at, read_at, room, calm, thread_at, haste, kept, disk, wall, stopped, pace;
     uint32_t made[ODDS], asked[WAYS], seen[SEEN];
 };
 
@@ -392,6 +394,8 @@ static int polled(int poll, struct epoll_event *events, int most_events, int tim
 int epoll_wait(int poll, struct epoll_event *events, int most_events, int time_out) {
     if (page)
         __sync_fetch_and_add(&page->seen[POLLS], 1);
+    if (page && page->stopped && time_out == 0)
+        page->stopped += page->pace;
     if (!page || !page->stopped || time_out <= 0)
         return polled(poll, events, most_events, time_out);
     for (;;) {

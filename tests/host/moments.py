@@ -4,8 +4,10 @@ from __future__ import annotations
 
 import contextlib
 import json
+import os
 import re
 import select
+import signal
 from typing import Any
 
 from tests.faults.system import HostileHost, System
@@ -13,7 +15,7 @@ from tests.host.hostile import KEPT, ask_and_never_read
 from tests.host.many import closing, connected
 from tests.model.account import Key
 from tests.sockets.programs import free_port
-from tests.sockets.wire import Peer, demand, frame, give, hello, replied, request, swap, take, until, waits, welcome
+from tests.sockets.wire import BAD_TEXT, Peer, demand, frame, give, hello, replied, request, swap, take, until, waits, welcome
 
 # What the clock shows at the start, in milliseconds, and how far it goes between two looks of a host at its connections.
 START, LOOK_OVER = 1_000_000, 1_000
@@ -23,10 +25,15 @@ ASKED = LOOK_OVER
 TOLD, AGAIN, SAMPLE, VISIT = 10_000, 100, 10_000, 20
 # So many stand in line at the status address, who have so many milliseconds to say what they ask for; so many are visited in a turn.
 LINE, TO_ASK, VISITED = 32, 1_000, 8
+# So many come who say nothing there, of whom so many are accepted at a look.
+SILENT, COME = 900, 256
 # The seconds after which a host that is told so ends who stalls, and who is idle.
 STALL, IDLE = 4, 6
 # The first bytes of a frame that isn't whole yet.
 PART = 5
+# So many send the rest of a frame at once, of which a turn takes so many, and the clock goes on by so many milliseconds with each turn.
+SHARERS, SHARES, PACE = 150, 4, 200
+TEXT = frame(b"x" * 3_000)
 # So often a page may be looked for, and so many times more than it is to.
 LOOKS = 5_000
 # Questions whose answers are more than a host and all systems on the way keep of one connection.
@@ -159,6 +166,35 @@ def a_byte_a_second(program: str) -> None:
             host.ended()
 
 
+def bytes_that_wait_for_a_share(program: str) -> None:
+    """With --stall nobody is ended for a frame whose rest came in time, and waits for longer than that for its share of the turns: each
+    such frame is answered."""
+    demand((SHARERS // SHARES - 1) * PACE > 1_000 * STALL + LOOK_OVER, "shares are given too soon")
+    with Stopped(program, options=("--stall", str(STALL))) as host:
+        with closing(connected(host.port, SHARERS)) as peers:
+            for peer in peers:
+                peer.send(TEXT[:PART])
+            until("all are accepted", lambda: host.accepted() == SHARERS)
+            until("the host rests", host.rests)
+            host.at(ASKED)
+            os.kill(host.process.pid, signal.SIGSTOP)
+            for peer in peers:
+                peer.send(TEXT[PART:])
+            host.set(ASKED, pace=PACE)
+            os.kill(host.process.pid, signal.SIGCONT)
+            until("the host rests", host.rests)
+            over = sum(not is_answered(peer) for peer in peers)
+            demand(over == 0, f"of {SHARERS} who sent a frame in time {over} were ended before their share")
+        host.ended()
+
+
+def is_answered(peer: Peer) -> bool:
+    """Whether the one text that a peer sent, which is no message, is answered before its connection ends."""
+    with contextlib.suppress(ConnectionError):
+        return bool(peer.hear() == BAD_TEXT)
+    return False
+
+
 def accepting_is_tried_again(program: str) -> None:
     """Where accepting fails for want of something it is tried again a tenth of a second later, with nothing that wakes the
     host."""
@@ -231,6 +267,21 @@ def silent_visitors_end(program: str) -> None:
         host.ended()
 
 
+def asked_beside_the_silent(program: str) -> None:
+    """Whoever asks at the status address when hundreds have come there who say nothing is told the page after so many looks as accept
+    all of them."""
+    port = free_port()
+    with Stopped(program, options=("--status", f"127.0.0.1:{port}")) as host:
+        until("the host rests", host.rests)
+        with closing(connected(port, SILENT)), closing(connected(port, 1)) as (visitor,):
+            visitor.send(b"GET /healthz HTTP/1.1\r\nhost: 127.0.0.1\r\n\r\n")
+            for look in range(1, 2 + SILENT // COME):
+                host.at(look * VISIT)
+            until("the page is told", visitor.more)
+            demand(visitor.got.startswith(b"HTTP/1.1 200"), f"it is told {visitor.got!r}")
+        host.ended()
+
+
 def has_ended(peer: Peer) -> bool:
     """Whether the host has ended a connection over which it says nothing."""
     ready, _, _ = select.select([peer.socket], [], [], 0)
@@ -240,6 +291,6 @@ def has_ended(peer: Peer) -> bool:
 
 
 CASES = [
-    waits_end_at_their_moment, told_that_it_waits_at_ten_seconds, stalled_and_idle_ends, a_byte_a_second,
-    accepting_is_tried_again, samples_of_the_status, silent_visitors_end,
+    waits_end_at_their_moment, told_that_it_waits_at_ten_seconds, stalled_and_idle_ends, a_byte_a_second, bytes_that_wait_for_a_share,
+    accepting_is_tried_again, samples_of_the_status, silent_visitors_end, asked_beside_the_silent,
 ]
