@@ -7,10 +7,13 @@ import resource
 import time
 from collections.abc import Iterator
 
+from tests.faults.system import HostileHost, System
 from tests.host.hostile import ask_and_never_read
 from tests.host.many import closing, connected
 from tests.host.moments import ASKED, KEPT, LOOK_OVER, QUESTIONS, Stopped, is_silent
+from tests.host.peers import peers as sending
 from tests.host.status import numbers, shows
+from tests.host.watch import most_memory
 from tests.model.account import Key
 from tests.sockets.hosts import Host
 from tests.sockets.programs import free_port
@@ -30,6 +33,9 @@ ROOM = 4
 LATE = 1_000
 # Half frames that are far more than may be held, the most bytes that come at a time, and so often it is looked how much is held.
 HALVES, HALF, PIECE, LOOKS = 60, 64_000, 4_096, 10
+# Peers that send without end or take no answers. For each connection that may be open a share of what it sent may be answered beside
+# the bound, and one share has less than so many bytes of answers. The MiB that the process may have beside the bound.
+SENDING, SHARE, ANSWERS, BESIDE = {"greedy": 70, "pipelines": 10, "deaf": 30, "nested": 10}, 4_096, 65_536, 40
 # The open files that a host may have, how many it keeps for itself without and with a status address, and who comes beyond those.
 FILES, SPARE, STATUS_SPARE, BEYOND = 100, 16, 49, 2
 
@@ -124,6 +130,26 @@ def a_bound_stands(program: str) -> None:
         host.kill()
 
 
+def a_bound_stands_in_a_storm(program: str) -> None:
+    """Peers by the hundred send without end, ask without end, or take no answers: no more is held than --memory, and what room is made
+    for of each that may be open. When they are gone nothing is held."""
+    port, system = free_port(), System()
+    system.be(kept=KEPT)
+    options = ("--status", f"127.0.0.1:{port}", "--memory", str(MEBIBYTE), "--stall", "3600", "--connections", str(sum(SENDING.values())))
+    most = BYTES + SHARE * sum(SENDING.values()) + ANSWERS
+    with HostileHost(program, system, options=options) as host:
+        with sending(host.port, SENDING) as sent:
+            until("each kind of them sends, and bytes are held", lambda: all(sent().values()) and held_bytes(port) > 0)
+            for _ in range(LOOKS):
+                held = held_bytes(port)
+                demand(held <= most, f"{held} bytes are held, and {most} may be")
+                time.sleep(0.1)
+            had = most_memory(host.process.pid)
+            demand(had <= (MEBIBYTE + BESIDE) << 20, f"the process has had {had} bytes")
+        until("nothing is held", lambda: held_bytes(port) == 0)
+        host.ended()
+
+
 def held_bytes(port: int) -> int:
     """How many bytes of connections a host holds."""
     return numbers(port)["rv_buffer_bytes"]
@@ -150,4 +176,5 @@ def few_files() -> None:
     resource.setrlimit(resource.RLIMIT_NOFILE, (FILES, FILES))
 
 
-CASES = [the_largest_is_closed, a_begun_frame_waits_for_room, answers_count, a_bound_stands, descriptors_are_spared]
+CASES = [the_largest_is_closed, a_begun_frame_waits_for_room, answers_count, a_bound_stands, a_bound_stands_in_a_storm,
+         descriptors_are_spared]
