@@ -130,7 +130,7 @@ def a_bound_stands(program: str) -> None:
         host.kill()
 
 
-def a_bound_stands_in_a_storm(program: str) -> None:
+def beside_many_who_send(program: str) -> None:
     """Peers by the hundred send without end, ask without end, or take no answers: no more is held than --memory, and what room is made
     for of each that may be open. When they are gone nothing is held."""
     port, system = free_port(), System()
@@ -176,5 +176,5 @@ def few_files() -> None:
     resource.setrlimit(resource.RLIMIT_NOFILE, (FILES, FILES))
 
 
-CASES = [the_largest_is_closed, a_begun_frame_waits_for_room, answers_count, a_bound_stands, a_bound_stands_in_a_storm,
+CASES = [the_largest_is_closed, a_begun_frame_waits_for_room, answers_count, a_bound_stands, beside_many_who_send,
          descriptors_are_spared]
