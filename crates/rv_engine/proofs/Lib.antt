@@ -1,4 +1,5 @@
 -- The lemmas that the proofs of this crate share.
+pub mod Arrivals
 pub mod Gathered
 pub mod Looking
 pub mod Through

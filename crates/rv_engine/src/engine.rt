@@ -1,6 +1,7 @@
 //! The engine: what a shell tells it, and what is asked of it.
 ghost use Rattle.std.specs.Prelude.{◌≡◌};
 
+use crate::calls::{CALLS, CallCounts};
 use crate::events::{EngineFault, LinkEvent, hub_event};
 use crate::looks::LookList;
 use crate::parts::EngineParts;
@@ -38,7 +39,7 @@ impl Model for Engine {
 }
 
 impl Engine {
-    ghost use Rattle.std.specs.Prelude.{◌↔◌, ◌<◌, ◌∷◌, ◌++◌, [], IfErr, IfNone, IfOk, IfSome, IsTrue, OnOk};
+    ghost use Rattle.std.specs.Prelude.{◌↔◌, ◌<◌, ◌∷◌, ◌++◌, [], IfErr, IfNone, IfOk, IfSome, IsTrue, OnErr, OnOk};
     ghost use Rattle.std.specs.Prelude.{AllPairs, ◌≢◌, length, max};
     ghost use Rattle.std.specs.Bool.{OnFalse, OnTrue};
     ghost use Rattle.rv_frame.specs.Sink.{SinkTakes};
@@ -50,6 +51,7 @@ impl Engine {
     ghost use Rattle.rv_hub.specs.Hubs.{hub_terms};
     ghost use Rattle.rv_engine.specs.Engines.{engine_state};
     ghost use Rattle.rv_hub.specs.Events.{EventCan};
+    ghost use Rattle.rv_engine.specs.Calls.{AreCounted, CountsMore, CountsTold};
     ghost use Rattle.rv_engine.specs.Handing.{Gathers, HandsOn, HasWorked, IsNoOpening, IsNotTold, IsRefused};
     ghost use Rattle.rv_engine.specs.Handing.{LooksAt, TellsWritten, all_gone, told_hub, unwritten};
 
@@ -83,6 +85,7 @@ impl Engine {
         ensures terms { IfOk result (λ e. hub_terms e.hub
             ≡ record { limits = limits; patience = max 1 patience }) }
         ensures journal { IfOk result (λ e. e.hub.has_journal ≡ has_account) }
+        ensures calls { IfOk result (λ e. AreCounted [] e.calls) }
     {
         let looks = LookList::new(alloc, room)?;
         let round = LookList::new(alloc, room)?;
@@ -98,6 +101,7 @@ impl Engine {
                 lines: String::new(alloc),
                 gathered,
                 stored,
+                calls: [0; CALLS],
                 looks,
                 round,
             },
@@ -115,6 +119,9 @@ impl Engine {
             (engine_state self.new)) }
         ensures terms { hub_terms self.new.hub ≡ hub_terms self.old.hub }
         ensures journal { self.new.hub.has_journal ≡ self.old.hub.has_journal }
+        ensures calls { IfOk result (λ _. CountsMore self.old.calls self.new.hub.desk.entries.items
+            self.new.calls) }
+        ensures no_calls { OnErr result (self.new.calls ≡ self.old.calls) }
     {
         handing::hand_on(&mut self.parts, now, hub_event(event))
     }
@@ -129,6 +136,7 @@ impl Engine {
             (told_hub event.entry) self.new.hub.desk.entries.items result (engine_state self.new) }
         ensures terms { hub_terms self.new.hub ≡ hub_terms self.old.hub }
         ensures journal { self.new.hub.has_journal ≡ self.old.hub.has_journal }
+        ensures calls { CountsMore self.old.calls self.new.hub.desk.entries.items self.new.calls }
     {
         handing::hand_sure(&mut self.parts, now, hub_event(event))
     }
@@ -152,6 +160,9 @@ impl Engine {
             (engine_state self.new) file.new) }
         ensures terms { hub_terms self.new.hub ≡ hub_terms self.old.hub }
         ensures journal { self.new.hub.has_journal ≡ self.old.hub.has_journal }
+        ensures calls { IfOk result (λ told. CountsTold told self.old.calls
+            self.new.hub.desk.entries.items self.new.calls) }
+        ensures no_calls { OnErr result (self.new.calls ≡ self.old.calls) }
     {
         writing::write_lines(&mut self.parts, now, file)
     }
@@ -170,6 +181,7 @@ impl Engine {
         ensures hub { self.new.hub ≡ self.old.hub }
         ensures yes { OnTrue result ((engine_state self.new).left ≡ []) }
         ensures no { OnFalse result (0 < length (engine_state self.new).left) }
+        ensures calls { self.new.calls ≡ self.old.calls }
     {
         handing::try_to_catch_up(&mut self.parts)
     }
@@ -181,6 +193,7 @@ impl Engine {
         ensures lines { (engine_state self.new).lines ≡ (engine_state self.old).lines }
         ensures left { (engine_state self.new).left ≡ (engine_state self.old).left }
         ensures stored { (engine_state self.new).stored ≡ (engine_state self.old).stored }
+        ensures calls { self.new.calls ≡ self.old.calls }
     {
         handing::look_at(&mut self.parts, number);
     }
@@ -194,6 +207,7 @@ impl Engine {
           round = (engine_state self.old).looks;
         } }
         ensures hub { self.new.hub ≡ self.old.hub }
+        ensures calls { self.new.calls ≡ self.old.calls }
     {
         std::mem::swap(&mut self.parts.looks, &mut self.parts.round);
     }
@@ -207,6 +221,7 @@ impl Engine {
         ensures rest { engine_state self.new
             ≡ record (engine_state self.old) { round = (engine_state self.new).round } }
         ensures hub { self.new.hub ≡ self.old.hub }
+        ensures calls { self.new.calls ≡ self.old.calls }
     {
         self.parts.round.pop()
     }
@@ -216,6 +231,13 @@ impl Engine {
         ensures { IsTrue result ↔ ((engine_state self.now).looks ≡ []) }
     {
         self.parts.looks.is_empty()
+    }
+
+    /// How many requests of each call the entries record that its events made.
+    pub fn calls(&self) -> CallCounts
+        ensures { result ≡ self.now.calls }
+    {
+        self.parts.calls
     }
 
     /// The hub.

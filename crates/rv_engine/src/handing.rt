@@ -1,11 +1,13 @@
 //! Hands events on to the hub.
-ghost use Rattle.std.specs.Prelude.{◌≡◌, ◌≤◌, ◌<◌, ◌∷◌, [], length, true, false, IfErr, IfOk};
+ghost use Rattle.std.specs.Prelude.{◌≡◌, ◌≤◌, ◌<◌, ◌∷◌, [], length, true, false, IfErr, IfOk, OnErr};
 ghost use Rattle.std.specs.Bool.{OnFalse, OnTrue};
 ghost use Rattle.rv_hub.specs.Hubs.{hub_terms};
 ghost use Rattle.rv_engine.specs.Engines.{IsEngine, engine_state};
 ghost use Rattle.rv_hub.specs.Events.{EventCan};
+ghost use Rattle.rv_engine.specs.Calls.{CountsMore};
 ghost use Rattle.rv_engine.specs.Handing.{Gathers, HandsOn, IsNoOpening, IsRefused, LooksAt, TellsStored};
 
+use crate::calls::note_arrivals;
 use crate::events::EngineFault;
 use crate::gathering::{gather, gather_kept};
 use crate::parts::EngineParts;
@@ -18,6 +20,7 @@ pub(crate) fn catch_up(parts: &mut EngineParts)
     ensures sound { IsEngine parts.new }
     ensures gathers { Gathers (engine_state parts.old) (engine_state parts.new) }
     ensures hub { parts.new.hub ≡ parts.old.hub }
+    ensures calls { parts.new.calls ≡ parts.old.calls }
 {
     if !parts.has_account {
         return;
@@ -43,6 +46,7 @@ pub(crate) fn try_to_catch_up(parts: &mut EngineParts) -> bool
     ensures hub { parts.new.hub ≡ parts.old.hub }
     ensures yes { OnTrue result ((engine_state parts.new).left ≡ []) }
     ensures no { OnFalse result (0 < length (engine_state parts.new).left) }
+    ensures calls { parts.new.calls ≡ parts.old.calls }
 {
     catch_up(parts);
     is_caught_up(parts)
@@ -61,11 +65,15 @@ fn hand_over(parts: &mut EngineParts, now: u64, event: HubEvent<'_>) -> Result<u
         (engine_state parts.new)) }
     ensures terms { hub_terms parts.new.hub ≡ hub_terms parts.old.hub }
     ensures journal { parts.new.hub.has_journal ≡ parts.old.hub.has_journal }
+    ensures calls { IfOk result (λ _. CountsMore parts.old.calls parts.new.hub.desk.entries.items
+        parts.new.calls) }
+    ensures no_calls { OnErr result (parts.new.calls ≡ parts.old.calls) }
 {
     match parts.hub.handle(now, event) {
         Ok(given) => {
             let made = parts.hub.entries();
             parts.gathered = gather_kept(&mut parts.lines, parts.alloc, parts.has_account, made);
+            note_arrivals(&mut parts.calls, made);
             parts.looks.add_all(parts.hub.changed());
             Ok(given)
         }
@@ -88,6 +96,7 @@ pub(crate) fn hand_sure(parts: &mut EngineParts, now: u64, event: HubEvent<'_>) 
         event.entry parts.new.hub.desk.entries.items result (engine_state parts.new) }
     ensures terms { hub_terms parts.new.hub ≡ hub_terms parts.old.hub }
     ensures journal { parts.new.hub.has_journal ≡ parts.old.hub.has_journal }
+    ensures calls { CountsMore parts.old.calls parts.new.hub.desk.entries.items parts.new.calls }
 {
     match hand_over(parts, now, event) {
         Ok(given) => given,
@@ -111,6 +120,9 @@ pub(crate) fn hand_on(
         (engine_state parts.new)) }
     ensures terms { hub_terms parts.new.hub ≡ hub_terms parts.old.hub }
     ensures journal { parts.new.hub.has_journal ≡ parts.old.hub.has_journal }
+    ensures calls { IfOk result (λ _. CountsMore parts.old.calls parts.new.hub.desk.entries.items
+        parts.new.calls) }
+    ensures no_calls { OnErr result (parts.new.calls ≡ parts.old.calls) }
 {
     catch_up(parts);
     if !is_caught_up(parts) {
@@ -128,6 +140,7 @@ pub(crate) fn look_at(parts: &mut EngineParts, number: ConnectionNumber)
     ensures lines { (engine_state parts.new).lines ≡ (engine_state parts.old).lines }
     ensures left { (engine_state parts.new).left ≡ (engine_state parts.old).left }
     ensures stored { (engine_state parts.new).stored ≡ (engine_state parts.old).stored }
+    ensures calls { parts.new.calls ≡ parts.old.calls }
 {
     parts.looks.add(number);
 }

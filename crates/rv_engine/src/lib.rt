@@ -2,6 +2,7 @@
 //! are gathered for the account, and the connections that are to be looked at are listed. No socket is in it.
 #![tactic(auto)]
 
+mod calls;
 mod engine;
 mod events;
 mod gathering;
@@ -11,6 +12,7 @@ mod looks;
 mod parts;
 mod writing;
 
+pub use calls::{CALLS, CallCounts};
 pub use engine::Engine;
 pub use events::{EngineFault, LinkEvent};
 pub use looks::LookList;

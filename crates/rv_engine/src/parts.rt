@@ -1,4 +1,5 @@
 //! What an engine is made of.
+use crate::calls::CallCounts;
 use crate::looks::LookList;
 use rv_hub::Hub;
 use std::alloc::Global;
@@ -16,6 +17,8 @@ pub struct EngineParts {
     pub(crate) gathered: usize,
     // Of how many entries the device took the lines, or those that there were at first.
     pub(crate) stored: usize,
+    // How many requests of each call its entries record.
+    pub(crate) calls: CallCounts,
     // Those to look at in the next round, and those of this round that are left.
     pub(crate) looks: LookList,
     pub(crate) round: LookList,

@@ -2,6 +2,7 @@
 ghost use Rattle.std.specs.Prelude.{◌≡◌, [], IfErr, IfOk, OnErr, OnOk, take, true};
 ghost use Rattle.rv_frame.specs.Sink.{SinkTakes, sink_failed};
 ghost use Rattle.rv_hub.specs.Hubs.{hub_terms};
+ghost use Rattle.rv_engine.specs.Calls.{CountsTold};
 ghost use Rattle.rv_engine.specs.Engines.{IsEngine, engine_state};
 ghost use Rattle.rv_engine.specs.Handing.{HasWorked, IsNotTold, TellsWritten, all_gone, gathered_count};
 ghost use Rattle.rv_engine.specs.Handing.{lines_gone, unwritten};
@@ -43,6 +44,7 @@ fn write_gathered<W: Write>(parts: &mut EngineParts, file: &mut Sink<W>) -> Resu
     ensures refused { IfErr result (λ why. sink_failed file.old ≡ true → why.sent ≡ 0) }
     ensures same { OnErr result (parts.new ≡ parts.old) }
     ensures hub { parts.new.hub ≡ parts.old.hub }
+    ensures calls { parts.new.calls ≡ parts.old.calls }
 {
     match file.write_all(parts.lines.as_bytes()) {
         Ok(()) => {
@@ -64,6 +66,7 @@ fn tell_written(parts: &mut EngineParts, now: u64) -> Option<usize>
         now parts.new.hub.desk.entries.items result (engine_state parts.new) }
     ensures terms { hub_terms parts.new.hub ≡ hub_terms parts.old.hub }
     ensures journal { parts.new.hub.has_journal ≡ parts.old.hub.has_journal }
+    ensures calls { CountsTold result parts.old.calls parts.new.hub.desk.entries.items parts.new.calls }
 {
     let entries = entry_count(parts);
     if parts.hub.written() >= entries as u64 {
@@ -90,6 +93,9 @@ pub(crate) fn write_lines<W: Write>(
         (engine_state parts.new) file.new) }
     ensures terms { hub_terms parts.new.hub ≡ hub_terms parts.old.hub }
     ensures journal { parts.new.hub.has_journal ≡ parts.old.hub.has_journal }
+    ensures calls { IfOk result (λ told. CountsTold told parts.old.calls parts.new.hub.desk.entries.items
+        parts.new.calls) }
+    ensures no_calls { OnErr result (parts.new.calls ≡ parts.old.calls) }
 {
     catch_up(parts);
     if let Err(why) = write_gathered(parts, file) {

@@ -1,0 +1,54 @@
+-- How many requests of each call were recorded.
+use Rattle.std.specs.Prelude.{ℕ, ◌≡◌, ◌+◌, ◌-◌, ◌<◌, ◌^◌, Bool, false, List, Option, None, Some, ◌++◌, eqb, min, set}
+use Rattle.std.specs.Prelude.{slice_index}
+use Rattle.std.specs.List.{count_by}
+use Rattle.rv_text.specs.declared.call.Call.{Call}
+use Rattle.rv_text.specs.declared.call.Call.TheVariants as call
+use Rattle.rv_account.specs.declared.entry.Act.{Act}
+use Rattle.rv_account.specs.declared.entry.Act.TheVariants.{Hello, Arrive, Cancel, Tick}
+use Rattle.rv_account.specs.declared.entry.Entry.{Entry}
+
+-- where a call is counted: they stand in the byte order of their words
+abbrev pub call_place : Call → ℕ
+call_place (call.Count queue) = 0
+call_place (call.Drain queue max) = 1
+call_place (call.Peek queue) = 2
+call_place (call.Put queue item) = 3
+call_place (call.Swap exchanger item wait) = 4
+call_place (call.Take queue wait) = 5
+call_place (call.Transfer queue item wait) = 6
+
+-- a request arrived whose call is counted there
+abbrev pub is_arrival_at : ℕ → Act → Bool
+is_arrival_at place (Hello client incarnation version) = false
+is_arrival_at place (Arrive key asked) = eqb (call_place asked) place
+is_arrival_at place (Cancel key) = false
+is_arrival_at place Tick = false
+
+-- so many of these entries are such arrivals
+abbrev pub arrivals_at : ℕ → List Entry → ℕ
+arrivals_at place entries = count_by (λ e. is_arrival_at place e.act) entries
+
+-- as far as a count goes
+abbrev pub as_counted : ℕ → ℕ
+as_counted n = min n (2 ^ 64 - 1)
+
+-- of each call so many are counted as there are arrivals of it among these entries
+abbrev pub AreCounted : List Entry → List ℕ → Type 0
+AreCounted entries counts = (place : ℕ) → place < 7
+    → slice_index counts place ≡ as_counted (arrivals_at place entries)
+
+-- and the arrivals among these entries more
+abbrev pub CountsMore : List ℕ → List Entry → List ℕ → Type 0
+CountsMore old made new = (entries : List Entry) → AreCounted entries old → AreCounted (entries ++ made) new
+
+-- the entries that were made are counted where the hub was told of an event, and gave something; else none is
+abbrev pub CountsTold : Option ℕ → List ℕ → List Entry → List ℕ → Type 0
+CountsTold None old made new = new ≡ old
+CountsTold (Some given) old made new = CountsMore old made new
+
+-- ---- for private clauses
+
+-- one more is counted there
+abbrev pub counted_at : List ℕ → ℕ → List ℕ
+counted_at counts place = set counts place (as_counted (slice_index counts place + 1))
