@@ -214,3 +214,13 @@ pub headed : (head rest old first text : List ℕ)
     → text ≡ old ++ (head ++ rest)
 headed head rest old first text is_first is_text =
     is_text ∙ ap (λ f. f ++ rest) is_first ∙ append_assoc old head rest
+
+-- what stands between two others
+pub between : (front mid behind old first second text : List ℕ)
+    → first ≡ old ++ front
+    → second ≡ first ++ mid
+    → text ≡ second ++ behind
+    → text ≡ old ++ (front ++ (mid ++ behind))
+between front mid behind old first second text is_first is_second is_text =
+    is_text ∙ ap (λ s. s ++ behind) (is_second ∙ ap (λ f. f ++ mid) is_first)
+    ∙ append_assoc (old ++ front) mid behind ∙ append_assoc old front (mid ++ behind)

@@ -1,7 +1,8 @@
 -- The rows of a server's numbers: each number's name, kind, meaning and value.
-use Rattle.std.specs.Prelude.{ℕ, List, [], ◌∷◌, codes, slice_index}
+use Rattle.std.specs.Prelude.{ℕ, List, [], ◌∷◌, codes, replicate, slice_index}
+use Rattle.rv_status.specs.declared.numbers.FaultCounts.{FaultCounts}
 use Rattle.rv_status.specs.declared.numbers.MetricKind.{MetricKind}
-use Rattle.rv_status.specs.declared.numbers.MetricKind.TheVariants.{Counter, Gauge}
+use Rattle.rv_status.specs.declared.numbers.MetricKind.TheVariants.{Counter, Gauge, Histogram}
 use Rattle.rv_status.specs.declared.numbers.StatusReading.{StatusReading}
 use Rattle.rv_status.specs.declared.numbers.StatusNumbers.{StatusNumbers}
 
@@ -14,6 +15,7 @@ pub record MetricRow : Type 0 where
 abbrev pub kind_word : MetricKind → List ℕ
 kind_word Counter = codes "counter"
 kind_word Gauge = codes "gauge"
+kind_word Histogram = codes "histogram"
 
 -- what a reading says
 abbrev pub reading_row : StatusReading → MetricRow
@@ -34,6 +36,20 @@ number_rows n =
     (codes "Bytes held for all connections.") n.buffer_bytes ∷
     gauge_row (codes "rv_buffer_limit_bytes")
     (codes "Bytes above which the connection that holds most is closed.") n.buffer_limit ∷
+    counter_row (codes "rv_calls_count_total")
+    (codes "Counts that were recorded, each once.") (slice_index n.calls 0) ∷
+    counter_row (codes "rv_calls_drain_total")
+    (codes "Drains that were recorded, each once.") (slice_index n.calls 1) ∷
+    counter_row (codes "rv_calls_peek_total")
+    (codes "Peeks that were recorded, each once.") (slice_index n.calls 2) ∷
+    counter_row (codes "rv_calls_put_total")
+    (codes "Puts that were recorded, each once.") (slice_index n.calls 3) ∷
+    counter_row (codes "rv_calls_swap_total")
+    (codes "Swaps that were recorded, each once.") (slice_index n.calls 4) ∷
+    counter_row (codes "rv_calls_take_total")
+    (codes "Takes that were recorded, each once.") (slice_index n.calls 5) ∷
+    counter_row (codes "rv_calls_transfer_total")
+    (codes "Transfers that were recorded, each once.") (slice_index n.calls 6) ∷
     gauge_row (codes "rv_clients")
     (codes "Clients that said hello in this epoch.") n.clients ∷
     gauge_row (codes "rv_clients_limit")
@@ -141,3 +157,27 @@ number_rows n =
     gauge_row (codes "rv_uptime_seconds")
     (codes "Seconds since the start.") n.uptime ∷
     []
+
+-- those of a server that begins, with these limits and faults
+abbrev pub first_numbers : ℕ → ℕ → FaultCounts → StatusNumbers
+first_numbers clients_limit open_places_limit faults = record {
+  account_bytes = 0;
+  answers = replicate 24 0;
+  buffer_bytes = 0;
+  buffer_limit = 0;
+  calls = replicate 7 0;
+  clients = 0;
+  clients_limit = clients_limit;
+  connections = 0;
+  connections_limit = 0;
+  connections_opened = 0;
+  entries = 0;
+  epoch = 0;
+  faults = faults;
+  open_places = 0;
+  open_places_limit = open_places_limit;
+  requests_unheard = 0;
+  requests_waiting = 0;
+  status_connections = 0;
+  uptime = 0;
+}

@@ -2,10 +2,13 @@
 use Rattle.std.specs.Prelude.{ℕ, List, [], ◌∷◌, ◌++◌, codes, decimal, flat_map}
 use Rattle.rv_status.specs.declared.metrics.QueueSide.{QueueSide}
 use Rattle.rv_status.specs.declared.metrics.QueueSide.TheVariants.{Items, Consumers}
+use Rattle.rv_status.specs.declared.histogram.Histogram.{Histogram}
 use Rattle.rv_status.specs.declared.numbers.MetricKind.{MetricKind}
-use Rattle.rv_status.specs.declared.numbers.MetricKind.TheVariants.{Gauge}
+use Rattle.rv_status.specs.declared.numbers.MetricKind.TheVariants.{Gauge, Histogram as HistogramKind}
 use Rattle.rv_status.specs.declared.status.HostStatus.{HostStatus}
 use Rattle.rv_status.specs.declared.status.QueueRow.{QueueRow}
+use Rattle.rv_status.specs.declared.status.StatusTimes.{StatusTimes}
+use Rattle.rv_status.specs.Histograms.{values_text}
 use Rattle.rv_status.specs.Rows.{MetricRow, kind_word, number_rows}
 
 -- two lines, each ended by LF (10): what a name means, and its kind
@@ -43,6 +46,17 @@ abbrev pub family_text : QueueSide → List QueueRow → List ℕ
 family_text side rows = family_head (side_name side) (side_help side) Gauge ++ flat_map (labelled_text side)
     rows
 
+abbrev pub histogram_text : List ℕ → List ℕ → Histogram → List ℕ
+histogram_text name help h = family_head name help HistogramKind ++ values_text name h
+
+-- how long turns and answers took
+abbrev pub times_text : StatusTimes → List ℕ
+times_text times =
+    histogram_text (codes "rv_turn_seconds")
+    (codes "How long turns took, from the end of their poll to their end.") times.turns
+    ++ histogram_text (codes "rv_answer_seconds")
+    (codes "How long requests stood first of their connection until their answer left.") times.answers
+
 -- the version between quotation marks (34), as a label of 1
 abbrev pub version_text : List ℕ → List ℕ
 version_text version =
@@ -58,6 +72,9 @@ families_text s =
     flat_map row_text (number_rows s.numbers)
     ++ (family_text Items s.queues.items ++ family_text Consumers s.queues.items)
 
--- all of these, and the build
+-- the times, and the build
+abbrev pub others_text : HostStatus → List ℕ
+others_text s = times_text s.times ++ build_text s.version.now
+
 abbrev pub metrics_text : HostStatus → List ℕ
-metrics_text s = families_text s ++ build_text s.version.now
+metrics_text s = families_text s ++ others_text s

@@ -45,20 +45,22 @@ impl AnswerMeter {
     }
 
     /// The first so many of the bytes that are ready have left, which are frames after what is owed of the
-    /// last one: each of which a byte left is counted, once.
-    pub fn pass(&mut self, ready: &[u8], count: usize, counts: &mut AnswerCounts)
+    /// last one: each of which a byte left is counted, once. It gives how many these are, welcomes too.
+    pub fn pass(&mut self, ready: &[u8], count: usize, counts: &mut AnswerCounts) -> usize
         ensures owed { count ≤ self.old.owed → self.new.owed ≡ self.old.owed - count }
         ensures counted { count ≤ self.old.owed → counts.new ≡ counts.old }
+        ensures none { count ≤ self.old.owed → result ≡ 0 }
     {
         if count <= self.owed {
             self.owed -= count;
-            return;
+            return 0;
         }
-        self.pass_on(ready, count, counts);
+        self.pass_on(ready, count, counts)
     }
 
     // The same, where more has left than is owed.
-    fn pass_on(&mut self, ready: &[u8], count: usize, counts: &mut AnswerCounts) {
+    fn pass_on(&mut self, ready: &[u8], count: usize, counts: &mut AnswerCounts) -> usize {
+        let mut begun = 0usize;
         let mut at = self.owed;
         for _ in 0..count {
             if at >= count || at >= ready.len() {
@@ -66,9 +68,11 @@ impl AnswerMeter {
             }
             let body = body_of(&ready[at..]);
             note(body, counts);
+            begun = begun.saturating_add(1);
             at = at.saturating_add(body.len()).saturating_add(2);
         }
         self.owed = at.saturating_sub(count);
+        begun
     }
 }
 

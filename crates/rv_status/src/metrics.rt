@@ -1,22 +1,28 @@
 //! The numbers as Prometheus reads them: of each its meaning, its kind and its value, a line each.
 ghost use Rattle.std.specs.Prelude.{◌≡◌, ◌++◌, flat_map, IfOk, OnOk, string_bytes};
+ghost use Rattle.rv_status.specs.Histograms.{bucket_text, digits_text, part_text, seconds_text, totals_text};
+ghost use Rattle.rv_status.specs.Histograms.{values_text};
 ghost use Rattle.rv_status.specs.Rows.{reading_row};
 ghost use Rattle.rv_status.specs.Texts.{
   build_text,
   families_text,
   family_text,
   family_head,
+  histogram_text,
   labelled_text,
   metrics_text,
+  others_text,
   row_text,
   side_help,
   side_name,
+  times_text,
   value_on,
   version_text,
 };
 
+use crate::histogram::{Bucket, Histogram};
 use crate::numbers::{MetricKind, StatusReading, readings};
-use crate::status::{HostStatus, QueueRow};
+use crate::status::{HostStatus, QueueRow, StatusTimes};
 use std::alloc::{AllocError, Global};
 
 // The room that a text begins with: most need no more.
@@ -71,8 +77,16 @@ pub fn metrics_of(alloc: Global, status: &HostStatus) -> Result<Vec<u8>, AllocEr
 {
     let mut text = String::with_capacity(alloc, ROOM)?;
     put_all(&mut text, status)?;
-    put_build(&mut text, status.version)?;
+    put_others(&mut text, status)?;
     Ok(text.into_bytes())
+}
+
+// How long turns and answers took, and the build.
+fn put_others(text: &mut String, status: &HostStatus) -> Result<(), AllocError>
+    ensures { OnOk result (string_bytes text.new ≡ string_bytes text.old ++ others_text status.now) }
+{
+    put_times(text, &status.times)?;
+    put_build(text, status.version)
 }
 
 // The version of the build, as a label.
@@ -153,4 +167,109 @@ fn put_value(text: &mut String, side: QueueSide, row: &QueueRow) -> Result<(), A
 {
     let (name, queue, value) = (side.name(), row.queue, side.value(row));
     write!(text, "{name}{{queue=\"{queue}\"}} {value}\n")
+}
+
+// The lines of both histograms.
+fn put_times(text: &mut String, times: &StatusTimes) -> Result<(), AllocError>
+    ensures { OnOk result (string_bytes text.new ≡ string_bytes text.old ++ times_text times.now) }
+{
+    put_histogram(
+        text,
+        "rv_turn_seconds",
+        "How long turns took, from the end of their poll to their end.",
+        &times.turns,
+    )?;
+    put_histogram(
+        text,
+        "rv_answer_seconds",
+        "How long requests stood first of their connection until their answer left.",
+        &times.answers,
+    )
+}
+
+// Those of one: its meaning and its kind, and its values.
+fn put_histogram(
+    text: &mut String,
+    name: &str,
+    help: &str,
+    histogram: &Histogram,
+) -> Result<(), AllocError>
+    ensures { OnOk result (string_bytes text.new
+        ≡ string_bytes text.old ++ histogram_text name.now help.now histogram.now) }
+{
+    put_head(text, name, help, MetricKind::Histogram)?;
+    put_observed(text, name, histogram)
+}
+
+// How many values are at most each bound, and all of them.
+fn put_observed(text: &mut String, name: &str, histogram: &Histogram) -> Result<(), AllocError>
+    ensures { OnOk result (string_bytes text.new
+        ≡ string_bytes text.old ++ values_text name.now histogram.now) }
+{
+    put_buckets(text, name, &histogram.buckets)?;
+    put_totals(text, name, histogram)
+}
+
+fn put_buckets(text: &mut String, name: &str, buckets: &[Bucket]) -> Result<(), AllocError>
+    ensures { OnOk result (string_bytes text.new
+        ≡ string_bytes text.old ++ flat_map (bucket_text name.now) buckets.now) }
+{
+    for bucket in buckets {
+        put_bucket(text, name, bucket)?;
+    }
+    Ok(())
+}
+
+// How many are at most one bound.
+fn put_bucket(text: &mut String, name: &str, bucket: &Bucket) -> Result<(), AllocError>
+    ensures { OnOk result (string_bytes text.new
+        ≡ string_bytes text.old ++ bucket_text name.now bucket.now) }
+{
+    write!(text, "{name}_bucket{{le=\"")?;
+    put_seconds(text, bucket.bound)?;
+    let count = bucket.count;
+    write!(text, "\"}} {count}\n")
+}
+
+// How many there are, and their sum.
+fn put_totals(text: &mut String, name: &str, histogram: &Histogram) -> Result<(), AllocError>
+    ensures { OnOk result (string_bytes text.new
+        ≡ string_bytes text.old ++ totals_text name.now histogram.now) }
+{
+    let count = histogram.count;
+    write!(text, "{name}_bucket{{le=\"+Inf\"}} {count}\n{name}_sum ")?;
+    put_seconds(text, histogram.sum)?;
+    write!(text, "\n{name}_count {count}\n")
+}
+
+// Microseconds, as seconds.
+fn put_seconds(text: &mut String, micros: u64) -> Result<(), AllocError>
+    ensures { OnOk result (string_bytes text.new ≡ string_bytes text.old ++ seconds_text micros) }
+{
+    let whole = micros / 1_000_000;
+    write!(text, "{whole}")?;
+    put_part(text, micros % 1_000_000)
+}
+
+// A part of a second behind its point, if there is one.
+fn put_part(text: &mut String, rest: u64) -> Result<(), AllocError>
+    ensures { OnOk result (string_bytes text.new ≡ string_bytes text.old ++ part_text rest) }
+{
+    if rest == 0 {
+        return Ok(());
+    }
+    write!(text, ".")?;
+    put_digits(text, 6, rest)
+}
+
+// Its digits, of so many places at most.
+fn put_digits(text: &mut String, places: u32, rest: u64) -> Result<(), AllocError>
+    ensures { OnOk result (string_bytes text.new ≡ string_bytes text.old ++ digits_text places rest) }
+{
+    if places == 0 || rest == 0 {
+        return Ok(());
+    }
+    let digit = rest / 100_000;
+    write!(text, "{digit}")?;
+    put_digits(text, places - 1, rest % 100_000 * 10)
 }

@@ -1,8 +1,27 @@
 //! What is told of a server: its numbers, and lists of bounded length. No item's text is among it.
-ghost use Rattle.std.specs.Prelude.{◌≡◌};
+ghost use Rattle.std.specs.Prelude.{◌≡◌, IfOk};
+ghost use Rattle.rv_status.specs.Begun.{HasNoRow, HasRoom, no_times};
 ghost use Rattle.rv_status.specs.Values.{call_word};
 
+use crate::histogram::Histogram;
 use crate::numbers::StatusNumbers;
+use std::alloc::{AllocError, Global};
+
+// A list has room for so many rows, one of which is taken out again; there are so many queues and samples.
+const ROWS: usize = 101;
+
+const QUEUES: usize = 64;
+
+const SAMPLES: usize = 62;
+
+/// How long turns and answers took.
+#[derive(Clone, Copy)]
+pub struct StatusTimes {
+    /// Turns of the server.
+    pub turns: Histogram,
+    /// Requests, while they stood first of their connection.
+    pub answers: Histogram,
+}
 
 /// What a server tells of itself at one moment. Who fills it keeps each list at 100 rows at most.
 #[derive(Drop)]
@@ -11,6 +30,8 @@ pub struct HostStatus {
     pub version: &'static str,
     /// Its numbers.
     pub numbers: StatusNumbers,
+    /// How long turns and answers took.
+    pub times: StatusTimes,
     /// Samples of the last ten minutes, the oldest first.
     pub history: Vec<StatusSample>,
     /// Its queues.
@@ -71,6 +92,44 @@ pub struct WaitingRow {
     pub incarnation: u64,
     /// Its number.
     pub number: u64,
+}
+
+impl StatusTimes {
+    /// Nothing was observed.
+    pub fn new() -> StatusTimes
+        ensures { result ≡ no_times }
+    {
+        StatusTimes {
+            turns: Histogram::of_turns(),
+            answers: Histogram::of_answers(),
+        }
+    }
+}
+
+impl HostStatus {
+    /// A status of these numbers, with no row, and with room for as many of each list as are told and one
+    /// more. Fails only if memory was refused.
+    pub fn with_room(
+        alloc: Global,
+        version: &'static str,
+        numbers: StatusNumbers,
+    ) -> Result<HostStatus, AllocError>
+        ensures version { IfOk result (λ s. s.version.now ≡ version.now) }
+        ensures numbers { IfOk result (λ s. s.numbers ≡ numbers) }
+        ensures times { IfOk result (λ s. s.times ≡ no_times) }
+        ensures none { IfOk result (λ s. HasNoRow s) }
+        ensures room { IfOk result (λ s. HasRoom s) }
+    {
+        Ok(HostStatus {
+            version,
+            numbers,
+            times: StatusTimes::new(),
+            history: Vec::with_capacity(alloc, SAMPLES)?,
+            queues: Vec::with_capacity(alloc, QUEUES)?,
+            unheard: Vec::with_capacity(alloc, ROWS)?,
+            waiting: Vec::with_capacity(alloc, ROWS)?,
+        })
+    }
 }
 
 impl CallKind {

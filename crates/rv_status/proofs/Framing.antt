@@ -1,0 +1,64 @@
+-- Bytes of frames, one by one and a body at a time.
+use Rattle.std.proofs.Common.{◌≡◌, ◌≤◌, ◌<◌, ◌+◌, ◌-◌, ◌∙◌, ℕ, List, [], ◌∷◌, ap, arith, cond, drop, get_or, length}
+use Rattle.std.proofs.Common.{refl, suc, zero}
+use Rattle.rv_status.specs.declared.frames.FrameMeter.{FrameMeter}
+use Rattle.rv_status.specs.declared.frames.FrameMeter.TheVariants.{Between, Body}
+use Rattle.rv_status.specs.Frames.{after, after_byte, ends, is_between}
+
+-- the first byte, and the others
+pub first_after : (meter : FrameMeter) (rest : List ℕ) → 0 < length rest
+    → after meter rest ≡ after (after_byte meter (get_or rest 0 0)) (drop 1 rest)
+first_after meter [] some = absurd (omega (arith, some))
+first_after meter (byte ∷ bytes) some = refl
+
+pub first_ends : (meter : FrameMeter) (rest : List ℕ) → 0 < length rest
+    → ends meter rest ≡ cond (is_between (after_byte meter (get_or rest 0 0))) 1 0
+    + ends (after_byte meter (get_or rest 0 0)) (drop 1 rest)
+first_ends meter [] some = absurd (omega (arith, some))
+first_ends meter (byte ∷ bytes) some = refl
+
+next_is : (more : ℕ) → suc (more + 1) ≡ suc more + 1
+next_is more = omega arith
+
+less_is : (more n : ℕ) → more - n ≡ suc more - suc n
+less_is more n = omega arith
+
+none_less : (more : ℕ) → more ≡ more - 0
+none_less more = omega arith
+
+none_more : (n : ℕ) → 0 + n ≡ n
+none_more n = omega arith
+
+-- all of a body that is missing
+pub body_after : (more : ℕ) (rest : List ℕ) → more < length rest
+    → after (Body more) rest ≡ after Between (drop (more + 1) rest)
+body_after more [] less = absurd (omega (arith, less))
+body_after zero (byte ∷ bytes) less = refl
+body_after (suc more) (byte ∷ bytes) less =
+    body_after more bytes (omega (arith, less))
+    ∙ ap (λ k. after Between (drop k (byte ∷ bytes))) (next_is more)
+
+pub body_ends : (more : ℕ) (rest : List ℕ) → more < length rest
+    → ends (Body more) rest ≡ 1 + ends Between (drop (more + 1) rest)
+body_ends more [] less = absurd (omega (arith, less))
+body_ends zero (byte ∷ bytes) less = refl
+body_ends (suc more) (byte ∷ bytes) less =
+    none_more (ends (Body more) bytes) ∙ body_ends more bytes (omega (arith, less))
+    ∙ ap (λ k. 1 + ends Between (drop k (byte ∷ bytes))) (next_is more)
+
+-- a part of it
+pub part_after : (more : ℕ) (rest : List ℕ) → length rest ≤ more
+    → after (Body more) rest ≡ after (Body (more - length rest)) (drop (length rest) rest)
+part_after more [] within = ap (λ k. Body k) (none_less more)
+part_after zero (byte ∷ bytes) within = absurd (omega (arith, within))
+part_after (suc more) (byte ∷ bytes) within =
+    part_after more bytes (omega (arith, within))
+    ∙ ap (λ k. after (Body k) (drop (length bytes) bytes)) (less_is more (length bytes))
+
+pub part_ends : (more : ℕ) (rest : List ℕ) → length rest ≤ more
+    → ends (Body more) rest ≡ 0 + ends (Body (more - length rest)) (drop (length rest) rest)
+part_ends more [] within = refl
+part_ends zero (byte ∷ bytes) within = absurd (omega (arith, within))
+part_ends (suc more) (byte ∷ bytes) within =
+    none_more (ends (Body more) bytes) ∙ part_ends more bytes (omega (arith, within))
+    ∙ ap (λ k. 0 + ends (Body k) (drop (length bytes) bytes)) (less_is more (length bytes))

@@ -1,0 +1,86 @@
+//! How many frames come whole over a connection: of each the two bytes of its length are looked at, and its
+//! body is passed over.
+ghost use Rattle.std.specs.Prelude.{◌≡◌, ◌≤◌, ◌<◌, ◌+◌, drop, length};
+ghost use Rattle.std.specs.Prelude.{cond};
+ghost use Rattle.rv_status.specs.Frames.{after, ends, is_between, of_length};
+
+/// What came last over a connection.
+#[derive(Clone, Copy)]
+pub enum FrameMeter {
+    /// A whole frame, or nothing yet.
+    Between,
+    /// The first byte of a frame's length.
+    Length(u8),
+    /// A part of a frame: one byte more is missing of its body than this.
+    Body(usize),
+}
+
+impl FrameMeter {
+    // Behind the length of a frame.
+    fn of_length(length: usize) -> FrameMeter
+        ensures { result ≡ of_length length }
+    {
+        if length == 0 {
+            return FrameMeter::Between;
+        }
+        FrameMeter::Body(length - 1)
+    }
+
+    // Whether no part of a frame came last.
+    fn is_between(self) -> bool
+        ensures { result ≡ is_between self }
+    {
+        match self {
+            FrameMeter::Between => true,
+            FrameMeter::Length(_) => false,
+            FrameMeter::Body(_) => false,
+        }
+    }
+
+    // The next byte of a length came, or bytes up to the end of a body. It gives how many.
+    #[tactic(auto, using(crate::proofs::Framing::first_after, crate::proofs::Framing::first_ends, crate::proofs::Framing::body_after, crate::proofs::Framing::body_ends, crate::proofs::Framing::part_after, crate::proofs::Framing::part_ends))]
+    fn step(&mut self, rest: &[u8]) -> usize
+        requires { 0 < length rest.now }
+        ensures some { 1 ≤ result }
+        ensures within { result ≤ length rest.now }
+        ensures after { after self.old rest.now ≡ after self.new (drop result rest.now) }
+        ensures ends { ends self.old rest.now
+            ≡ cond (is_between self.new) 1 0 + ends self.new (drop result rest.now) }
+    {
+        match *self {
+            FrameMeter::Between => {
+                *self = FrameMeter::Length(rest[0]);
+                1
+            }
+            FrameMeter::Length(high) => {
+                *self = FrameMeter::of_length(high as usize * 256 + rest[0] as usize);
+                1
+            }
+            FrameMeter::Body(more) if more < rest.len() => {
+                *self = FrameMeter::Between;
+                more + 1
+            }
+            FrameMeter::Body(more) => {
+                *self = FrameMeter::Body(more - rest.len());
+                rest.len()
+            }
+        }
+    }
+
+    /// A piece came. It gives how many frames end in it; a length of 0 is that of a frame with no body.
+    pub fn pass(&mut self, piece: &[u8]) -> usize
+        ensures after { self.new ≡ after self.old piece.now }
+        ensures ends { result ≡ ends self.old piece.now }
+    {
+        let mut rest = piece;
+        let mut ended = 0;
+        while !rest.is_empty() {
+            let count = self.step(rest);
+            rest = &rest[count..];
+            if self.is_between() {
+                ended += 1;
+            }
+        }
+        ended
+    }
+}
