@@ -58,7 +58,10 @@ NO_WRONG_BODY = (r"\w+::swap::Swap\w*::new", r"\w+::waiters::Waiters\w*::empty",
                  r"\w+::account::Account\w*::allocator", r"\w+::\w+::Verifier\w*::machine", r"\w+::records::Records\w*::new",
                  r"\w+::desk::HubDesk\w*::machine", r"\w+::desk::HubDesk\w*::wires",
                  r"\w+::hub::Hub\w*::machine", r"\w+::engine::Engine\w*::hub",
-                 r"\w+::traffic::Switchboard\w*::engine", r"\w+::traffic::Switchboard\w*::links")
+                 r"\w+::traffic::Switchboard\w*::engine", r"\w+::traffic::Switchboard\w*::links",
+                 # what cells hold, of which no clause can speak
+                 r"\w+::counted::AnswerTally\w*::begin_turn", r"\w+::counted::AnswerTally\w*::counts",
+                 r"\w+::counted::AnswerTally\w*::fresh", r"\w+::counted::AnswerTally\w*::times")
 # Names of types and definitions that two crates declare: in each they mean the same. Of `Item` one crate has what a producer
 # hands over, the other what a frame was answered by; of `Clients` one has the sessions, the other the processes. Of `World` one
 # has the definition, the other the type.

@@ -1,14 +1,16 @@
 -- Arrivals, as entries are made one after another.
-use Rattle.std.proofs.Common.{◌≡◌, ◌≢◌, ◌⊎◌, ◌<◌, ◌+◌, ◌∙◌, ℕ, Bool, true, false, List, [], ◌∷◌, ◌++◌, ap, arith}
+use Rattle.std.proofs.Common.{◌≡◌, ◌≢◌, ◌⊎◌, ◌<◌, ◌+◌, ◌∙◌, ℕ, Bool, true, false, List, [], ◌∷◌, ◌++◌, ap}
+use Rattle.std.proofs.Common.{arith}
 use Rattle.std.proofs.Common.{append_assoc, cond, eqb, get_or, inl, inr, length, subst, sym, take}
 use Rattle.std.proofs.lemmas.Bool.Decides.{eqb_tells}
 use Rattle.std.proofs.lemmas.List.{get_or-set_other, get_or-set_same, take_more}
 use Rattle.std.proofs.lemmas.List.Sums.{sum_by_push}
 use Rattle.rv_account.specs.declared.entry.Entry.{Entry}
-use Rattle.rv_engine.specs.Calls.{AreCounted, CountsMore, arrivals_at, as_counted, counted_at, is_arrival_at}
+use Rattle.rv_engine.specs.Calls.{CallsAreCounted, CountsMore, arrivals_at, call_count, counted_at}
+use Rattle.rv_engine.specs.Calls.{is_arrival_at}
 
 -- a count that stands at its greatest stays there
-once_more : (a b : ℕ) → as_counted (as_counted a + b) ≡ as_counted (a + b)
+once_more : (a b : ℕ) → call_count (call_count a + b) ≡ call_count (a + b)
 once_more a b = omega arith
 
 entry_more : (place : ℕ) (entries : List Entry) (e : Entry)
@@ -30,17 +32,18 @@ one_more counts e at within is entries counted place below =
           let more : arrivals_at place (entries ++ e ∷ []) ≡ arrivals_at place entries + 1 =
           adds place entries e true (is place ∙ is_here.0) in
           ap (λ p. get_or (counted_at counts at) p 0) (sym is_here.1)
-          ∙ get_or-set_same counts at (as_counted (get_or counts at 0 + 1)) 0 within
-          ∙ ap (λ p. as_counted (get_or counts p 0 + 1)) is_here.1
-          ∙ ap (λ n. as_counted (n + 1)) (counted place below)
+          ∙ get_or-set_same counts at (call_count (get_or counts at 0 + 1)) 0 within
+          ∙ ap (λ p. call_count (get_or counts p 0 + 1)) is_here.1
+          ∙ ap (λ n. call_count (n + 1)) (counted place below)
           ∙ once_more (arrivals_at place entries) 1
-          ∙ ap as_counted (sym more)
+          ∙ ap call_count (sym more)
       | inr is_other ↦
           let more : arrivals_at place (entries ++ e ∷ []) ≡ arrivals_at place entries + 0 =
           adds place entries e false (is place ∙ is_other.0) in
-          let same : arrivals_at place (entries ++ e ∷ []) ≡ arrivals_at place entries = omega (arith, more) in
-          get_or-set_other counts at place (as_counted (get_or counts at 0 + 1)) 0 (λ q. is_other.1 (sym q))
-          ∙ counted place below ∙ ap as_counted (sym same)
+          let same : arrivals_at place (entries ++ e ∷ []) ≡ arrivals_at place entries = omega (arith, more)
+          in
+          get_or-set_other counts at place (call_count (get_or counts at 0 + 1)) 0 (λ q. is_other.1 (sym q))
+          ∙ counted place below ∙ ap call_count (sym same)
     ]
 
 -- the next entry of some
@@ -50,6 +53,6 @@ pub next_more : (old mid new : List ℕ) (made : List Entry) (i : ℕ) (e : Entr
 next_more old mid new made i e within is first second entries counted =
     let next : take (i + 1) made ≡ take i made ++ e ∷ [] =
     take_more made i e within ∙ ap (λ (x : Entry). take i made ++ x ∷ []) (sym is) in
-    subst (λ (all : List Entry). AreCounted all new)
+    subst (λ (all : List Entry). CallsAreCounted all new)
     (append_assoc entries (take i made) (e ∷ []) ∙ ap (λ (more : List Entry). entries ++ more) (sym next))
     (second (entries ++ take i made) (first entries counted))

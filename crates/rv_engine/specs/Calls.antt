@@ -1,5 +1,6 @@
 -- How many requests of each call were recorded.
-use Rattle.std.specs.Prelude.{ℕ, ◌≡◌, ◌+◌, ◌-◌, ◌<◌, ◌^◌, Bool, false, List, Option, None, Some, ◌++◌, eqb, min, set}
+use Rattle.std.specs.Prelude.{ℕ, ◌≡◌, ◌+◌, ◌-◌, ◌<◌, ◌^◌, Bool, false, List, Option, None, Some, ◌++◌, eqb}
+use Rattle.std.specs.Prelude.{min, set}
 use Rattle.std.specs.Prelude.{slice_index}
 use Rattle.std.specs.List.{count_by}
 use Rattle.rv_text.specs.declared.call.Call.{Call}
@@ -30,17 +31,18 @@ abbrev pub arrivals_at : ℕ → List Entry → ℕ
 arrivals_at place entries = count_by (λ e. is_arrival_at place e.act) entries
 
 -- as far as a count goes
-abbrev pub as_counted : ℕ → ℕ
-as_counted n = min n (2 ^ 64 - 1)
+abbrev pub call_count : ℕ → ℕ
+call_count n = min n (2 ^ 64 - 1)
 
 -- of each call so many are counted as there are arrivals of it among these entries
-abbrev pub AreCounted : List Entry → List ℕ → Type 0
-AreCounted entries counts = (place : ℕ) → place < 7
-    → slice_index counts place ≡ as_counted (arrivals_at place entries)
+abbrev pub CallsAreCounted : List Entry → List ℕ → Type 0
+CallsAreCounted entries counts = (place : ℕ) → place < 7
+    → slice_index counts place ≡ call_count (arrivals_at place entries)
 
 -- and the arrivals among these entries more
 abbrev pub CountsMore : List ℕ → List Entry → List ℕ → Type 0
-CountsMore old made new = (entries : List Entry) → AreCounted entries old → AreCounted (entries ++ made) new
+CountsMore old made new = (entries : List Entry) → CallsAreCounted entries old
+    → CallsAreCounted (entries ++ made) new
 
 -- the entries that were made are counted where the hub was told of an event, and gave something; else none is
 abbrev pub CountsTold : Option ℕ → List ℕ → List Entry → List ℕ → Type 0
@@ -51,4 +53,4 @@ CountsTold (Some given) old made new = CountsMore old made new
 
 -- one more is counted there
 abbrev pub counted_at : List ℕ → ℕ → List ℕ
-counted_at counts place = set counts place (as_counted (slice_index counts place + 1))
+counted_at counts place = set counts place (call_count (slice_index counts place + 1))

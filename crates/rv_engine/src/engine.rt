@@ -39,8 +39,8 @@ impl Model for Engine {
 }
 
 impl Engine {
-    ghost use Rattle.std.specs.Prelude.{◌↔◌, ◌<◌, ◌∷◌, ◌++◌, [], IfErr, IfNone, IfOk, IfSome, IsTrue, OnErr, OnOk};
-    ghost use Rattle.std.specs.Prelude.{AllPairs, ◌≢◌, length, max};
+    ghost use Rattle.std.specs.Prelude.{◌↔◌, ◌<◌, ◌∷◌, ◌++◌, [], IfErr, IfNone, IfOk, IfSome, IsTrue, OnOk};
+    ghost use Rattle.std.specs.Prelude.{AllPairs, ◌≢◌, OnErr, length, max};
     ghost use Rattle.std.specs.Bool.{OnFalse, OnTrue};
     ghost use Rattle.rv_frame.specs.Sink.{SinkTakes};
     ghost use Rattle.rv_machine.specs.Machines.{state_in};
@@ -51,7 +51,7 @@ impl Engine {
     ghost use Rattle.rv_hub.specs.Hubs.{hub_terms};
     ghost use Rattle.rv_engine.specs.Engines.{engine_state};
     ghost use Rattle.rv_hub.specs.Events.{EventCan};
-    ghost use Rattle.rv_engine.specs.Calls.{AreCounted, CountsMore, CountsTold};
+    ghost use Rattle.rv_engine.specs.Calls.{CallsAreCounted, CountsMore, CountsTold};
     ghost use Rattle.rv_engine.specs.Handing.{Gathers, HandsOn, HasWorked, IsNoOpening, IsNotTold, IsRefused};
     ghost use Rattle.rv_engine.specs.Handing.{LooksAt, TellsWritten, all_gone, told_hub, unwritten};
 
@@ -85,7 +85,7 @@ impl Engine {
         ensures terms { IfOk result (λ e. hub_terms e.hub
             ≡ record { limits = limits; patience = max 1 patience }) }
         ensures journal { IfOk result (λ e. e.hub.has_journal ≡ has_account) }
-        ensures calls { IfOk result (λ e. AreCounted [] e.calls) }
+        ensures calls { IfOk result (λ e. CallsAreCounted [] e.calls) }
     {
         let looks = LookList::new(alloc, room)?;
         let round = LookList::new(alloc, room)?;

@@ -1,21 +1,15 @@
--- Bytes of frames, one by one and a body at a time.
-use Rattle.std.proofs.Common.{◌≡◌, ◌≤◌, ◌<◌, ◌+◌, ◌-◌, ◌∙◌, ℕ, List, [], ◌∷◌, ap, arith, cond, drop, get_or, length}
-use Rattle.std.proofs.Common.{refl, suc, zero}
+-- Bytes of a frame's body, all that are missing or a part of them.
+use Rattle.std.proofs.Common.{◌≡◌, ◌≤◌, ◌<◌, ◌+◌, ◌-◌, ◌∙◌, ℕ, List, [], ◌∷◌, ap, arith, drop, length, refl, suc}
+use Rattle.std.proofs.Common.{zero}
 use Rattle.rv_status.specs.declared.frames.FrameMeter.{FrameMeter}
-use Rattle.rv_status.specs.declared.frames.FrameMeter.TheVariants.{Between, Body}
-use Rattle.rv_status.specs.Frames.{after, after_byte, ends, is_between}
+use Rattle.rv_status.specs.declared.frames.FrameMeter.TheVariants.{Between, Body, Length}
+use Rattle.rv_status.specs.Frames.{after, ends}
 
--- the first byte, and the others
-pub first_after : (meter : FrameMeter) (rest : List ℕ) → 0 < length rest
-    → after meter rest ≡ after (after_byte meter (get_or rest 0 0)) (drop 1 rest)
-first_after meter [] some = absurd (omega (arith, some))
-first_after meter (byte ∷ bytes) some = refl
-
-pub first_ends : (meter : FrameMeter) (rest : List ℕ) → 0 < length rest
-    → ends meter rest ≡ cond (is_between (after_byte meter (get_or rest 0 0))) 1 0
-    + ends (after_byte meter (get_or rest 0 0)) (drop 1 rest)
-first_ends meter [] some = absurd (omega (arith, some))
-first_ends meter (byte ∷ bytes) some = refl
+-- how many bytes more than one are missing of a body
+abbrev pub missing : FrameMeter → ℕ
+missing Between = 0
+missing (Length high) = 0
+missing (Body more) = more
 
 next_is : (more : ℕ) → suc (more + 1) ≡ suc more + 1
 next_is more = omega arith

@@ -1,5 +1,6 @@
 -- One value more.
-use Rattle.std.proofs.Common.{◌≡◌, ◌+◌, ◌∙◌, ℕ, Bool, true, false, List, [], ◌∷◌, ap, arith, cond, leb, length, map, refl}
+use Rattle.std.proofs.Common.{◌≡◌, ◌+◌, ◌∙◌, ℕ, Bool, true, false, List, [], ◌∷◌, ap, arith, cond, leb}
+use Rattle.std.proofs.Common.{length, map, refl}
 use Rattle.std.proofs.Common.{if◌then◌else◌, suc, sym}
 use Rattle.std.specs.List.{count_by, sum}
 use Rattle.std.proofs.lemmas.List.Sums.{sum_by-cons}

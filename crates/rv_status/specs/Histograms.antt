@@ -1,5 +1,6 @@
 -- What a histogram tells of the values that were observed, in any order, and its text.
-use Rattle.std.specs.Prelude.{ℕ, ◌+◌, ◌-◌, ◌*◌, ◌/◌, ◌%◌, ◌^◌, List, [], ◌∷◌, ◌++◌, codes, decimal, eqb, flat_map}
+use Rattle.std.specs.Prelude.{ℕ, ◌+◌, ◌-◌, ◌*◌, ◌/◌, ◌%◌, ◌^◌, List, [], ◌∷◌, ◌++◌, codes, decimal, eqb}
+use Rattle.std.specs.Prelude.{flat_map}
 use Rattle.std.specs.Prelude.{if◌then◌else◌, leb, length, map, min, suc, zero}
 use Rattle.std.specs.List.{count_by, sum}
 use Rattle.rv_status.specs.declared.histogram.Bucket.{Bucket}

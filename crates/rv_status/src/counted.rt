@@ -1,7 +1,7 @@
 //! A connection's socket, which counts what comes and leaves over it.
 ghost use Rattle.std.specs.Prelude.{◌≡◌, [], IfOk, replicate};
 ghost use Rattle.rv_status.specs.declared.frames.FrameMeter.TheVariants.{Between};
-ghost use Rattle.rv_status.specs.Standing.{Stands};
+ghost use Rattle.rv_status.specs.Standing.{LineStands};
 
 use crate::answers::{ANSWERS, AnswerCounts, AnswerMeter};
 use crate::frames::FrameMeter;
@@ -18,7 +18,7 @@ const MILLI: u64 = 1_000;
 
 // What is counted over all connections.
 #[derive(Drop)]
-struct Tally {
+struct AnswerCells {
     // The moment of the turn, in milliseconds.
     now: Cell<u64>,
     // How many answers of each kind have left, and how long their requests stood first.
@@ -30,7 +30,7 @@ struct Tally {
 /// their requests stood first of their connection.
 #[derive(Drop)]
 pub struct AnswerTally {
-    tally: Rc<Tally>,
+    tally: Rc<AnswerCells>,
     seen: AnswerCounts,
 }
 
@@ -39,7 +39,7 @@ impl AnswerTally {
     pub fn new(alloc: Global) -> Result<AnswerTally, AllocError>
         ensures { IfOk result (λ t. t.seen ≡ replicate 24 0) }
     {
-        let tally = Tally {
+        let tally = AnswerCells {
             now: Cell::new(0),
             counts: Cell::new([0; ANSWERS]),
             times: Cell::new(Histogram::of_answers()),
@@ -69,7 +69,7 @@ impl AnswerTally {
     pub fn over<S>(&self, stream: S) -> CountedStream<S>
         ensures stream { result.stream ≡ stream }
         ensures frames { result.frames ≡ Between }
-        ensures line { Stands [] 0 result.line }
+        ensures line { LineStands [] 0 result.line }
         ensures owed { result.answers.owed ≡ 0 }
     {
         CountedStream {
@@ -102,7 +102,7 @@ pub struct CountedStream<S> {
     answers: AnswerMeter,
     frames: FrameMeter,
     line: FrameLine,
-    tally: Option<Rc<Tally>>,
+    tally: Option<Rc<AnswerCells>>,
 }
 
 impl<S> CountedStream<S> {

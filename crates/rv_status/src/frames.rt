@@ -38,7 +38,6 @@ impl FrameMeter {
     }
 
     // The next byte of a length came, or bytes up to the end of a body. It gives how many.
-    #[tactic(auto, using(crate::proofs::Framing::first_after, crate::proofs::Framing::first_ends, crate::proofs::Framing::body_after, crate::proofs::Framing::body_ends, crate::proofs::Framing::part_after, crate::proofs::Framing::part_ends))]
     fn step(&mut self, rest: &[u8]) -> usize
         requires { 0 < length rest.now }
         ensures some { 1 ≤ result }

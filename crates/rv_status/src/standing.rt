@@ -2,7 +2,7 @@
 ghost use Rattle.std.specs.Prelude.{ℕ, ◌≡◌, ◌≤◌, ◌<◌, ◌+◌, ◌^◌, ◌-◌, ◌∷◌, [], ◌++◌, List, None, Some};
 ghost use Rattle.std.specs.Prelude.{length, max, replicate};
 ghost use Rattle.std.specs.List.{All};
-ghost use Rattle.rv_status.specs.Standing.{Stands};
+ghost use Rattle.rv_status.specs.Standing.{LineStands};
 
 /// How many frames of a connection have no answer that left, and since when the first of them stands first.
 /// Moments are in any unit, and don't go back.
@@ -15,15 +15,15 @@ pub struct FrameLine {
 impl FrameLine {
     /// No frame was read.
     pub fn new() -> FrameLine
-        ensures { Stands [] 0 result }
+        ensures { LineStands [] 0 result }
     {
         FrameLine { count: 0, since: 0 }
     }
 
     /// The last bytes of so many frames were read at a moment.
     pub fn came(&mut self, frames: usize, now: u64)
-        ensures { (read : List ℕ) (left : ℕ) → Stands read left self.old → left ≤ now
-            → length read + frames < 2 ^ 64 → Stands (read ++ replicate frames now) left self.new }
+        ensures { (read : List ℕ) (left : ℕ) → LineStands read left self.old → left ≤ now
+            → length read + frames < 2 ^ 64 → LineStands (read ++ replicate frames now) left self.new }
     {
         if self.count == 0 && frames > 0 {
             self.since = now;
@@ -33,10 +33,10 @@ impl FrameLine {
 
     /// An answer left at a moment. It gives for how long its frame stood first; none where there is no frame.
     pub fn left(&mut self, now: u64) -> Option<u64>
-        ensures stood { (first : ℕ) (others : List ℕ) (left : ℕ) → Stands (first ∷ others) left self.old
+        ensures stood { (first : ℕ) (others : List ℕ) (left : ℕ) → LineStands (first ∷ others) left self.old
             → All (λ moment. moment ≤ now) others
-            → (result ≡ Some (now - max first left)) × Stands others now self.new }
-        ensures none { (left : ℕ) → Stands [] left self.old → (result ≡ None) × (self.new ≡ self.old) }
+            → (result ≡ Some (now - max first left)) × LineStands others now self.new }
+        ensures none { (left : ℕ) → LineStands [] left self.old → (result ≡ None) × (self.new ≡ self.old) }
     {
         if self.count == 0 {
             return None;
