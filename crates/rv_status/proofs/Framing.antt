@@ -1,5 +1,6 @@
 -- Bytes of a frame's body, all that are missing or a part of them.
-use Rattle.std.proofs.Common.{◌≡◌, ◌≤◌, ◌<◌, ◌+◌, ◌-◌, ◌∙◌, ℕ, List, [], ◌∷◌, ap, arith, drop, length, refl, suc}
+use Rattle.std.proofs.Common.{◌≡◌, ◌≤◌, ◌<◌, ◌+◌, ◌-◌, ◌∙◌, ℕ, List, [], ◌∷◌, ap, arith, drop, length, refl}
+use Rattle.std.proofs.Common.{suc}
 use Rattle.std.proofs.Common.{zero}
 use Rattle.rv_status.specs.declared.frames.FrameMeter.{FrameMeter}
 use Rattle.rv_status.specs.declared.frames.FrameMeter.TheVariants.{Between, Body, Length}
