@@ -20,6 +20,8 @@ HEAD, LONGEST, FLOOD = 4_096, 10, 1_000
 CROWD, OFTEN = 20, 5
 # A request's bytes in a piece, and the seconds from one to the next: more than those between two visits. All is to be said in one.
 PIECE, PAUSE, TO_ASK = 18, 0.05, 1
+# The queue of a request that is left alone.
+QUEUE = 6
 # The seconds that a test gives a number which is read off once a second, and a connection that is to end.
 SOON = 30
 HTML, JSON, METRICS, PLAIN = "text/html", "application/json", "text/plain; version=0.0.4", "text/plain"
@@ -199,7 +201,31 @@ def a_worked_scene(program: str) -> None:
 
 def listed(port: int) -> list[list[object]]:
     """The requests that no connection waits for, without their moments."""
-    return [row[:2] + row[3:] for row in json.loads(page(port, "/status.json", JSON))["unheard"]]
+    return [row[:2] + row[3:6] for row in unheard(port)]
+
+
+def unheard(port: int) -> list[list[int]]:
+    """Their rows."""
+    return json.loads(page(port, "/status.json", JSON))["unheard"]
+
+
+def a_moment_begins_anew(program: str) -> None:
+    """A request has the moment of the first look that found it with no connection, at each look, until one finds a connection."""
+    port, wish = free_port(), Key(1, 2, 7, 1)
+    with Host(program, options=("--status", f"127.0.0.1:{port}")) as host:
+        moments = []
+        for _ in range(2):
+            with host.greeted(2, 7) as worker:
+                worker.send(frame(request(wish, take("forever", queue=QUEUE))))
+                shows(port, {"rv_requests_waiting": 1, "rv_requests_unheard": 0})
+                until("a request with a connection isn't listed", lambda: not unheard(port), SOON)
+            until("one with none is listed", lambda: len(unheard(port)) == 1, SOON)
+            rows, seen = unheard(port), numbers(port)["rv_uptime_seconds"]
+            until("it is looked at again", lambda: numbers(port)["rv_uptime_seconds"] > seen + 1, SOON)
+            demand(unheard(port) == rows, f"its row {rows} came to be {unheard(port)}")
+            moments.append(rows[0][6])
+        demand(rows[0][2] <= moments[0] < moments[1], f"it arrived at {rows[0][2]} and was found alone at {moments}")
+        host.ended()
 
 
 def visitor(port: int, data: bytes) -> Peer:
@@ -273,5 +299,6 @@ def told_without_descriptors(program: str) -> None:
 
 
 CASES = [
-    addresses, pages_by_path, pages_by_host, readiness, answers_are_counted, nothing_listens, a_worked_scene, a_request_in_pieces, hostile_visitors, told_without_descriptors,
+    addresses, pages_by_path, pages_by_host, readiness, answers_are_counted, nothing_listens, a_worked_scene, a_moment_begins_anew,
+    a_request_in_pieces, hostile_visitors, told_without_descriptors,
 ]

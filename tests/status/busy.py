@@ -16,6 +16,8 @@ CALM, HURRIED = 180, 540
 HURRY = 30
 # An entry's line in the account has about so many bytes.
 ENTRY_BYTES = 130
+# So many milliseconds after its arrival a request was first found with no connection.
+ALONE = 2_000
 
 
 def history() -> List[List[int]]:
@@ -49,7 +51,7 @@ def busy(numbers: Dict[str, int]) -> Status:
             "rv_requests_waiting": 1_240, "rv_requests_unheard": 3, "rv_account_bytes_total": account}
     return {"history": samples, "numbers": {**numbers, **told},
             "queues": [[queue, places if queue == 3 else 0, 12 if queue in (1, 5) else 0] for queue in range(64)],
-            "unheard": rows[2:60:20], "version": VERSION, "waiting": rows}
+            "unheard": [[*row, row[2] + ALONE] for row in rows[2:60:20]], "version": VERSION, "waiting": rows}
 
 
 def text(status: Status) -> bytes:

@@ -57,7 +57,7 @@ def a_worker_was_killed(program: str) -> str:
         stage.lasts("its request is unheard", lambda told: bool(told) and told["rv_requests_unheard"] == 1, 1)
         took = time.monotonic() - began
         stage.lasts("it stays so", lambda told: bool(told) and told["rv_requests_unheard"] == 1, 8)
-        rows = [row[:2] + row[3:] for row in stage.status()["unheard"]]
+        rows = [row[:2] + row[3:6] for row in stage.status()["unheard"]]
         demand(rows == [["take", 6, 2, 7, 1]], f"what is unheard: {rows}")
         stage.raises({"RvUnheard": {}})
         told = f"unheard {took:.0f} s behind the kill, {stage.rise('rv_fault_link_total')}"

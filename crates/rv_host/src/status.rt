@@ -13,7 +13,7 @@ use rv_options::{HostOptions, VERSION};
 use rv_status::{
     ANSWERS, FaultCounts, HostStatus, StatusNumbers, StatusPages, StatusSample, take_sample,
 };
-use rv_survey::{list_queues, renew, unheard_row, waiting_row};
+use rv_survey::{Sights, list_queues, renew, unheard_row, waiting_row};
 use std::alloc::{AllocError, Global};
 use std::hash::RandomState;
 
@@ -48,6 +48,8 @@ pub(crate) struct StatusDesk {
     reserve: Reserve,
     visitors: rv_status::Visitors<TcpStream>,
     status: HostStatus,
+    // Since when clients were found with no connection.
+    sights: Sights,
     // The names under which it is asked.
     names: Vec<String>,
     // How far the clients are looked at, and how many more are to be.
@@ -124,6 +126,7 @@ impl StatusDesk {
             reserve: Reserve::new(rt),
             visitors,
             status,
+            sights: Sights::new(alloc),
             names,
             after: None,
             left: 0,
@@ -164,7 +167,7 @@ impl StatusDesk {
     }
 
     // Looks at the next clients, from the first on again behind the last.
-    fn look_at_clients(&mut self, hub: &Hub) -> Result<(), AllocError> {
+    fn look_at_clients(&mut self, now: u64, hub: &Hub) -> Result<(), AllocError> {
         for _ in 0..CLIENTS_A_TURN.min(self.left) {
             self.left = self.left.saturating_sub(1);
             let Some((client, _)) = hub.machine().next_client(self.after) else {
@@ -175,7 +178,8 @@ impl StatusDesk {
             self.after = Some(client);
             let waiting = waiting_row(hub.machine(), client);
             renew(&mut self.status.waiting, client, waiting)?;
-            renew(&mut self.status.unheard, client, unheard_row(hub, client))?;
+            let unheard = self.sights.look(client, unheard_row(hub, client), now);
+            renew(&mut self.status.unheard, client, unheard)?;
         }
         Ok(())
     }
@@ -263,7 +267,7 @@ impl<W: Drop> Shell<W> {
         let Some(desk) = &mut self.status else {
             return;
         };
-        let _ = desk.look_at_clients(self.traffic.engine().hub());
+        let _ = desk.look_at_clients(now, self.traffic.engine().hub());
         desk.serve(rt, now);
     }
 

@@ -19,6 +19,7 @@ use Rattle.rv_status.specs.declared.status.WaitingRow.{WaitingRow}
 use Rattle.rv_status.specs.Rows.{MetricRow, number_rows}
 use Rattle.rv_status.specs.Texts.{families_text, family_text, family_head, labelled_text, row_text, side_help}
 use Rattle.rv_status.specs.Texts.{side_name}
+use Rattle.rv_status.specs.Values.{call_word, cell_token, cell_value, request_cells}
 use Rattle.rv_status.specs.Values.{list_tokens, number_members, number_tokens, numbers_value}
 use Rattle.rv_status.specs.Values.{queue_value}
 use Rattle.rv_status.specs.Values.{sample_value, status_value, tokens_of, version_tokens, waiting_value}
@@ -107,6 +108,25 @@ worded_told word said same old begun named each ended mid is_begun is_named is_e
     let all : ended ≡ (((old ++ begin_array ∷ []) ++ token.string word ∷ []) ++ mid) ++ end_array ∷ [] = cc in
     all ∙ bracketed old begin_array (token.string word) end_array mid
     ∙ ap (λ w. old ++ begin_array ∷ token.string w ∷ (mid ++ end_array ∷ [])) same
+
+cells_told : (cells : List ℕ)
+    → items_tokens (items_outline (items_of (map cell_value cells))) ≡ map cell_token cells ++ end_array ∷ []
+cells_told [] = refl
+cells_told (cell ∷ cells) = ap (λ rest. cell_token cell ∷ rest) (cells_told cells)
+
+-- and that of a request, whatever numbers it has
+pub request_told : (row : WaitingRow) (word : List ℕ) → word ≡ call_word row.call
+    → (old begun named each ended : List Token)
+    → begun ≡ old ++ begin_array ∷ []
+    → named ≡ begun ++ token.string word ∷ []
+    → each ≡ named ++ map cell_token (request_cells row)
+    → ended ≡ each ++ end_array ∷ []
+    → ended ≡ old ++ tokens_of (waiting_value row)
+request_told row word same old begun named each ended is_begun is_named is_each is_ended =
+    worded_told word (call_word row.call) same old begun named each ended (map cell_token (request_cells row))
+    is_begun is_named is_each is_ended
+    ∙ ap (λ rest. old ++ begin_array ∷ token.string (call_word row.call) ∷ rest)
+    (sym (cells_told (request_cells row)))
 
 six : {A : Type 0} (old a b c d e f : List A) (begin end : A)
     → (((((((old ++ begin ∷ []) ++ a) ++ b) ++ c) ++ d) ++ e) ++ f) ++ end ∷ []

@@ -1,5 +1,5 @@
 -- The JSON value of a status, and its tokens.
-use Rattle.std.specs.Prelude.{ℕ, List, [], ◌∷◌, codes, decimal, map}
+use Rattle.std.specs.Prelude.{ℕ, List, [], ◌∷◌, codes, decimal, map, option_to_list}
 use Rattle.json.specs.Token as token
 use Rattle.json.specs.Token.{Token, key}
 use Rattle.json.specs.Tree.{json_tokens}
@@ -33,11 +33,13 @@ sample_value row = listed (map cell_value (row.second ∷ row.entries ∷ row.pl
 abbrev pub queue_value : QueueRow → Data
 queue_value row = listed (map cell_value (row.queue ∷ row.items ∷ row.consumers ∷ []))
 
+-- the numbers of a request's row; the last is told of one that was found with no connection
+abbrev pub request_cells : WaitingRow → List ℕ
+request_cells row =
+    row.at ∷ row.since ∷ row.client ∷ row.incarnation ∷ row.number ∷ option_to_list row.unheard
+
 abbrev pub waiting_value : WaitingRow → Data
-waiting_value row =
-    listed
-    (string (call_word row.call)
-    ∷ map cell_value (row.at ∷ row.since ∷ row.client ∷ row.incarnation ∷ row.number ∷ []))
+waiting_value row = listed (string (call_word row.call) ∷ map cell_value (request_cells row))
 
 -- each number under its name
 abbrev pub number_members : List MetricRow → Members

@@ -9,6 +9,7 @@ ghost use Rattle.rv_status.specs.Values.{
   number_tokens,
   numbers_value,
   queue_value,
+  request_cells,
   sample_value,
   status_value,
   tokens_of,
@@ -186,11 +187,21 @@ fn put_request(writer: &mut Writer, row: &WaitingRow) -> Result<(), AllocError>
 {
     writer.begin_array()?;
     writer.string(row.call.word())?;
+    put_request_cells(writer, row)?;
+    writer.end_array()
+}
+
+// The numbers of a request's row.
+fn put_request_cells(writer: &mut Writer, row: &WaitingRow) -> Result<(), AllocError>
+    ensures tokens { OnOk result (writer.new.tokens
+        ≡ writer.old.tokens ++ map cell_token (request_cells row.now)) }
+    ensures before { writer.new.before ≡ writer.old.before }
+{
     put_cells(
         writer,
         &[row.at, row.since, row.client, row.incarnation, row.number],
     )?;
-    writer.end_array()
+    put_cells(writer, row.unheard.as_slice())
 }
 
 // Numbers of a row.

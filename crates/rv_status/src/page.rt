@@ -193,11 +193,12 @@ card(\"account\", n.rv_account_bytes_total, n.rv_account_bytes_total ? size(gain
 at(\"cards\").replaceChildren(...cards);\n\
 picture(history, now);\n\
 const who = row => [row[0], row[1], span(Math.max(0, now - Math.floor(row[2] / 1000))), ...row.s\
-lice(3)];\n\
+lice(3, 6)];\n\
 const heads = [\"<call\", \"at\", \"waits for\", \"client\", \"incarnation\", \"number\"];\n\
 const name = /^rv_(?:fault_(\\w+)|(refused_\\w+))_total$/, faults = Object.entries(n).filter(each \
 => name.test(each[0]) && each[1]);\n\
-fill(\"unheard\", [...heads, \"<what ends it\"], told.unheard.map(row => [...who(row),\n\
+fill(\"unheard\", [...heads, \"alone for\", \"<what ends it\"], told.unheard.map(row => [...who(row), \
+span(Math.max(0, now - Math.floor(row[6] / 1000))),\n\
 \"rv call --connect ADDR --client \" + row[3] + \" --incarnation \" + (row[4] + 1) + \" --tries 1 --s\
 peak 1 < /dev/null\"]),\n\
 \"none\", n.rv_requests_unheard - told.unheard.length);\n\

@@ -92,6 +92,8 @@ pub struct WaitingRow {
     pub incarnation: u64,
     /// Its number.
     pub number: u64,
+    /// Since when it was found with no connection, in milliseconds since the start, where that is told.
+    pub unheard: Option<u64>,
 }
 
 impl StatusTimes {
@@ -133,8 +135,8 @@ impl HostStatus {
 }
 
 impl CallKind {
-    // Its word.
-    pub(crate) fn word(self) -> &'static str
+    /// Its word.
+    pub fn word(self) -> &'static str
         ensures { result.now ≡ call_word self }
     {
         match self {

@@ -2,3 +2,4 @@
 pub mod Oldest
 pub mod Queues
 pub mod Rows
+pub mod Sights

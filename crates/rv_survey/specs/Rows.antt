@@ -27,6 +27,7 @@ row_for waiter call =
       client = waiter.key.client;
       incarnation = waiter.key.incarnation;
       number = waiter.key.number;
+      unheard = None;
     }
 
 -- the row of who waits at an open place, if somebody does

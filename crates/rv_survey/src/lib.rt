@@ -4,7 +4,9 @@
 mod oldest;
 mod queues;
 mod rows;
+mod sights;
 
 pub use oldest::renew;
 pub use queues::list_queues;
 pub use rows::{unheard_row, waiting_row};
+pub use sights::{Sight, Sights};

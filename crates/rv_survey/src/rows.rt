@@ -59,6 +59,7 @@ fn row(open: &OpenPlace) -> Option<WaitingRow>
         client: waiter.key.client,
         incarnation: waiter.key.incarnation,
         number: waiter.key.number,
+        unheard: None,
     })
 }
 

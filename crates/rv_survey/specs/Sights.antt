@@ -1,0 +1,31 @@
+-- Since when looks have found requests with no connection.
+use Rattle.std.specs.Prelude.{ℕ, ◌≡◌, ◌≢◌, ◌==◌, ◌&&◌, Option, None, Some, if◌then◌else◌, nat_eq}
+use Rattle.std.specs.Prelude.{option_and_then}
+use Rattle.std.specs.Map.{lookup}
+use Rattle.rv_status.specs.declared.status.WaitingRow.{WaitingRow}
+use Rattle.rv_survey.specs.declared.sights.Sight.{Sight}
+use Rattle.rv_survey.specs.declared.sights.Sights.{Sights}
+
+-- the sight that the last look at a client left, if it found a request with no connection
+abbrev pub last_sight : Sights → ℕ → Option Sight
+last_sight sights client = option_and_then (λ sight. sight) (lookup (nat_eq client) sights.sights.entries)
+
+-- what is known of all other clients stays
+abbrev pub ChangesOnly : ℕ → Sights → Sights → Type 0
+ChangesOnly client old new = (other : ℕ) → client ≢ other → last_sight new other ≡ last_sight old other
+
+-- the moment since which looks have found the request so: that of the last sight, if it was one of the same
+-- request, and else now
+abbrev pub moment_after : Option Sight → ℕ → WaitingRow → ℕ
+moment_after None now row = now
+moment_after (Some last) now row =
+    if (last.incarnation == row.incarnation) && (last.number == row.number) then last.moment else now
+
+-- the sight of the request at a moment, after this one of its client
+abbrev pub sight_after : Option Sight → ℕ → WaitingRow → Sight
+sight_after last now row =
+    record { incarnation = row.incarnation; number = row.number; moment = moment_after last now row }
+
+-- its row, with that moment
+abbrev pub with_moment : Option Sight → ℕ → WaitingRow → WaitingRow
+with_moment last now row = record row { unheard = Some (moment_after last now row) }
