@@ -7,11 +7,13 @@ use Rattle.rv_text.specs.Versions.{number_of_version, version_of}
 use Rattle.rv_text.specs.declared.version.Version.{Version}
 use Rattle.rv_text.specs.declared.version.Version.TheVariants.{One, Two}
 use Rattle.rv_words.specs.Program.{rv_app}
-use Rattle.rv_command.specs.Command.{GivesBetween, GivesIdentifier, GivesVersion, SaysCommand}
+use Rattle.rv_command.specs.Command.{GivesBetween, GivesDuration, GivesIdentifier, GivesVersion}
+use Rattle.rv_command.specs.Command.{SaysCommand}
 use Rattle.rv_command.specs.Laws.{OneCommand, SameCommand}
+use Rattle.rv_words.proofs.Cutting.{one_duration}
 use Rattle.rv_command.proofs.Options.{first_letter, letter_of}
 use Rattle.rv_command.specs.declared.command.Command.{Command}
-use Rattle.rv_command.specs.declared.command.Command.TheVariants.{Audit, Book, Call, Play, Serve}
+use Rattle.rv_command.specs.declared.command.Command.TheVariants.{Audit, Book, Call, End, Play, Serve}
 
 number_one : (value : Option Text) (m n : ℕ) → GivesIdentifier value m → GivesIdentifier value n → m ≡ n
 number_one None m n a b = absurd a
@@ -33,6 +35,10 @@ one_numbered v w same = same_Some _ _ (sym (by_number v) ∙ ap version_of same 
 version_one : (value : Option Text) (v w : Version) → GivesVersion value v → GivesVersion value w → v ≡ w
 version_one value v w a b = one_numbered v w (between_one 1 2 value (number_of_version v)
     (number_of_version w) a b)
+
+duration_one : (value : Option Text) (m n : ℕ) → GivesDuration value m → GivesDuration value n → m ≡ n
+duration_one None m n a b = absurd a
+duration_one (Some text) m n a b = one_duration text m n a b
 
 text_one : (value : Option Text) (a b : Text) → value ≡ Some a → value ≡ Some b → a ≡ b
 text_one value a b first second = cc
@@ -69,6 +75,13 @@ says_one s (Call connect client incarnation tries speak) (Call other client' inc
     )
 says_one s (Call connect client incarnation tries speak) d a b = let same : 99 ≡ letter_of d =
     one_letter s (Call connect client incarnation tries speak) d a b in absurd (omega (arith, same))
+says_one s (End status connect older) (End status' connect' older') a b = (
+  text_one _ status.now status'.now a.1.of_status b.1.of_status,
+  text_one _ connect.now connect'.now a.1.to_connect b.1.to_connect,
+  duration_one _ older older' a.1.of_age b.1.of_age,
+)
+says_one s (End status connect older) d a b = let same : 101 ≡ letter_of d =
+    one_letter s (End status connect older) d a b in absurd (omega (arith, same))
 
 said_one : (subcommand : Option (Text × List Row)) (c d : Command)
     → IsSomeAnd subcommand (λ s. SaysCommand s c) → IsSomeAnd subcommand (λ s. SaysCommand s d)

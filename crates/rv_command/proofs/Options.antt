@@ -9,9 +9,9 @@ use Rattle.clap.specs.Words.{Row, Text}
 use Rattle.clap.specs.declared.parser.matches.SubCommand.{SubCommand}
 use Rattle.clap.specs.declared.parser.matches.ArgMatches.TheViews.{out-SubCommand}
 use Rattle.rv_text.specs.declared.version.Version.{Version}
-use Rattle.rv_command.specs.Command.{SaysCall, SaysCommand, SaysServe}
+use Rattle.rv_command.specs.Command.{SaysCall, SaysCommand, SaysEnd, SaysServe}
 use Rattle.rv_command.specs.declared.command.Command.{Command}
-use Rattle.rv_command.specs.declared.command.Command.TheVariants.{Audit, Book, Call, Play, Serve}
+use Rattle.rv_command.specs.declared.command.Command.TheVariants.{Audit, Book, Call, End, Play, Serve}
 
 -- the first letter of a command's word: no two have the same
 abbrev pub letter_of : Command → ℕ
@@ -20,6 +20,7 @@ letter_of Play = 112
 letter_of Audit = 97
 letter_of (Serve listen epoch workers connections) = 115
 letter_of (Call connect client incarnation tries speak) = 99
+letter_of (End status connect older) = 101
 
 pub first_letter : (name : Text) (options : List Row) (command : Command)
     → SaysCommand (name, options) command → get_or name 0 0 ≡ letter_of command
@@ -29,6 +30,8 @@ first_letter name options Audit said = ap (λ (letters : List ℕ). get_or lette
 first_letter name options (Serve listen epoch workers connections) said =
     ap (λ (letters : List ℕ). get_or letters 0 0) said.0
 first_letter name options (Call connect client incarnation tries speak) said =
+    ap (λ (letters : List ℕ). get_or letters 0 0) said.0
+first_letter name options (End status connect older) said =
     ap (λ (letters : List ℕ). get_or letters 0 0) said.0
 
 -- the subcommand that clap entered, by the name and the options that it gives
@@ -64,4 +67,11 @@ pub call_alone : (options : List Row) (command : Command) → SaysCommand (codes
 call_alone options (Call connect client incarnation tries speak) said =
     (connect.now, client, incarnation, tries, speak, said.1)
 call_alone options command said = let same : 99 ≡ letter_of command = first_letter (codes "call") options
+    command said in absurd (omega (arith, same))
+
+-- nor is `end`
+pub end_alone : (options : List Row) (command : Command) → SaysCommand (codes "end", options) command
+    → (status : Text) × (connect : Text) × (older : ℕ) × SaysEnd options status connect older
+end_alone options (End status connect older) said = (status.now, connect.now, older, said.1)
+end_alone options command said = let same : 101 ≡ letter_of command = first_letter (codes "end") options
     command said in absurd (omega (arith, same))

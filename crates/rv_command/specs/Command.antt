@@ -6,9 +6,10 @@ use Rattle.rv_text.specs.declared.version.Version.{Version}
 use Rattle.rv_text.specs.Versions.{number_of_version}
 use Rattle.rv_text.specs.Limits.{FitsIdentifier}
 use Rattle.rv_lines.specs.Number.{WritesBetween, WritesIdentifier}
+use Rattle.rv_words.specs.Durations.{WritesDuration}
 use Rattle.rv_words.specs.Program.{rv_app}
 use Rattle.rv_command.specs.declared.command.Command.{Command}
-use Rattle.rv_command.specs.declared.command.Command.TheVariants.{Audit, Book, Call, Play, Serve}
+use Rattle.rv_command.specs.declared.command.Command.TheVariants.{Audit, Book, Call, End, Play, Serve}
 
 -- the value of an option is there, and is the digits of an identifier
 abbrev pub GivesIdentifier : Option Text → ℕ → Type 0
@@ -21,6 +22,10 @@ GivesBetween least most value n = IsSomeAnd value (λ text. WritesBetween least 
 -- it is there, and is the digits of the version's number
 abbrev pub GivesVersion : Option Text → Version → Type 0
 GivesVersion value version = GivesBetween 1 2 value (number_of_version version)
+
+-- it is there, and writes a span of so many milliseconds
+abbrev pub GivesDuration : Option Text → ℕ → Type 0
+GivesDuration value n = IsSomeAnd value (λ text. WritesDuration text n)
 
 -- the most of what is only counted: each `u32` is one
 abbrev pub max_count : ℕ
@@ -42,6 +47,12 @@ pub record SaysCall (rows : List Row) (connect : Text) (client incarnation tries
   pub with_tries : GivesBetween 0 max_count (first_of (codes "tries") rows) tries
   pub to_speak : GivesVersion (first_of (codes "speak") rows) speak
 
+-- the options of `rv end` have these values
+pub record SaysEnd (rows : List Row) (status connect : Text) (older : ℕ) : Type 0 where
+  pub of_status : first_of (codes "status") rows ≡ Some status
+  pub to_connect : first_of (codes "connect") rows ≡ Some connect
+  pub of_age : GivesDuration (first_of (codes "older") rows) older
+
 -- a subcommand, by its name and its options, is the command
 abbrev pub SaysCommand : Text × List Row → Command → Type 0
 SaysCommand subcommand (Book epoch) = (subcommand.0 ≡ codes "book")
@@ -52,6 +63,8 @@ SaysCommand subcommand (Serve listen epoch workers connections) = (subcommand.0 
     × SaysServe subcommand.1 listen.now epoch workers connections
 SaysCommand subcommand (Call connect client incarnation tries speak) = (subcommand.0 ≡ codes "call")
     × SaysCall subcommand.1 connect.now client incarnation tries speak
+SaysCommand subcommand (End status connect older) = (subcommand.0 ≡ codes "end")
+    × SaysEnd subcommand.1 status.now connect.now older
 
 -- the words, the program's name first, name the command: `clap` finds no fault in them, and the
 -- subcommand that it finds is the command
@@ -72,3 +85,4 @@ FitsCommand (Serve listen epoch workers connections) =
     FitsIdentifier epoch × (1 ≤ workers) × (workers ≤ 64)
 FitsCommand (Call connect client incarnation tries speak) =
     FitsIdentifier client × FitsIdentifier incarnation
+FitsCommand (End status connect older) = Unit {0}

@@ -3,7 +3,7 @@ use Rattle.std.specs.Prelude.{codes, List, [], ◌∷◌, ◌≡◌}
 use Rattle.clap.specs.Words.{Text}
 use Rattle.rv_command.specs.Command.{NamesCommand}
 use Rattle.rv_command.specs.declared.command.Command.{Command}
-use Rattle.rv_command.specs.declared.command.Command.TheVariants.{Audit, Book, Call, Play, Serve}
+use Rattle.rv_command.specs.declared.command.Command.TheVariants.{Audit, Book, Call, End, Play, Serve}
 
 -- the commands are the same; addresses are, where their bytes are
 abbrev pub SameCommand : Command → Command → Type 0
@@ -15,6 +15,9 @@ SameCommand (Call connect client incarnation tries speak)
     (connect.now ≡ other.now) × (client ≡ client') × (incarnation ≡ incarnation') × (tries ≡ tries')
     × (speak ≡ speak')
 SameCommand (Call connect client incarnation tries speak) d = ⊥
+SameCommand (End status connect older) (End status' connect' older') =
+    (status.now ≡ status'.now) × (connect.now ≡ connect'.now) × (older ≡ older')
+SameCommand (End status connect older) d = ⊥
 SameCommand (Book epoch) d = Book epoch ≡ d
 SameCommand Play d = Play ≡ d
 SameCommand Audit d = Audit ≡ d

@@ -3,15 +3,15 @@ ghost use Rattle.std.specs.Prelude.{ℕ, ◌≡◌, codes, IfOk, IfSome, IsErrOf
 ghost use Rattle.std.specs.Option.{IsSomeAnd};
 ghost use Rattle.clap.specs.Words.{Text, first_of, found_of, rows_of, subcommand_rows_of};
 ghost use Rattle.clap.specs.Walk.{texts};
-ghost use Rattle.rv_command.specs.Command.{FitsCommand, GivesBetween, GivesIdentifier, GivesVersion};
-ghost use Rattle.rv_command.specs.Command.{NamesCommand, NamesNone, SaysCall, SaysCommand, SaysServe};
-ghost use Rattle.rv_command.specs.Command.{max_count};
+ghost use Rattle.rv_command.specs.Command.{FitsCommand, GivesBetween, GivesDuration, GivesIdentifier};
+ghost use Rattle.rv_command.specs.Command.{GivesVersion, NamesCommand, NamesNone, SaysCall, SaysCommand};
+ghost use Rattle.rv_command.specs.Command.{SaysEnd, SaysServe, max_count};
 ghost use Rattle.rv_words.specs.declared.fault.CommandFault.TheVariants.{Bad};
 
 use clap::ArgMatches;
 use rv_lines::{read_between, read_identifier};
 use rv_text::Version;
-use rv_words::{CommandFault, matches_of, text_of};
+use rv_words::{CommandFault, matches_of, read_duration, text_of};
 use std::alloc::Global;
 
 // The most workers of a server. That rv_server takes so many is proved where a server is started.
@@ -55,6 +55,16 @@ pub enum Command<'a> {
         /// The version that its hello asks for, 1 or 2.
         speak: Version,
     },
+    /// `rv end --status ADDR --connect ADDR --older TIME`: end the requests that have waited for so long with
+    /// no connection.
+    End {
+        /// The address at which the server tells how it is, as it was written.
+        status: &'a str,
+        /// The address of the server, as it was written.
+        connect: &'a str,
+        /// For how many milliseconds, at most a day.
+        older: u64,
+    },
 }
 
 /// The command that the words name, as `clap` reads them. The first word is the program's name. A
@@ -82,6 +92,7 @@ fn command_of<'a>(matches: &ArgMatches<'a>) -> Option<Command<'a>>
         "audit" => Some(Command::Audit),
         "serve" => serve_of(options),
         "call" => call_of(options),
+        "end" => end_of(options),
         _ => None,
     }
 }
@@ -134,6 +145,22 @@ fn call_of<'a>(options: &ArgMatches<'a>) -> Option<Command<'a>>
     })
 }
 
+// The command `end` with these options.
+fn end_of<'a>(options: &ArgMatches<'a>) -> Option<Command<'a>>
+    ensures some { IfSome result (SaysCommand (codes "end", rows_of (found_of options.now))) }
+    ensures none { result ≡ None → (status connect : Text) (older : ℕ)
+        → ¬ SaysEnd (rows_of (found_of options.now)) status connect older }
+{
+    let status = text_of(options, "status")?;
+    let connect = text_of(options, "connect")?;
+    let older = duration_of(options, "older")?;
+    Some(Command::End {
+        status,
+        connect,
+        older,
+    })
+}
+
 // The identifier that an option's value writes: an epoch, a client and the like.
 fn identifier_of(options: &ArgMatches, name: &str) -> Option<u64>
     ensures some { IfSome result
@@ -152,6 +179,16 @@ fn version_of(options: &ArgMatches, name: &str) -> Option<Version>
         → ¬ GivesVersion (first_of name.now (rows_of (found_of options.now))) version }
 {
     Version::of_number(number_of(options, name, 1, 2)?)
+}
+
+// The span of time that an option's value writes.
+fn duration_of(options: &ArgMatches, name: &str) -> Option<u64>
+    ensures some { IfSome result
+        (GivesDuration (first_of name.now (rows_of (found_of options.now)))) }
+    ensures none { result ≡ None → (n : ℕ)
+        → ¬ GivesDuration (first_of name.now (rows_of (found_of options.now))) n }
+{
+    read_duration(text_of(options, name)?)
 }
 
 // The count that an option's value writes.

@@ -4,3 +4,4 @@ pub mod RecordWords
 pub mod OwnWords
 pub mod Helps
 pub mod Listing
+pub mod Cutting

@@ -1,5 +1,6 @@
 -- The definitions that the contracts cite.
 pub mod Beginning
+pub mod Durations
 pub mod Helping
 pub mod Program
 pub mod Recorded

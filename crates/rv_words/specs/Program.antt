@@ -36,6 +36,7 @@ rv_commands =
       codes "call",
       codes "connect" ∷ codes "client" ∷ codes "incarnation" ∷ codes "tries" ∷ codes "speak" ∷ [],
     )
+    ∷ (codes "end", codes "status" ∷ codes "connect" ∷ codes "older" ∷ [])
     ∷ []
 
 -- the program as `clap` reads it: its commands, with their options

@@ -2,6 +2,7 @@
 //! read their own words.
 #![tactic(auto)]
 
+mod duration;
 mod fault;
 mod helping;
 mod program;
@@ -12,6 +13,7 @@ mod verifying;
 mod versions;
 mod words;
 
+pub use duration::read_duration;
 pub use fault::CommandFault;
 pub use helping::{HelpAnswer, read_help};
 pub use program::matches_of;

@@ -41,6 +41,7 @@ const COMMANDS: &[(&str, &[&str])] = &[
         "call",
         &["connect", "client", "incarnation", "tries", "speak"],
     ),
+    ("end", &["status", "connect", "older"]),
 ];
 
 /// The program with these commands too.

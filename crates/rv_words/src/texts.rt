@@ -34,6 +34,10 @@ const ABOUT: &[(&str, &str)] = &[
         "Make the calls of standard input, one a line, and print the replies",
     ),
     (
+        "end",
+        "End the requests that have waited for so long with no connection, by hellos of greater incarnations",
+    ),
+    (
         "record",
         "The same, and append each request and its reply to a file: --to FILE, then the options of call",
     ),
@@ -72,6 +76,11 @@ const OPTIONS: &[(&str, &str)] = &[
     ),
     ("tries", "How often each message is sent, at most"),
     ("speak", "The version of the messages, 1 or 2"),
+    ("status", "Where the server tells how it is"),
+    (
+        "older",
+        "For how long, as 60s or 10m: longer than clients take to connect anew, else these lose theirs",
+    ),
     (
         "to",
         "The file to which each request and its reply are appended",

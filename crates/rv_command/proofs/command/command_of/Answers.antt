@@ -2,7 +2,7 @@
 use Rattle.clap.specs.Words.{Text, found_of, rows_of}
 use Rattle.clap.specs.declared.parser.matches.ArgMatches.TheViews.{out-ArgMatches}
 use Rattle.rv_command.specs.Command.{SaysCommand}
-use Rattle.rv_command.proofs.Options.{call_alone, says_entered, serve_alone}
+use Rattle.rv_command.proofs.Options.{call_alone, end_alone, says_entered, serve_alone}
 use Rattle.std.proofs.Common.{subst}
 use Rattle.rv_command.proofs.command.command_of.Goals as goal
 
@@ -23,3 +23,12 @@ returns-in-call-clause-none c none command said =
     (says_entered (out-ArgMatches c.args.matches.now).subcommand c.in_ok-name.name.now options
     c.in_ok-name.ensures.name c.in_ok-name.ensures.rows command said)) in
     c.call_of.ensures.none none given.0 given.1 given.2 given.3 given.4 given.5
+
+pub returns-in-end-clause-none : goal.returns-in-end-clause-none
+returns-in-end-clause-none c none command said =
+    let options = rows_of (found_of c.in_ok-name.options.now) in
+    let given = end_alone options command (subst (λ (n : Text). SaysCommand (n, options) command)
+    c.in-end.is
+    (says_entered (out-ArgMatches c.args.matches.now).subcommand c.in_ok-name.name.now options
+    c.in_ok-name.ensures.name c.in_ok-name.ensures.rows command said)) in
+    c.end_of.ensures.none none given.0 given.1 given.2 given.3
