@@ -1,7 +1,6 @@
 //! The server that stays, `rv host`: one thread, one poll, and an engine behind them.
 #![tactic(auto)]
 
-mod counted;
 mod door;
 mod fault;
 mod frames;

@@ -4,6 +4,7 @@ use libc::net::{POLLERR, POLLHUP, POLLNVAL, POLLOUT, poll};
 use libc::types::pollfd;
 pub(crate) use rv_log::FaultKind;
 use rv_log::{FaultTally, fault_text, line};
+use rv_status::AnswerTally;
 use std::env;
 use std::env::VarError;
 use std::io::Write;
@@ -13,6 +14,13 @@ const STANDARD_ERROR: i32 = 2;
 
 // What the poll tells of a descriptor that takes no line.
 const GONE: i16 = POLLERR | POLLHUP | POLLNVAL;
+
+// Refusals by their numbers less one, and as what kind of fault they are told.
+const REFUSALS: [(usize, FaultKind); 3] = [
+    (8, FaultKind::ClientsFull),
+    (9, FaultKind::BookFull),
+    (10, FaultKind::NoMemory),
+];
 
 /// How often each kind of fault came, and how lines are written.
 #[derive(Drop)]
@@ -159,5 +167,13 @@ impl HostReport {
     // How often a kind came, if it is to be told.
     fn take(&mut self, now: u64, kind: FaultKind) -> Option<u64> {
         self.tallies.get_mut(kind as usize)?.take(now)
+    }
+}
+
+/// Refusals for want of room are told as faults are.
+pub(crate) fn note_refusals(answers: &mut AnswerTally, report: &mut HostReport) {
+    for (place, kind) in REFUSALS {
+        let count = answers.fresh(place);
+        report.note_all(kind, usize::try_from(count).unwrap_or(usize::MAX));
     }
 }

@@ -3,7 +3,6 @@ ghost use Rattle.std.specs.Prelude.{◌≡◌, false, OnOk};
 ghost use Rattle.rv_frame.specs.Sink.{sink_failed};
 ghost use Rattle.rv_traffic.specs.CallRuns.{OnlyCalls, RunsOnDevice};
 
-use crate::counted::{AnswerTally, CountedStream};
 use crate::door::{Accepted, Door};
 use crate::fault::HostEnd;
 use crate::frames::FrameLooks;
@@ -20,6 +19,7 @@ use rv_engine::{Engine, EngineFault};
 use rv_hearers::ConnectionNumber;
 use rv_links::Links;
 use rv_options::HostOptions;
+use rv_status::{AnswerTally, CountedStream, Histogram};
 use rv_traffic::{SHARE, Switchboard, WaitingLists};
 use std::io;
 use std::io::Write;
@@ -82,7 +82,7 @@ fn write_to<S: Drop, W: Write>(
 }
 
 // The poll told of a connection's socket.
-fn heed_one(traffic: &mut Switchboard<CountedStream>, event: &Event)
+fn heed_one(traffic: &mut Switchboard<CountedStream<TcpStream>>, event: &Event)
     ensures { OnlyCalls traffic.old traffic.new }
 {
     let is_over = event.is_error();
@@ -96,7 +96,7 @@ fn heed_one(traffic: &mut Switchboard<CountedStream>, event: &Event)
 fn heed_event(
     door: &mut Door,
     status: &mut Option<StatusDesk>,
-    traffic: &mut Switchboard<CountedStream>,
+    traffic: &mut Switchboard<CountedStream<TcpStream>>,
     event: &Event,
 )
     ensures { OnlyCalls traffic.old traffic.new }
@@ -117,7 +117,7 @@ fn heed_all(
     events: &Events,
     door: &mut Door,
     status: &mut Option<StatusDesk>,
-    traffic: &mut Switchboard<CountedStream>,
+    traffic: &mut Switchboard<CountedStream<TcpStream>>,
 )
     ensures { OnlyCalls traffic.old traffic.new }
 {
@@ -140,8 +140,11 @@ pub(crate) struct Shell<W> {
     poll: Poll,
     events: Events,
     door: Door,
-    pub(crate) traffic: Switchboard<CountedStream>,
+    pub(crate) traffic: Switchboard<CountedStream<TcpStream>>,
     pub(crate) answers: AnswerTally,
+    // What the clock showed as the poll of this turn ended, if it could be read; and how long turns took.
+    woke: Option<Duration>,
+    pub(crate) turns: Histogram,
     pub(crate) account: Option<Journal<W>>,
     pub(crate) status: Option<StatusDesk>,
     pub(crate) report: HostReport,
@@ -172,7 +175,7 @@ pub(crate) struct ShellParts {
     start: Duration,
     poll: Poll,
     events: Events,
-    links: Links<CountedStream>,
+    links: Links<CountedStream<TcpStream>>,
     waits: WaitingLists,
     frames: FrameLooks,
     origins: Origins,
@@ -248,6 +251,8 @@ impl<W: Drop> Shell<W> {
             door: parts.doors.door,
             traffic: Switchboard::new(engine, parts.links, parts.waits),
             answers: parts.answers,
+            woke: None,
+            turns: Histogram::of_turns(),
             account,
             status: parts.doors.status,
             report,
@@ -272,12 +277,13 @@ impl<W: Drop> Shell<W> {
         ensures traffic { self.new.traffic ≡ self.old.traffic }
         ensures account { self.new.account ≡ self.old.account }
     {
-        match rt.monotonic() {
-            Ok(since) => {
+        self.woke = rt.monotonic().ok();
+        match self.woke {
+            Some(since) => {
                 let passed = since.saturating_sub(self.start).as_millis();
                 u64::try_from(passed).unwrap_or(u64::MAX)
             }
-            Err(_) => {
+            None => {
                 self.clock_faults = self.clock_faults.saturating_add(1);
                 self.traffic.engine().hub().now()
             }
@@ -356,7 +362,21 @@ impl<W: Drop> Shell<W> {
         let wait = self.wait(before);
         self.poll
             .poll(&mut self.events, Some(Duration::from_millis(wait)))?;
-        Ok(self.now(rt))
+        let now = self.now(rt);
+        self.answers.begin_turn(now);
+        Ok(now)
+    }
+
+    // The turn is over: so long it took since its poll, where the clock could be read.
+    fn end_turn(&mut self, rt: &HostRuntime)
+        ensures traffic { self.new.traffic ≡ self.old.traffic }
+        ensures account { self.new.account ≡ self.old.account }
+    {
+        if let (Some(woke), Ok(since)) = (self.woke, rt.monotonic()) {
+            let micros = since.saturating_sub(woke).as_micros();
+            self.turns
+                .observe(u64::try_from(micros).unwrap_or(u64::MAX));
+        }
     }
 
     // Takes in what the poll tells.
@@ -529,6 +549,7 @@ impl<W: Drop> Shell<W> {
         self.write_all(now);
         self.look_over(rt, now);
         self.show_status(rt, now);
+        self.end_turn(rt);
     }
 }
 

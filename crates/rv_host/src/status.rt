@@ -1,17 +1,16 @@
 //! The status address: its listener, who asks there, and what they are told.
 ghost use Rattle.std.specs.Prelude.{◌≡◌};
 
-use crate::counted::note_refusals;
 use crate::door::{Accepted, Door};
 use crate::fault::HostEnd;
-use crate::report::{FaultKind, HostReport};
+use crate::report::{FaultKind, HostReport, note_refusals};
 use crate::reserve::Reserve;
 use crate::shell::Shell;
 use mio::net::{TcpListener, TcpStream};
 use rv_hub::Hub;
 use rv_options::{HostOptions, VERSION};
 use rv_status::{
-    ANSWERS, FaultCounts, HostStatus, StatusNumbers, StatusPages, StatusSample, take_sample,
+    FaultCounts, HostStatus, StatusNumbers, StatusPages, StatusSample, StatusTimes, take_sample,
 };
 use rv_survey::{Sights, list_queues, renew, unheard_row, waiting_row};
 use std::alloc::{AllocError, Global};
@@ -33,13 +32,6 @@ const ACCEPTS: usize = 256;
 
 const VISITS: usize = 8;
 
-// A list has room for so many rows, one of which is taken out again; there are so many queues and samples.
-const ROWS: usize = 101;
-
-const QUEUES: usize = 64;
-
-const SAMPLES: usize = 62;
-
 /// What is told at the status address, and to whom.
 #[derive(Drop)]
 pub(crate) struct StatusDesk {
@@ -60,30 +52,6 @@ pub(crate) struct StatusDesk {
     next_visit: u64,
 }
 
-// What is known of a server that begins.
-fn first_numbers(options: &HostOptions<'_>, faults: FaultCounts) -> StatusNumbers {
-    StatusNumbers {
-        account_bytes: 0,
-        answers: [0; ANSWERS],
-        buffer_bytes: 0,
-        buffer_limit: 0,
-        clients: 0,
-        clients_limit: options.clients,
-        connections: 0,
-        connections_limit: 0,
-        connections_opened: 0,
-        entries: 0,
-        epoch: 0,
-        faults,
-        open_places: 0,
-        open_places_limit: options.open_places,
-        requests_unheard: 0,
-        requests_waiting: 0,
-        status_connections: 0,
-        uptime: 0,
-    }
-}
-
 // The names that an option has, with commas between them.
 fn names_of(alloc: Global, option: Option<&str>) -> Result<Vec<String>, AllocError> {
     let mut names = Vec::new(alloc);
@@ -96,18 +64,6 @@ fn names_of(alloc: Global, option: Option<&str>) -> Result<Vec<String>, AllocErr
     Ok(names)
 }
 
-// A status with these numbers, and room for its lists.
-fn with_room(alloc: Global, numbers: StatusNumbers) -> Result<HostStatus, AllocError> {
-    Ok(HostStatus {
-        version: VERSION,
-        numbers,
-        history: Vec::with_capacity(alloc, SAMPLES)?,
-        queues: Vec::with_capacity(alloc, QUEUES)?,
-        unheard: Vec::with_capacity(alloc, ROWS)?,
-        waiting: Vec::with_capacity(alloc, ROWS)?,
-    })
-}
-
 impl StatusDesk {
     pub(crate) fn new(
         rt: &HostRuntime,
@@ -118,7 +74,9 @@ impl StatusDesk {
         let alloc = rt.alloc();
         let keys = RandomState::new(rt)?;
         let visitors = rv_status::Visitors::new(alloc, keys)?;
-        let status = with_room(alloc, first_numbers(options, fault_counts(report, 0)))?;
+        let faults = fault_counts(report, 0);
+        let numbers = StatusNumbers::new(options.clients, options.open_places, faults);
+        let status = HostStatus::with_room(alloc, VERSION, numbers)?;
         let names = names_of(alloc, options.status_names)?;
         Ok(StatusDesk {
             alloc,
@@ -147,9 +105,16 @@ impl StatusDesk {
     }
 
     // Takes in what is known at a moment.
-    fn learn(&mut self, now: u64, numbers: StatusNumbers, hub: &Hub) -> Result<(), AllocError> {
+    fn learn(
+        &mut self,
+        now: u64,
+        numbers: StatusNumbers,
+        times: StatusTimes,
+        hub: &Hub,
+    ) -> Result<(), AllocError> {
         self.next_second = now.saturating_add(SECOND);
         self.left = CLIENTS_A_SECOND;
+        self.status.times = times;
         self.status.numbers = StatusNumbers {
             clients_limit: self.status.numbers.clients_limit,
             open_places_limit: self.status.numbers.open_places_limit,
@@ -281,7 +246,11 @@ impl<W: Drop> Shell<W> {
             _ => return,
         };
         if let Some(desk) = &mut self.status {
-            let _ = desk.learn(now, numbers, self.traffic.engine().hub());
+            let times = StatusTimes {
+                turns: self.turns,
+                answers: self.answers.times(),
+            };
+            let _ = desk.learn(now, numbers, times, self.traffic.engine().hub());
         }
     }
 
@@ -302,6 +271,7 @@ impl<W: Drop> Shell<W> {
             answers: self.answers.counts(),
             buffer_bytes: u64::try_from(self.total()).unwrap_or(u64::MAX),
             buffer_limit: u64::try_from(self.memory).unwrap_or(u64::MAX),
+            calls: self.traffic.engine().calls(),
             clients: machine.clients() as u64,
             clients_limit: 0,
             connections: self.traffic.links().len() as u64,
