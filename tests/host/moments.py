@@ -13,6 +13,7 @@ from typing import Any
 from tests.faults.system import HostileHost, System
 from tests.host.hostile import KEPT, ask_and_never_read
 from tests.host.many import closing, connected
+from tests.host.status import buckets, read_numbers
 from tests.model.account import Key
 from tests.sockets.programs import free_port
 from tests.sockets.wire import BAD_TEXT, Peer, demand, frame, give, hello, replied, request, swap, take, until, waits, welcome
@@ -242,6 +243,49 @@ def told_at(host: Stopped, port: int, moment: int) -> bytes:
         return visitor.got.partition(b"\r\n\r\n")[2]
 
 
+def times_of_answers(program: str) -> None:
+    """A request's time is that from its last byte, or from the answer before it, to its own answer; its wait is in it. No turn took
+    time while the clock stood, nor while it was waited for."""
+    port = free_port()
+    with Stopped(program, options=("--status", f"127.0.0.1:{port}")) as host:
+        until("the host rests", host.rests)
+        with host.greeted(1) as first, host.greeted(2) as second:
+            keys = [Key(1, 1, 1, 1), Key(1, 1, 1, 2), Key(1, 2, 1, 1)]
+            until("the host rests", host.rests)
+            host.at(ASKED)
+            first.send(frame(request(keys[0], take(300))) + frame(request(keys[1], {"call": "count", "queue": 7})))
+            late = frame(request(keys[2], take(200)))
+            second.send(late[:PART])
+            until("the host rests", host.rests)
+            host.at(ASKED + 100)
+            second.send(late[PART:])
+            until("the host rests", host.rests)
+            host.set(ASKED + 300)
+            for peer, key in ((first, keys[0]), (second, keys[2])):
+                demand(peer.hear() == replied(key, reply="timedout"), "who waited is told something else")
+            demand(first.hear() == replied(keys[1], reply="counted", items=0, consumers=0), "who counts is told something else")
+            until("the host rests", host.rests)
+            host.at(SAMPLE)
+            told = read_numbers(page_at(host, port, SAMPLE))
+        answers, turns = buckets(told, "rv_answer_seconds"), buckets(told, "rv_turn_seconds")
+        # two welcomes and a count at once, 200 and 300 milliseconds
+        wanted = {bound: 3 + (float(bound) >= 0.2) + (float(bound) >= 0.3) for bound in answers}
+        demand(answers == wanted, f"answers took {answers}, not {wanted}")
+        demand(told["rv_answer_seconds_sum"] == 0.5, f"answers took {told['rv_answer_seconds_sum']} seconds in all, not 0.5")
+        demand(turns["0.0005"] == turns["+Inf"] > 0 == told["rv_turn_seconds_sum"], f"turns took time: {turns}")
+        host.ended()
+
+
+def page_at(host: Stopped, port: int, moment: int) -> str:
+    """The metrics at a moment, from which on the clock goes on as pages want it, each time when the host rests."""
+    with closing(connected(port, 1)) as (visitor,):
+        visitor.send(b"GET /metrics HTTP/1.1\r\nhost: 127.0.0.1\r\nconnection: close\r\n\r\n")
+        while not has_ended(visitor):
+            moment += VISIT
+            host.at(moment)
+        return visitor.got.decode().partition("\r\n\r\n")[2]
+
+
 def silent_visitors_end(program: str) -> None:
     """Who says nothing at the status address, or half of what it asks for, is let go after a second, and at once where the line is
     full and others come. Beside them a page is told in the turn in which it is asked for."""
@@ -292,5 +336,5 @@ def has_ended(peer: Peer) -> bool:
 
 CASES = [
     waits_end_at_their_moment, told_that_it_waits_at_ten_seconds, stalled_and_idle_ends, a_byte_a_second, bytes_that_wait_for_a_share,
-    accepting_is_tried_again, samples_of_the_status, silent_visitors_end, asked_beside_the_silent,
+    accepting_is_tried_again, samples_of_the_status, times_of_answers, silent_visitors_end, asked_beside_the_silent,
 ]

@@ -12,7 +12,7 @@ from tests.host.options import LISTEN, VERSION, listening, only, refused
 from tests.model.account import Key
 from tests.sockets.hosts import Host
 from tests.sockets.programs import free_port
-from tests.sockets.wire import Peer, demand, drain, frame, give, hello, replied, request, take, until
+from tests.sockets.wire import Peer, demand, drain, frame, give, hello, replied, request, swap, take, until
 
 # A head has fewer bytes, and a connection lasts so many seconds at most; so many come in a flood.
 HEAD, LONGEST, FLOOD = 4_096, 10, 1_000
@@ -24,6 +24,13 @@ PIECE, PAUSE, TO_ASK = 18, 0.05, 1
 QUEUE = 6
 # The seconds that a test gives a number which is read off once a second, and a connection that is to end.
 SOON = 30
+# The bounds of histograms, in seconds, as RUNNING has them.
+BOUNDS = {
+    "rv_turn_seconds": "0.0005 0.001 0.0025 0.005 0.01 0.025 0.05 0.1 0.25 0.5 1 2.5 5 10".split(),
+    "rv_answer_seconds": "0.001 0.005 0.01 0.05 0.1 0.25 0.5 1 5 10 30 300 3600 86400".split(),
+}
+# The words of calls.
+CALLS = ("count", "drain", "peek", "put", "swap", "take", "transfer")
 HTML, JSON, METRICS, PLAIN = "text/html", "application/json", "text/plain; version=0.0.4", "text/plain"
 
 
@@ -44,13 +51,28 @@ def page(port: int, path: str, kind: str, method: str = "GET", status: int = 200
     return body
 
 
-def numbers(port: int, patience: float = SOON) -> dict[str, int]:
+def numbers(port: int, patience: float = SOON) -> dict[str, float]:
     """The metrics that are told, by name and labels."""
-    lines = page(port, "/metrics", METRICS, patience=patience).splitlines()
-    return {name: int(value) for name, _, value in (line.rpartition(" ") for line in lines if not line.startswith("#"))}
+    return read_numbers(page(port, "/metrics", METRICS, patience=patience))
 
 
-def shows(port: int, wanted: dict[str, int]) -> None:
+def read_numbers(text: str) -> dict[str, float]:
+    """The metrics of a page, by name and labels: whole numbers, but for sums of seconds."""
+    parts = (line.rpartition(" ") for line in text.splitlines() if not line.startswith("#"))
+    return {name: int(value) if value.isdigit() else float(value) for name, _, value in parts}
+
+
+def buckets(told: dict[str, float], name: str) -> dict[str, float]:
+    """A histogram's counts by their bounds, which must be these, and rise to the count of all."""
+    front = f'{name}_bucket{{le="'
+    counts = {key.removeprefix(front).removesuffix('"}'): count for key, count in told.items() if key.startswith(front)}
+    demand(list(counts) == [*BOUNDS[name], "+Inf"], f"{name} has the bounds {list(counts)}")
+    demand(list(counts.values()) == sorted(counts.values()), f"the counts of {name} don't rise: {counts}")
+    demand(counts["+Inf"] == told[f"{name}_count"], f"{name} counts {counts['+Inf']} and {told[f'{name}_count']}")
+    return counts
+
+
+def shows(port: int, wanted: dict[str, float]) -> None:
     """The metrics come to be these."""
     until(f"the metrics are {wanted}", lambda: wanted.items() <= numbers(port).items(), SOON)
 
@@ -165,6 +187,44 @@ def answers_are_counted(program: str) -> None:
                        "old_number", "other_call", "gap", "clients_full")}
             shows(port, {**told, **refused, "rv_refused_busy_total": 0, "rv_refused_epoch_full_total": 0, "rv_told_item_total": 0})
             until("it says so", lambda: b"hellos of new clients refused 9 (--clients): 1\n" in host.said, SOON)
+        host.ended()
+
+
+def calls_are_counted(program: str) -> None:
+    """Each request that arrives is counted by its call, and no repeat of it, no request that is refused, and no cancel."""
+    port = free_port()
+    calls = [give("put", "a", queue=5), give("put", "b", queue=5), {"call": "count", "queue": 5}, {"call": "peek", "queue": 5},
+             drain(1, queue=5), take("now", queue=5), take("now", queue=5), take("now", queue=6), give("transfer", "c", "now", queue=6)]
+    last = [give("put", "d", queue=7), swap("e", "forever"), swap("f", "forever")]
+    with Host(program, options=("--status", f"127.0.0.1:{port}")) as host, host.greeted(1) as peer, host.greeted(2) as other:
+        for number, call in enumerate(calls, 1):
+            told = peer.ask(request(Key(1, 1, 1, number), call))
+            demand(peer.ask(request(Key(1, 1, 1, number), call)) == told, f"a repeat of {call} is told something else")
+            demand(peer.told(request(Key(1, 1, 1, number + 2), call))["code"] == 8, "a request that leaves one out isn't refused")
+        # nothing is asked behind these three entries, so that all is counted once they are
+        peer.ask(request(Key(1, 1, 1, len(calls) + 1), last[0]))
+        peer.send(frame(request(Key(1, 1, 1, len(calls) + 2), last[1])))
+        shows(port, {"rv_requests_waiting": 1})
+        other.ask(request(Key(1, 2, 1, 1), last[2]))
+        words = [call["call"] for call in (*calls, *last)]
+        shows(port, {"rv_entries_total": 2 + len(words), **{f"rv_calls_{word}_total": words.count(word) for word in CALLS}})
+        host.ended()
+
+
+def times_are_told(program: str) -> None:
+    """Each answer that left is observed once, and turns are; together they took no longer than the server has been there."""
+    port, asked = free_port(), 50
+    with Host(program, options=("--status", f"127.0.0.1:{port}")) as host:
+        with host.greeted(1) as peer:
+            for number in range(1, 1 + asked):
+                key = Key(1, 1, 1, number)
+                peer.expect(request(key, give("put", "a", queue=5)), replied(key, reply="done"))
+        shows(port, {"rv_entries_total": 1 + asked, "rv_answer_seconds_count": 1 + asked})
+        told = numbers(port)
+        answers, turns = buckets(told, "rv_answer_seconds"), buckets(told, "rv_turn_seconds")
+        demand(answers["+Inf"] == 1 + asked, f"{answers['+Inf']} answers are observed, not {1 + asked}")
+        took, lasted = told["rv_turn_seconds_sum"], told["rv_uptime_seconds"] + 1
+        demand(turns["+Inf"] > asked and 0 < took < lasted, f"{turns['+Inf']} turns took {took} of {lasted} seconds")
         host.ended()
 
 
@@ -299,6 +359,6 @@ def told_without_descriptors(program: str) -> None:
 
 
 CASES = [
-    addresses, pages_by_path, pages_by_host, readiness, answers_are_counted, nothing_listens, a_worked_scene, a_moment_begins_anew,
-    a_request_in_pieces, hostile_visitors, told_without_descriptors,
+    addresses, pages_by_path, pages_by_host, readiness, answers_are_counted, calls_are_counted, times_are_told, nothing_listens,
+    a_worked_scene, a_moment_begins_anew, a_request_in_pieces, hostile_visitors, told_without_descriptors,
 ]

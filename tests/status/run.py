@@ -13,7 +13,7 @@ import pathlib
 import re
 import subprocess
 import sys
-from typing import Callable, Dict, Iterator, List
+from typing import Callable, Dict, Iterator, List, Set
 
 sys.dont_write_bytecode, sys.path[0] = True, str(pathlib.Path(__file__).resolve().parents[2])
 from tests import ROOT  # noqa: E402
@@ -21,7 +21,8 @@ from tests.clients import browser  # noqa: E402
 from tests.status import busy, stages, standin  # noqa: E402
 from tests import left_out  # noqa: E402
 
-ROWS, RULES = ROOT / "crates/rv_status/specs/Rows.antt", ROOT / "packaging/rv.rules.yml"
+ROWS, TEXTS = ROOT / "crates/rv_status/specs/Rows.antt", ROOT / "crates/rv_status/specs/Texts.antt"
+RULES = ROOT / "packaging/rv.rules.yml"
 DASHBOARD = ROOT / "packaging/rv.dashboard.json"
 # Metrics that the rows don't list: those of each queue, and the build.
 QUEUES = {"rv_queue_items", "rv_queue_consumers", "rv_build_info"}
@@ -41,6 +42,17 @@ def rows() -> List[List[str]]:
     """Each number's kind, name and meaning, as the definitions have them."""
     form = r'(counter|gauge)_row \(codes "(\w+)"\)\s+\(codes "([^"]+)"\)'
     return [list(found) for found in re.findall(form, ROWS.read_text())]
+
+
+def histograms() -> List[List[str]]:
+    """Each histogram's name and meaning, as the definitions have them."""
+    return [list(found) for found in re.findall(r'histogram_text \(codes "(\w+)"\)\s+\(codes "([^"]+)"\)', TEXTS.read_text())]
+
+
+def known() -> Set[str]:
+    """The names of all metrics."""
+    parts = {f"{name}_{part}" for name, _ in histograms() for part in ("bucket", "sum", "count")}
+    return set(numbers()) | QUEUES | parts
 
 
 def shown(status: busy.Status, *more: str) -> str:
@@ -114,14 +126,17 @@ def metrics_follow_the_conventions() -> None:
     text = "".join(f"# HELP {name} {meaning}\n# TYPE {name} {kind}\n{name} 1\n" for kind, name, meaning in rows())
     for name in ("rv_queue_items", "rv_queue_consumers"):
         text += f'# HELP {name} What waits.\n# TYPE {name} gauge\n{name}{{queue="0"}} 3\n{name}{{queue="63"}} 0\n'
+    for name, meaning in histograms():
+        text += f"# HELP {name} {meaning}\n# TYPE {name} histogram\n"
+        text += f'{name}_bucket{{le="0.001"}} 1\n{name}_bucket{{le="+Inf"}} 2\n{name}_sum 0.25\n{name}_count 2\n'
     ran = subprocess.run(["promtool", "check", "metrics"], input=text, capture_output=True, text=True, timeout=60)
     check(ran.returncode == 0 and not ran.stdout + ran.stderr, f"promtool: {ran.stdout}{ran.stderr}")
 
 
 def alerts_are_raised() -> None:
     """Each staged fault raises its alert, and no rule reads a number that isn't there."""
-    read = set(re.findall(r"\brv_\w+", RULES.read_text())) - QUEUES
-    check(bool(read) and read <= set(numbers()), f"an alert reads {read - set(numbers())}")
+    read = set(re.findall(r"\brv_\w+", RULES.read_text()))
+    check(bool(read) and read <= known(), f"an alert reads {read - known()}")
     ran = subprocess.run(["promtool", "test", "rules", ROOT / "tests/status/alerts.yml"], capture_output=True, text=True, timeout=60)
     check(ran.returncode == 0, f"promtool: {ran.stdout}{ran.stderr}")
 
@@ -140,9 +155,9 @@ def the_dashboard_asks_what_there_is() -> None:
     panels overlap."""
     board = json.loads(DASHBOARD.read_text())
     asked = [set(re.findall(r"\brv_\w+", query)) for query in queries(board)]
-    read, known = set().union(*asked), set(numbers()) | QUEUES
-    check(read <= known, f"the dashboard asks for {read - known}")
-    check(known - read <= {"rv_status_connections"}, f"the dashboard doesn't show {known - read}")
+    read = set().union(*asked)
+    check(read <= known(), f"the dashboard asks for {read - known()}")
+    check(known() - read <= {"rv_status_connections"}, f"the dashboard doesn't show {known() - read}")
     check(all(re.search(r"\brv_\w+|\bup\b|^prometheus$", query) for query in queries(board)), "a query names no metric")
     places = [(panel["gridPos"]["x"], panel["gridPos"]["y"]) for panel in board["panels"]]
     check(len(set(places)) == len(places) == len({panel["id"] for panel in board["panels"]}), "two panels stand in one place")

@@ -24,7 +24,9 @@ RULES = ROOT / "packaging/rv.rules.yml"
 # The seconds that a reading may take before it counts as none; those of a day; and the growth of an account in a day, in bytes,
 # the backlog in a second and the part of a limit above which the rules tell.
 PATIENCE, DAY, GIGABYTE, BACKLOG, FULL = 3, 86_400, 10**9, 1, 0.8
-Reading = dict[str, int]
+# One turn in so many may be slow, and the count of those that aren't.
+FEW, SLOW = 0.01, 'rv_turn_seconds_bucket{le="0.25"}'
+Reading = dict[str, float]
 # The names of alerts, each with further labels.
 Alerts = dict[str, dict[str, str]]
 
@@ -129,6 +131,7 @@ def symptoms(first: tuple[int, Reading], last: tuple[int, Reading | None]) -> se
         "RvPeerTakesNothing": rises["rv_fault_stall_total"] + rises["rv_fault_most_held_total"] > 0,
         "RvNoDescriptor": rises["rv_fault_descriptor_total"] > 0,
         "RvNoMemory": rises["rv_fault_memory_total"] + rises["rv_fault_unwritten_total"] > 0,
+        "RvSlowTurns": FEW * rises["rv_turn_seconds_count"] < rises["rv_turn_seconds_count"] - rises[SLOW],
         "RvLinesDropped": rises["rv_fault_line_total"] > 0,
         "RvClockStands": rises["rv_fault_clock_total"] > 0,
         "RvAccountFile": rises["rv_fault_account_total"] > 0,
