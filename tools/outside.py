@@ -18,6 +18,7 @@ OUTSIDE = [
     ["tests/commands/book.py", PROGRAM],
     ["tests/commands/play.py", PROGRAM],
     ["tests/commands/calls.py", PROGRAM],
+    ["tests/commands/ends.py", PROGRAM],
     ["tests/commands/bodies.py", PROGRAM],
     ["tests/commands/rows.py", PROGRAM],
     ["tests/commands/audits.py", PROGRAM],

@@ -4,6 +4,8 @@ from __future__ import annotations
 import contextlib
 import http.client
 import json
+import re
+import subprocess
 import time
 
 from tests.host.hostile import beside_a_good_client, one_that_waits, still_waits
@@ -11,7 +13,7 @@ from tests.host.many import closing, connected, no_descriptors
 from tests.host.options import LISTEN, VERSION, listening, only, refused
 from tests.model.account import Key
 from tests.sockets.hosts import Host
-from tests.sockets.programs import free_port
+from tests.sockets.programs import Caller, free_port
 from tests.sockets.wire import Peer, demand, drain, frame, give, hello, replied, request, swap, take, until
 
 # A head has fewer bytes, and a connection lasts so many seconds at most; so many come in a flood.
@@ -20,8 +22,8 @@ HEAD, LONGEST, FLOOD = 4_096, 10, 1_000
 CROWD, OFTEN = 20, 5
 # A request's bytes in a piece, and the seconds from one to the next: more than those between two visits. All is to be said in one.
 PIECE, PAUSE, TO_ASK = 18, 0.05, 1
-# The queue of a request that is left alone.
-QUEUE = 6
+# Requests that are left alone, one more than a status shows, and for how many seconds; the queues of these, and of one that isn't.
+LEFT, ALONE, QUEUE, OTHER = 101, 8, 6, 8
 # The seconds that a test gives a number which is read off once a second, and a connection that is to end.
 SOON = 30
 # The bounds of histograms, in seconds, as RUNNING has them.
@@ -288,6 +290,46 @@ def a_moment_begins_anew(program: str) -> None:
         host.ended()
 
 
+def ended(program: str, host: Host, port: int, older: str) -> list[str]:
+    """The lines of `rv end`, which must end all of this age."""
+    words = ["end", "--status", f"127.0.0.1:{port}", "--connect", f"127.0.0.1:{host.port}", "--older", older]
+    ran = subprocess.run([program, *words], capture_output=True, text=True, timeout=10 * SOON)
+    demand((ran.returncode, ran.stderr) == (0, ""), f"rv end ends by {ran.returncode} and says {ran.stderr!r}")
+    return ran.stdout.splitlines()
+
+
+def the_dead_are_ended(program: str) -> None:
+    """`rv end` ends all that were left alone for so long, also those that a status had no room for, and nobody else: then a transfer
+    finds nobody."""
+    port, clients = free_port(), range(3, 3 + LEFT)
+    line = b'{"call":"take","queue":%d,"wait":"forever"}\n' % OTHER
+    with (Host(program, options=("--status", f"127.0.0.1:{port}")) as host, host.greeted(1) as giver,
+          Caller(program, host.port, 2, line) as living):
+        with closing([host.connect() for _ in clients]) as peers:
+            for client, peer in zip(clients, peers):
+                peer.send(frame(hello(client, 7)) + frame(request(Key(1, client, 7, 1), take("forever", queue=QUEUE))))
+            shows(port, {"rv_requests_waiting": LEFT + 1})
+            for peer in peers:
+                peer.reset()
+        until("they are alone", lambda: numbers(port)["rv_requests_unheard"] >= LEFT, SOON)
+        demand(not ended(program, host, port, "24h"), "who was just left alone is ended")
+        left = numbers(port)["rv_uptime_seconds"]
+        until("they are old", lambda: numbers(port)["rv_uptime_seconds"] > left + ALONE + 2, SOON + ALONE)
+        lines = ended(program, host, port, f"{ALONE}s")
+        wanted = {f"{client} 7 1 take {QUEUE} _ ended" for client in clients}
+        told = {re.sub(r"\b\d+ ended$", "_ ended", line) for line in lines}
+        # A caller asks anew each ten seconds: only one that was kept from it for as long as the others is ended too.
+        stalled = told - wanted
+        demand(told >= wanted and len(lines) == len(told), f"rv end prints {lines}")
+        demand(stalled <= {f"2 1 1 take {OTHER} _ ended"}, f"it ends {stalled}")
+        key = {number: Key(1, 1, 1, number) for number in (1, 2)}
+        giver.expect(request(key[1], give("transfer", "a", "now", queue=QUEUE)), replied(key[1], reply="nobody"))
+        if not stalled:
+            giver.expect(request(key[2], give("transfer", "a", "now", queue=OTHER)), replied(key[2], reply="received"))
+            living.judge(replied(Key(1, 2, 1, 1), reply="item", item="a") + b"\n")
+        host.ended()
+
+
 def visitor(port: int, data: bytes) -> Peer:
     """A connection to a status address, over which these bytes went."""
     peer = connected(port, 1)[0]
@@ -360,5 +402,5 @@ def told_without_descriptors(program: str) -> None:
 
 CASES = [
     addresses, pages_by_path, pages_by_host, readiness, answers_are_counted, calls_are_counted, times_are_told, nothing_listens,
-    a_worked_scene, a_moment_begins_anew, a_request_in_pieces, hostile_visitors, told_without_descriptors,
+    a_worked_scene, a_moment_begins_anew, the_dead_are_ended, a_request_in_pieces, hostile_visitors, told_without_descriptors,
 ]

@@ -1,5 +1,6 @@
 //! The faults that end the program with a line on standard error.
 use rv_command::CommandFault;
+use rv_end::StatusFault;
 use rv_run::RunFault;
 use rv_server::ServeFault;
 use thiserror::Error;
@@ -16,6 +17,12 @@ pub(crate) enum ProgramFault {
     /// The server ended early.
     #[error("{0}")]
     Serve(ServeFault),
+    /// The status of a server can't be had.
+    #[error("{0}")]
+    Status(StatusFault),
+    /// More requests may be left to be ended.
+    #[error("more are left")]
+    MoreLeft,
     /// No socket listens at the address, or none connects to it.
     #[error("address fault")]
     Address,
@@ -27,6 +34,7 @@ impl ProgramFault {
         match self {
             ProgramFault::Command(_) => 2,
             ProgramFault::Run(_) | ProgramFault::Serve(_) | ProgramFault::Address => 1,
+            ProgramFault::Status(_) | ProgramFault::MoreLeft => 1,
         }
     }
 }
@@ -40,5 +48,11 @@ impl From<CommandFault> for ProgramFault {
 impl From<RunFault> for ProgramFault {
     fn from(fault: RunFault) -> ProgramFault {
         ProgramFault::Run(fault)
+    }
+}
+
+impl From<StatusFault> for ProgramFault {
+    fn from(fault: StatusFault) -> ProgramFault {
+        ProgramFault::Status(fault)
     }
 }

@@ -7,6 +7,7 @@ ghost use Rattle.rv_text.specs.Limits.{FitsIdentifier};
 mod account;
 mod again;
 mod audit;
+mod ends;
 mod fault;
 mod growing;
 pub mod laws;
@@ -17,6 +18,7 @@ mod watch;
 
 pub use account::write_account;
 pub use audit::{AuditSaid, audit_run};
+use ends::run_end;
 use fault::ProgramFault;
 pub use rv_calls::{CallSaid, RecordFault, RecordingFault, call_run, record_run};
 pub use rv_command::{Command, CommandFault, read_command};
@@ -118,6 +120,11 @@ fn run_command<T: Threads + Wait + AllocGlobal + time::Clock + Sync>(
             tries,
             speak,
         } => return run_call(rt, connect, client, incarnation, speak, tries),
+        Command::End {
+            status,
+            connect,
+            older,
+        } => return run_end(rt, status, connect, older),
     }
     Ok(ExitCode::SUCCESS)
 }

@@ -1,0 +1,3 @@
+-- The lemmas that the proofs of this crate share.
+pub mod Rows
+pub mod Asked
