@@ -37,13 +37,13 @@ edits:
 # the built program in a hostile system and over spoilt bytes, for an hour or SECONDS
 torture: build
 	@command -v python3 > /dev/null || { echo "python3 is missing: the script is written in it" >&2; exit 1; }
-	@tests/faults/torture.py --seconds $(or $(SECONDS),3500) $(PROGRAM)
+	@python3 -B -m tests faults.torture --seconds $(or $(SECONDS),3500) --program $(PROGRAM)
 
 # rv host under crowds on bad links, whose clients are killed, for ten minutes or SECONDS, beside 400 or PEERS peers that send without
 # end or take no answers; then 20,000,000 entries, or ENTRIES
 soak: build
 	@command -v python3 > /dev/null || { echo "python3 is missing: the script is written in it" >&2; exit 1; }
-	@tests/host/soak.py $(PROGRAM) --seconds $(or $(SECONDS),600) --peers $(or $(PEERS),400) --entries $(or $(ENTRIES),20000000)
+	@python3 -B -m tests.host.soak $(PROGRAM) --seconds $(or $(SECONDS),600) --peers $(or $(PEERS),400) --entries $(or $(ENTRIES),20000000)
 
 # the proved program, as PREFIX/bin/rv
 install: build

@@ -9,7 +9,12 @@ LINE = re.compile(r"left out: ([^:\n]+): (.+)\n?")
 
 def tell(what: str, why: str) -> None:
     """Tells what is left out, and which tool is missing for it."""
-    print(f"left out: {what}: {why}", flush=True)
+    print(f"left out: {reason(what, why)}", flush=True)
+
+
+def reason(what: str, why: str) -> str:
+    """Why a case is skipped: what is left out, and which tool is missing for it."""
+    return f"{what}: {why}"
 
 
 def heard(line: str) -> str | None:

@@ -6,7 +6,7 @@ flickered: what failed in some of the runs and not in all. It has the cores that
 What came of each run is appended to a file. What stands there of the same test, of the same files and the same program, is
 not run again: a run that was ended is taken up where it was.
 
-usage: tools/again.py "tests/sockets/serve.py --seed 1" 20 [--busy] [--into FILE] [--limit SECONDS]
+usage: tools/again.py "python3 -m tests --seed 1 sockets" 20 [--busy] [--into FILE] [--limit SECONDS]
 """
 import argparse
 import collections
@@ -15,6 +15,7 @@ import hashlib
 import json
 import os
 import pathlib
+import re
 import shlex
 import signal
 import subprocess
@@ -79,8 +80,9 @@ def loops(count: int) -> Iterator[None]:
 
 
 def name_of(line: str) -> str:
-    """What failed, without what was found: the words before the second colon."""
-    return ":".join(line.split(":")[1:2]).strip()
+    """What failed, without what was found: a module's words and a case's, or the words before the second colon."""
+    found = re.match(r"FAILED: ((?:\w+\.\w+: )?[^:]*)", line)
+    return found[1].strip() if found else line
 
 
 def failed_in(words: list[str], limit: float) -> list[str]:

@@ -6,8 +6,8 @@ import re
 class Edit:
     """An edit: a file's name, for each file that it changes its pairs of old and new text, and the test that must see it.
 
-    The test stands on a line 'test: ..', as CRATE::MODULE::NAME, or as tests/PATH.py or tests/PATH.py: CASE; there is none where
-    the prover must refuse the edit.
+    The test stands on a line 'test: ..', as CRATE::MODULE::NAME in Rattle, or from outside as FOLDER.MODULE or FOLDER.MODULE: CASE, as
+    `python3 -m tests --list` names it; there is none where the prover must refuse the edit.
     """
 
     def __init__(self, path, folder):
@@ -38,17 +38,16 @@ class Edit:
         return texts if self.pairs else None
 
     def outside(self):
-        """The path and the case of the test that must see it, if that runs the program from outside."""
-        path, _, case = (self.test or "").partition(": ")
-        return (path, case) if path.endswith(".py") else None
+        """The name of the test that must see it, if that runs the program from outside."""
+        return self.test if self.test and re.fullmatch(r"\w+\.\w+(: .+)?", self.test) else None
 
     def test_stands(self):
-        """Whether the test that must see it stands in its crate, or in the folder of its path."""
+        """Whether the test that must see it stands in its crate, or in its module."""
         if self.outside():
-            path, case = self.outside()
-            form = rf"^def {re.escape(case.rpartition(', ')[2].replace(' ', '_'))}\(" if case else ""
-            path = self.folder.parents[1] / path
-            return path.is_file() and any(re.search(form, file.read_text(encoding="utf-8"), re.M) for file in path.parent.glob("*.py"))
+            module, _, case = self.outside().partition(": ")
+            path = (self.folder.parents[1] / "tests").joinpath(*module.split(".")).with_suffix(".py")
+            form = rf"^ *def (?:test_)?{re.escape(case.replace(' ', '_'))}\(" if case else ""
+            return path.is_file() and re.search(form, path.read_text(encoding="utf-8"), re.M) is not None
         crate, *modules, name = (self.test or "::").split("::")
         path = self.folder.parent / crate / "src" / "/".join(modules)
         path = path.with_suffix(".rt") if modules else path

@@ -31,6 +31,7 @@ import time
 ROOT = pathlib.Path(__file__).resolve().parents[1]
 sys.dont_write_bytecode, sys.path[0] = True, str(ROOT)
 from tools.edit_files import Edit  # noqa: E402
+from tools.outside import RUNNER  # noqa: E402
 
 # How many edits a check tries at most: the goals of all of them lie in memory together.
 AT_ONCE = 16
@@ -227,9 +228,9 @@ def tried_program(root, folder):
     return None
 
 
-def ran_outside(root, program, path, case):
+def ran_outside(root, program, test):
     """How many checks of a test from outside passed and failed on a program: none where it doesn't tell."""
-    words = [root / path, program, *(["--only", case] if case else [])]
+    words = [*RUNNER, "--program", program, test]
     said = subprocess.run(words, cwd=root, capture_output=True, text=True, errors="replace",
                           env={**os.environ, "RV_PATIENCE": SHORT}).stdout
     told = re.search(r"(\d+) passed, (\d+) failed\n\Z", said)
@@ -240,10 +241,10 @@ def passes_outside(root, tests):
     """Whether tests from outside pass as the code is."""
     with tempfile.TemporaryDirectory(prefix="tried-") as folder:
         program = tried_program(root, pathlib.Path(folder)) if tests else None
-        for path, case in tests:
-            passed, failed = ran_outside(root, program, path, case) if program else (0, 0)
+        for test in tests:
+            passed, failed = ran_outside(root, program, test) if program else (0, 0)
             if failed or not passed:
-                print(f"{path} {case}: it fails as the code is")
+                print(f"{test}: it fails as the code is")
                 return False
     return True
 
@@ -253,7 +254,7 @@ def seen_outside(root, edit):
     with tempfile.TemporaryDirectory(prefix="tried-") as folder:
         with changed(edit.folder, edit.applied({})):
             program = tried_program(root, pathlib.Path(folder))
-        passed, failed = ran_outside(root, program, *edit.outside()) if program else (0, 0)
+        passed, failed = ran_outside(root, program, edit.test) if program else (0, 0)
     if failed:
         return True, f"seen by {edit.test}"
     return False, f"NOT SEEN: {edit.test} passes with this edit" if passed else f"BAD EDIT: {edit.test} didn't run to its end"

@@ -153,7 +153,7 @@ def main():
     counted, share = gate(asked.anew)
     counts = [[0, int(status != 0)], counted, build()]
     provers.end()
-    counts += [count(words) for words in OF_TESTS] + outside(asked.seed)
+    counts += [count(OF_TESTS), *outside(asked.seed)]
     used = processor_minutes() - unit
     print(f"proofs and edits: {share}")
     print(f"minutes by crate: {provers.told(0)}")

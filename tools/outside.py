@@ -12,23 +12,15 @@ PROGRAM = "crates/rv_app/out/rv_app"
 # The program for tests: a machine's steps under limits of one's own, a hub's events, what bodies are read as, and JSON that is
 # written back.
 STEPS = "crates/rv_steps/out/rv_steps"
-# What stands for the seed in the commands below, and the seed where there is no commit.
-SEED, NO_COMMIT = "SEED", 1
+# The seed where there is no commit.
+NO_COMMIT = 1
+# What stands for the seed in the commands below.
+SEED = "SEED"
+# What runs the tests from outside.
+RUNNER = [sys.executable, "-B", "-m", "tests"]
 OUTSIDE = [
-    ["tests/commands/book.py", PROGRAM],
-    ["tests/commands/play.py", PROGRAM],
-    ["tests/commands/calls.py", PROGRAM],
-    ["tests/commands/ends.py", PROGRAM],
-    ["tests/commands/bodies.py", PROGRAM],
-    ["tests/commands/rows.py", PROGRAM],
-    ["tests/commands/audits.py", PROGRAM],
-    ["tests/commands/verify.py", PROGRAM],
-    ["tests/commands/replies.py", PROGRAM],
-    ["tests/commands/fill.py", PROGRAM],
-    ["tests/commands/waits.py", PROGRAM],
-    ["tests/commands/steps.py", STEPS],
-    ["tests/commands/decoding.py", "--selftest"],
-    ["tests/commands/decoding.py", "--seed", SEED, "--program", STEPS],
+    [*RUNNER, "--seed", SEED, "--program", PROGRAM, "--steps", STEPS],
+    [*RUNNER, "--seed", SEED, "--program", PROGRAM, "--steps", STEPS, "--selftest"],
     ["tests/model/compare.py", "--selftest"],
     ["tests/model/compare.py", "--seed", SEED, "--lines", "10000", "--program", PROGRAM],
     ["tests/model/compare.py", "--play", "--seed", SEED, "--lines", "5000", "--program", PROGRAM],
@@ -46,24 +38,13 @@ OUTSIDE = [
     ["tests/model/hubs.py", "--seed", SEED, "--events", "5000", "--program", STEPS],
     ["tests/model/crashes.py", "--selftest"],
     ["tests/model/crashes.py", "--seed", SEED],
-    ["tests/faults/hub_growths.py", STEPS],
-    ["tests/sockets/serve.py", "--seed", SEED, PROGRAM],
-    ["tests/sockets/serve.py", "--selftest"],
-    ["tests/host/run.py", "--seed", SEED, PROGRAM],
-    ["tests/host/run.py", "--selftest"],
-    ["tests/faults/devices.py", PROGRAM],
-    ["tests/faults/growths.py", PROGRAM],
-    ["tests/faults/torture.py", "--seed", SEED, PROGRAM],
-    ["tests/faults/torture.py", "--selftest"],
     ["tests/clients/run.py", "--seed", SEED, PROGRAM],
     ["tests/clients/run.py", "--selftest"],
     ["tests/package/run.py", PROGRAM],
     ["tests/status/run.py"],
 ]
-# The same of the tests in Rattle, as rt ci has built them.
-OF_TESTS = [
-    ["tests/faults/refusals.py", "--built"],
-]
+# The tests in Rattle, as rt ci has built them, with growths refused.
+OF_TESTS = [*RUNNER, "faults.refusals"]
 
 
 class Bar:

@@ -1,13 +1,15 @@
-#!/usr/bin/env python3
-"""Runs `rv audit` of the built program on accounts that are written by hand: what it tells, and how it ends.
+"""Runs `rv audit` of the built program on accounts that are written by hand: what it tells, and how it ends."""
+from __future__ import annotations
 
-usage: tests/commands/audits.py PROGRAM
-"""
-import pathlib
 import subprocess
-import sys
+from collections.abc import Iterable, Iterator
+from typing import Tuple
 
-ROOT = pathlib.Path(__file__).resolve().parents[2]
+from tests import ROOT
+from tests.cases import Case
+
+# The name of an account, its text, and what is to be told of it.
+Audited = Tuple[str, str, str]
 # Seconds behind which an audit hangs: the longest takes a few.
 HANG = 600
 GREATEST = 9_007_199_254_740_991
@@ -17,35 +19,35 @@ WORKED, DRAINS, RECEIVED = ((ROOT / "examples" / f"{name}.account").read_text().
                             for name in ("items", "drained", "received"))
 
 
-def hello(client, incarnation=1, version=None):
+def hello(client: int, incarnation: int = 1, version: object = None) -> str:
     """The body of a hello, with a version where it tells one."""
     told = "" if version is None else f',"version":{version}'
     return f'{{"client":{client},"incarnation":{incarnation},"kind":"hello"{told}}}'
 
 
-def put(number, item="", epoch=1):
+def put(number: int, item: str = "", epoch: int = 1) -> str:
     """The body of a put of client 1."""
     return (f'{{"call":"put","client":1,"epoch":{epoch},"incarnation":1,"item":"{item}","kind":"request",'
             f'"number":{number},"queue":3}}')
 
 
-def take(client, number, wait):
+def take(client: int, number: int, wait: object) -> str:
     """The body of a take from queue 3."""
     return (f'{{"call":"take","client":{client},"epoch":1,"incarnation":1,"kind":"request","number":{number},'
             f'"queue":3,"wait":{wait}}}')
 
 
-def last_with(old, new):
+def last_with(old: str, new: str) -> list[str]:
     """The worked account with a part of its last line changed."""
     return [*WORKED[:-1], WORKED[-1].replace(old, new, 1)]
 
 
-def drained(fields):
+def drained(fields: str) -> list[str]:
     """The account of drains, with other partners of the first one."""
     return [*DRAINS[:7], DRAINS[7].replace(" 3,4 ", f" {fields} ", 1), *DRAINS[8:]]
 
 
-def drained_of(most, places, among=17):
+def drained_of(most: int, places: Iterable[int], among: int = 17) -> list[str]:
     """The account of so many puts, the first at place 2, and of a drain of so many at most that has these partners."""
     body = (f'{{"call":"drain","client":2,"epoch":1,"incarnation":1,"kind":"request","max":{most},"number":1,'
             f'"queue":3}}')
@@ -53,12 +55,12 @@ def drained_of(most, places, among=17):
     return [HEAD, GREETED, "0 - " + hello(2), *puts, f"{among + 1} {','.join(map(str, places))} {body}"]
 
 
-def entry(line):
+def entry(line: str) -> list[str]:
     """An account of this one entry."""
     return [HEAD, line]
 
 
-def of_one_version(version):
+def of_one_version(version: object) -> list[str]:
     """The account of receipts, each hello with this version, or with none that is told."""
     sessions = {1: hello(1, 1, version), 2: hello(2, 1, version), 7: hello(1, 2, version)}
     return [f"{line.partition('{')[0]}{sessions[at]}" if at in sessions else line for at, line in enumerate(RECEIVED)]
@@ -67,7 +69,7 @@ def of_one_version(version):
 GREETED, SECOND = "0 - " + hello(1), "0 - " + hello(1, 1, 2)
 
 # what is audited, and what is told of it
-LINES = [
+LINES: list[tuple[str, list[str], str]] = [
     ("the worked account", WORKED, "legal"),
     ("the second item taken first", last_with(" 2 ", " 3 "), "fault 4 P3"),
     ("items are there, and none is taken", last_with(" 2 ", " - "), "fault 4 P4"),
@@ -173,28 +175,19 @@ LINES = [
 ]
 
 
-def told(text):
-    """What the program tells of a text."""
-    words = [sys.argv[1], "audit"]
-    try:
-        ran = subprocess.run(words, input=text.encode(errors="surrogateescape"), capture_output=True, timeout=HANG)
-    except subprocess.TimeoutExpired:
-        return "", f"it did not end within {HANG} seconds", None
-    return ran.stdout.decode(errors="replace"), ran.stderr.decode(errors="replace"), ran.returncode
-
-
-def cases():
+def cases() -> Iterator[Audited]:
     """Each text, and what is to be told of it. A last line may lack its LF, unless it is blank."""
     for name, lines, expected in LINES:
         yield name, "".join(line + "\n" for line in lines), expected
         if lines and lines[-1]:
             yield f"{name}, without the last LF", "\n".join(lines), expected
     many = [HEAD, GREETED, *(f"0 - {put(number)}" for number in range(1, 100_000))]
-    for partners, places, expected in [
+    ranges: list[tuple[str, Iterable[int], str]] = [
         ("all of them for partners", range(2, 50_002), "fault 50002 P1"),
         ("half of them for partners, each twice", [2 + place // 2 for place in range(50_000)], "fault 50002 P1"),
         ("the sixteen oldest for partners", range(2, 18), "legal"),
-    ]:
+    ]
+    for partners, places, expected in ranges:
         yield f"a drain behind 50,000 puts with {partners}", "\n".join(drained_of(16, places, 50_000)) + "\n", expected
     yield "100,000 entries", "\n".join(many) + "\n", "legal"
     yield "one entry too many", "\n".join([*many, "0 - tick"]) + "\n", "bad line 100002"
@@ -203,16 +196,19 @@ def cases():
     yield "one entry too many behind a bad line", "\n".join(spoilt) + "\n", "bad line 10"
 
 
-def main():
-    passed = failed = 0
-    for name, text, expected in cases():
-        got = told(text)
-        good = got == (expected + "\n", "", int(expected != "legal"))
-        print(f"ok: {name}" if good else f"FAILED: {name}: {got} and not {expected}")
-        passed, failed = passed + good, failed + (not good)
-    print(f"{passed} passed, {failed} failed")
-    sys.exit(failed > 0)
+class Audits(Case):
+    """Each account is a check by its name."""
 
+    def said_of(self, text: str) -> tuple[str, str, int | None]:
+        """What the program tells of a text."""
+        try:
+            ran = subprocess.run([self.program, "audit"], input=text.encode(errors="surrogateescape"), capture_output=True, timeout=HANG)
+        except subprocess.TimeoutExpired:
+            return "", f"it did not end within {HANG} seconds", None
+        return ran.stdout.decode(errors="replace"), ran.stderr.decode(errors="replace"), ran.returncode
 
-if __name__ == "__main__":
-    main()
+    def test_audits(self) -> None:
+        """What is told of each account."""
+        for name, text, expected in cases():
+            with self.subTest(name):
+                self.assertEqual(self.said_of(text), (expected + "\n", "", int(expected != "legal")))

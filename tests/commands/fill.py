@@ -1,4 +1,3 @@
-#!/usr/bin/env python3
 """Fills books by long runs, whose answers are known by how the lines are made, with no model.
 
 1. 1,024 clients say hello and put items, with a take now and then, until the lines that are left are just enough to
@@ -13,15 +12,10 @@
 7. The same with limits that all come at once, when the epoch is full: one tick ends all of them.
 
 No answer may tell want of memory.
-
-usage: tests/commands/fill.py [PROGRAM]
 """
-import pathlib
-import sys
+from __future__ import annotations
 
-ROOT = pathlib.Path(__file__).resolve().parents[2]
-sys.dont_write_bytecode, sys.path[0] = True, str(ROOT)
-from tests.commands.filling import CLIENTS, QUEUES, Fill, is_good, text  # noqa: E402
+from tests.commands.filling import CLIENTS, QUEUES, Fill, Filling, text
 
 LINES = 95_000
 MAX_ENTRIES = 100_000
@@ -32,12 +26,12 @@ EPOCH_FULL = '{"code":10,"kind":"refused"}'
 class Drains(Fill):
     """The same, where whoever would take drains, with each greatest number in turn."""
 
-    def take(self, client, queue):
+    def take(self, client: int, queue: int) -> None:
         """A drain gets what is there, or finds none."""
         self.drain(client, queue, len(self.lines) * 7 % MAX_DRAIN + 1)
 
 
-def items_wait(fill):
+def items_wait(fill: Fill) -> Fill:
     """Hellos, a first round of puts with a take now and then, and takes of all that is left."""
     for client in range(1, CLIENTS + 1):
         fill.hello(client)
@@ -56,7 +50,7 @@ def items_wait(fill):
     return fill
 
 
-def transfers_wait(fill):
+def transfers_wait(fill: Fill) -> Fill:
     """Transfers of all clients but the first, which all wait at once; some end by a new start, the others are met."""
     for client in range(1, CLIENTS + 1):
         fill.hello(client)
@@ -80,7 +74,7 @@ def transfers_wait(fill):
     return fill
 
 
-def one_waits(fill):
+def one_waits(fill: Fill) -> Fill:
     """A consumer waits while the book fills; what is left is the room of its end."""
     fill.hello(1)
     fill.hello(2)
@@ -97,7 +91,7 @@ def one_waits(fill):
     return fill
 
 
-def many_wait(fill):
+def many_wait(fill: Fill) -> Fill:
     """Consumers of all clients but the first wait while the book fills. What may wait needs two entries, and a drain one."""
     waiting = CLIENTS - 1
     for client in range(1, CLIENTS + 1):
@@ -118,7 +112,7 @@ def many_wait(fill):
     return fill
 
 
-def limits_come(fill):
+def limits_come(fill: Fill) -> Fill:
     """Consumers of all clients but the first wait until one moment, before which the epoch is full."""
     waiting = CLIENTS - 1
     limit = MAX_ENTRIES - waiting + 1
@@ -139,13 +133,33 @@ def limits_come(fill):
     return fill
 
 
-def main():
-    program = sys.argv[1] if len(sys.argv) > 1 else "crates/rv_app/out/rv_app"
-    runs = [(items_wait, Fill), (items_wait, Drains), (transfers_wait, Fill), (transfers_wait, Drains), (one_waits, Fill),
-            (many_wait, Fill), (limits_come, Fill)]
-    good = [is_good(program, make(kind())) for make, kind in runs]
-    print(f"{sum(good)} passed, {len(good) - sum(good)} failed")
-    sys.exit(not all(good))
+class Filled(Filling):
+    """Books that are filled, and emptied."""
 
+    def test_items_wait(self) -> None:
+        """More than 40,000 items wait at once, and are taken one by one."""
+        self.judge(items_wait(Fill()))
 
-main()
+    def test_items_wait_for_drains(self) -> None:
+        """More than 40,000 items wait at once, and are drained."""
+        self.judge(items_wait(Drains()))
+
+    def test_transfers_wait(self) -> None:
+        """1,023 transfers wait at once, and are taken one by one."""
+        self.judge(transfers_wait(Fill()))
+
+    def test_transfers_wait_for_drains(self) -> None:
+        """1,023 transfers wait at once, and are drained."""
+        self.judge(transfers_wait(Drains()))
+
+    def test_one_waits(self) -> None:
+        """A full epoch has room for the end of one that waits."""
+        self.judge(one_waits(Fill()))
+
+    def test_many_wait(self) -> None:
+        """A full epoch has room for the ends of 1,023 that wait."""
+        self.judge(many_wait(Fill()))
+
+    def test_limits_come(self) -> None:
+        """One tick ends 1,023 that wait in a full epoch."""
+        self.judge(limits_come(Fill()))

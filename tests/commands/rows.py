@@ -1,72 +1,75 @@
-#!/usr/bin/env python3
 """Runs the built program on the worked rows, and on the worked worlds; and on those of version 1 again, with each session
 of version 2. The lines and answers of version 1 must be as they ever were. An account of the entries that a row leads to
-is legal, and isn't where an entry names another partner.
+is legal, and isn't where an entry names another partner."""
+from __future__ import annotations
 
-usage: tests/commands/rows.py PROGRAM
-"""
-import pathlib
 import subprocess
-import sys
+from collections.abc import Callable, Iterable, Iterator, Sequence
+from typing import Any, Tuple
 
-ROOT = pathlib.Path(__file__).resolve().parents[2]
-sys.dont_write_bytecode, sys.path[0] = True, str(ROOT)
-from tests.model.row_entries import accounts, unpaired  # noqa: E402
-from tests.model.rows import LATER_ROWS, LATER_WORLDS, LONG_ROWS, ROWS, WORLDS, pairs_of  # noqa: E402
-from tests.model.version_rows import VERSION_ROWS, VERSION_WORLDS, first_faults, second, second_fault  # noqa: E402
+from tests.cases import Case
+from tests.commands.judged import Pair
+from tests.model.row_entries import accounts, unpaired
+from tests.model.rows import LATER_ROWS, LATER_WORLDS, LONG_ROWS, ROWS, WORLDS, pairs_of
+from tests.model.version_rows import VERSION_ROWS, VERSION_WORLDS, first_faults, second, second_fault
+
+# A row or a world by its name, with the program's words for it and its lines with their answers.
+Run = Tuple[str, Sequence[str], Sequence[Pair]]
+Difference = Callable[[Sequence[Pair], Sequence[str]], object]
 
 
-def first_difference(pairs, got):
+def first_difference(pairs: Sequence[Pair], got: Sequence[str]) -> str | None:
     """The first answer that is not as it must be, if one is not."""
     return next((f"{line}: got {answer}" for (line, expected), answer in zip(pairs, got) if answer != expected), None)
 
 
-def fault(words, pairs, difference=first_difference):
-    """What is wrong with what the program prints for a row, if something is."""
-    text = "".join(f"{line}\n" for line, _ in pairs)
-    ran = subprocess.run([sys.argv[1], *words], input=text.encode(), capture_output=True)
-    if ran.returncode or ran.stderr:
-        return f"status {ran.returncode}, standard error: {ran.stderr!r}"
-    got = ran.stdout.decode("utf-8", "backslashreplace").split("\n")[:-1]
-    return difference(pairs, got) if len(got) == len(pairs) else f"{len(pairs)} lines, {len(got)} answers"
-
-
-def runs(rows, worlds):
-    """Each row and each world, with the program's words for it and its lines with their answers."""
+def runs(rows: Iterable[Any], worlds: Iterable[Any]) -> Iterator[Run]:
+    """Each row and each world."""
     for name, epoch, lines in rows:
         yield name, ["book", "--epoch", str(epoch)], list(pairs_of(epoch, lines))
     for name, pairs, _, _ in worlds:
         yield name, ["play"], pairs
 
 
-def audit_fault(text, status, told):
-    """What is wrong with what the program's audit tells of an account, if something is."""
-    ran = subprocess.run([sys.argv[1], "audit"], input=text.encode(), capture_output=True)
-    found = ran.returncode, ran.stderr, ran.stdout
-    return None if found == (status, b"", f"{told}\n".encode()) else f"got {found}"
+def runs_of_version_1() -> Iterator[Run]:
+    """The rows and worlds of version 1."""
+    return runs([*ROWS, *LATER_ROWS, *LONG_ROWS], [*WORLDS, *LATER_WORLDS])
 
 
-def faults():
-    """Each row and each world by its name, with what is wrong, if something is."""
-    yield from first_faults()
-    first = list(runs([*ROWS, *LATER_ROWS, *LONG_ROWS], [*WORLDS, *LATER_WORLDS]))
-    for name, words, pairs in [*first, *runs(VERSION_ROWS, VERSION_WORLDS)]:
-        yield name, fault(words, pairs)
-    for name, words, pairs in first:
-        yield f"{name}, in version 2", fault(words, list(second(pairs)), second_fault)
-    for name, _, text in accounts():
-        yield f"the entries of {name}", audit_fault(text, 0, "legal")
-        for other, told in unpaired(text):
-            yield f"the entries of {name}, {told}", audit_fault(other, 1, told)
+class Rows(Case):
+    """Worked rows and worlds, each a check by its name."""
 
+    def fault(self, words: Sequence[str], pairs: Sequence[Pair], difference: Difference = first_difference) -> object:
+        """What is wrong with what the program prints for a row, if something is."""
+        text = "".join(f"{line}\n" for line, _ in pairs)
+        ran = subprocess.run([self.program, *words], input=text.encode(), capture_output=True)
+        if ran.returncode or ran.stderr:
+            return f"status {ran.returncode}, standard error: {ran.stderr!r}"
+        got = ran.stdout.decode("utf-8", "backslashreplace").split("\n")[:-1]
+        return difference(pairs, got) if len(got) == len(pairs) else f"{len(pairs)} lines, {len(got)} answers"
 
-def main():
-    passed = failed = 0
-    for name, wrong in faults():
-        passed, failed = passed + (not wrong), failed + bool(wrong)
-        print(f"FAILED: {name}: {wrong}" if wrong else f"ok: {name}")
-    print(f"{passed} passed, {failed} failed")
-    sys.exit(failed > 0)
+    def audit_fault(self, text: str, status: int, told: str) -> str | None:
+        """What is wrong with what the program's audit tells of an account, if something is."""
+        ran = subprocess.run([self.program, "audit"], input=text.encode(), capture_output=True)
+        found = ran.returncode, ran.stderr, ran.stdout
+        return None if found == (status, b"", f"{told}\n".encode()) else f"got {found}"
 
+    def test_version_1_is_as_it_was(self) -> None:
+        """The rows and the examples of version 1 are those that they ever were."""
+        self.check_faults(first_faults())
 
-main()
+    def test_rows(self) -> None:
+        """Each row and each world has its answers."""
+        versions = runs(VERSION_ROWS, VERSION_WORLDS)
+        self.check_faults((name, self.fault(words, pairs)) for name, words, pairs in [*runs_of_version_1(), *versions])
+
+    def test_rows_in_version_2(self) -> None:
+        """Those of version 1 have their answers where each session is of version 2."""
+        self.check_faults((f"{name}, in version 2", self.fault(words, list(second(pairs)), second_fault))
+                          for name, words, pairs in runs_of_version_1())
+
+    def test_entries_of_rows(self) -> None:
+        """The account of a row is legal, and isn't where an entry names another partner."""
+        for name, _, text in accounts():
+            self.check_faults([(f"the entries of {name}", self.audit_fault(text, 0, "legal"))])
+            self.check_faults((f"the entries of {name}, {told}", self.audit_fault(other, 1, told)) for other, told in unpaired(text))

@@ -1,16 +1,11 @@
-#!/usr/bin/env python3
 """Runs the program for tests on lines worked by hand: events of a hub, JSON that is written back, and bodies that are read; and on
 words and lines that it doesn't take. Those of a machine are in its crate.
-
-usage: tests/commands/steps.py STEPS
 """
-import pathlib
-import subprocess
-import sys
+from __future__ import annotations
 
-ROOT = pathlib.Path(__file__).resolve().parents[2]
-sys.dont_write_bytecode, sys.path[0] = True, str(ROOT)
-from tests.commands.judged import all_of, judge, run  # noqa: E402
+import subprocess
+
+from tests.commands.judged import Judged
 
 HUB = ["hub", "8", "4", "4", "500", "journal"]
 HELLO = '{"client":1,"incarnation":1,"kind":"hello"}'
@@ -84,33 +79,33 @@ shown
 """
 
 
-def case(name: str, words: list[str], lines: str, printed: str, said: bytes = b"", status: int = 0) -> None:
-    """A run over lines must print this, say that on standard error, and end so."""
-    ran = run(words, input=lines.encode(), stdout=subprocess.PIPE)
-    judge(name, ran, printed.encode(), said, status)
+class Steps(Judged):
+    """Lines worked by hand, and what is told of each."""
 
+    def judge_steps(self, name: str, words: list[str], lines: str, printed: str, said: bytes = b"", status: int = 0) -> None:
+        """A run over lines must print this, say that on standard error, and end so."""
+        ran = subprocess.run([self.steps, *words], input=lines.encode(), capture_output=True)
+        self.judge(name, ran, printed.encode(), said, status)
 
-def events() -> None:
-    case("a hub's events", HUB, EVENTS, TOLD)
-    case("a line that is no event", HUB, "0 opened\n0 open\n0 opened\n", "ok 0\n0 open 0 0 0 1 -\n= 0 - 0\n", b"a line says nothing\n", 2)
+    def test_events(self) -> None:
+        """Events of a hub."""
+        self.judge_steps("a hub's events", HUB, EVENTS, TOLD)
+        self.judge_steps("a line that is no event", HUB, "0 opened\n0 open\n0 opened\n", "ok 0\n0 open 0 0 0 1 -\n= 0 - 0\n", b"a line says nothing\n", 2)
 
+    def test_texts(self) -> None:
+        """JSON that is written back."""
+        self.judge_steps("JSON that is written back", ["json"], '0 {"a":1, "b":[]}\n', '{"a":1,"b":[]}\n')
+        self.judge_steps("a line without a space", ["json"], "{}\n", "", b"Error: a line has no space\n", 1)
 
-def texts() -> None:
-    case("JSON that is written back", ["json"], '0 {"a":1, "b":[]}\n', '{"a":1,"b":[]}\n')
-    case("a line without a space", ["json"], "{}\n", "", b"Error: a line has no space\n", 1)
+    def test_bodies(self) -> None:
+        """Bodies that are read."""
+        texts = ['{"kind":"hello","incarnation":1, "client":1}', WELCOME, '{"call":"peek","queue":3}', "{}", "{"]
+        told = [f"{HELLO}\t2\t2", f"2\t{WELCOME}\t2", f"2\t2\t{PEEK}", "2\t2\t2", "1\t1\t1", "2\t2\t2"]
+        hexes = [*(text.encode().hex() for text in texts), "-"]
+        self.judge_steps("what bodies are read as", ["bodies"], "\n".join(hexes), "".join(f"{line}\n" for line in told))
+        self.judge_steps("a line that is no body", ["bodies"], "7b7\n-\n", "", b"Error: a line is no body\n", 1)
 
-
-def bodies() -> None:
-    texts = ['{"kind":"hello","incarnation":1, "client":1}', WELCOME, '{"call":"peek","queue":3}', "{}", "{"]
-    told = [f"{HELLO}\t2\t2", f"2\t{WELCOME}\t2", f"2\t2\t{PEEK}", "2\t2\t2", "1\t1\t1", "2\t2\t2"]
-    hexes = [*(text.encode().hex() for text in texts), "-"]
-    case("what bodies are read as", ["bodies"], "\n".join(hexes), "".join(f"{line}\n" for line in told))
-    case("a line that is no body", ["bodies"], "7b7\n-\n", "", b"Error: a line is no body\n", 1)
-
-
-def others() -> None:
-    for words in OTHERS:
-        case(f"other words: {words}", words.split(), "", "", USAGE, 2)
-
-
-all_of([events, texts, bodies, others])
+    def test_other_words(self) -> None:
+        """Words that name no task, or limits that no step may have."""
+        for words in OTHERS:
+            self.judge_steps(f"other words: {words}", words.split(), "", "", USAGE, 2)

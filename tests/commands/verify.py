@@ -1,21 +1,18 @@
-#!/usr/bin/env python3
-"""Runs `rv verify` of the built program: on the accounts that `rv audit` is tried on, on longer ones, on torn ends and from pipes.
+"""Runs `rv verify` of the built program: on the accounts that `rv audit` is tried on, on longer ones, on torn ends and from pipes."""
+from __future__ import annotations
 
-usage: tests/commands/verify.py PROGRAM
-"""
-import itertools
 import os
 import pathlib
 import subprocess
-import sys
 import tempfile
 import threading
+from collections.abc import Iterable, Iterator, Sequence
+from typing import Any, Tuple
 
-ROOT = pathlib.Path(__file__).resolve().parents[2]
-sys.dont_write_bytecode, sys.path[0] = True, str(ROOT)
-from tests.commands import audits  # noqa: E402
-from tests.commands.audits import GREETED, HEAD, WORKED, hello, last_with, put, take  # noqa: E402
-from tests.model.verdicts import verdict  # noqa: E402
+from tests.cases import Case
+from tests.commands import audits
+from tests.commands.audits import GREETED, HEAD, WORKED, hello, last_with, put, take
+from tests.model.verdicts import verdict
 
 TORN, BEYOND, UNTOLD = 3, 4, 5
 # Seconds behind which a run on a named pipe hangs.
@@ -24,34 +21,38 @@ PIPE_HANG = 60
 PAST = {"a partner above the greatest": "fault 4 P1", "a second partner above the greatest": "fault 6 P1",
         "one entry too many": "fault 100000 M3"}
 UNSURE = "fault 4 P1, P2 or S1: a file, read twice, tells which\n"
+# What is to be told of an account, and the status.
+Told = Tuple[str, int]
+# What a run printed, what it said and its status.
+Ended = Tuple[str, str, int]
 
 
-def joined(lines):
+def joined(lines: Iterable[str]) -> str:
     """The lines, each with its LF."""
     return "".join(line + "\n" for line in lines)
 
 
-def status_of(said):
+def status_of(said: str) -> int:
     """The status beside a verdict of an account with no torn end."""
     return 0 if said == "legal" else BEYOND if said.startswith("beyond") else 1
 
 
-def told(said):
+def told(said: str) -> Told:
     """What is printed of it, and the status."""
     return said + "\n", status_of(said)
 
 
-def torn(said):
+def torn(said: str) -> Told:
     """The same where the end is torn, and this is the verdict on the lines before."""
     return said + "\ntorn end\n", TORN
 
 
-def model_of(text):
+def model_of(text: str) -> str:
     """The model's verdict."""
     return verdict(text.encode(errors="surrogateescape"))
 
 
-def as_audited():
+def as_audited() -> Iterator[tuple[str, str, Told]]:
     """The accounts of `rv audit`, each with what is told of it: the same, but past its limits, and where the last piece is torn: it
     is the first line, or no entry's."""
     for name, text, expected in audits.cases():
@@ -63,12 +64,12 @@ def as_audited():
             yield name, text, told(past or expected)
 
 
-def puts(count):
+def puts(count: int) -> list[str]:
     """A client that puts so many items."""
     return [HEAD, GREETED, *(f"0 - {put(number)}" for number in range(1, count + 1))]
 
 
-def in_turn(count):
+def in_turn(count: int) -> Iterator[str]:
     """A client puts an item and another takes it, so many times."""
     yield from (HEAD, GREETED, "0 - " + hello(2))
     for number in range(1, count + 1):
@@ -76,7 +77,7 @@ def in_turn(count):
         yield f"0 {2 * number} {take(2, number, chr(34) + 'now' + chr(34))}"
 
 
-def longer():
+def longer() -> list[tuple[str, str, Told]]:
     """Accounts past the limits of `rv audit`."""
     return [
         ("160,000 entries", joined(in_turn(80_000)), told("legal")),
@@ -88,7 +89,7 @@ def longer():
     ]
 
 
-def ends():
+def ends() -> Iterator[tuple[str, str, Told]]:
     """Accounts that end anywhere: each front of a hello's and a tick's line."""
     whole, last = joined(WORKED[:2]), WORKED[2]
     yield from ((f"{size} bytes of the first line", HEAD[:size], torn("bad line 1")) for size in range(1, len(HEAD) + 1))
@@ -99,79 +100,74 @@ def ends():
     yield "an account of no bytes", "", told("bad line 1")
 
 
-def ran(words, **streams):
-    """What the program printed, said and ended with."""
-    run = subprocess.run([sys.argv[1], "verify", *words], capture_output=True, timeout=audits.HANG, **streams)
-    return run.stdout.decode(errors="replace"), run.stderr.decode(errors="replace"), run.returncode
+class Verify(Case):
+    """Accounts, each a check by its name."""
 
+    def ran(self, words: Sequence[str], **streams: Any) -> Ended:
+        """What the program printed, said and ended with."""
+        run = subprocess.run([self.program, "verify", *words], capture_output=True, timeout=audits.HANG, **streams)
+        return run.stdout.decode(errors="replace"), run.stderr.decode(errors="replace"), run.returncode
 
-def of_file(text):
-    """The same on a file with this text."""
-    with tempfile.NamedTemporaryFile() as file:
-        file.write(text.encode(errors="surrogateescape"))
-        file.flush()
-        return ran([file.name])
+    def judge_files(self, accounts: Iterable[tuple[str, str, Told]]) -> None:
+        """What is told of each text as a file."""
+        for name, text, (printed, status) in accounts:
+            with tempfile.NamedTemporaryFile() as file:
+                file.write(text.encode(errors="surrogateescape"))
+                file.flush()
+                self.check_equal(name, self.ran([file.name]), (printed, "", status))
 
+    def test_as_audited(self) -> None:
+        """The accounts on which `rv audit` is tried."""
+        self.judge_files(as_audited())
 
-def by_files():
-    """Each text as a file, what was told of it, and what is to be told."""
-    for name, text, (printed, status) in itertools.chain(as_audited(), longer(), ends()):
-        yield name, of_file(text), (printed, "", status)
+    def test_longer(self) -> None:
+        """Accounts past the limits of `rv audit`."""
+        self.judge_files(longer())
 
+    def test_ends(self) -> None:
+        """Accounts that end anywhere."""
+        self.judge_files(ends())
 
-def by_pipes():
-    """The same from a pipe, which is read once."""
-    for name, lines, expected in [("a legal account", WORKED, ("legal\n", "", 0)),
-                                  ("a fault", last_with(" 2 ", " 3 "), ("fault 4 P3\n", "", 1)),
-                                  ("a closed place", last_with(" 2 ", " 1 "), (UNSURE, "", UNTOLD))]:
-        yield f"{name}, from a pipe", ran(["-"], input=joined(lines).encode()), expected
+    def test_pipes(self) -> None:
+        """Accounts from a pipe, which is read once."""
+        for name, lines, expected in [("a legal account", WORKED, ("legal\n", "", 0)),
+                                      ("a fault", last_with(" 2 ", " 3 "), ("fault 4 P3\n", "", 1)),
+                                      ("a closed place", last_with(" 2 ", " 1 "), (UNSURE, "", UNTOLD))]:
+            self.check_equal(f"{name}, from a pipe", self.ran(["-"], input=joined(lines).encode()), expected)
 
+    def of_named_pipe(self, lines: Iterable[str], *options: str) -> Ended | str:
+        """What the program printed, said and ended with on a named pipe, to which these lines are written once."""
+        with tempfile.TemporaryDirectory() as folder:
+            pipe = pathlib.Path(folder, "account")
+            os.mkfifo(pipe)
+            threading.Thread(target=pipe.write_text, args=[joined(lines)], daemon=True).start()
+            try:
+                run = subprocess.run([self.program, "verify", pipe, *options], capture_output=True, timeout=PIPE_HANG, text=True)
+            except subprocess.TimeoutExpired:
+                return "it hangs"
+        return run.stdout, run.stderr, run.returncode
 
-def of_named_pipe(lines, *options):
-    """What the program printed, said and ended with on a named pipe, to which these lines are written once."""
-    with tempfile.TemporaryDirectory() as folder:
-        pipe = pathlib.Path(folder, "account")
-        os.mkfifo(pipe)
-        threading.Thread(target=pipe.write_text, args=[joined(lines)], daemon=True).start()
-        try:
-            run = subprocess.run([sys.argv[1], "verify", pipe, *options], capture_output=True, timeout=PIPE_HANG, text=True)
-        except subprocess.TimeoutExpired:
-            return "it hangs"
-    return run.stdout, run.stderr, run.returncode
+    def test_named_pipes(self) -> None:
+        """The same from a named pipe: a second opening would wait for ever for who writes."""
+        closed = last_with(" 2 ", " 1 ")
+        self.check_equal("a legal account, from a named pipe", self.of_named_pipe(WORKED), ("legal\n", "", 0))
+        self.check_equal("a closed place, from a named pipe", self.of_named_pipe(closed), (UNSURE, "", UNTOLD))
+        self.check_equal("a closed place, from a named pipe that grows", self.of_named_pipe(closed, "--follow"), (UNSURE, "", UNTOLD))
 
+    def test_words(self) -> None:
+        """Files that can't be read, and words that name no account."""
+        with tempfile.TemporaryDirectory() as folder:
+            missing = f"{folder}/missing"
+            self.check_equal("no such file", self.ran([missing]), ("", f"account {missing}: No such file or directory (os error 2)\n", 1))
+            self.check_equal("a folder", self.ran([folder]), ("", "run fault 1\n", 1))
+        rows: list[list[str]] = [[], ["a", "b"], ["--help"]]
+        for words in rows:
+            self.check_equal(f"the words {words}", self.ran(words), ("", "command fault 1\n", 2))
 
-def by_named_pipes():
-    """The same from a named pipe: a second opening would wait for ever for who writes."""
-    closed = last_with(" 2 ", " 1 ")
-    yield "a legal account, from a named pipe", of_named_pipe(WORKED), ("legal\n", "", 0)
-    yield "a closed place, from a named pipe", of_named_pipe(closed), (UNSURE, "", UNTOLD)
-    yield "a closed place, from a named pipe that grows", of_named_pipe(closed, "--follow"), (UNSURE, "", UNTOLD)
-
-
-def of_words():
-    """Files that can't be read, and words that name no account."""
-    with tempfile.TemporaryDirectory() as folder:
-        missing = f"{folder}/missing"
-        yield "no such file", ran([missing]), ("", f"account {missing}: No such file or directory (os error 2)\n", 1)
-        yield "a folder", ran([folder]), ("", "run fault 1\n", 1)
-    for words in ([], ["a", "b"], ["--help"]):
-        yield f"the words {words}", ran(words), ("", "command fault 1\n", 2)
-    with open("/dev/full", "wb") as full, tempfile.NamedTemporaryFile() as file:
-        file.write(joined(WORKED).encode())
-        file.flush()
-        run = subprocess.run([sys.argv[1], "verify", file.name], stdout=full, stderr=subprocess.PIPE, timeout=audits.HANG)
-        yield "a full output", (run.stderr, run.returncode), (b"run fault 2\n", 1)
-
-
-def main():
-    passed = failed = 0
-    for name, got, expected in itertools.chain(by_files(), by_pipes(), by_named_pipes(), of_words()):
-        passed, failed = passed + (got == expected), failed + (got != expected)
-        if got != expected:
-            print(f"FAILED: {name}: {got}, not {expected}")
-    print(f"{passed} passed, {failed} failed")
-    sys.exit(failed > 0)
-
-
-if __name__ == "__main__":
-    main()
+    def test_a_full_output(self) -> None:
+        """What is said where nothing can be printed."""
+        with open("/dev/full", "wb") as full, tempfile.NamedTemporaryFile() as file:
+            file.write(joined(WORKED).encode())
+            file.flush()
+            run = subprocess.run([self.program, "verify", file.name], stdout=full, stderr=subprocess.PIPE, timeout=audits.HANG)
+            self.check_equal("a full output", (run.stderr, run.returncode), (b"run fault 2\n", 1))

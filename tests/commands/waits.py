@@ -1,4 +1,3 @@
-#!/usr/bin/env python3
 """Runs in which as many clients wait as there can be, whose answers are known by how the lines are made, with no model;
 and runs that show that time-outs, cancels of what waits and repeats take no memory.
 
@@ -19,19 +18,19 @@ and runs that show that time-outs, cancels of what waits and repeats take no mem
    one before.
 
 No answer of the first four may tell want of memory.
-
-usage: tests/commands/waits.py [PROGRAM]
 """
+from __future__ import annotations
+
 import os
 import pathlib
 import subprocess
 import sys
 import tempfile
+from collections.abc import Callable, Iterable, Iterator
 
-ROOT = pathlib.Path(__file__).resolve().parents[2]
-sys.dont_write_bytecode, sys.path[0] = True, str(ROOT)
-from tests.commands.filling import CLIENTS, EPOCH, QUEUES, Fill, is_good, text  # noqa: E402
-from tests.faults.preload import built, switches  # noqa: E402
+from tests.cases import Case
+from tests.commands.filling import CLIENTS, EPOCH, QUEUES, Fill, Filling, text
+from tests.faults.preload import built, switches
 
 ALL = range(1, CLIENTS + 1)
 EXCHANGERS = 64
@@ -49,27 +48,29 @@ BEHIND = 8
 class Waits(Fill):
     """Lines of clients that wait, and where: of each queue its waiting clients, the oldest first."""
 
-    def __init__(self):
+    now: int
+
+    def __init__(self) -> None:
         super().__init__()
         self.now = 0
-        self.waiting = {}
+        self.waiting: dict[tuple[str, int], list[int]] = {}
         for client in ALL:
             self.hello(client)
 
-    def wait(self, client, word, at, wait):
+    def wait(self, client: int, word: str, at: int, wait: int | str) -> None:
         """A request waits on a side."""
         item = {} if word == "take" else {"item": item_of(client)}
         place = {"exchanger" if word == "swap" else "queue": at}
         self.ask(client, None, call=word, **place, **item, wait=wait)
         self.waiting.setdefault((word, at), []).append(client)
 
-    def leave(self, clients):
+    def leave(self, clients: Iterable[int]) -> None:
         """These clients wait no longer."""
         gone = set(clients)
         for there in self.waiting.values():
             there[:] = [client for client in there if client not in gone]
 
-    def times_out(self, moment, clients):
+    def times_out(self, moment: int, clients: Iterable[int]) -> None:
         """The moment comes by a line that changes nothing else; and these clients were told that their time is over."""
         self.now = moment
         self.hello(ALL[-1])
@@ -77,14 +78,14 @@ class Waits(Fill):
         for client in clients:
             self.again(client, {"reply": "timedout"})
 
-    def cancel(self, client):
+    def cancel(self, client: int) -> None:
         """A client cancels its request, which waits, and once more."""
         answer = text(kind="reply", **self.key(client), reply="cancelled")
         for _ in range(2):
             self.say(text(kind="cancel", **self.key(client)), answer)
         self.leave([client])
 
-    def meet(self, client):
+    def meet(self, client: int) -> None:
         """Another client comes to all that wait, in their order, and each is then told so."""
         for word, at, other in [(*side, other) for side, there in self.waiting.items() for other in there]:
             gives, gets = {"item": f"for {other}"}, {"item": item_of(other)}
@@ -100,12 +101,12 @@ class Waits(Fill):
         self.waiting.clear()
 
 
-def item_of(client):
+def item_of(client: int) -> str:
     """The item of a client."""
     return f"of {client}"
 
 
-def side_of(client):
+def side_of(client: int) -> tuple[str, int]:
     """Where a client waits in the first run: at an exchanger, in one of two crowds, or with a few others."""
     if client <= EXCHANGERS:
         return "swap", client - 1
@@ -115,20 +116,20 @@ def side_of(client):
     return ("transfer" if queue % 2 else "take"), queue
 
 
-def all_ways():
+def all_ways() -> Waits:
     """All clients wait in all the ways there are, and end in all the ways there are."""
     fill = Waits()
     kinds = {kind: [client for client in ALL if client // 4 % 4 == kind] for kind in range(4)}
     limits = {client: LATER + len(kinds[3]) - turn for turn, client in enumerate(kinds[3])}
     for client in ALL:
-        wait = ["forever", SOON, DAY, limits.get(client)][client // 4 % 4]
-        fill.wait(client, *side_of(client), wait)
+        ways: list[int | str] = ["forever", SOON, DAY, limits.get(client, DAY)]
+        fill.wait(client, *side_of(client), ways[client // 4 % 4])
     for client in ALL:
         fill.again(client, None)
     fill.now = SOON - 1
     fill.again(kinds[1][0], None)
     fill.times_out(SOON, kinds[1])
-    for client in sorted(kinds[3], key=limits.get)[: len(kinds[3]) // 2]:
+    for client in sorted(kinds[3], key=limits.__getitem__)[: len(kinds[3]) // 2]:
         fill.times_out(limits[client], [client])
     for client in kinds[2][::3]:
         fill.cancel(client)
@@ -142,7 +143,7 @@ def all_ways():
     return fill
 
 
-def one_queue(word):
+def one_queue(word: str) -> Waits:
     """All clients but the last wait in one queue."""
     fill = Waits()
     others = ALL[:-1]
@@ -158,17 +159,17 @@ def one_queue(word):
     return fill
 
 
-def takers_wait():
+def takers_wait() -> Waits:
     """Consumers wait in one queue."""
     return one_queue("take")
 
 
-def givers_wait():
+def givers_wait() -> Waits:
     """Items wait in one queue."""
     return one_queue("transfer")
 
 
-def givers_drained():
+def givers_drained() -> Waits:
     """Items wait in one queue, every third is cancelled, and the last client drains the others, 16 at most by each drain."""
     fill = Waits()
     others = ALL[:-1]
@@ -190,7 +191,7 @@ def givers_drained():
     return fill
 
 
-def all_again():
+def all_again() -> Waits:
     """All wait until one moment, twice; and once more, and cancel."""
     fill = Waits()
     for limit in (SOON, 2 * SOON):
@@ -210,11 +211,11 @@ def all_again():
 class Growths:
     """The program beside what counts its growths, and refuses some."""
 
-    def __init__(self, program, folder):
+    def __init__(self, program: str, folder: str) -> None:
         self.program, self.folder = program, pathlib.Path(folder)
         built()
 
-    def run(self, lines, refuse=0, refusals=0):
+    def run(self, lines: Iterable[str], refuse: int = 0, refusals: int = 0) -> tuple[list[str], int]:
         """What the program answers to these lines, and how many growths it makes. They are read from a file: how many
         growths the reading of an input takes then follows from its length, and not from how a pipe hands it over."""
         said, counted = self.folder / "lines", self.folder / "counted"
@@ -223,16 +224,15 @@ class Growths:
         room = {**os.environ, **switches(growth=refuse, growths=refusals, counted=counted)}
         with said.open("rb") as given:
             ran = subprocess.run([self.program, "book", "--epoch", str(EPOCH)], stdin=given, capture_output=True, env=room)
-        if ran.returncode or ran.stderr:
-            print(f"FAILED: status {ran.returncode}, standard error {ran.stderr!r}")
+        assert (ran.returncode, ran.stderr) == (0, b""), f"status {ran.returncode}, standard error {ran.stderr!r}"
         return ran.stdout.decode(errors="replace").split("\n")[:-1], int.from_bytes(counted.read_bytes(), sys.byteorder)
 
-    def count(self, lines):
+    def count(self, lines: Iterable[str]) -> int:
         """How many growths these lines make."""
         return self.run(lines)[1]
 
 
-def crowd(count, others=0):
+def crowd(count: int, others: int = 0) -> Fill:
     """So many clients wait in one queue, until one moment, and so many others said hello alone."""
     fill = Fill()
     fill.now = 0
@@ -243,25 +243,25 @@ def crowd(count, others=0):
     return fill
 
 
-def others_for(count):
+def others_for(count: int) -> int:
     """How many others fill the account's room, where it doubles: of each client that waits it has two entries and keeps
     room for one. None, where these were too many clients."""
     others = (1 << (3 * count - 1).bit_length()) - 3 * count
     return others if count + others <= CLIENTS else 0
 
 
-def bad(line):
+def bad(line: str) -> str:
     """A line as long that says nothing, and answers what needs no memory. To read the line itself takes none either: its body is
     compact, and has no item."""
     return "-" * len(line)
 
 
-def request(fill, client, moment=0):
+def request(fill: Fill, client: int, moment: int = 0) -> str:
     """The line of a client's request."""
     return f'{moment} {text(kind="request", **fill.key(client), **fill.calls[client])}'
 
 
-def endings(fill, count):
+def endings(fill: Fill, count: int) -> Iterator[tuple[str, str, str]]:
     """Lines behind a crowd, each with a request that is then said again and what it is told."""
     client = count // 2 + 1
     told = text(kind="reply", **fill.key(client), reply="cancelled")
@@ -273,60 +273,84 @@ def endings(fill, count):
     yield again, again, waits
 
 
-def takes_none(growths, count, others):
-    """Whether what ends or repeats a request takes no memory where so many wait. Each growth that is refused is seen in
-    an answer: first in that line's, whose step was taken, and then in those behind it."""
-    fill, good = crowd(count, others), True
+def taken_by(growths: Growths, count: int, others: int) -> str | None:
+    """What shows that what ends or repeats a request takes memory where so many wait, if something does. Each growth that is
+    refused is seen in an answer: first in that line's, whose step was taken, and then in those behind it."""
+    fill = crowd(count, others)
     for line, again, told in endings(fill, count):
         read = growths.count([*fill.lines, bad(line), *[bad(again)] * BEHIND])
         for refusals in REFUSALS:
             answers, _ = growths.run([*fill.lines, line, *[again] * BEHIND], read + 1, refusals)
             wanted = [*fill.answers, *[NO_MEMORY] * refusals, *[told] * (BEHIND + 1 - refusals)]
             if answers != wanted:
-                good = False
-                print(f"FAILED: {count} wait beside {others}, {refusals} growths refused behind the reading of {line}:",
-                      *answers[len(fill.lines) :], sep="\n")
-    return good
+                told = "\n".join(answers[len(fill.lines) :])
+                return f"{refusals} growths refused behind the reading of {line}:\n{told}"
+    return None
 
 
-def ticks_grow_nothing(growths):
-    """Whether a tick that ends all that wait takes as many growths as no tick."""
-    fill = crowd(CLIENTS)
-    hello = text(kind="hello", client=1, incarnation=1)
-    return is_equal("a tick", *(growths.count([*fill.lines, f"{moment:04} {hello}"]) for moment in (SOON - 1, SOON)))
-
-
-def lines_grow_alike(growths, name, make):
-    """Whether each of a row of lines takes as many growths as the first."""
-    fill = crowd(CLIENTS)
-    lines = [make(fill, client) for client in range(100, 1_000)]
-    none, one, half, all_lines = (
-        growths.count([*fill.lines, *lines[:good], *map(bad, lines[good:])]) for good in (0, 1, 450, 900))
-    return is_equal(name, (half - none, all_lines - none), (450 * (one - none), 900 * (one - none)))
-
-
-def is_equal(name, got, wanted):
-    """Whether the two are equal."""
-    if got != wanted:
-        print(f"FAILED: {name}: {got} growths, and not {wanted}")
-    return got == wanted
-
-
-def cancel_line(fill, client):
+def cancel_line(fill: Fill, client: int) -> str:
     """The line of a client's cancel."""
     return f'0 {text(kind="cancel", **fill.key(client))}'
 
 
-def main():
-    program = os.path.abspath(sys.argv[1] if len(sys.argv) > 1 else "crates/rv_app/out/rv_app")
-    good = [is_good(program, make()) for make in (all_ways, takers_wait, givers_wait, givers_drained, all_again)]
-    with tempfile.TemporaryDirectory(prefix="waits-") as folder:
-        growths = Growths(program, folder)
-        good += [takes_none(growths, count, others_for(count)) for count in CROWDS]
-        good += [ticks_grow_nothing(growths), lines_grow_alike(growths, "cancels", cancel_line),
-                 lines_grow_alike(growths, "repeats", request)]
-    print(f"{sum(good)} passed, {len(good) - sum(good)} failed")
-    sys.exit(not all(good))
+class Waiting(Filling):
+    """As many clients wait as there can be."""
+
+    def test_all_ways(self) -> None:
+        """All clients wait in all the ways there are, and end in all the ways there are."""
+        self.judge(all_ways())
+
+    def test_takers_wait(self) -> None:
+        """Consumers wait in one queue."""
+        self.judge(takers_wait())
+
+    def test_givers_wait(self) -> None:
+        """Items wait in one queue."""
+        self.judge(givers_wait())
+
+    def test_givers_drained(self) -> None:
+        """Items wait in one queue, some are cancelled, and drains take the others."""
+        self.judge(givers_drained())
+
+    def test_all_again(self) -> None:
+        """All wait until one moment, twice; and once more, and cancel."""
+        self.judge(all_again())
 
 
-main()
+class Memory(Case):
+    """What ends or repeats a request that waits takes no memory."""
+
+    def setUp(self) -> None:
+        folder = self.enterContext(tempfile.TemporaryDirectory(prefix="waits-"))
+        self.growths = Growths(self.program, folder)
+
+    def test_ends_and_repeats_take_none(self) -> None:
+        """Growths that are refused where a request is ended or repeated are those of answers."""
+        for count in CROWDS:
+            others = others_for(count)
+            with self.subTest(f"{count} wait beside {others}"):
+                fault = taken_by(self.growths, count, others)
+                self.check_fault(fault)
+
+    def test_a_tick_grows_nothing(self) -> None:
+        """A tick that ends all that wait takes as many growths as no tick."""
+        fill = crowd(CLIENTS)
+        hello = text(kind="hello", client=1, incarnation=1)
+        before, at = (self.growths.count([*fill.lines, f"{moment:04} {hello}"]) for moment in (SOON - 1, SOON))
+        self.assertEqual(before, at)
+
+    def judge_alike(self, make: Callable[[Fill, int], str]) -> None:
+        """Each of a row of lines must take as many growths as the first."""
+        fill = crowd(CLIENTS)
+        lines = [make(fill, client) for client in range(100, 1_000)]
+        none, one, half, all_lines = (
+            self.growths.count([*fill.lines, *lines[:good], *map(bad, lines[good:])]) for good in (0, 1, 450, 900))
+        self.assertEqual((half - none, all_lines - none), (450 * (one - none), 900 * (one - none)))
+
+    def test_cancels_grow_alike(self) -> None:
+        """Each cancel takes as many growths as the one before."""
+        self.judge_alike(cancel_line)
+
+    def test_repeats_grow_alike(self) -> None:
+        """Each repeat takes as many growths as the one before."""
+        self.judge_alike(request)

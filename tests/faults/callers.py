@@ -1,7 +1,10 @@
 """Callers to which the system is hostile, at a server to which it is too; and callers whose answers are spoilt."""
+from __future__ import annotations
+
 import random
 import socket
 import subprocess
+from typing import Any
 
 from tests.faults.mutants import EDGES, Mutants
 from tests.faults.system import System, file_of, hostile_serving
@@ -77,10 +80,10 @@ def one_caller(program, server, client, calls, chance):
 
 # ---- answers that are spoilt
 
-OWN = {"client": 2, "epoch": 1, "incarnation": 1, "number": 1}
-NAMED = {"kind": "reply", **OWN, "reply": "received", **dict.fromkeys(TAKER, 7)}
-WELCOMES = [{"kind": "welcome", "client": 2, "epoch": 1, "incarnation": 1, **members_of_version(version)} for version in (1, 2)]
-ANSWERS = [
+OWN: dict[str, Any] = {"client": 2, "epoch": 1, "incarnation": 1, "number": 1}
+NAMED: dict[str, Any] = {"kind": "reply", **OWN, "reply": "received", **dict.fromkeys(TAKER, 7)}
+WELCOMES: list[dict[str, Any]] = [{"kind": "welcome", "client": 2, "epoch": 1, "incarnation": 1, **members_of_version(version)} for version in (1, 2)]
+ANSWERS: list[dict[str, Any]] = [
     *WELCOMES, {**WELCOMES[0], "incarnation": 2}, {"kind": "waiting", **OWN}, {"kind": "reply", **OWN, "reply": "done"},
     {"kind": "reply", **OWN, "reply": "item", "item": "a\n\u00e9"}, {"kind": "reply", **OWN, "number": 2, "reply": "empty"},
     {"kind": "reply", **OWN, "reply": "counted", "items": 3, "consumers": 0}, {"kind": "refused", "code": 2, "current": 1},

@@ -1,4 +1,3 @@
-#!/usr/bin/env python3
 """Runs the built program on 27 worked rows, each with the same lines again behind it, on the worked plays and on the worked
 account, a server that nobody comes to, an account beside a record, and a client that keeps a record, with each growth of memory
 refused in turn; on rows and plays as they are, with each growth refused and all behind it; and on lines that take no memory before their answer's text, with that and
@@ -10,32 +9,32 @@ nothing differs. What follows is told by the model. So a line that is said again
 one that was answered gets its reply again. Where all growths are refused from one on, the lines before it are answered
 as ever, and all others say that memory was refused. The later the growth, the later the line: where a run came so far
 as some line, none with a later growth refused prints less than the lines before that.
-
-usage: tests/faults/growths.py PROGRAM
 """
+from __future__ import annotations
+
 import contextlib
 import os
 import pathlib
 import re
 import socket
 import subprocess
-import sys
 import tempfile
 import threading
+from collections.abc import Callable, Iterable, Iterator, Sequence
+from typing import Any, List, NamedTuple, Tuple
 
-ROOT = pathlib.Path(__file__).resolve().parents[2]
-sys.dont_write_bytecode, sys.path[0] = True, str(ROOT)
-from tests.commands.replies import ACCOUNT, ALL_KEPT, KEPT  # noqa: E402
-from tests.faults.preload import built, switches  # noqa: E402
-from tests.model.account import Account  # noqa: E402
-from tests.model.rows import (  # noqa: E402
+from tests import ROOT
+from tests.cases import Case
+from tests.commands.replies import ACCOUNT, ALL_KEPT, KEPT
+from tests.faults.preload import built, switches
+from tests.model.account import Account
+from tests.model.rows import (
     ANEW, DRAINED, DRAIN_ROW, LATER_ROWS, RESENT, ROWS, drain_texts, pairs_of, play_pairs)
-from tests.model.steps import refused, ticked, told  # noqa: E402
-from tests.model.texts import NoReading, read_line  # noqa: E402
-from tests.model.version_rows import BOTH_ROW, FULL_ROW, NAMED_PLAY, NAMED_ROW, VERSION_ROWS  # noqa: E402
-from tests.model.world import World  # noqa: E402
+from tests.model.steps import refused, ticked, told
+from tests.model.texts import NoReading, read_line
+from tests.model.version_rows import BOTH_ROW, FULL_ROW, NAMED_PLAY, NAMED_ROW, VERSION_ROWS
+from tests.model.world import World
 
-PROGRAM = os.path.abspath(sys.argv[1])
 # A put and a poll; a hand-over that waits, and its repeats, and one that does not wait; a new start that ends what waits,
 # and leaves a put; waits that end by their limit, at once, and before it; counts and peeks; consumers in order; cancels,
 # also before what they cancel; a swap; refusals; drains; sessions of version 2, and who received a transfer; lists that
@@ -129,12 +128,30 @@ ALL_REFUSED_IN = [DRAIN_ROW, FULL_ROW, "a client starts anew", "a transfer that 
                   "a client that starts anew"]
 
 
-def none_taken(account, line):
+# How a run ended: its status, and what it said.
+End = Tuple[int, str]
+# The lines that a run printed, and how it ended.
+Ended = Tuple[List[str], End]
+# The account that a line leaves where its memory is refused.
+Taken = Callable[[Account, str], Account]
+
+
+class Row(NamedTuple):
+    """A row by its name, the program's words, its lines, what is printed of them, and how it may end with one growth refused."""
+
+    name: str
+    words: list[str]
+    lines: list[str]
+    ample: list[str]
+    allowed: list[Ended]
+
+
+def none_taken(account: Account, line: str) -> Account:
     """The account that a line leaves whose message was not read."""
     return account
 
 
-def tick_taken(account, line):
+def tick_taken(account: Account, line: str) -> Account:
     """The account that a line leaves whose own entry found no memory."""
     try:
         return ticked(account, read_line(line.encode())[0])
@@ -142,12 +159,12 @@ def tick_taken(account, line):
         return account
 
 
-def all_taken(account, line):
+def all_taken(account: Account, line: str) -> Account:
     """The account that a line leaves whose answer's text found no memory."""
     return told(account, line.encode())[0]
 
 
-def answers(epoch, lines, lacking=None, taken=all_taken):
+def answers(epoch: int, lines: Sequence[str], lacking: int | None = None, taken: Taken = all_taken) -> list[str]:
     """What lines are answered where the one of this number meets want of memory, and leaves the account so."""
     account, texts = Account(epoch, 0), []
     for number, line in enumerate(lines):
@@ -157,7 +174,7 @@ def answers(epoch, lines, lacking=None, taken=all_taken):
     return texts
 
 
-def results(lines, number, how):
+def results(lines: Sequence[str], number: int, how: str) -> Ended | None:
     """What a play prints where one of its lines meets want of memory: none where that line cannot meet it so."""
     world, texts = World(), []
     for line in lines[:number]:
@@ -176,72 +193,59 @@ def results(lines, number, how):
     return texts + [world.play(line.encode()) for line in lines[number + 1 :]], GOOD
 
 
-def run(folder, words, text, growth, refusals=1):
-    """Runs the program with one growth refused, or so many from that on. Gives what it printed, how it ended, and whether
-    it came so far. It reads a file, whose reading takes as many growths each time; a pipe hands it over in pieces."""
-    given, reached = folder / "input", folder / "refused"
-    given.write_bytes(text)
-    reached.unlink(missing_ok=True)
-    room = {**os.environ, **switches(growth=growth, growths=refusals, refused=reached)}
-    with given.open("rb") as source:
-        ran = subprocess.run([PROGRAM, *words], stdin=source, capture_output=True, env=room)
-    printed = ran.stdout.decode(errors="replace").split("\n")[:-1]
-    return printed, (ran.returncode, ran.stderr.decode(errors="replace")), reached.exists()
-
-
-def text_of(lines):
+def text_of(lines: Iterable[str]) -> bytes:
     """The bytes of lines."""
     return "".join(f"{line}\n" for line in lines).encode()
 
 
-def book_row(name, epoch, rows):
-    """A row of the book: its name, the program's words, its lines, and how it may end with one growth refused."""
+def book_row(name: str, epoch: int, rows: Any) -> Row:
+    """A row of the book."""
     lines = [line for line, _ in pairs_of(epoch, rows)] * 2
     leaves = [none_taken, tick_taken, all_taken]
     ends = [(answers(epoch, lines, number, taken), GOOD) for number in range(len(lines)) for taken in leaves]
-    return name, book_words(epoch), lines, answers(epoch, lines), ends
+    return Row(name, book_words(epoch), lines, answers(epoch, lines), ends)
 
 
-def book_words(epoch):
+def book_words(epoch: int) -> list[str]:
     """The words of a book of this epoch."""
     return ["book", "--epoch", str(epoch)]
 
 
-def play_row(name, pairs):
+def play_row(name: str, pairs: Sequence[tuple[str, str]]) -> Row:
     """The same of a worked play."""
     lines = [line for line, _ in pairs]
     hows = ["ends", "is refused", "is taken", "is not taken"]
-    ends = [results(lines, number, how) for number in range(len(lines)) for how in hows]
-    return name, ["play"], lines, [result for _, result in pairs], ends
+    ends = [end for number in range(len(lines)) for how in hows if (end := results(lines, number, how))]
+    return Row(name, ["play"], lines, [result for _, result in pairs], ends)
 
 
-def audit_rows():
+def audit_rows() -> Iterator[Row]:
     """The same of audits of two legal accounts, the worked one and that of the drains: nothing is printed where there is no
     memory."""
     lines = (ROOT / "examples" / "items.account").read_text().splitlines()
-    yield "the worked account", ["audit"], lines, ["legal"], []
-    yield "the account of drains", ["audit"], next(drain_texts())[0].splitlines(), ["legal"], []
+    yield Row("the worked account", ["audit"], lines, ["legal"], [])
+    yield Row("the account of drains", ["audit"], next(drain_texts())[0].splitlines(), ["legal"], [])
 
 
-def serve_row():
+def serve_row() -> Row:
     """The same of a server that nobody comes to: it opens no book, can't listen, starts no thread, or prints no line."""
     words = ["serve", "--listen", "127.0.0.1:0", "--epoch", "1", "--workers", "2", "--connections", "0"]
     head = ["epoch 1 opened 0"]
     faults = [(1, "serve fault 2\n"), (1, "serve fault 1\n")]
-    ends = [([], faults[0]), ([], (1, "address fault\n")), ([], RUN_FAULT), *((head, fault) for fault in faults)]
-    return "a server that nobody comes to", words, [], head, ends
+    ends: list[Ended] = [([], faults[0]), ([], (1, "address fault\n")), ([], RUN_FAULT), *((head, fault) for fault in faults)]
+    return Row("a server that nobody comes to", words, [], head, ends)
 
 
-def verify_row(folder):
+def verify_row(folder: pathlib.Path) -> Row:
     """The same of an account beside a record that it keeps: where a line finds no memory, those before it are printed."""
     record = folder / "record"
     record.write_bytes(text_of(KEPT))
     words, lines = ["verify", "-", "--replies", str(record)], ["legal", *ALL_KEPT]
     ends = [(lines[:number], RUN_FAULT) for number in range(1, len(KEPT) + 1)]
-    return "an account beside a record", words, ACCOUNT, lines, ends
+    return Row("an account beside a record", words, ACCOUNT, lines, ends)
 
 
-def begun(words, printed, end, ample):
+def begun(words: Sequence[str], printed: Sequence[str], end: End, ample: Sequence[str]) -> int | None:
     """The number of the line that met the refused growth: -1 where no line was begun, and None where nothing differs, so
     that it can't be told."""
     if (printed, end) == (ample, GOOD):
@@ -251,71 +255,21 @@ def begun(words, printed, end, ample):
     return next((number for number, pair in enumerate(zip(printed, ample)) if pair[0] != pair[1]), len(printed))
 
 
-def order_fault(words, runs, ample):
+def order_fault(words: Sequence[str], runs: Sequence[tuple[int, list[str], End]], ample: Sequence[str]) -> str | None:
     """What is wrong with runs of a book or of a play, each with a later growth refused, beside each other, if something is:
     none met it in an earlier line than the one before, and a play is ended behind some of its results now and then."""
     if words[0] not in ("book", "play"):
         return None
     met = [(growth, begun(words, printed, end, ample)) for growth, printed, end in runs]
-    told = [pair for pair in met if pair[1] is not None]
-    for (_, before), (growth, line) in zip(told, told[1:]):
+    sure = [(growth, line) for growth, line in met if line is not None]
+    for (_, before), (growth, line) in zip(sure, sure[1:]):
         if line < before:
             return f"growth {growth} is refused in line {line + 1}, and one before it in line {before + 1}"
     fronts = [printed for _, printed, end in runs if end == RUN_FAULT and ample[:1] == printed[:1]]
     return None if fronts or words[0] == "book" else "no run ends by want of memory behind the first results"
 
 
-def refuse_from(folder, name, words, lines, ample):
-    """The numbers of good and of bad runs of a row, with each growth refused and all behind it: a play ends there."""
-    text, passed, failed, runs = text_of(lines), 0, 0, []
-    for growth in range(1, MOST_GROWTHS):
-        printed, end, is_refused = run(folder, words, text, growth, refusals=ALL)
-        if not is_refused:
-            break
-        runs.append((growth, printed, end))
-        at = next((number for number, pair in enumerate(zip(printed, ample)) if pair[0] != pair[1]), len(printed))
-        wanted = [(ample[:at], RUN_FAULT), (ample[:at] + ["refused 7"], RUN_FAULT)]
-        if words[0] == "book":
-            wanted = [(ample[:at] + [NO_MEMORY] * (len(lines) - at), GOOD)]
-        good = (printed, end) in wanted or not printed and end in BEFORE_THE_LINES
-        passed, failed = passed + good, failed + (not good)
-        if not good:
-            print(f"FAILED: {name}: all refused from growth {growth} on: {end}", *printed, sep="\n")
-    fault = order_fault(words, runs, ample)
-    if fault:
-        print(f"FAILED: {name}: all refused from a growth on: {fault}")
-    print(f"{name}: growths refused, each with all behind it: {passed}")
-    return passed, failed + (passed == 0) + bool(fault)
-
-
-def refuse_each(folder, name, words, lines, ample, allowed):
-    """The numbers of good and of bad runs of a row, with each growth refused and with none."""
-    text, runs = text_of(lines), []
-    counts = {"before": 0, "during": 0, "failed": 0}
-    for growth in range(1, MOST_GROWTHS):
-        printed, end, is_refused = run(folder, words, text, growth)
-        if not is_refused:
-            break
-        runs.append((growth, printed, end))
-        if end in BEFORE_THE_LINES and not printed:
-            counts["before"] += 1
-        elif (printed, end) in [(ample, GOOD), *allowed]:
-            counts["during"] += 1
-        else:
-            counts["failed"] += 1
-            print(f"FAILED: {name}: growth {growth} refused: {end}", *printed, sep="\n")
-    # The run after the last growth is that with ample memory.
-    good = not is_refused and (printed, end) == (ample, GOOD) and counts["before"] and (counts["during"] or not allowed)
-    if not good:
-        print(f"FAILED: {name}: the run with ample memory, or no growth was refused")
-    fault = order_fault(words, runs, ample)
-    if fault:
-        print(f"FAILED: {name}: {fault}")
-    print(f"{name}: growths refused before the first line: {counts['before']}, during the lines: {counts['during']}")
-    return counts["before"] + counts["during"] + bool(good), counts["failed"] + (not good) + bool(fault)
-
-
-def answer(listener, answers):
+def answer(listener: socket.socket, answers: Iterable[bytes]) -> None:
     """Answers each frame of one connection by the next of these, and then closes it."""
     with contextlib.suppress(OSError), listener.accept()[0] as connection, connection.makefile("rb") as source:
         for body in answers:
@@ -323,97 +277,174 @@ def answer(listener, answers):
             connection.sendall(len(body).to_bytes(2, "big") + body)
 
 
-def run_recorded(folder, growth):
-    """What a client printed that keeps a record, with one growth refused; its status; its record; and whether it came so far."""
-    record = folder / "told"
-    record.unlink(missing_ok=True)
-    with socket.create_server(("127.0.0.1", 0)) as listener:
-        server = threading.Thread(target=answer, args=[listener, [WELCOME, *TOLD]], daemon=True)
-        server.start()
-        address = "127.0.0.1:%d" % listener.getsockname()[1]
-        words = ["record", "--to", str(record), "--connect", address, *RECORDED_BY]
-        printed, end, is_refused = run(folder, words, RECORDED, growth)
-        listener.shutdown(socket.SHUT_RDWR)
-    server.join()
-    return printed, end[0], record.read_bytes() if record.exists() else b"", is_refused
+def play_rows() -> list[Row]:
+    """The worked plays."""
+    return [play_row("the worked play", list(play_pairs())), play_row("a client that starts anew", list(play_pairs(ANEW))),
+            play_row("a drain over a link", list(play_pairs(DRAINED))),
+            play_row("a request that is sent again, and cancelled", list(play_pairs(RESENT))),
+            play_row("a receipt of version 2 over a link", list(play_pairs(NAMED_PLAY)))]
 
 
-def refuse_recorded(folder):
-    """The numbers of good and of bad runs of a client that keeps a record, with each growth refused and with none: what it printed is a
-    front of its replies, and its record has their lines, where the last may lack that found no memory; then the run ends."""
-    told = [body.decode() for body in TOLD]
-    lines, passed, failed = RECORD_LINES, 0, 0
-    for growth in range(1, MOST_GROWTHS):
-        printed, status, record, is_refused = run_recorded(folder, growth)
-        count = len([line for line in printed if line in told])
-        ends = {(b"".join(lines[:count]), 0 if count == len(told) else status), (b"".join(lines[: count - 1]), 1)}
-        good = printed[:count] == told[:count] and (record, status) in ends
-        good = good and (is_refused or (count, status) == (len(told), 0))
-        passed, failed = passed + good, failed + (not good)
-        if not good:
-            print(f"FAILED: a client that keeps a record: growth {growth} refused: {status}", *printed, record, sep="\n")
-        if not is_refused:
-            break
-    print(f"a client that keeps a record: {passed} runs with a growth refused, and one with none")
-    return passed, failed + (passed < 2)
+def book_rows() -> list[Row]:
+    """The worked rows of the book."""
+    return [book_row(*row) for row in [*ROWS, *LATER_ROWS, *VERSION_ROWS] if row[0] in REFUSED_IN]
 
 
-def count_growths(folder, lines):
-    """How many growths a run over these lines makes."""
-    text, least, most = text_of(lines), 0, MOST_GROWTHS
-    while least < most:
-        middle = (least + most + 1) // 2
-        is_refused = run(folder, book_words(1), text, middle)[2]
-        least, most = (middle, most) if is_refused else (least, middle - 1)
-    return least
+class Growths(Case):
+    """Rows with growths refused: each run is a check."""
 
+    def setUp(self) -> None:
+        built()
+        self.folder = pathlib.Path(self.enterContext(tempfile.TemporaryDirectory(prefix="growths-")))
 
-def behind_reading(folder, before, line):
-    """The forms of a line, each with the growth that ends the reading of its body, and whether the reading makes any. A compact body
-    is read with a growth for its item alone; with a space after it the whole is read, as one of the same form is that names client 0,
-    and so is no message."""
-    bad = re.sub(r'"client":\d', '"client":0', line) + " "
-    compact = count_growths(folder, [*before, "-" * len(line)]) + ('"item":' in line)
-    return [(line, compact, '"item":' in line), (line + " ", count_growths(folder, [*before, bad]), True)]
+    def ran(self, words: Sequence[str], text: bytes, growth: int, refusals: int = 1) -> tuple[list[str], End, bool]:
+        """Runs the program with one growth refused, or so many from that on. Gives what it printed, how it ended, and whether
+        it came so far. It reads a file, whose reading takes as many growths each time; a pipe hands it over in pieces."""
+        given, reached = self.folder / "input", self.folder / "refused"
+        given.write_bytes(text)
+        reached.unlink(missing_ok=True)
+        room = {**os.environ, **switches(growth=growth, growths=refusals, refused=reached)}
+        with given.open("rb") as source:
+            ran = subprocess.run([self.program, *words], stdin=source, capture_output=True, env=room)
+        printed = ran.stdout.decode(errors="replace").split("\n")[:-1]
+        return printed, (ran.returncode, ran.stderr.decode(errors="replace")), reached.exists()
 
+    def judge_order(self, row: Row, runs: Sequence[tuple[int, list[str], End]]) -> None:
+        """The later the refused growth, the later the line that met it."""
+        with self.subTest(f"{row.name}, the order of its lines"):
+            fault = order_fault(row.words, runs, row.ample)
+            self.check_fault(fault)
 
-def refuse_behind(folder, name, before, line, later, untaken):
-    """The numbers of good and bad runs where growths are refused behind the reading of a line's body: its answer's text is
-    the first that finds no memory, and its step was taken. Where the last growth of the reading is refused it was not."""
-    before = [text for text, _ in pairs_of(1, before)]
-    [(line, _)], [(later, taken)], [(_, untaken)] = [
-        pairs_of(1, row) for row in (line, later, later.rpartition("=>")[0] + f"=> {untaken}")]
-    passed = failed = 0
-    for form, read, grows in behind_reading(folder, before, line):
-        text = text_of([*before, form, *[later] * 8])
-        refused_at = [(read, 1, untaken)] * grows + [(read + 1, count, taken) for count in (1, 2, 5)]
-        for growth, refusals, wanted in refused_at:
-            printed, end, _ = run(folder, book_words(1), text, growth, refusals)
-            told_later = [answer for answer in printed[len(before) + 1:] if answer != NO_MEMORY]
-            good = end == GOOD and printed[len(before)] == NO_MEMORY and set(told_later) == {wanted}
-            passed, failed = passed + good, failed + (not good)
-            if not good:
-                print(f"FAILED: {name}: {refusals} refused from growth {growth} on: {end}", *printed, sep="\n")
-    print(f"{name}: {passed} runs with growths refused behind the reading of its body")
-    return passed, failed
+    def refuse_each(self, row: Row) -> None:
+        """Runs a row with each growth refused and with none."""
+        text, runs = text_of(row.lines), []
+        counts = {"before": 0, "during": 0}
+        for growth in range(1, MOST_GROWTHS):
+            printed, end, is_refused = self.ran(row.words, text, growth)
+            if not is_refused:
+                break
+            runs.append((growth, printed, end))
+            with self.subTest(f"{row.name}, growth {growth} refused"):
+                is_before = end in BEFORE_THE_LINES and not printed
+                self.assertTrue(is_before or (printed, end) in [(row.ample, GOOD), *row.allowed], f"{end}, {printed}")
+                counts["before" if is_before else "during"] += 1
+        # The run after the last growth is that with ample memory.
+        with self.subTest(f"{row.name}, with ample memory"):
+            self.assertEqual((printed, end, is_refused), (row.ample, GOOD, False))
+            self.assertTrue(counts["before"], "no growth was refused before the first line")
+            self.assertTrue(counts["during"] or not row.allowed, "no growth was refused during the lines")
+        self.judge_order(row, runs)
 
+    def test_books(self) -> None:
+        """Worked rows, each with the same lines again behind it."""
+        for row in book_rows():
+            self.refuse_each(row)
 
-def main():
-    built()
-    books = [book_row(*row) for row in [*ROWS, *LATER_ROWS, *VERSION_ROWS] if row[0] in REFUSED_IN]
-    plays = [play_row("the worked play", list(play_pairs())), play_row("a client that starts anew", list(play_pairs(ANEW))),
-             play_row("a drain over a link", list(play_pairs(DRAINED))),
-             play_row("a request that is sent again, and cancelled", list(play_pairs(RESENT))),
-             play_row("a receipt of version 2 over a link", list(play_pairs(NAMED_PLAY)))]
-    with tempfile.TemporaryDirectory(prefix="growths-") as name:
-        folder = pathlib.Path(name)
-        counts = [refuse_each(folder, *row) for row in [*books, *plays, *audit_rows(), serve_row(), verify_row(folder)]]
-        counts += [refuse_from(folder, *row[:4]) for row in [*books, *plays] if row[0] in ALL_REFUSED_IN]
-        counts += [refuse_behind(folder, *case) for case in TAKE_NO_MEMORY]
-        counts.append(refuse_recorded(folder))
-    passed, failed = map(sum, zip(*counts))
-    print(f"{passed} passed, {failed} failed")
-    sys.exit(failed > 0)
+    def test_plays(self) -> None:
+        """Worked plays."""
+        for row in play_rows():
+            self.refuse_each(row)
 
+    def test_audits(self) -> None:
+        """Legal accounts."""
+        for row in audit_rows():
+            self.refuse_each(row)
 
-main()
+    def test_a_server(self) -> None:
+        """A server that nobody comes to."""
+        self.refuse_each(serve_row())
+
+    def test_a_record_beside_its_account(self) -> None:
+        """An account beside a record that it keeps."""
+        self.refuse_each(verify_row(self.folder))
+
+    def refuse_from(self, row: Row) -> None:
+        """Runs a row with each growth refused and all behind it: a play ends there."""
+        text, runs = text_of(row.lines), []
+        for growth in range(1, MOST_GROWTHS):
+            printed, end, is_refused = self.ran(row.words, text, growth, refusals=ALL)
+            if not is_refused:
+                break
+            runs.append((growth, printed, end))
+            at = next((number for number, pair in enumerate(zip(printed, row.ample)) if pair[0] != pair[1]), len(printed))
+            wanted = [(row.ample[:at], RUN_FAULT), ([*row.ample[:at], "refused 7"], RUN_FAULT)]
+            if row.words[0] == "book":
+                wanted = [(row.ample[:at] + [NO_MEMORY] * (len(row.lines) - at), GOOD)]
+            with self.subTest(f"{row.name}, all refused from growth {growth} on"):
+                self.assertTrue((printed, end) in wanted or not printed and end in BEFORE_THE_LINES, f"{end}, {printed}")
+        with self.subTest(f"{row.name}, some growth was refused with all behind it"):
+            self.assertTrue(runs)
+        self.judge_order(row, runs)
+
+    def test_all_refused(self) -> None:
+        """Rows and plays with each growth refused and all behind it."""
+        for row in [*book_rows(), *play_rows()]:
+            if row.name in ALL_REFUSED_IN:
+                self.refuse_from(row)
+
+    def recorded(self, growth: int) -> tuple[list[str], int, bytes, bool]:
+        """What a client printed that keeps a record, with one growth refused; its status; its record; and whether it came so far."""
+        record = self.folder / "told"
+        record.unlink(missing_ok=True)
+        with socket.create_server(("127.0.0.1", 0)) as listener:
+            server = threading.Thread(target=answer, args=[listener, [WELCOME, *TOLD]], daemon=True)
+            server.start()
+            address = "127.0.0.1:%d" % listener.getsockname()[1]
+            words = ["record", "--to", str(record), "--connect", address, *RECORDED_BY]
+            printed, end, is_refused = self.ran(words, RECORDED, growth)
+            listener.shutdown(socket.SHUT_RDWR)
+        server.join()
+        return printed, end[0], record.read_bytes() if record.exists() else b"", is_refused
+
+    def test_a_client_that_keeps_a_record(self) -> None:
+        """What it printed is a front of its replies, and its record has their lines, where the last may lack that found no memory;
+        then the run ends."""
+        told = [body.decode() for body in TOLD]
+        for growth in range(1, MOST_GROWTHS):
+            printed, status, record, is_refused = self.recorded(growth)
+            count = len([line for line in printed if line in told])
+            ends = {(b"".join(RECORD_LINES[:count]), 0 if count == len(told) else status), (b"".join(RECORD_LINES[: count - 1]), 1)}
+            with self.subTest(f"growth {growth} {'refused' if is_refused else 'of none'}"):
+                self.assertEqual(printed[:count], told[:count])
+                self.assertIn((record, status), ends, printed)
+                self.assertTrue(is_refused or (count, status) == (len(told), 0), f"{status}, {printed}")
+            if not is_refused:
+                break
+        self.assertGreater(growth, 1, "no growth was refused")
+
+    def count_growths(self, lines: Iterable[str]) -> int:
+        """How many growths a run over these lines makes."""
+        text, least, most = text_of(lines), 0, MOST_GROWTHS
+        while least < most:
+            middle = (least + most + 1) // 2
+            is_refused = self.ran(book_words(1), text, middle)[2]
+            least, most = (middle, most) if is_refused else (least, middle - 1)
+        return least
+
+    def behind_reading(self, before: Sequence[str], line: str) -> list[tuple[str, int, bool]]:
+        """The forms of a line, each with the growth that ends the reading of its body, and whether the reading makes any. A compact
+        body is read with a growth for its item alone; with a space after it the whole is read, as one of the same form is that names
+        client 0, and so is no message."""
+        bad = re.sub(r'"client":\d', '"client":0', line) + " "
+        compact = self.count_growths([*before, "-" * len(line)]) + ('"item":' in line)
+        return [(line, compact, '"item":' in line), (line + " ", self.count_growths([*before, bad]), True)]
+
+    def refuse_behind(self, name: str, rows: str, asked: str, asked_later: str, answered: str) -> None:
+        """Refuses growths behind the reading of a line's body: its answer's text is the first that finds no memory, and its step was
+        taken. Where the last growth of the reading is refused it was not."""
+        before = [text for text, _ in pairs_of(1, rows)]
+        [(line, _)], [(later, taken)], [(_, untaken)] = [
+            pairs_of(1, row) for row in (asked, asked_later, asked_later.rpartition("=>")[0] + f"=> {answered}")]
+        for number, (form, read, grows) in enumerate(self.behind_reading(before, line)):
+            text = text_of([*before, form, *[later] * 8])
+            refused_at = [(read, 1, untaken)] * grows + [(read + 1, count, taken) for count in (1, 2, 5)]
+            for growth, refusals, wanted in refused_at:
+                printed, end, _ = self.ran(book_words(1), text, growth, refusals)
+                told_later = [answer for answer in printed[len(before) + 1:] if answer != NO_MEMORY]
+                with self.subTest(f"{name}{', with a space' * number}, {refusals} refused {growth - read} behind its reading"):
+                    self.assertEqual((end, printed[len(before)], set(told_later)), (GOOD, NO_MEMORY, {wanted}), printed)
+
+    def test_behind_the_reading(self) -> None:
+        """What takes no memory before its answer's text."""
+        for row in TAKE_NO_MEMORY:
+            self.refuse_behind(*row)

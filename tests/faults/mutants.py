@@ -1,8 +1,11 @@
 """Spoilt bytes of each kind: bodies, frames, account lines and play lines, changed by their grammar and bit by bit. What
 the program says of each must be what the model says. The chance of each is told by its seed."""
+from __future__ import annotations
+
 import random
 import subprocess
 from concurrent.futures import ThreadPoolExecutor
+from typing import Any
 
 from tests.model.account import Account
 from tests.model.broken_lines import EXAMPLE
@@ -25,7 +28,7 @@ AT_ONCE = 2
 # The account of three drains: two items, one item, and none.
 DRAINS = next(drain_texts())[0].encode()
 KEY = {"client": 1, "epoch": 1, "incarnation": 1, "number": 1}
-SHAPES = [
+SHAPES: list[dict[str, Any]] = [
     {"kind": "hello", "client": 1, "incarnation": 1},
     {"kind": "hello", "client": 1, "incarnation": 1, "version": 2},
     {"kind": "request", **KEY, "call": "put", "item": "a", "queue": 3},
@@ -47,7 +50,7 @@ SHAPES = [
 ]
 IDENTIFIERS = [0, 1, MAX_IDENTIFIER, MAX_IDENTIFIER + 1]
 # The limits of members, and what is just beyond them.
-EDGES = {
+EDGES: dict[str, list[Any]] = {
     **dict.fromkeys(KEY, IDENTIFIERS),
     **dict.fromkeys(("queue", "exchanger"), [0, MAX_PLACE, MAX_PLACE + 1, 2**64]),
     "max": [0, 1, MAX_DRAIN, MAX_DRAIN + 1],

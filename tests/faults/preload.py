@@ -4,6 +4,8 @@ tests/faults/preload.c, tells its switches.
 
 usage: tests/faults/preload.py     builds out/preload.so
 """
+from __future__ import annotations
+
 import os
 import pathlib
 import shutil
@@ -15,7 +17,7 @@ SOURCE = pathlib.Path(__file__).resolve().with_suffix(".c")
 LIBRARY = SOURCE.parents[2] / "out/preload.so"
 
 
-def built():
+def built() -> None:
     """Builds the library, unless it is newer than its source."""
     if LIBRARY.exists() and LIBRARY.stat().st_mtime > SOURCE.stat().st_mtime:
         return
@@ -29,7 +31,7 @@ def built():
         os.replace(made, LIBRARY)
 
 
-def switches(**given):
+def switches(**given: object) -> dict[str, str]:
     """The variables that load the library before a program, with these switches."""
     return {"LD_PRELOAD": str(LIBRARY), **{f"FAULT_{name.upper()}": str(value) for name, value in given.items()}}
 

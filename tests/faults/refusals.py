@@ -1,29 +1,27 @@
-#!/usr/bin/env python3
 """Runs tests in Rattle, as they are proved and built, with each growth of memory refused in turn: the first one alone, then
 the second one, and so on, until there is none left. Each has to pass each time. What the program does then is seen by
-`tests/faults/growths.py` and `tests/faults/torture.py`.
+`faults.growths` and `faults.torture`.
 
 Those are the tests in HOLD, which give again what a refused growth stopped; all others fail where what they are made of
 finds no memory. A test in HOLD that asks for no memory has failed too: it would show nothing. With nothing refused, the
 two tests of each pair in ALIKE have to ask for as many growths as each other.
 
-usage: tests/faults/refusals.py [--built] [--asked]
-  --built   takes the tests as they lie in out/; else `rt test` proves and builds what changed, first
-  --asked   refuses nothing, and tells how many growths each test of these crates asks for
+The tests are run as they lie in out/, where `rt ci` and `rt test` put them.
 """
-import argparse
-import concurrent.futures
+from __future__ import annotations
+
 import os
 import pathlib
 import shutil
 import struct
 import subprocess
-import sys
 import tempfile
+from concurrent.futures import ThreadPoolExecutor
+from typing import NamedTuple
 
-ROOT = pathlib.Path(__file__).resolve().parents[2]
-sys.dont_write_bytecode, sys.path[0] = True, str(ROOT)
-from tests.faults.preload import built, switches  # noqa: E402
+from tests import ROOT
+from tests.cases import Case
+from tests.faults.preload import built, switches
 
 # By crate, the tests that hold whichever growth is refused.
 HOLD = {"rv_tests": ["frames::a_refused_growth_changes_nothing"]}
@@ -33,21 +31,25 @@ ALIKE = {"rv_tests": [("deadlines::forty_are_added", "deadlines::forty_are_added
 LIMIT = 60
 
 
+class Run(NamedTuple):
+    """What came of a run: whether it passed, what it said where it did not, how many growths it asked for, and whether one was
+    refused."""
+
+    passed: bool
+    said: str
+    asked: int
+    is_refused: bool
+
+
 class Tests:
     """The tests of a crate, and a folder for what is told of their runs."""
 
-    def __init__(self, crate, folder):
+    def __init__(self, crate: str, folder: pathlib.Path) -> None:
         self.crate, self.folder = crate, folder
         self.program = ROOT / "crates" / crate / "out" / f"{crate}_tests"
 
-    def names(self):
-        """The tests that there are."""
-        listed = subprocess.run([self.program, "--list"], capture_output=True, text=True, check=True).stdout
-        return [line.removesuffix(": test") for line in listed.split("\n") if line.endswith(": test")]
-
-    def run(self, name, growth=0):
-        """Runs a test with one growth refused, or with none. Gives whether it passed, what it said where it did not, how many
-        growths it asked for, and whether one was refused."""
+    def run(self, name: str, growth: int = 0) -> Run:
+        """Runs a test with one growth refused, or with none."""
         room = self.folder / f"{self.crate}-{name.replace('::', '-')}-{growth}"
         room.mkdir()
         told = switches(growth=growth, counted=room / "counted", refused=room / "refused")
@@ -59,66 +61,45 @@ class Tests:
         asked, = struct.unpack("l", (room / "counted").read_bytes())
         is_refused = (room / "refused").exists()
         shutil.rmtree(room)
-        return passed, said, asked, is_refused
+        return Run(passed, said, asked, is_refused)
 
 
-def refuse_each(pool, tests, name):
-    """The numbers of good and of bad runs of a test, with each growth refused and with none."""
-    passed, said, asked, _ = tests.run(name)
-    if not passed or not asked:
-        print(f"FAILED: {tests.crate} {name}: {said or 'it asks for no memory'}")
-        return 0, 1
-    failed = 0
-    # The run behind the last growth has none to refuse.
-    growths = range(1, asked + 2)
-    for growth, (passed, said, _, is_refused) in zip(growths, pool.map(lambda growth: tests.run(name, growth), growths)):
-        good = passed and is_refused == (growth <= asked)
-        failed += not good
-        if not good:
-            print(f"FAILED: {tests.crate} {name}: growth {growth} of {asked}{'' if is_refused else ', not refused'}: {said}")
-    print(f"{tests.crate} {name}: {asked} growths refused, each alone", flush=True)
-    return len(growths) - failed, failed
+class Refusals(Case):
+    """Built tests in Rattle with growths refused: each run is a check."""
 
+    def setUp(self) -> None:
+        built()
+        self.folder = pathlib.Path(self.enterContext(tempfile.TemporaryDirectory(prefix="refusals-")))
 
-def alike(tests, one, other):
-    """The numbers of good and of bad pairs: whether two tests ask for as many growths as each other, and for some."""
-    asked = [tests.run(name)[2] for name in (one, other)]
-    good = asked[0] == asked[1] > 0
-    print(f"{'' if good else 'FAILED: '}{tests.crate} {one}, {other}: {asked[0]} and {asked[1]} growths", flush=True)
-    return int(good), int(not good)
+    def tests_of(self, crate: str) -> Tests:
+        """The built tests of a crate."""
+        tests = Tests(crate, self.folder)
+        self.assertTrue(tests.program.exists(), f"{crate} has no built tests: rt ci makes them, and rt test")
+        return tests
 
+    def refuse_each(self, tests: Tests, name: str) -> None:
+        """Runs a test with each growth refused and with none."""
+        ample = tests.run(name)
+        self.assertTrue(ample.passed and ample.asked, f"{tests.crate} {name}: {ample.said or 'it asks for no memory'}")
+        # The run behind the last growth has none to refuse.
+        growths = range(1, ample.asked + 2)
+        with ThreadPoolExecutor(len(os.sched_getaffinity(0))) as pool:
+            for growth, ran in zip(growths, pool.map(lambda growth: tests.run(name, growth), growths)):
+                with self.subTest(f"{tests.crate} {name}, growth {growth} of {ample.asked}"):
+                    self.assertTrue(ran.passed, ran.said)
+                    self.assertEqual(ran.is_refused, growth <= ample.asked)
 
-def build(crate):
-    """Proves and builds the tests of a crate, and ends where that fails."""
-    if subprocess.run(["rt", "test"], cwd=ROOT / "crates" / crate).returncode:
-        sys.exit(f"the tests of {crate} are not proved, or one fails with ample memory")
-
-
-def main():
-    parser = argparse.ArgumentParser(usage=__doc__.partition("usage: ")[2])
-    parser.add_argument("--built", action="store_true")
-    parser.add_argument("--asked", action="store_true")
-    options = parser.parse_args()
-    built()
-    counts = []
-    with tempfile.TemporaryDirectory(prefix="refusals-") as name, concurrent.futures.ThreadPoolExecutor(
-            len(os.sched_getaffinity(0))) as pool:
+    def test_each_growth(self) -> None:
+        """Tests that hold whichever growth is refused."""
         for crate, held in HOLD.items():
-            if not options.built:
-                build(crate)
-            tests = Tests(crate, pathlib.Path(name))
-            if not tests.program.exists():
-                sys.exit(f"{crate} has no built tests: rt ci makes them, and rt test")
-            if options.asked:
-                for name in tests.names():
-                    print(f"{crate} {name}: {tests.run(name)[2]}")
-            else:
-                counts += [refuse_each(pool, tests, name) for name in held]
-                counts += [alike(tests, *names) for names in ALIKE.get(crate, [])]
-    if not options.asked:
-        passed, failed = map(sum, zip(*counts))
-        print(f"{passed} passed, {failed} failed")
-        sys.exit(failed > 0)
+            for name in held:
+                self.refuse_each(self.tests_of(crate), name)
 
-
-main()
+    def test_growths_alike(self) -> None:
+        """Tests that ask for as many growths as each other, and for some."""
+        for crate, pairs in ALIKE.items():
+            for one, other in pairs:
+                with self.subTest(f"{crate} {one}, {other}"):
+                    first, second = (self.tests_of(crate).run(name).asked for name in (one, other))
+                    self.assertEqual(first, second)
+                    self.assertTrue(first, "they ask for no memory")

@@ -1,9 +1,14 @@
 """A system that is hostile to the program: what is loaded before it, and how often it refuses."""
+from __future__ import annotations
+
 import contextlib
 import mmap
 import os
 import struct
 import tempfile
+import unittest
+from collections.abc import Iterator
+from typing import ClassVar
 
 from tests.faults import preload
 from tests.sockets.hosts import Host, HostProgram
@@ -27,7 +32,7 @@ class System:
     """How hostile the system is to a process. It is calm until it is told otherwise. A read or a write fails once in so
     many bytes, all else once in so many times."""
 
-    folder = None
+    folder: ClassVar[str | None] = None
 
     def __init__(self, seed=1):
         file, name = tempfile.mkstemp(dir=System.folder)
@@ -59,12 +64,20 @@ class System:
 
 
 @contextlib.contextmanager
-def systems():
+def systems() -> Iterator[None]:
     """Builds what is loaded before the program; systems can be made within, whose pages lie in a folder of their own."""
     preload.built()
     with tempfile.TemporaryDirectory(prefix="torture-") as folder:
         System.folder = folder
         yield
+
+
+class InSystems(unittest.TestSuite):
+    """Cases within which systems can be made."""
+
+    def run(self, result: unittest.TestResult, debug: bool = False) -> unittest.TestResult:
+        with systems():
+            return super().run(result, debug)
 
 
 @contextlib.contextmanager

@@ -1,8 +1,11 @@
 """Each growth refused in turn, each read failed in turn, and writes stopped after each number of bytes: of a server over
 its connections, and of a caller."""
+from __future__ import annotations
+
 import contextlib
 import socket
 import subprocess
+from typing import Any
 
 from tests.faults.crowds import NO_MEMORY
 from tests.faults.system import System, file_of, hostile_serving
@@ -137,7 +140,7 @@ def each_byte_of_a_server(program):
 
 LINES = [give("put", ITEM), take("now"), {"call": "count", "queue": 3}]
 ASKED = [hello(2, version=2), *(request(Key(1, 2, 1, number), call) for number, call in enumerate(LINES, 1))]
-REPLIES = [{"reply": "done"}, {"reply": "item", "item": ITEM}, {"reply": "counted", "items": 0, "consumers": 0}]
+REPLIES: list[dict[str, Any]] = [{"reply": "done"}, {"reply": "item", "item": ITEM}, {"reply": "counted", "items": 0, "consumers": 0}]
 ANSWERS = [welcome(2, version=2), *(replied(Key(1, 2, 1, number), **reply) for number, reply in enumerate(REPLIES, 1))]
 PRINTED = [answer + b"\n" for answer in ANSWERS[1:]]
 TEXT = b"".join(written(call).encode() + b"\n" for call in LINES)

@@ -2,7 +2,7 @@
 """A test double of `rv host`, over the model's hub: for the tests of tests/host themselves. All other commands are those of the
 double of tests/sockets, but for `verify` of an account alone.
 
-RV_WRONG in the environment names what it does wrong; tests/host/run.py --selftest sees that a case fails for each of these.
+RV_WRONG in the environment names what it does wrong; `python3 -m tests --selftest host` sees that a case fails for each of these.
 
 usage: tests/host/double.py host --listen ADDR [--epoch E] [--epoch-above N] [--account FILE] [--connections N] [--memory MIB]
        [--idle SECONDS] [--stall SECONDS] [--quiet]

@@ -1,35 +1,30 @@
-#!/usr/bin/env python3
 """Runs `rv host` from outside: its options, what waits, hostile peers, a system that lacks something; and, at a host, the
 cases of `rv serve` that hold there too, the clients' crowds and processes, and crowds in a hostile system.
 
 Whatever was told must stand in the account, by the model and by `rv verify`. Nothing hangs on who is first or how fast the
-machine is. The last line counts the cases.
+machine is.
 """
 from __future__ import annotations
 
-import argparse
 import os
-import pathlib
-import random
-import sys
-import time
-from collections.abc import Callable
+import resource
+import unittest
+from collections.abc import Callable, Iterator
+from typing import Any
 
-ROOT = pathlib.Path(__file__).resolve().parents[2]
-sys.dont_write_bytecode, sys.path[0] = True, str(ROOT)
-from tests.faults import callers, mutants, turns  # noqa: E402
-from tests.faults import crowds as faulty_crowds  # noqa: E402
-from tests.faults.system import systems  # noqa: E402
-from tests.clients import cancelled_tasks, drains, interrupted, java, receipts  # noqa: E402
-from tests.clients import crowds as client_crowds  # noqa: E402
-from tests.host import (  # noqa: E402
-    addresses, counters, ends, fair, files, hostile, many, memory, moments, options, peers, says, sockets, starts, status, storm,
-    system, waits)
-from tests.sockets import calls, crowds, plain, times  # noqa: E402
-from tests.sockets import hostile as noisy  # noqa: E402
-from tests.sockets.cases import Count, came_of  # noqa: E402
-from tests.sockets.hosts import HostProgram  # noqa: E402
-from tests import left_out  # noqa: E402
+from tests import ROOT
+from tests.cases import Case, Scenario, SelfTest, Tool
+from tests.faults import callers, mutants, turns
+from tests.faults import crowds as faulty_crowds
+from tests.faults.system import InSystems, systems
+from tests.clients import cancelled_tasks, drains, interrupted, java, receipts
+from tests.clients import crowds as client_crowds
+from tests.host import (
+    addresses, counters, ends, fair, files, hostile, many, memory, moments, options, says, sockets, starts, status, system, waits)
+from tests.sockets import calls, crowds, plain, times
+from tests.sockets import hostile as noisy
+from tests.sockets.cases import Came, came_of, double_faults, name_of
+from tests.sockets.hosts import HostProgram
 
 # The cases that are a host's own.
 OWN = [*options.CASES, *says.CASES, *waits.CASES, *moments.CASES, *sockets.CASES, *hostile.CASES, *memory.CASES, *system.CASES,
@@ -43,11 +38,11 @@ SHARED = [
     receipts.of_each_version, receipts.one_version_a_session, *drains.CASES,
 ]
 # The same with a seed; in a hostile system; and of the clients.
-RANDOM = [*crowds.CASES, *noisy.CASES]
-HOSTILE = [faulty_crowds.growths_refused, faulty_crowds.links_broken, faulty_crowds.connections_not_accepted,
+RANDOM: list[Callable[..., object]] = [*crowds.CASES, *noisy.CASES]
+HOSTILE: list[Callable[..., object]] = [faulty_crowds.growths_refused, faulty_crowds.links_broken, faulty_crowds.connections_not_accepted,
            faulty_crowds.all_but_clocks, faulty_crowds.stopped_and_gone_on, *callers.CASES]
 IN_TURN = [turns.each_growth_of_a_server, turns.each_byte_of_a_server]
-CLIENTS = [*cancelled_tasks.CASES, *interrupted.CASES]
+CLIENTS: list[Callable[..., object]] = [*cancelled_tasks.CASES, *interrupted.CASES]
 # What the double can do wrong, and the case that must see it; none of these hangs on who is first.
 WRONGS = [
     ("answers before it writes", "system, a disk that fills"),
@@ -93,55 +88,23 @@ DOUBLE = HostProgram(ROOT / "tests/host/double.py")
 SILENT, SPOILT, CROWD, SCRIPTS = 2_000, 2_000, 10, 300
 
 
-def name_of(case: Callable[..., object]) -> str:
-    """The words for a case."""
-    return f"{case.__module__.rpartition('.')[2]}, {case.__name__.replace('_', ' ')}"
+# What is left out where its tool is missing.
+JAVA = Tool("the Java client", java.missing)
 
 
-def run(program: HostProgram, asked: argparse.Namespace, count: Count) -> None:
-    """Runs all cases."""
-    for case in [*OWN, *SHARED, *IN_TURN]:
-        count.run(name_of(case), case, program)
-    count.run(name_of(hostile.silent_connections), hostile.silent_connections, program, min(asked.silent, many.room()))
-    count.run(name_of(starts.back_at_once), starts.back_at_once, program, min(SILENT, many.room()))
-    run_random(program, asked.seed, count)
-    for case in CLIENTS:
-        count.run(f"{name_of(case)}, seed {asked.seed}", case, program, asked.seed)
-    count.run(name_of(client_crowds.a_crowd), client_crowds.a_crowd, program, asked.seed, asked.seconds)
-    if java.missing():
-        left_out.tell("the Java client", java.missing())
-        return
-    for case in receipts.WITH_JAVA:
-        count.run(name_of(case), case, program)
-    count.run(name_of(client_crowds.beside_the_jdk), client_crowds.beside_the_jdk, program, asked.seed, SCRIPTS)
+class AtAHost(InSystems):
+    """Cases of a host, which may have as many descriptors as the system lets it ask for."""
+
+    def run(self, result: unittest.TestResult, debug: bool = False) -> unittest.TestResult:
+        before = resource.getrlimit(resource.RLIMIT_NOFILE)
+        many.room()
+        try:
+            return super().run(result, debug)
+        finally:
+            resource.setrlimit(resource.RLIMIT_NOFILE, before)
 
 
-def run_random(program: HostProgram, seed: int, count: Count) -> None:
-    """Runs the cases that are random."""
-    for case in [*RANDOM, *HOSTILE]:
-        count.run(f"{name_of(case)}, seed {seed}", case, program, seed)
-    spoilt = next(case for case in mutants.CASES if case.__name__ == "spoilt_frames")
-    count.run(f"{name_of(spoilt)}, seed {seed}", spoilt, program, seed, SPOILT)
-
-
-def in_a_storm(program: HostProgram, peers: int, count: Count) -> None:
-    """Runs what is measured beside so many peers that send without end, and beside silent ones at the status address."""
-    count.run(name_of(storm.beside_a_storm), storm.beside_a_storm, program, peers)
-    for mebibytes in storm.MEMORIES:
-        name = f"{name_of(storm.memory_in_a_storm)}, --memory {mebibytes}"
-        count.run(name, storm.memory_in_a_storm, program, peers, mebibytes)
-    count.run(name_of(storm.status_beside_the_silent), storm.status_beside_the_silent, program)
-
-
-def torture(program: HostProgram, asked: argparse.Namespace, count: Count) -> None:
-    """Runs the random cases with one seed after another, for so many seconds."""
-    ends, seed = time.monotonic() + asked.torture, asked.seed
-    while time.monotonic() < ends:
-        run_random(program, seed, count)
-        seed += 1
-
-
-def of_double(wrong: str, name: str) -> tuple[str | None, object, float]:
+def of_double(wrong: str, name: str) -> Came:
     """What came of a case where the double does this wrong, or nothing."""
     case = next(case for case in OWN if name_of(case) == name)
     os.environ["RV_WRONG"] = wrong
@@ -149,38 +112,41 @@ def of_double(wrong: str, name: str) -> tuple[str | None, object, float]:
         return came_of(case, DOUBLE)
 
 
-def main() -> None:
-    parser = argparse.ArgumentParser(description=__doc__, formatter_class=argparse.RawDescriptionHelpFormatter)
-    parser.add_argument("program", nargs="?", default="crates/rv_app/out/rv_app")
-    parser.add_argument("--seed", type=int, default=random.randrange(10**6), help="default: any")
-    parser.add_argument("--seconds", type=float, default=CROWD, help="how long the clients' crowd asks")
-    parser.add_argument("--silent", type=int, default=SILENT, help="silent connections, at most")
-    parser.add_argument("--back", type=int, help="in place of all that so many clients that come back within ten seconds")
-    parser.add_argument("--storm", action="store_true", help="in place of all that thousands of peers that send without end")
-    parser.add_argument("--peers", type=int, default=peers.ALL, help="with --storm: how many such peers")
-    parser.add_argument("--torture", type=float, help="in place of all that the random cases, for so many seconds")
-    parser.add_argument("--selftest", action="store_true", help="test the cases themselves, on hosts that are wrong")
-    parser.add_argument("--only", default="", help="only the cases with these words in their name")
-    parser.add_argument("--verbose", action="store_true", help="tell also what passed, with its seconds")
-    asked = parser.parse_args()
-    many.room()
-    count = Count(asked.only, asked.verbose)
-    with systems():
-        program = HostProgram(os.path.abspath(asked.program))
-        if asked.selftest:
-            # the processes that try doubles make systems of their own, of what is built here
-            count.try_doubles(WRONGS, of_double)
-        elif asked.back:
-            count.run(name_of(starts.in_time), starts.in_time, program, min(asked.back, many.room()))
-        elif asked.storm:
-            in_a_storm(program, min(asked.peers, many.room()), count)
-        elif asked.torture:
-            torture(program, asked, count)
-        else:
-            run(program, asked, count)
-    count.end()
+class Doubles(SelfTest):
+    """The cases themselves, on hosts that are wrong."""
+
+    def test_wrong_hosts(self) -> None:
+        """Each wrong host fails its case, and the double passes it."""
+        # the processes that try doubles make systems of their own, of what is built here
+        with systems():
+            self.check_faults(double_faults(WRONGS, of_double, self.fixture.wrong))
 
 
-# processes that try a double read this file too
-if __name__ == "__main__":
-    main()
+def scenario(case: Callable[..., object], *given: Any, is_random: bool = False, tools: tuple[Tool, ...] = ()) -> Scenario:
+    """A case at a host of the program."""
+    return Scenario("host", case, HostProgram(Case.fixture.program), *given, tools=tools, is_random=is_random)
+
+
+def as_they_are() -> Iterator[Scenario]:
+    """The cases that are the same each time."""
+    silent = min(SILENT, resource.getrlimit(resource.RLIMIT_NOFILE)[1] - many.SPARE)
+    yield from map(scenario, [*OWN, *SHARED, *IN_TURN])
+    yield scenario(hostile.silent_connections, silent)
+    yield scenario(starts.back_at_once, silent)
+    yield from (scenario(case, tools=(JAVA,)) for case in receipts.WITH_JAVA)
+
+
+def of_a_seed(seed: int) -> Iterator[Scenario]:
+    """The cases that are random."""
+    yield from (scenario(case, seed, is_random=True) for case in [*RANDOM, *HOSTILE])
+    spoilt = next(case for case in mutants.CASES if case.__name__ == "spoilt_frames")
+    yield scenario(spoilt, seed, Case.fixture.many(SPOILT), is_random=True)
+    yield from (scenario(case, seed, is_random=True) for case in CLIENTS)
+    yield scenario(client_crowds.a_crowd, seed, CROWD * Case.fixture.times, is_random=True)
+    yield scenario(client_crowds.beside_the_jdk, seed, Case.fixture.many(SCRIPTS), is_random=True, tools=(JAVA,))
+
+
+def load_tests(_: unittest.TestLoader, suite: unittest.TestSuite, __: str | None) -> unittest.TestSuite:
+    """The cases, of `rv host`."""
+    suite.addTest(AtAHost([*as_they_are(), *of_a_seed(Case.fixture.seed)]))
+    return suite

@@ -1,4 +1,3 @@
-#!/usr/bin/env python3
 """A soak of `rv host`: crowds on bad links, whose clients are killed, for so many seconds, beside peers that send without end or take no
 answers; and then so many entries.
 
@@ -6,7 +5,7 @@ The host must serve to the end, a hand-over be as prompt as at the start, the ac
 be within what --memory lets it be, and without them flat behind the first tenth. All of it stays on this machine's loopback, and stops
 by itself. The last line counts the parts.
 
-usage: tests/host/soak.py PROGRAM [--seconds 600] [--peers 400] [--memory 16] [--entries 20000000]
+usage: python3 -m tests.host.soak PROGRAM [--seconds 600] [--peers 400] [--memory 16] [--entries 20000000]
 """
 from __future__ import annotations
 
@@ -20,18 +19,17 @@ import sys
 import tempfile
 import time
 
-ROOT = pathlib.Path(__file__).resolve().parents[2]
-sys.dont_write_bytecode, sys.path[0] = True, str(ROOT)
-from tests.clients.proxy import Proxy  # noqa: E402
-from tests.host import many  # noqa: E402
-from tests.host.peers import kinds_of, peers  # noqa: E402
-from tests.host.watch import memory, most_memory, processor  # noqa: E402
-from tests.model.account import Key  # noqa: E402
-from tests.sockets.cases import Count  # noqa: E402
-from tests.sockets.hosts import Host, HostProgram  # noqa: E402
-from tests.sockets.wire import demand, frame, give, replied, request, take  # noqa: E402
-from tests import left_out  # noqa: E402
-from tools.bench import driver  # noqa: E402
+from tests import ROOT
+from tests.clients.proxy import Proxy
+from tests.host import many
+from tests.host.peers import kinds_of, peers
+from tests.host.watch import memory, most_memory, processor
+from tests.model.account import Key
+from tests.sockets.cases import Count
+from tests.sockets.hosts import Host, HostProgram
+from tests.sockets.wire import demand, frame, give, replied, request, take
+from tests import left_out
+from tools.bench import driver
 
 # Clients of a crowd, and the seconds between two of them that are killed; a killed one begins in a greater incarnation.
 CLIENTS, KILLED_EACH = 8, 1.5
@@ -105,9 +103,9 @@ class Crowd:
         """A client in its next incarnation, with a record of its own."""
         self.incarnations[client] += 1
         record = self.folder / f"{client}-{self.incarnations[client]}"
-        words = [sys.executable, str(ROOT / "tests/host/soak_client.py"), str(self.port), str(client),
+        words = [sys.executable, "-B", "-m", "tests.host.soak_client", str(self.port), str(client),
                  str(self.incarnations[client]), str(record), str(self.chance.random())]
-        return subprocess.Popen(words, stdin=subprocess.PIPE)
+        return subprocess.Popen(words, stdin=subprocess.PIPE, cwd=ROOT)
 
     def kill_one(self) -> None:
         """Kills any of them, and starts it anew. None of them may have ended by itself."""
@@ -201,7 +199,7 @@ def many_entries(program: HostProgram, entries: int) -> str:
 
 
 def main() -> None:
-    parser = argparse.ArgumentParser(description=__doc__, formatter_class=argparse.RawDescriptionHelpFormatter)
+    parser = argparse.ArgumentParser(prog="python3 -m tests.host.soak", description=__doc__, formatter_class=argparse.RawDescriptionHelpFormatter)
     parser.add_argument("program", nargs="?", default="crates/rv_app/out/rv_app")
     parser.add_argument("--seconds", type=float, default=600, help="how long the crowds ask; 0: not at all")
     parser.add_argument("--peers", type=int, default=PEERS, help="how many send without end or take no answers meanwhile; 0: none")

@@ -1,19 +1,15 @@
-#!/usr/bin/env python3
 """One client of a soak: it asks random calls, gives up some, and compares what each told with its own record's line, until it
 is killed or told to end by its input's end.
 
-usage: tests/host/soak_client.py PORT CLIENT INCARNATION RECORD SEED
+usage: python3 -m tests.host.soak_client PORT CLIENT INCARNATION RECORD SEED
 """
 from __future__ import annotations
 
-import pathlib
 import random
 import select
 import sys
 
-ROOT = pathlib.Path(__file__).resolve().parents[2]
-sys.dont_write_bytecode, sys.path[0] = True, str(ROOT)
-from tests.clients.crowds import Client  # noqa: E402
+from tests.clients.crowds import Client
 
 
 class NoLedger:
@@ -30,4 +26,5 @@ def main() -> None:
     one.run(lambda: not select.select([sys.stdin], [], [], 0)[0])
 
 
-main()
+if __name__ == "__main__":
+    main()

@@ -44,7 +44,8 @@ def two_callers(program):
 
 def hand_over(program, gives, takes, receipt):
     """Two callers of these versions."""
-    gift, first, second = give("transfer", "a", "forever"), *(swapped(item) for item in "bc")
+    gift = give("transfer", "a", "forever")
+    first, second = map(swapped, "bc")
     with serving(program, workers=2, connections=2) as server:
         given, got = Key(1, 1, 1, 1), Key(1, 2, 1, 1)
         after = [Key(1, client, 1, 2) for client in (1, 2)]

@@ -1,4 +1,6 @@
-"""Cases that are run, told where they fail, and counted; and the double of the program, on which they are tested themselves."""
+"""What comes of cases; and the doubles of the program, on which they are tested themselves."""
+from __future__ import annotations
+
 import concurrent.futures
 import contextlib
 import multiprocessing
@@ -7,6 +9,10 @@ import signal
 import sys
 import tempfile
 import time
+from collections.abc import Callable, Iterable, Iterator
+from multiprocessing.connection import Connection
+from typing import Any, Tuple
+from unittest import mock
 
 from tests import ROOT
 from tests.sockets.wire import PATIENCE, Wrong
@@ -17,10 +23,21 @@ AT_ONCE = 8
 # How long a client waits for a double that is wrong, in seconds: it may never answer, and whatever the case then finds, the
 # double has failed it. One that is right gets the time of a slow machine.
 SHORT = 30
+# What is wrong in a case, if something is; what it gave, and the seconds that it took.
+Came = Tuple[Any, object, float]
+# What a double does wrong, or nothing, and the name of a case.
+Tried = Tuple[str, str]
+# What comes of a wrong and a name.
+CameOfName = Callable[[str, str], Came]
 
 
-def came_of(case, *given):
-    """What is wrong in a case, if something is; what it gave, and the seconds that it took."""
+def name_of(case: Callable[..., object]) -> str:
+    """The words for a case: its module's and its own."""
+    return f"{case.__module__.rpartition('.')[2]}, {case.__name__.replace('_', ' ')}"
+
+
+def came_of(case: Callable[..., object], *given: Any) -> Came:
+    """What came of a case."""
     began, fault, gave = time.monotonic(), None, None
     try:
         gave = case(*given)
@@ -33,21 +50,23 @@ def came_of(case, *given):
     return fault, gave, time.monotonic() - began
 
 
-def came_of_double(wrong, case, *given):
+def came_of_double(wrong: str, case: Callable[..., object], *given: Any) -> Came:
     """The same where the program is the double, and does this wrong, or nothing."""
     os.environ["RV_WRONG"] = wrong
     return came_of(case, DOUBLE, *given)
 
 
-def came_at_once(came_of_name, tried, patience=PATIENCE, first_fault="counts"):
+def came_at_once(came_of_name: CameOfName, tried: list[Tried], patience: int = PATIENCE,
+                 first_fault: str = "counts") -> Iterator[tuple[Tried, Came]]:
     """Each wrong and name with what came of it. Several are tried at once, in processes that read anew how long they wait, and
     whether the first fault `ends` a case."""
-    os.environ.update(RV_PATIENCE=str(patience), RV_FIRST_FAULT=first_fault)
-    with concurrent.futures.ProcessPoolExecutor(AT_ONCE, multiprocessing.get_context("spawn")) as pool:
+    told = {"RV_PATIENCE": str(patience), "RV_FIRST_FAULT": first_fault}
+    spawns = multiprocessing.get_context("spawn")
+    with mock.patch.dict(os.environ, told), concurrent.futures.ProcessPoolExecutor(AT_ONCE, spawns) as pool:
         yield from zip(tried, pool.map(came_apart, *zip(*((came_of_name, *one) for one in tried))))
 
 
-def came_apart(came_of_name, wrong, name):
+def came_apart(came_of_name: CameOfName, wrong: str, name: str) -> Came:
     """What came of a wrong and a name, in a process of its own, behind which nothing that it started runs on, and no file that it
     made is left."""
     forks = multiprocessing.get_context("fork")
@@ -55,6 +74,7 @@ def came_apart(came_of_name, wrong, name):
     with tempfile.TemporaryDirectory(prefix="rv-try-", ignore_cleanup_errors=True) as folder:
         tries = forks.Process(target=tell_apart, args=(tells, folder, came_of_name, wrong, name))
         tries.start()
+        assert tries.pid
         tells.close()
         try:
             return hears.recv()
@@ -64,12 +84,23 @@ def came_apart(came_of_name, wrong, name):
             tries.join()
 
 
-def tell_apart(tells, folder, came_of_name, wrong, name):
+def tell_apart(tells: Connection, folder: str, came_of_name: CameOfName, wrong: str, name: str) -> None:
     """Tells what came of a wrong and a name, in a group of processes whose files stand in a folder."""
     os.setpgid(0, 0)
     os.environ["TMPDIR"] = tempfile.tempdir = folder
     tells.send(came_of_name(wrong, name))
     signal.pause()
+
+
+def double_faults(wrongs: Iterable[Tried], came_of_name: CameOfName, words: str = "") -> Iterator[tuple[str, object]]:
+    """Each double that does a thing wrong must fail the case that is named beside it, and the one that does none must pass all of
+    these: each with what is wrong with that, if something is. Of the wrong ones only those with these words are tried."""
+    tried = [(wrong, name) for wrong, name in wrongs if words in f"{wrong}, {name}"]
+    for (wrong, name), (fault, _, _) in came_at_once(came_of_name, tried, SHORT, "ends"):
+        yield f"a server that {wrong}, {name}", None if fault else "it passes"
+    right = [("", name) for name in dict.fromkeys(name for _, name in tried)]
+    for (_, name), (fault, _, _) in came_at_once(came_of_name, right):
+        yield f"the double, {name}", fault
 
 
 class Count:
@@ -95,18 +126,6 @@ class Count:
         elif self.verbose or gave:
             many = f"{gave}, " if gave else ""
             print(f"ok: {name}: {many}{seconds:.1f} seconds", flush=True)
-
-    def try_doubles(self, wrongs, came_of_name):
-        """Each double that does a thing wrong must fail the case that is named beside it, and the one that does none must
-        pass all of these. `came_of_name` gives what came of a wrong and a name."""
-        tried = [(wrong, name) for wrong, name in wrongs if self.wants(name)]
-        for (wrong, name), (fault, _, seconds) in came_at_once(came_of_name, tried, SHORT, "ends"):
-            self.judge(f"a server that {wrong}, {name}", None if fault else "it passes", seconds=seconds)
-            if fault and self.verbose:
-                print(f"    {fault[:200]}")
-        right = [("", name) for name in dict.fromkeys(name for _, name in tried)]
-        for (_, name), (fault, _, seconds) in came_at_once(came_of_name, right):
-            self.judge(f"the double, {name}", fault, seconds=seconds)
 
     def end(self):
         """Tells how many passed and failed, and ends."""

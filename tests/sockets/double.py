@@ -1,7 +1,7 @@
 #!/usr/bin/env python3
 """A test double of `rv serve` and `rv call`, over the book of the model: for the tests of tests/sockets themselves.
 
-RV_WRONG in the environment names what it does wrong; tests/sockets/serve.py --selftest sees that a test fails for each of these.
+RV_WRONG in the environment names what it does wrong; `python3 -m tests --selftest sockets` sees that a test fails for each of these.
 
 usage: tests/sockets/double.py serve --listen ADDR --epoch E --workers W --connections N
        tests/sockets/double.py call --connect ADDR --client C --incarnation I --tries T --speak V

@@ -16,7 +16,7 @@ from tests.sockets.wire import PATIENCE, Peer, Wrong, demand, hello, members_of,
 
 PORTS = range(20_000, 32_000)
 # The last that were given, which nobody may listen at yet.
-GIVEN = collections.deque(maxlen=100)
+GIVEN: collections.deque[int] = collections.deque(maxlen=100)
 # How often another free port is tried, where somebody takes the one that was free.
 TRIES = 5
 # Whoever does nothing for so many seconds, and is not kept from it, rests.

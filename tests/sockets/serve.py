@@ -1,24 +1,18 @@
-#!/usr/bin/env python3
 """Runs servers and callers of the built program, as processes with sockets on this machine, and looks at each answer.
 
 Everything is bounded: each socket of a client and each wait for a process has a time-out, and no process is left
 running. What a case expects is set beforehand, or is what the plain model of tests/model answers; the account that a
 server prints at its end is read, must be legal, and must have each reply that was told.
 
-The last line counts the cases. A case that fails is told with its seed. With --seconds the random cases are run again
-with further seeds for so long.
+The cases are functions of the program, and some of a seed too: the host's cases are the same ones, and a double's.
 """
-import argparse
-import os
-import pathlib
-import random
-import sys
-import time
+from __future__ import annotations
 
-ROOT = pathlib.Path(__file__).resolve().parents[2]
-sys.dont_write_bytecode, sys.path[0] = True, str(ROOT)
-from tests.sockets import calls, crowds, hostile, ledgers, pieces, plain, times  # noqa: E402
-from tests.sockets.cases import Count, came_of_double  # noqa: E402
+import unittest
+
+from tests.cases import Case, Scenario, SelfTest
+from tests.sockets import calls, crowds, hostile, ledgers, pieces, plain, times
+from tests.sockets.cases import Came, came_of_double, double_faults, name_of
 
 # The cases that are as they are, and those that are random.
 ONCE = [*plain.CASES, *times.CASES, *calls.CASES]
@@ -69,49 +63,27 @@ WRONGS = [
 FIXED = 1
 
 
-def name_of(case):
-    """The words for a case."""
-    return f"{case.__module__.rpartition('.')[2]}, {case.__name__.replace('_', ' ')}"
-
-
-def run(program, asked, count):
-    """Runs all cases once, and the random ones again for as long as is asked."""
-    ends = time.monotonic() + asked.seconds
-    for case in ONCE:
-        count.run(name_of(case), case, program)
-    seed = asked.seed
-    while True:
-        for case in RANDOM:
-            count.run(f"{name_of(case)}, seed {seed}", case, program, seed)
-        seed += 1
-        if time.monotonic() >= ends:
-            return
-
-
-def of_double(wrong, name):
+def of_double(wrong: str, name: str) -> Came:
     """What came of a case where the double does this wrong, or nothing."""
     case = {name_of(case): case for case in [*ONCE, *RANDOM]}[name]
     return came_of_double(wrong, case, *([FIXED] if case in RANDOM else []))
 
 
-def main():
-    parser = argparse.ArgumentParser(description=__doc__, formatter_class=argparse.RawDescriptionHelpFormatter)
-    parser.add_argument("program", nargs="?", default="crates/rv_app/out/rv_app")
-    parser.add_argument("--seconds", type=float, default=0, help="how long the random cases are run again; default: once")
-    parser.add_argument("--seed", type=int, default=random.randrange(10**6), help="default: any")
-    parser.add_argument("--only", default="", help="only the cases with these words in their name")
-    parser.add_argument("--verbose", action="store_true", help="tell also what passed, with its seconds")
-    parser.add_argument("--selftest", action="store_true", help="test the cases themselves, on servers that are wrong")
-    asked = parser.parse_args()
-    count = Count(asked.only, asked.verbose)
-    if asked.selftest:
-        count.run(name_of(ledgers.the_judge_of_crowds), ledgers.the_judge_of_crowds)
-        count.try_doubles(WRONGS, of_double)
-    else:
-        run(os.path.abspath(asked.program), asked, count)
-    count.end()
+class Doubles(SelfTest):
+    """The cases themselves, on servers that are wrong, and what judges crowds."""
+
+    def test_the_judge_of_crowds(self) -> None:
+        """What a crowd was told is judged, where it is written down."""
+        ledgers.the_judge_of_crowds()
+
+    def test_wrong_servers(self) -> None:
+        """Each wrong server fails its case, and the double passes it."""
+        self.check_faults(double_faults(WRONGS, of_double, self.fixture.wrong))
 
 
-# processes that try a double read this file too
-if __name__ == "__main__":
-    main()
+def load_tests(_: unittest.TestLoader, suite: unittest.TestSuite, __: str | None) -> unittest.TestSuite:
+    """The cases, of `rv serve`."""
+    program, seed = Case.fixture.program, Case.fixture.seed
+    suite.addTests(Scenario("sockets", case, program) for case in ONCE)
+    suite.addTests(Scenario("sockets", case, program, seed, is_random=True) for case in RANDOM)
+    return suite

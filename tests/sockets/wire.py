@@ -25,7 +25,7 @@ BAD_TEXT = b'{"code":1,"kind":"refused"}'
 TCP_INFO = struct.Struct("=128xQI12xII")
 
 
-class Wrong(Exception):
+class Wrong(AssertionError):
     """What a test found."""
 
 
