@@ -100,27 +100,19 @@ def first_difference(program, accounts):
 
 
 def compare_audits(program, seed, count):
-    """Compares those made by hand and so many random ones, in which each verdict is to be met."""
+    """Compares those made by hand and so many random ones, in which each verdict is to be met; tells how often each was."""
     for accounts in [hand_made(), random_ones(seed, count)]:
         met, difference = first_difference(program, accounts)
-        if difference:
-            show(*difference)
-            return False
-    print(f"seed {seed}: {count} accounts, each verdict as the model has it: "
-          + ", ".join(f"{kind} {met[kind]}" for kind in KINDS))
-    missed = [kind for kind in KINDS if not met[kind]]
-    if missed and count >= FULL_RUN:
-        print(f"FAILED: none of the accounts is {', '.join(missed)}")
-    return count < FULL_RUN or not missed
+        assert not difference, shown(*difference)
+    missed = [kind for kind in KINDS if not met[kind]] if count >= FULL_RUN else []
+    assert not missed, f"seed {seed}: none of the accounts is {', '.join(missed)}"
+    return f"{count} accounts, each verdict as the model has it: " + ", ".join(f"{kind} {met[kind]}" for kind in KINDS)
 
 
-def show(name, text, expected, ran):
-    """Prints a difference with the account's lines."""
+def shown(name, text, expected, ran):
+    """A difference with the account's lines, in words."""
     output, status, errors = ran
-    print(f"FAILED: {name}: expected {expected!r}, got {output[:200]!r}, status {status}, "
-          f"standard error {errors[:200]!r}")
     lines = text.splitlines(keepends=True)
-    for line in lines[:200]:
-        print(f"    {line[:5_000]!r}")
-    if len(lines) > 200:
-        print(f"    and {len(lines) - 200} lines more")
+    more = [f"and {len(lines) - 200} lines more"] if len(lines) > 200 else []
+    return "\n    ".join([f"{name}: expected {expected!r}, got {output[:200]!r}, status {status}, standard error {errors[:200]!r}",
+                          *(f"{line[:5_000]!r}" for line in lines[:200]), *more])

@@ -14,12 +14,6 @@ SMALL, FULL_RUN = Limits(50, 4, 8), 5_000
 CLIENTS, ENTRIES, OPEN_PLACES = "9", "10 of entries", "10 of open places"
 
 
-def limits_of(words):
-    """The limits that three words name, the last of them a number or none."""
-    entries, clients, open_places = words
-    return Limits(int(entries), int(clients), None if open_places == "none" else int(open_places))
-
-
 class Machines:
     """Scripts of one machine each, all under the same limits, and how often each answer came. Where they are made anew,
     each line is heard by a machine that was made of the state before the last line and then followed that line's entries."""
@@ -35,7 +29,7 @@ class Machines:
         bound = "none" if open_places is None else str(open_places)
         return ["machine", str(self.limits.entries), str(self.limits.clients), bound, *(["anew"] if self.anew else [])]
 
-    def script(self, chance, _, left):
+    def script(self, chance, left):
         """The program's words for one machine, its lines, and that nothing is wrong with the model. A script ends some lines
         after the machine can take no entry more."""
         script, lines = Script(chance, EPOCH, self.limits), []

@@ -1,23 +1,18 @@
-#!/usr/bin/env python3
 """Plays random lists of what can occur in the world across crashes of its server (docs/MODEL.md, "Across crashes"), with many
 crashes, and holds each world against the nine clauses of its headline by brute force. By --selftest each rule of the world is
 dropped in turn, and a list that is kept must break the clause that rests on it."""
 from __future__ import annotations
 
-import pathlib
 import random
-import sys
 from collections import Counter
 
-ROOT = pathlib.Path(__file__).resolve().parents[2]
-sys.dont_write_bytecode, sys.path[0] = True, str(ROOT)
-from tests.model.account import Call  # noqa: E402
-from tests.model.crash_laws import faults  # noqa: E402
-from tests.model.crash_world import CrashWorld, sender  # noqa: E402
-from tests.model.limits import BOOK, Limits  # noqa: E402
-from tests.model.runs import run, seeded  # noqa: E402
-from tests.model.world import Idle  # noqa: E402
-from tests.model.wrong_crashes import wrong_crash_faults  # noqa: E402
+from tests.cases import Case, SelfTest
+from tests.model.account import Call
+from tests.model.crash_laws import faults
+from tests.model.crash_world import CrashWorld, sender
+from tests.model.limits import BOOK, Limits
+from tests.model.world import Idle
+from tests.model.wrong_crashes import wrong_crash_faults
 
 # A run of so many occurrences has to meet all that is counted.
 FULL_RUN = 20_000
@@ -28,7 +23,7 @@ ODDS = {"start": 3, "begin": 8, "resend": 3, "cancel": 2, "crash": 1, "client": 
 CALLS = [*["put", "take", "transfer"] * 2, "drain", "swap", "count", "peek"]
 # A client's request, from being asked to being told.
 ROUND = ["ask", "step", "store", "send", "hear"]
-WAITS = ["forever", "forever", "now", 0, 2, 5]
+WAITS: list[str | int] = ["forever", "forever", "now", 0, 2, 5]
 
 
 class Player:
@@ -37,7 +32,8 @@ class Player:
     def __init__(self, chance: random.Random) -> None:
         self.chance = chance
         self.world = CrashWorld(chance.choice([BOOK, BOOK, Limits(30, 3), Limits(100, 1024, 2)]))
-        self.now, self.met = 0, Counter()
+        self.now = 0
+        self.met: Counter[str] = Counter()
         self.calm = chance.choice([0.2, 0.6, 0.9, 0.95])
         self.plan: list[tuple] = []
 
@@ -158,31 +154,32 @@ MEETS = [*ODDS, "welcome", "waiting", "done", "received", "item", "swapped", "no
          "peeked", "drained", "2", "4", "5", "9", "10", "11"]
 
 
-def play(seed: int, count: int) -> bool:
-    """Plays so many occurrences in lists of their own; ends at the first clause that is broken."""
-    met, worlds = Counter(), 0
-    while met["occurred"] < count:
-        player = Player(random.Random(f"{seed} {worlds}"))
-        fault = player.list_fault(player.chance.randint(10, LONGEST))
-        if fault:
-            print(f"FAILED: seed {seed}, list {worlds}: {fault}")
-            return False
-        occurred = sum(player.met[word] for word in ODDS)
-        met += player.met
-        met["occurred"] += occurred
-        worlds += 1
-    print(f"seed {seed}: {met['occurred']:,} occurrences in {worlds:,} worlds, {met['fall']:,} crashes of a server: "
-          "no clause is broken")
-    lacks = [name for name in MEETS if not met[name]] if count >= FULL_RUN else []
-    if lacks:
-        print(f"FAILED: seed {seed}: there was none of {', '.join(lacks)}")
-    return not lacks
+class Crashes(Case):
+    """The world across crashes of its server."""
+
+    is_random = True
+
+    def test_random_lists(self) -> None:
+        """5,000 occurrences, in lists of their own, none of which breaks a clause."""
+        met: Counter[str] = Counter()
+        worlds, count = 0, self.fixture.many(5_000)
+        while met["occurred"] < count:
+            player = Player(random.Random(f"{self.seed} {worlds}"))
+            fault = player.list_fault(player.chance.randint(10, LONGEST))
+            self.check_fault(fault and f"seed {self.seed}, list {worlds}: {fault}")
+            occurred = sum(player.met[word] for word in ODDS)
+            met += player.met
+            met["occurred"] += occurred
+            worlds += 1
+        self.told = (f"{met['occurred']:,} occurrences in {worlds:,} worlds, {met['fall']:,} crashes of a server: "
+                     "no clause is broken")
+        lacks = [name for name in MEETS if not met[name]] if count >= FULL_RUN else []
+        self.check_fault(lacks and f"seed {self.seed}: there was none of {', '.join(lacks)}")
 
 
-def main() -> None:
-    parser = seeded(__doc__, "worlds that drop a rule, each of which a list must show")
-    parser.add_argument("--occurrences", type=int, default=5_000)
-    run(parser, wrong_crash_faults, lambda asked: play(asked.seed, asked.occurrences))
+class Rules(SelfTest):
+    """The rules of the world across crashes."""
 
-
-main()
+    def test_worlds_that_drop_a_rule(self) -> None:
+        """Where a rule is dropped, a list that is kept breaks the clause that rests on it."""
+        self.check_faults(wrong_crash_faults())

@@ -1,4 +1,3 @@
-#!/usr/bin/env python3
 """Compares hubs with a plain second implementation of what they promise, over random events: up to 200 connections,
 which say what is good and what is not, and whose peers take late what is written late.
 
@@ -6,23 +5,20 @@ A script has a hub of its own, and up to 120 events. Of each the program must te
 were taken, or why it can't be, the entries, each connection that changed with its bytes to hand out, the totals and the next
 moment. The program is rv_steps, whose lines tests/model/hub_lines.py has.
 """
-import pathlib
+from __future__ import annotations
+
 import random
 import subprocess
-import sys
 from collections.abc import Iterator
 
-ROOT = pathlib.Path(__file__).resolve().parents[2]
-sys.dont_write_bytecode, sys.path[0] = True, str(ROOT)
-from tests.model.hub_lacking import lacking_fault  # noqa: E402
-from tests.model.hub_laws import hub_fault  # noqa: E402
-from tests.model.hub_lines import blocks_of, hub_words  # noqa: E402
-from tests.model.hub_rows import SHORT_ROWS, events_of, hub_row_faults  # noqa: E402
-from tests.model.hub_scripts import Script, make_hub_script  # noqa: E402
-from tests.model.hub_tally import Tally  # noqa: E402
-from tests.model.runs import run, seeded  # noqa: E402
-from tests.model.wrong_hubs import wrong_hub_faults  # noqa: E402
-from tools.outside import STEPS  # noqa: E402
+from tests.cases import Case, SelfTest
+from tests.model.hub_lacking import lacking_fault
+from tests.model.hub_laws import hub_fault
+from tests.model.hub_lines import blocks_of, hub_words
+from tests.model.hub_rows import SHORT_ROWS, events_of, hub_row_faults
+from tests.model.hub_scripts import Script, make_hub_script
+from tests.model.hub_tally import Tally
+from tests.model.wrong_hubs import wrong_hub_faults
 
 # A run of so many events has to meet all that is counted.
 FULL_RUN = 20_000
@@ -30,35 +26,25 @@ FULL_RUN = 20_000
 EVENTS = 120
 
 
-def selftest() -> list[tuple[str, object]]:
-    """Looks at the model's hub in worked rows and in random events, and at wrong ones, each of which random events find: the
-    faults of each."""
-    laws = ((f"random hub {seed}", hub_fault(random.Random(f"laws {seed}"), 60)) for seed in range(60))
-    lacking = ((f"{name}, a growth refused", lacking_fault(terms, events_of(terms, lines))) for name, terms, lines in SHORT_ROWS)
-    return [*hub_row_faults(), *laws, *lacking, *wrong_hub_faults()]
-
-
 def told_by(program: str, script: Script) -> Iterator[list[bytes]]:
     """What the program tells of each line, in lines."""
     text = b"".join(line.line + b"\n" for line in script.lines)
     ran = subprocess.run([program, *hub_words(script.terms)], input=text, capture_output=True)
-    if ran.returncode or ran.stderr:
-        print(f"{program} ended with status {ran.returncode} and said {ran.stderr!r}")
+    assert (ran.returncode, ran.stderr) == (0, b""), f"{program} ended with status {ran.returncode} and said {ran.stderr!r}"
     return blocks_of(ran.stdout.splitlines())
 
 
-def is_same(program: str, script: Script, name: str) -> bool:
-    """Whether the program tells of each line of a script what it has to; the first difference is shown."""
+def difference(program: str, script: Script) -> str | None:
+    """The first line of a script of which the program doesn't tell what it has to, if there is one."""
     told = told_by(program, script)
     for number, line in enumerate(script.lines, 1):
-        got = next(told, [])
+        got: list[bytes] = next(told, [])
         if not line.told.is_told_by(got):
-            print(f"FAILED: {name}, line {number}: {show(line.line)}")
             wanted = line.told.lines()
-            print(*(f"  wanted {show(text)}" for text in wanted if text not in got), sep="\n")
-            print(*(f"  got    {show(text)}" for text in got if text not in wanted), sep="\n")
-            return False
-    return True
+            lacks = [f"  wanted {show(text)}" for text in wanted if text not in got]
+            more = [f"  got    {show(text)}" for text in got if text not in wanted]
+            return "\n".join([f"line {number}: {show(line.line)}", *lacks, *more])
+    return None
 
 
 def show(text: bytes) -> str:
@@ -66,28 +52,42 @@ def show(text: bytes) -> str:
     return text[:300].decode("ascii", "backslashreplace")
 
 
-def compare(program: str, seed: int, count: int) -> bool:
-    """Compares so many events; ends at the first difference."""
-    tally, scripts = Tally(), 0
-    while tally.events < count:
-        chance = random.Random(f"{seed} {scripts}")
-        script = make_hub_script(chance, chance.randint(10, EVENTS))
-        if not is_same(program, script, f"seed {seed}, script {scripts}"):
-            return False
-        tally.add(script.lines)
-        scripts += 1
-    print(f"seed {seed}: {scripts} hubs, {tally.told()}: each as the model has it")
-    lacks = tally.lacking() if count >= FULL_RUN else []
-    if lacks:
-        print(f"FAILED: seed {seed}: there was none of {', '.join(lacks)}")
-    return not lacks
+class Hubs(Case):
+    """The program's hubs, beside the model's."""
+
+    is_random = True
+
+    def test_random_events(self) -> None:
+        """5,000 random events of up to 200 connections, up to the first difference."""
+        tally, scripts, count = Tally(), 0, self.fixture.many(5_000)
+        while tally.events < count:
+            chance = random.Random(f"{self.seed} {scripts}")
+            script = make_hub_script(chance, chance.randint(10, EVENTS))
+            differs = difference(self.steps, script)
+            self.check_fault(differs and f"seed {self.seed}, script {scripts}, {differs}")
+            tally.add(script.lines)
+            scripts += 1
+        self.told = f"{scripts} hubs, {tally.told()}: each as the model has it"
+        lacks = tally.lacking() if count >= FULL_RUN else []
+        self.check_fault(lacks and f"seed {self.seed}: there was none of {', '.join(lacks)}")
 
 
-def main() -> None:
-    parser = seeded(__doc__, "test the model itself, with no program")
-    parser.add_argument("--events", type=int, default=5_000)
-    parser.add_argument("--program", default=STEPS)
-    run(parser, selftest, lambda asked: compare(asked.program, asked.seed, asked.events))
+class Model(SelfTest):
+    """The model's hub: in worked rows, in random events, and where it is wrong."""
 
+    def test_worked_rows(self) -> None:
+        """Rows that are worked by hand."""
+        self.check_faults(hub_row_faults())
 
-main()
+    def test_laws(self) -> None:
+        """What must hold of every hub, of random ones."""
+        self.check_faults((f"random hub {seed}", hub_fault(random.Random(f"laws {seed}"), 60)) for seed in range(60))
+
+    def test_growths_refused(self) -> None:
+        """Worked rows where a growth is refused."""
+        self.check_faults((f"{name}, a growth refused", lacking_fault(terms, events_of(terms, lines)))
+                          for name, terms, lines in SHORT_ROWS)
+
+    def test_wrong_hubs(self) -> None:
+        """Hubs that do a thing wrong, each of which random events find."""
+        self.check_faults(wrong_hub_faults())

@@ -254,7 +254,7 @@ def outcome(program, pair):
 
 
 def compare_records(program, seed, accounts, records):
-    """Compares so many records of each of so many accounts, in which each finding is to be met."""
+    """Compares so many records of each of so many accounts, in which each finding is to be met; tells how often each was."""
     met, pairs, done = Counter(), make_pairs(seed, accounts, records), 0
     with ThreadPoolExecutor(os.cpu_count()) as several:
         while part := list(islice(pairs, AT_HAND)):
@@ -262,21 +262,20 @@ def compare_records(program, seed, accounts, records):
                 met.update(found)
                 if got != wanted or wrong is not None:
                     several.shutdown(wait=False, cancel_futures=True)
-                    return show(pair, wanted, got, wrong)
+                    raise AssertionError(shown(pair, wanted, got, wrong))
             done += len(part)
-    print(f"seed {seed}: {accounts} accounts, {done} records, each line as the model has it: " + ", ".join(f"{what} {met[what]}" for what in FINDINGS))
-    missed = [finding for finding in FINDINGS if not met[finding]]
-    if missed and done >= FULL_RUN:
-        print(f"FAILED: no line is told: {', '.join(missed)}")
-    return done < FULL_RUN or not missed
+    missed = [finding for finding in FINDINGS if not met[finding]] if done >= FULL_RUN else []
+    assert not missed, f"seed {seed}: no line is told: {', '.join(missed)}"
+    counts = ", ".join(f"{what} {met[what]}" for what in FINDINGS)
+    return f"{accounts} accounts, {done} records, each line as the model has it: {counts}"
 
 
-def show(pair, wanted, got, wrong):
-    """Prints a difference, with the account and the record; it is one."""
-    print(f"FAILED: {pair.name}: status {got[1]}, not {wanted[1]}; standard error {got[2][:200]!r}; told wrongly: {wrong!r}")
+def shown(pair, wanted, got, wrong):
+    """A difference, with the account and the record, in words."""
+    lines = [f"{pair.name}: status {got[1]}, not {wanted[1]}; standard error {got[2][:200]!r}; told wrongly: {wrong!r}"]
     for number, (one, other) in enumerate(zip_longest(wanted[0], got[0]), 1):
         if one != other:
-            print(f"line {number} of the output has to be {one!r}, and is {other!r}")
+            lines.append(f"line {number} of the output has to be {one!r}, and is {other!r}")
     for what, text in ("account", pair.text), ("record", pair.record):
-        print(f"the {what}:", *text.decode(errors="backslashreplace").splitlines()[:200], sep="\n    ")
-    return False
+        lines += [f"the {what}:", *text.decode(errors="backslashreplace").splitlines()[:200]]
+    return "\n    ".join(lines)
