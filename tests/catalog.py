@@ -32,10 +32,16 @@ MODULES = [
     "faults.devices",
     "faults.growths",
     "faults.torture",
+    "clients.run",
+    "clients.wrong_clients",
+    "package.run",
+    "status.run",
 ]
 # Those that run where they are named alone, since they need more than the programs, or much time.
 BY_NAME: list[str] = [
+    "clients.by_hand",
     "host.by_hand",
+    "status.staged",
     "faults.refusals",
 ]
 

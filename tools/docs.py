@@ -18,7 +18,6 @@ ROOT = pathlib.Path(__file__).resolve().parents[1]
 sys.dont_write_bytecode, sys.path[0] = True, str(ROOT)
 from tools.edit_files import Edit, public_functions  # noqa: E402
 from tests.catalog import BY_NAME, MODULES  # noqa: E402
-from tools.outside import OUTSIDE, RUNNER  # noqa: E402
 
 MODEL = ROOT / "docs/MODEL.md"
 FORMATS = ROOT / "docs/FORMATS.md"
@@ -390,8 +389,7 @@ def standing():
 def commands():
     """Each module of the tests from outside has a row in tests/README.md, which has no other."""
     told = {word for _, rows in tables(TESTS_PAGE) for row in rows for word in quoted(row[0])}
-    programs = {words[0] for words in OUTSIDE if words[0] != RUNNER[0]}
-    for name in [*MODULES, *BY_NAME, *sorted(programs)]:
+    for name in [*MODULES, *BY_NAME]:
         check(name in told, f"tests/README.md: no row for {name}, which `python3 -m tests` runs")
     for name in sorted(word for word in told if re.fullmatch(r"[a-z]+\.[a-z_]+", word)):
         check(name in [*MODULES, *BY_NAME], f"tests/README.md: there is no module {name}")

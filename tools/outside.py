@@ -14,18 +14,8 @@ PROGRAM = "crates/rv_app/out/rv_app"
 STEPS = "crates/rv_steps/out/rv_steps"
 # The seed where there is no commit.
 NO_COMMIT = 1
-# What stands for the seed in the commands below.
-SEED = "SEED"
 # What runs the tests from outside.
 RUNNER = [sys.executable, "-B", "-m", "tests"]
-OUTSIDE = [
-    [*RUNNER, "--seed", SEED, "--program", PROGRAM, "--steps", STEPS],
-    [*RUNNER, "--seed", SEED, "--program", PROGRAM, "--steps", STEPS, "--selftest"],
-    ["tests/clients/run.py", "--seed", SEED, PROGRAM],
-    ["tests/clients/run.py", "--selftest"],
-    ["tests/package/run.py", PROGRAM],
-    ["tests/status/run.py"],
-]
 # The tests in Rattle, as rt ci has built them, with growths refused.
 OF_TESTS = [*RUNNER, "faults.refusals"]
 
@@ -91,10 +81,11 @@ def outcome(words):
 
 
 def outside(seed):
-    """What the runs of the programs from outside count, where they are there, and the documents."""
-    runs = OUTSIDE if all(map(os.path.exists, (PROGRAM, STEPS))) else []
-    seeded = [[str(seed) if word == SEED else word for word in words] for words in runs]
-    return [count(words) for words in [*seeded, ["tools/docs.py"]]]
+    """What the runs of the programs from outside count, where they are there, and the documents. The tests run one after another, and
+    then what judges them."""
+    asked = [*RUNNER, "--seed", str(seed), "--program", PROGRAM, "--steps", STEPS]
+    runs = [asked, [*asked, "--selftest"]] if all(map(os.path.exists, (PROGRAM, STEPS))) else []
+    return [count(words) for words in [*runs, ["tools/docs.py"]]]
 
 
 def seed_of_commit():

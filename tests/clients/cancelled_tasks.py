@@ -1,5 +1,7 @@
 """Takes in asyncio whose tasks are cancelled at any time, beside a producer, on a live server: no item is lost or doubled, and
 each stands in the record. Other calls and closes are mixed with them, and what was told is held against the server's account."""
+from __future__ import annotations
+
 import asyncio
 import collections
 import itertools
@@ -8,6 +10,7 @@ import random
 import tempfile
 import threading
 import time
+from collections.abc import Callable
 
 import rendezvous as rv
 from record_lines import lines_of
@@ -260,4 +263,4 @@ def many_mixed_calls(program, seed, how_many):
     print(f"seed {seed}: {told}; none lost, none twice; {time.monotonic() - began:.0f} seconds", flush=True)
 
 
-CASES = [cancelled_takes, mixed_calls]
+CASES: list[Callable[..., object]] = [cancelled_takes, mixed_calls]

@@ -15,6 +15,7 @@ import tempfile
 import time
 
 from record_lines import read
+from tests import ROOT
 from tests.clients.interrupted_judged import LIMIT, Book, calls_of, faults_of, the_judge_finds_lies
 from tests.model.account import Request, reply
 from tests.model.tables import table_audit
@@ -44,9 +45,9 @@ class One:
         self.client, self.incarnation, self.calls = client, incarnation, calls
         self.path, self.said = (pathlib.Path(folder) / f"{client}.{incarnation}.{end}" for end in ("record", "said"))
         words = [port, client, incarnation, seed, calls, self.path, pathlib.Path(folder, KEPT)]
-        program = pathlib.Path(__file__).with_name("interrupted_process.py")
+        program = [sys.executable, "-B", "-m", "tests.clients.interrupted_process"]
         with open(self.said, "wb") as said:
-            self.process = subprocess.Popen([sys.executable, program, *map(str, words)], stdout=said, stderr=said)
+            self.process = subprocess.Popen([*program, *map(str, words)], stdout=said, stderr=said, cwd=ROOT)
         self.ready, self.size, self.grew = False, 0, time.monotonic()
 
     def is_ready(self):

@@ -4,23 +4,20 @@ writes down, each line before its next call. Its session keeps another record be
 A first signal may come anywhere in a call, and a second one where the package deals with the first. A signal that comes
 while nothing is asked does nothing.
 
-usage: tests/clients/interrupted_process.py PORT CLIENT INCARNATION SEED CALLS RECORD KEPT
+usage: python3 -m tests.clients.interrupted_process PORT CLIENT INCARNATION SEED CALLS RECORD KEPT
 """
 import faulthandler
 import json
 import os
-import pathlib
 import random
 import signal
 import sys
 import time
 
-ROOT = pathlib.Path(__file__).resolve().parents[2]
-sys.dont_write_bytecode, sys.path[0] = True, str(ROOT)
-from tests.clients.outcomes import reply_members  # noqa: E402
-import rendezvous as rv  # noqa: E402
-from rendezvous.calls import milliseconds  # noqa: E402
-from tests.sockets.wire import demand  # noqa: E402
+import rendezvous as rv
+from rendezvous.calls import milliseconds
+from tests.clients.outcomes import reply_members
+from tests.sockets.wire import demand
 
 PACKAGE = os.path.dirname(rv.__file__)
 QUEUES, EXCHANGER = (3, 4), 5

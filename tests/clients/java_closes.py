@@ -1,10 +1,13 @@
 """Takes of the Java client whose futures are cancelled, and whose clients are closed, at random moments, on a live host: by the
 host's account each item is told once, by a future, as unclaimed, or by the key of its request, which is unsettled."""
+from __future__ import annotations
+
 import collections
 import copy
 import json
 import subprocess
 import time
+from collections.abc import Callable
 from typing import NamedTuple
 
 from tests import ROOT
@@ -181,4 +184,4 @@ def the_judge_finds_lies(_program, _seed):
     demand({rule for rule, _, _ in LIES} == {rule.__name__ for rule in RULES} | {"false_receipt"}, "a rule is not tried")
 
 
-CASES = [the_judge_finds_lies, cancelled_takes, at_the_double]
+CASES: list[Callable[..., object]] = [the_judge_finds_lies, cancelled_takes, at_the_double]

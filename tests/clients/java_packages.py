@@ -12,10 +12,10 @@ import zipfile
 
 from context import numbers
 from tests import ROOT
+from tests.cases import Tool
 from tests.clients import java
 from tests.sockets.programs import Server
 from tests.sockets.wire import demand
-from tests import left_out
 
 SETTINGS = pathlib.Path("/etc/maven/settings-debian.xml")
 # What the JUnit tests of a client need of Debian's packages, and what starts them.
@@ -180,19 +180,18 @@ def virtual_threads(_program):
     demand((ran.stdout, ran.stderr) == (wanted, ""), f"{ran.stdout} {ran.stderr}")
 
 
+def jdk_missing():
+    """What this machine lacks for virtual threads, if something."""
+    return None if later_jdk() else f"no JDK of 21 or later is in {java.JDKS}"
+
+
+MAVEN = Tool("the Java package by Maven", maven_missing)
+JUNIT = Tool("the Java client's own tests", console_missing)
+LATER_JDK = Tool("Java's virtual threads", jdk_missing)
+
+
 def cases():
-    """The cases that this machine has what they need for. The others are told."""
-    chosen = [it_is_built_without_maven, what_a_build_lacks_is_told]
-    if not maven_missing():
-        chosen.append(maven_builds_it)
-    else:
-        left_out.tell("the Java package by Maven", maven_missing())
-        if console_missing():
-            left_out.tell("the Java client's own tests", console_missing())
-        else:
-            chosen.append(tests_of_junit)
-    if later_jdk():
-        chosen.append(virtual_threads)
-    else:
-        left_out.tell("Java's virtual threads", f"no JDK of 21 or later is in {java.JDKS}")
-    return chosen
+    """The cases, each with the tool that it needs beside Java's: Maven runs the tests of JUnit too, where it is there."""
+    without_maven = [(tests_of_junit, JUNIT)] if maven_missing() else []
+    return [(it_is_built_without_maven, None), (what_a_build_lacks_is_told, None), (maven_builds_it, MAVEN), *without_maven,
+            (virtual_threads, LATER_JDK)]

@@ -12,22 +12,24 @@ from tests.sockets.wire import demand
 # A gate of the commands that it is told.
 GATE = """
 import json, sys
-sys.path[0] = sys.argv[1]
 from tools.outside import count, finish
-finish([count(words) for words in json.loads(sys.argv[2])])
+finish([count(words) for words in json.loads(sys.argv[1])])
 """
 # The cases of the Java package, where there is Maven and no JUnit.
 NO_JUNIT = """
-import pathlib, sys
-sys.path[0] = sys.argv[1]
+import pathlib, unittest
 from tests.clients import java_packages
 java_packages.shutil.which, java_packages.SETTINGS = str, pathlib.Path("/")
 java_packages.JARS = [pathlib.Path("/none/junit-jupiter-api.jar")]
-java_packages.cases()
+try:
+    java_packages.MAVEN.demand()
+except unittest.SkipTest as skipped:
+    print(f"left out: {skipped}")
 print("1 passed, 0 failed")
 """
-# Words that stand in no case's name.
-NO_CASE = ["--only", "no case has these words"]
+# What runs cases, one of each kind that needs a tool.
+RUN = [sys.executable, "-B", "-m", "tests"]
+NEED_TOOLS = ["status.run", "package.run", "clients.java: the java process", "clients.browser: a browser shows each picture"]
 ALL_IS_THERE = ["echo", "1 passed, 0 failed"]
 
 
@@ -36,7 +38,7 @@ def last_lines(*commands):
     with tempfile.TemporaryDirectory(prefix="rv-tools-") as name:
         for tool, path in [("python3", sys.executable), ("echo", "/bin/echo")]:
             (pathlib.Path(name) / tool).symlink_to(path)
-        words = [sys.executable, "-B", "-c", GATE, ROOT, json.dumps([list(map(str, words)) for words in commands])]
+        words = [sys.executable, "-B", "-c", GATE, json.dumps([list(map(str, words)) for words in commands])]
         ran = subprocess.run(words, cwd=ROOT, capture_output=True, text=True, timeout=600, env={**os.environ, "PATH": name})
     demand(ran.returncode == 0, f"{ran.stdout[-3000:]}{ran.stderr[-2000:]}")
     return ran.stdout.splitlines()[-2:]
@@ -44,8 +46,8 @@ def last_lines(*commands):
 
 def what_is_left_out_is_told(program):
     """Each thing that the tests of clients, package and page leave out, once, with the tool; with all tools, that nothing was."""
-    told, _ = last_lines(["tests/status/run.py"], ["tests/package/run.py", program], ["tests/clients/run.py", *NO_CASE, program],
-                         ["tests/clients/run.py", "--selftest", *NO_CASE], [sys.executable, "-B", "-c", NO_JUNIT, ROOT])
+    told, _ = last_lines([*RUN, "--program", program, *NEED_TOOLS], [*RUN, "--selftest", "clients.wrong_clients: in java"],
+                         [sys.executable, "-B", "-c", NO_JUNIT])
     demand(told.startswith("left out for want of a tool: "), told)
     for what, tool in [
         ("the status page in a browser", "chromium"), ("the metrics and alerts", "promtool is missing"),

@@ -1,9 +1,10 @@
 """Clients that are wrong: they have another body in them, which a test must find.
 
-A test in Python is one of the client's own, which its runner finds in a copy of the clients and their tests, or a case that
-tests/clients/run.py has there. A case of the Java client is one of those too, and is run with other classes in place of some
-that were built.
+A test in Python is one of the client's own, which its runner finds in a copy of the clients and their tests, or a case of clients.run
+there. A case of the Java client is one of those too, and is run with other classes in place of some that were built.
 """
+from __future__ import annotations
+
 import compileall
 import concurrent.futures
 import contextlib
@@ -15,18 +16,21 @@ import shutil
 import subprocess
 import sys
 import tempfile
+from collections.abc import Callable, Iterable
+from typing import List, Tuple
 
 from tests import ROOT
+from tests.cases import Case, SelfTest, Tool
 from tests.clients import java
+from tests.clients.wrong import Edit, WrongClient
 from tests.clients.wrong_java import IN_JAVA
 from tests.clients.wrong_python import IN_PYTHON, TESTS
 from tests.sockets.wire import demand
-from tests import left_out
 
 # What a case of the runner's takes, and what a test of the Python client does.
 FOLDERS, CLIENT = ["clients", "examples", "tests"], ["clients/python"]
-# What has cases, and what it says at last where all of them passed.
-RUNNER, PASSED = "tests/clients/run.py", " passed, 0 failed\n"
+# What runs a case, and what it says at last where that passed.
+RUNNER, PASSED = ["-B", "-m", "tests"], "\n1 passed, 0 failed\n"
 PATIENCE = 1200
 # How many are run at once: those in Python mostly wait.
 AT_ONCE = {"Python": 16, "Java": 8}
@@ -34,7 +38,7 @@ AT_ONCE = {"Python": 16, "Java": 8}
 BROKEN = ("SyntaxError", "NameError", "ImportError", "_FailedTest", "IndentationError", "javac says",
           "NoSuchMethodError", "NoSuchFieldError")
 # Cases of right clients.
-RIGHT = {"Python": ["test_calls", "test_refusals"], "Java": ["java, the java process", "java, refusals"]}
+RIGHT = {"Python": ["test_calls", "test_refusals"], "Java": ["clients.java: the java process", "clients.java: refusals"]}
 
 
 def edited(edits):
@@ -93,9 +97,9 @@ def ran(words, folder, edits, **more):
     return done.stdout + done.stderr, done.returncode == 0
 
 
-def is_case(name):
-    """Whether this names a case of the runner's, and no test of the Python client."""
-    return ", " in name
+def is_case(name: str) -> bool:
+    """Whether this names a case of clients.run, and no test of the Python client."""
+    return ": " in name
 
 
 def said_in_python(test, edits):
@@ -104,7 +108,7 @@ def said_in_python(test, edits):
         if is_case(test):
             # so that a copy doesn't build what it has not changed
             built = {} if java.missing() else {java.CLASSES: java.classes()}
-            told, ends = ran([folder / RUNNER, "--only", test], folder, edits, **built)
+            told, ends = ran([*RUNNER, "--program", Case.fixture.program, test], folder, edits, **built)
             return told, ends and told.endswith(PASSED)
         told, ends = ran(["-B", "-m", "unittest", test], folder / TESTS, edits)
     return told, ends and told.endswith("\nOK\n") and "\nRan 0 " not in told
@@ -114,7 +118,7 @@ def said_in_java(compiler, case, edits):
     """The same of a case of the Java client."""
     with tempfile.TemporaryDirectory(prefix="rv-wrong-") as folder:
         classes = {java.CLASSES: compiled(compiler, folder, edits)}
-        told, ends = ran([ROOT / RUNNER, "--only", case], ROOT, edits, **classes)
+        told, ends = ran([*RUNNER, "--program", Case.fixture.program, case], ROOT, edits, **classes)
     return told, ends and told.endswith(PASSED)
 
 
@@ -133,34 +137,42 @@ def is_right(said, cases):
     demand(passes, told[-2000:])
 
 
-def selftest(count):
+# What is said of a case where some edits are made, and whether it passes.
+Said = Callable[[str, List[Edit]], Tuple[str, bool]]
+
+
+class WrongClients(SelfTest):
     """A client without an edit runs and passes, by some cases of each language; each wrong one is found."""
-    in_java = wanted(count, "Java", IN_JAVA)
-    in_python = wanted(count, "Python", IN_PYTHON)
-    if not java.missing() and in_java + in_python:
-        # so that they are not built by more than one thread
+
+    def test_in_python(self) -> None:
+        """The client in Python."""
+        named = self.named("Python", IN_PYTHON)
+        if not java.missing() and named:
+            # so that they are not built by more than one thread
+            java.classes()
+        if named:
+            # for the same reason
+            right()
+        self.judge_all("Python", named, said_in_python)
+
+    def test_in_java(self) -> None:
+        """The client in Java."""
+        Tool("the Java client", java.missing).demand()
         java.classes()
-    if in_python:
-        # for the same reason
-        right()
-    judge_all(count, "Python", in_python, said_in_python)
-    if java.missing():
-        left_out.tell("the Java client", java.missing())
-    elif in_java:
         with java.driver("rendezvous.Compiles") as compiler:
-            judge_all(count, "Java", in_java, functools.partial(said_in_java, compiler))
+            self.judge_all("Java", self.named("Java", IN_JAVA), functools.partial(said_in_java, compiler))
 
+    def named(self, language: str, wrongs: Iterable[WrongClient]) -> list[tuple[str, Callable[..., object], object]]:
+        """The clients in one language that are to be tried, the right ones first: each with its name and what judges it."""
+        named: list[tuple[str, Callable[..., object], object]] = [
+            (f"a right client in {language}, {cases}", is_right, cases) for cases in RIGHT[language]]
+        named += [(f"a client in {language} that {wrong.does}", is_found, wrong) for wrong in wrongs]
+        return [each for each in named if self.fixture.wrong in each[0]]
 
-def wanted(count, language, wrongs):
-    """The clients in one language that are to be tried, the right ones first: each with its name and what judges it."""
-    named = [(f"a right client in {language}, {cases}", is_right, cases) for cases in RIGHT[language]]
-    named += [(f"a client in {language} that {wrong.does}", is_found, wrong) for wrong in wrongs]
-    return [each for each in named if count.wants(each[0])]
-
-
-def judge_all(count, language, named, said):
-    """Tries clients side by side, by what is said of them, since some of them wait long for what never comes."""
-    with concurrent.futures.ThreadPoolExecutor(AT_ONCE[language]) as pool:
-        tried = [(name, pool.submit(judge, said, given)) for name, judge, given in named]
-        for name, one in tried:
-            count.judge(name, one.result)
+    def judge_all(self, language: str, named: Iterable[tuple[str, Callable[..., object], object]], said: Said) -> None:
+        """Tries clients side by side, by what is said of them, since some of them wait long for what never comes."""
+        with concurrent.futures.ThreadPoolExecutor(AT_ONCE[language]) as pool:
+            tried = [(name, pool.submit(judge, said, given)) for name, judge, given in named]
+            for name, one in tried:
+                with self.subTest(name):
+                    one.result()

@@ -27,9 +27,9 @@ IN_PYTHON = [
         Edit(COURSE, LOST, SKIP % CALL_IS + LOST)]),
     WrongClient(OTHER_EPOCH, "test_refusals.Repeats.test_refusals_that_are_not_its_own", [
         Edit(MACHINE, 'if refusal["current"] <= machine.key.epoch:', 'if refusal["current"] < machine.key.epoch:')]),
-    WrongClient(UNMET_THOUGH_LOST, "table_cases, the python machine", [
+    WrongClient(UNMET_THOUGH_LOST, "clients.table_cases: the python machine", [
         Edit(MACHINE, "doubtful=machine.doubtful or machine.flying is Flying.REQUEST)", "doubtful=machine.doubtful)")]),
-    WrongClient(UNMET_THOUGH_HEARD, "table_cases, the python machine", [
+    WrongClient(UNMET_THOUGH_HEARD, "clients.table_cases: the python machine", [
         Edit(MACHINE, "accepted=True, full=False, doubtful=True)", "accepted=True, full=False)")]),
     WrongClient(UNMET_THOUGH_LOST + ", in its calls", "test_restarts.SomebodyMayHaveMetIt.test_it_is_not_known", [
         Edit(MACHINE, 'refusal["current"], not machine.doubtful))', 'refusal["current"], machine.out == 1))')]),
@@ -121,7 +121,7 @@ IN_PYTHON = [
         Edit(RECORD, "    record.check()\n", "")]),
     WrongClient("takes a wrong time for a right one", "test_words.Arguments.test_of_a_call", [
         Edit(CALLS, "if isinstance(seconds, bool) or not", "if not")]),
-    WrongClient(NO_PRESENCE, "presence, at the double", [
+    WrongClient(NO_PRESENCE, "clients.presence: at the double", [
         Edit(CALLS, "    if presence is None or not is_in_pieces(call, presence):", "    if True or presence is None:")]),
     WrongClient("gives its last piece more than is left", "test_presence.Pieces.test_a_time_of_its_own", [
         Edit(CALLS, "presence if left * 1000 >= presence else math.ceil(max(0.0, left) * 1000)}", "presence}")]),
@@ -220,11 +220,11 @@ IN_PYTHON = [
     WrongClient("drops what a call took that two exceptions ended",
                 "test_interrupts.Interrupts.test_a_close_after_two_exceptions", [
                     Edit(SESSION, '        self._collect("job")\n', "")]),
-    WrongClient(TELLS_WRONG, "crowds, at the double", [
+    WrongClient(TELLS_WRONG, "clients.crowds: at the double", [
         Edit(ENDINGS, "return outcome.item if", "return outcome.item[::-1] if")]),
     WrongClient(TELLS_WRONG + ", once", "test_record.Lines.test_each_reply", [
         Edit(ENDINGS, "return outcome.item if", "return outcome.item[1:] if")]),
-    WrongClient(NOTHING_GIVEN, "crowds, at the double", [
+    WrongClient(NOTHING_GIVEN, "clients.crowds: at the double", [
         Edit(ENDINGS, "isinstance(outcome, (replies.Item, replies.Swapped,", "isinstance(outcome, (replies.Swapped,")]),
     WrongClient("tells a receipt without its consumer", "test_record.Lines.test_each_reply", [
         Edit(ENDINGS, "return cast(Receipt, outcome)", "return Receipt(outcome.key)")]),

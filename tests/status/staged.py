@@ -1,38 +1,30 @@
-#!/usr/bin/env python3
 """Stages what goes wrong at a host, one after another: each must be told apart from the others by the status, by the metrics, and
 by the alerts of packaging/rv.rules.yml. By hand, since it takes some five minutes.
 
 The metrics are read once a second. Over them promtool evaluates the rules, in which a second stands for each minute; it says if
 promtool is missing, and compares the numbers that the rules name alone. Of each case a line tells its numbers.
-
-With --picture FILE it stages a busy host in place of that, for two minutes, and keeps a screenshot of its page.
-
-usage: tests/status/staged.py PROGRAM [--only WORDS] [--picture FILE]
 """
 from __future__ import annotations
 
-import argparse
 import contextlib
-import os
 import pathlib
 import resource
 import selectors
 import subprocess
-import sys
 import threading
 import time
+import unittest
 from collections.abc import Callable, Iterator
 
-sys.dont_write_bytecode, sys.path[0] = True, str(pathlib.Path(__file__).resolve().parents[2])
-from tests.clients import browser  # noqa: E402
-from tests.host import many  # noqa: E402
-from tests.host.hostile import DEAF_ITEM, KEPT, ask_and_never_read  # noqa: E402
-from tests.model.account import Key  # noqa: E402
-from tests.sockets.cases import Count  # noqa: E402
-from tests.sockets.programs import Caller  # noqa: E402
-from tests.sockets.wire import Peer, demand, frame, give, hello, replied, request, swap, take, until  # noqa: E402
-from tests.status.stages import DAY, GIGABYTE, Reading, Stage, lacking, staged  # noqa: E402
-from tests import left_out  # noqa: E402
+from tests.cases import Case, Scenario
+from tests.clients import browser
+from tests.host import many
+from tests.host.hostile import DEAF_ITEM, KEPT, ask_and_never_read
+from tests.model.account import Key
+from tests.sockets.programs import Caller
+from tests.sockets.wire import Peer, demand, frame, give, hello, replied, request, swap, take, until
+from tests.status.stages import DAY, GIGABYTE, Reading, Stage, lacking, staged
+from tests import left_out
 
 # Readings behind which each alert that has to last is raised, and those of an account's growth.
 LASTS, LONG = 25, 100
@@ -251,21 +243,16 @@ CASES: list[Callable[[str], str]] = [
     few_descriptors_at_the_start, descriptors_run_out_for_moments, descriptors_are_out, the_account_grows]
 
 
-def main() -> None:
-    parser = argparse.ArgumentParser(description=__doc__, formatter_class=argparse.RawDescriptionHelpFormatter)
-    parser.add_argument("program")
-    parser.add_argument("--only", default="", help="only the cases with these words in their name")
-    parser.add_argument("--picture", type=pathlib.Path, help="a screenshot of a busy host's page, in place of the cases")
-    asked = parser.parse_args()
-    if asked.picture:
-        picture(os.path.abspath(asked.program), asked.picture)
-        return
-    if lacking():
-        left_out.tell("what the rules raise", lacking())
-    count = Count(asked.only, True)
-    for case in CASES:
-        count.run(case.__name__.replace("_", " "), case, os.path.abspath(asked.program))
-    count.end()
+class Staged(unittest.TestSuite):
+    """Cases that compare the numbers alone where what evaluates the rules is missing, and tell that."""
+
+    def run(self, result: unittest.TestResult, debug: bool = False) -> unittest.TestResult:
+        why = lacking()
+        if why:
+            left_out.tell("what the rules raise", why)
+        return super().run(result, debug)
 
 
-main()
+def load_tests(_: unittest.TestLoader, __: unittest.TestSuite, ___: str | None) -> unittest.TestSuite:
+    """The cases, of `rv host`."""
+    return unittest.TestSuite([Staged([Scenario("status", case, Case.fixture.program) for case in CASES])])
