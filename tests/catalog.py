@@ -13,6 +13,7 @@ MODULES = [
     "commands.book",
     "commands.play",
     "commands.calls",
+    "commands.ends",
     "commands.bodies",
     "commands.rows",
     "commands.audits",

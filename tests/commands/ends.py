@@ -1,33 +1,26 @@
-#!/usr/bin/env python3
 """Runs `rv end` of the built program, on 127.0.0.1, against a status address and a server that are scripted here: which requests it
 ends, by which hellos, and what it prints, says and ends with.
 
-A server's status is looked at again until it has been looked through, so that a case takes some seconds: cases run side by side. No
-wait lasts longer than `PATIENCE` seconds.
-
-usage: tests/commands/ends.py PROGRAM
+A server's status is looked at again until it has been looked through, so that a case takes some seconds: cases run side by side.
 """
 from __future__ import annotations
 
-import concurrent.futures
 import contextlib
-import functools
 import json
-import os
-import pathlib
 import socket
 import struct
 import subprocess
-import sys
 import threading
 import time
-from collections.abc import Callable, Iterator
-from typing import Any, NamedTuple
+import unittest
+from collections.abc import Callable, Iterator, Sequence
+from concurrent.futures import ThreadPoolExecutor
+from typing import Any, List, NamedTuple
 
-sys.dont_write_bytecode, sys.path[0] = True, str(pathlib.Path(__file__).resolve().parents[2])
-from tests.sockets.programs import taken_port  # noqa: E402
+from tests.cases import Case, SideBySide
+from tests.names import cases_of
+from tests.sockets.programs import taken_port
 
-PROGRAM = os.path.abspath(sys.argv[1])
 PATIENCE = 120
 GREATEST = 9_007_199_254_740_991
 # The seconds that the scripted server has been up, and the age of a request that is to be ended, as milliseconds and as a word.
@@ -37,8 +30,8 @@ LONGEST, MOST = 4_194_304, 100
 # A reset instead of an end, where a socket is closed.
 RESET = struct.pack("ii", 1, 0)
 
-Row = list[Any]
-Answers = Callable[[int, dict[str, Any]], bytes]
+Row = List[Any]
+Answers = Callable[[int, "dict[str, Any]"], bytes]
 
 
 class Ran(NamedTuple):
@@ -49,20 +42,12 @@ class Ran(NamedTuple):
     status: int
 
 
-class Case(NamedTuple):
-    """What is judged: its name, what was found and what is wanted."""
-
-    name: str
-    found: object
-    wanted: object
-
-
 def row(client: int, since: int = UP * 1_000 - AGE, *, call: str = "take", at: int = 6, incarnation: int = 7, number: int = 1) -> Row:
     """The row of a request that has had no connection since this moment."""
     return [call, at, 0, client, incarnation, number, since]
 
 
-def status_text(rows: list[Row], clients: int = 1, **numbers: Any) -> bytes:
+def status_text(rows: object, clients: int = 1, **numbers: Any) -> bytes:
     """The text of a status with these rows."""
     told = {"rv_clients": clients, "rv_uptime_seconds": UP, **numbers}
     return json.dumps({"history": [], "numbers": told, "queues": [], "unheard": rows, "version": "1.2.3", "waiting": []}).encode()
@@ -158,94 +143,9 @@ class Server(Listener):
                     return
 
 
-def run(status: str, connect: str, older: str = OLDER, **streams: Any) -> Ran:
-    """Runs `rv end`."""
-    words = [PROGRAM, "end", "--status", status, "--connect", connect, "--older", older]
-    ran = subprocess.run(words, **{"stdout": subprocess.PIPE, "stderr": subprocess.PIPE, "timeout": PATIENCE, **streams})
-    return Ran((ran.stdout or b"").decode().split("\n")[:-1], ran.stderr.decode(), ran.returncode)
-
-
 def micros() -> int:
     """The wall clock's microseconds."""
     return time.time_ns() // 1_000
-
-
-def the_old_are_ended() -> Iterator[Case]:
-    """Those of the age and older are ended, in the order of the rows, over one connection; a younger one is not."""
-    now = UP * 1_000
-    rows = [row(2, now - AGE), row(3, now - AGE + 1), row(4, 0, call="transfer", at=0, incarnation=1, number=GREATEST),
-            row(5, now - 61_999, call="swap", at=63), row(1, 1)]
-    with Status(answered(status_text(rows))) as status, Server() as server:
-        began = micros()
-        ran = run(status.address, server.address)
-        ended = micros()
-        lines = ["2 7 1 take 6 60 ended", f"4 1 {GREATEST} transfer 0 1000 ended", "5 7 1 swap 63 62 ended", "1 7 1 take 6 1000 ended"]
-        yield Case("those of the age are ended", ran, Ran(lines, "", 0))
-        said = [(hello["kind"], hello["client"], hello["version"]) for hello in server.hellos]
-        yield Case("by hellos", said, [("hello", client, 2) for client in (2, 4, 5, 1)])
-        times = [began <= hello["incarnation"] <= ended for hello in server.hellos]
-        yield Case("in incarnations of the clock", times, [True] * 4)
-        yield Case("over one connection", server.came, 1)
-        request = f"GET /status.json HTTP/1.1\r\nHost: {status.address}\r\nConnection: close\r\n\r\n".encode()
-        yield Case("the request", set(status.asked), {request})
-
-
-def none_is_old() -> Iterator[Case]:
-    """Where none is old enough nothing is said or printed, and the status is looked at once."""
-    now = UP * 1_000
-    for name, rows, older in [("no request", [], OLDER), ("younger ones", [row(2, now - AGE + 1), row(3, now)], OLDER),
-                              ("a server that is younger", [row(2, 0)], "1001s"), ("a moment to come", [row(2, now + 1)], "0s")]:
-        with Status(answered(status_text(rows))) as status, Server() as server:
-            yield Case(name, (run(status.address, server.address, older), server.came, status.came), (Ran([], "", 0), 0, 1))
-
-
-def more_than_a_look_shows() -> Iterator[Case]:
-    """It goes on until no look shows another: over a hundred requests are ended, each once, also where one is still shown."""
-    looks = [[row(client) for client in range(first, first + MOST)] for first in (1, MOST + 1)]
-    last = [row(2 * MOST), row(2 * MOST + 1), row(2 * MOST + 1, number=2)]
-    answers = [answered(status_text(rows)) for rows in [*looks, [], last, []]]
-    with Status(*answers) as status, Server() as server:
-        ran = run(status.address, server.address)
-        lines = [f"{client} 7 1 take 6 60 ended" for client in range(1, 2 * MOST + 2)]
-        yield Case("over a hundred", ran, Ran([*lines, f"{2 * MOST + 1} 7 2 take 6 60 ended"], "", 0))
-        yield Case("over one connection", server.came, 1)
-
-
-def clients_are_looked_at_twice() -> Iterator[Case]:
-    """It looks on for as long as a server takes to look at each client twice, and once more."""
-    for clients, looks in [(1, 3), (2_559, 3), (2_560, 4), (7_680, 6)]:
-        with Status(answered(status_text([row(1)], clients))) as status, Server() as server:
-            yield Case(f"{clients} clients", (run(status.address, server.address).status, status.came), (0, looks))
-
-
-def what_comes_of_each() -> Iterator[Case]:
-    """A greater incarnation that is there, other refusals, and answers that say nothing; behind those the connection is another."""
-    foreign = welcome({"client": 9, "incarnation": 1, "version": 2})
-    answers = [refused(4, current=GREATEST), refused(9), refused(12, current=1), foreign, b"", b"\0\0", frame(b"{}"), frame(b"x")[:2],
-               refused(4, current=1)]
-    words = ["replaced %d" % GREATEST, "refused 9", "refused 12", *["no answer"] * 5, "replaced 1"]
-    rows = [row(client) for client in range(1, len(answers) + 1)]
-    with Status(answered(status_text(rows))) as status, Server(lambda number, _: answers[number]) as server:
-        ran = run(status.address, server.address)
-        yield Case("what comes of each", ran, Ran([f"{at} 7 1 take 6 60 {word}" for at, word in enumerate(words, 1)], "", 1))
-        yield Case("a new connection after no answer", server.came, 1 + words.count("no answer"))
-
-
-def all_replaced() -> Iterator[Case]:
-    """Where each was ended by another process all is well."""
-    with Status(answered(status_text([row(1), row(2)]))) as status, Server(lambda _, hello: refused(4, current=8)) as server:
-        ran = run(status.address, server.address)
-        yield Case("each was replaced", ran, Ran(["1 7 1 take 6 60 replaced 8", "2 7 1 take 6 60 replaced 8"], "", 0))
-
-
-def great_incarnations() -> Iterator[Case]:
-    """Beyond the clock the next one is taken, and beyond the greatest none is."""
-    rows = [row(1, incarnation=GREATEST - 2), row(2, incarnation=GREATEST - 1), row(3, incarnation=GREATEST)]
-    with Status(answered(status_text(rows))) as status, Server() as server:
-        lines = [f"1 {GREATEST - 2} 1 take 6 60 ended", f"2 {GREATEST - 1} 1 take 6 60 ended", f"3 {GREATEST} 1 take 6 60 kept"]
-        yield Case("great incarnations", run(status.address, server.address), Ran(lines, "", 1))
-        said = [(hello["client"], hello["incarnation"]) for hello in server.hellos]
-        yield Case("the next one, or none", said, [(1, GREATEST - 1), (2, GREATEST)])
 
 
 def spoilt_rows() -> Iterator[bytes]:
@@ -263,94 +163,164 @@ def spoilt_rows() -> Iterator[bytes]:
         yield text
 
 
-def no_status() -> Iterator[Case]:
-    """Whatever is no status of 200 ends the run before anything is said."""
-    good = status_text([row(1)])
-    answers = [b"", good, answered(good, "HTTP/1.1 404 Not Found"), answered(good, "HTTP/1.1 2000 OK"), answered(good, "HTTP/1.0 200 OK"),
-               answered(good).replace(b"\r\n\r\n", b"\r\n"), answered(good[:-1]), answered(good + b"}"), answered(b""), answered(b"\xff" + good),
-               answered(b"[" * 100_000), answered(good.replace(b"take", b"t\xffke"))]
-    for number, answer in enumerate([*answers, *map(answered, spoilt_rows())]):
-        with Status(answer) as status, Server() as server:
-            found = run(status.address, server.address), server.came
-            yield Case(f"no status, {number}: {answer[-40:]!r}", found, (Ran([], "status fault 5\n", 1), 0))
-
-
-def broken_status() -> Iterator[Case]:
-    """A status address that can't be reached, that breaks off, and that tells too much."""
-    with Server() as server:
-        with taken_port() as port:
-            yield Case("nobody tells", run(f"127.0.0.1:{port}", server.address), Ran([], "address fault\n", 1))
-        yield Case("no address", run("x", server.address), Ran([], "address fault\n", 1))
-        with Status(b"HTTP/1.1 200 OK\r\n", reset=True) as status:
-            yield Case("a reset", run(status.address, server.address), Ran([], "status fault 1\n", 1))
-        body = status_text([])
-        for more, wanted in [(0, Ran([], "", 0)), (1, Ran([], "status fault 4\n", 1))]:
-            whole = answered(body).replace(b"\r\n\r\n", b"\r\nx: \r\n\r\n")
-            long = whole.replace(b"x: ", b"x: " + b"a" * (LONGEST + more - len(whole)))
-            with Status(long) as status:
-                yield Case(f"an answer of {len(long)} bytes", run(status.address, server.address), wanted)
-        yield Case("nothing was said", server.came, 0)
-
-
-def no_server() -> Iterator[Case]:
-    """A server that can't be reached is told, and what was ended before stays printed."""
-    with Status(answered(status_text([row(1), row(2)]))) as status:
-        with taken_port() as port:
-            yield Case("nobody listens", run(status.address, f"127.0.0.1:{port}"), Ran([], "address fault\n", 1))
-        with Server() as server, open("/dev/full", "wb", buffering=0) as full:
-            yield Case("a full output", run(status.address, server.address, stdout=full), Ran([], "run fault 2\n", 1))
-
-
 # Words of an age, and the seconds since a start by which a request of the start has it.
 AGES = {"0ms": 0, "1ms": 1, "999ms": 1, "1001ms": 2, "1s": 1, "0060s": 60, "10m": 600, "24h": 86_400, "86400s": 86_400,
         "1440m": 86_400, "86400000ms": 86_400, "0000000000000000001s": 1}
 
 
-def an_age(older: str, age: int) -> Iterator[Case]:
-    """A request has an age that a word says from this second on."""
-    texts = [status_text([row(1, 0)], rv_uptime_seconds=second) for second in (age - 1, age) if second >= 0]
-    with Status(*map(answered, texts)) as status, Server() as server:
-        ran = [run(status.address, server.address, older) for _ in texts]
-    yield Case(f"an age of {older}", ran, [*[Ran([], "", 0)] * (len(texts) - 1), Ran([f"1 7 1 take 6 {age} ended"], "", 0)])
+class Ends(Case):
+    """What each expects is set beforehand. No wait lasts longer than `PATIENCE` seconds."""
+
+    def ran(self, words: Sequence[str], stdout: Any = subprocess.PIPE) -> Ran:
+        """Runs `rv end` with these words."""
+        ran = subprocess.run([self.program, "end", *words], stdout=stdout, stderr=subprocess.PIPE, timeout=PATIENCE)
+        return Ran((ran.stdout or b"").decode().split("\n")[:-1], ran.stderr.decode(), ran.returncode)
+
+    def ended(self, status: str, connect: str, older: str = OLDER, stdout: Any = subprocess.PIPE) -> Ran:
+        """Runs it with these addresses and this age."""
+        return self.ran(["--status", status, "--connect", connect, "--older", older], stdout)
+
+    def test_the_old_are_ended(self) -> None:
+        """Those of the age and older are ended, in the order of the rows, over one connection; a younger one is not."""
+        now = UP * 1_000
+        rows = [row(2, now - AGE), row(3, now - AGE + 1), row(4, 0, call="transfer", at=0, incarnation=1, number=GREATEST),
+                row(5, now - 61_999, call="swap", at=63), row(1, 1)]
+        with Status(answered(status_text(rows))) as status, Server() as server:
+            began = micros()
+            ran = self.ended(status.address, server.address)
+            ended = micros()
+            lines = ["2 7 1 take 6 60 ended", f"4 1 {GREATEST} transfer 0 1000 ended", "5 7 1 swap 63 62 ended", "1 7 1 take 6 1000 ended"]
+            self.check_equal("those of the age are ended", ran, Ran(lines, "", 0))
+            said = [(hello["kind"], hello["client"], hello["version"]) for hello in server.hellos]
+            self.check_equal("by hellos", said, [("hello", client, 2) for client in (2, 4, 5, 1)])
+            times = [began <= hello["incarnation"] <= ended for hello in server.hellos]
+            self.check_equal("in incarnations of the clock", times, [True] * 4)
+            self.check_equal("over one connection", server.came, 1)
+            request = f"GET /status.json HTTP/1.1\r\nHost: {status.address}\r\nConnection: close\r\n\r\n".encode()
+            self.check_equal("the request", set(status.asked), {request})
+
+    def test_none_is_old(self) -> None:
+        """Where none is old enough nothing is said or printed, and the status is looked at once."""
+        now = UP * 1_000
+        for name, rows, older in [("no request", [], OLDER), ("younger ones", [row(2, now - AGE + 1), row(3, now)], OLDER),
+                                  ("a server that is younger", [row(2, 0)], "1001s"), ("a moment to come", [row(2, now + 1)], "0s")]:
+            with Status(answered(status_text(rows))) as status, Server() as server:
+                found = self.ended(status.address, server.address, older), server.came, status.came
+                self.check_equal(name, found, (Ran([], "", 0), 0, 1))
+
+    def test_more_than_a_look_shows(self) -> None:
+        """It goes on until no look shows another: over a hundred requests are ended, each once, also where one is still shown."""
+        looks = [[row(client) for client in range(first, first + MOST)] for first in (1, MOST + 1)]
+        last = [row(2 * MOST), row(2 * MOST + 1), row(2 * MOST + 1, number=2)]
+        answers = [answered(status_text(rows)) for rows in [*looks, [], last, []]]
+        with Status(*answers) as status, Server() as server:
+            ran = self.ended(status.address, server.address)
+            lines = [f"{client} 7 1 take 6 60 ended" for client in range(1, 2 * MOST + 2)]
+            self.check_equal("over a hundred", ran, Ran([*lines, f"{2 * MOST + 1} 7 2 take 6 60 ended"], "", 0))
+            self.check_equal("over one connection", server.came, 1)
+
+    def test_clients_are_looked_at_twice(self) -> None:
+        """It looks on for as long as a server takes to look at each client twice, and once more."""
+        for clients, looks in [(1, 3), (2_559, 3), (2_560, 4), (7_680, 6)]:
+            with Status(answered(status_text([row(1)], clients))) as status, Server() as server:
+                self.check_equal(f"{clients} clients", (self.ended(status.address, server.address).status, status.came), (0, looks))
+
+    def test_what_comes_of_each(self) -> None:
+        """A greater incarnation that is there, other refusals, and answers that say nothing; behind those the connection is another."""
+        foreign = welcome({"client": 9, "incarnation": 1, "version": 2})
+        answers = [refused(4, current=GREATEST), refused(9), refused(12, current=1), foreign, b"", b"\0\0", frame(b"{}"), frame(b"x")[:2],
+                   refused(4, current=1)]
+        words = ["replaced %d" % GREATEST, "refused 9", "refused 12", *["no answer"] * 5, "replaced 1"]
+        rows = [row(client) for client in range(1, len(answers) + 1)]
+        with Status(answered(status_text(rows))) as status, Server(lambda number, _: answers[number]) as server:
+            ran = self.ended(status.address, server.address)
+            self.check_equal("what comes of each", ran, Ran([f"{at} 7 1 take 6 60 {word}" for at, word in enumerate(words, 1)], "", 1))
+            self.check_equal("a new connection after no answer", server.came, 1 + words.count("no answer"))
+
+    def test_all_replaced(self) -> None:
+        """Where each was ended by another process all is well."""
+        with Status(answered(status_text([row(1), row(2)]))) as status, Server(lambda _, hello: refused(4, current=8)) as server:
+            ran = self.ended(status.address, server.address)
+            self.check_equal("each was replaced", ran, Ran(["1 7 1 take 6 60 replaced 8", "2 7 1 take 6 60 replaced 8"], "", 0))
+
+    def test_great_incarnations(self) -> None:
+        """Beyond the clock the next one is taken, and beyond the greatest none is."""
+        rows = [row(1, incarnation=GREATEST - 2), row(2, incarnation=GREATEST - 1), row(3, incarnation=GREATEST)]
+        with Status(answered(status_text(rows))) as status, Server() as server:
+            lines = [f"1 {GREATEST - 2} 1 take 6 60 ended", f"2 {GREATEST - 1} 1 take 6 60 ended", f"3 {GREATEST} 1 take 6 60 kept"]
+            self.check_equal("great incarnations", self.ended(status.address, server.address), Ran(lines, "", 1))
+            said = [(hello["client"], hello["incarnation"]) for hello in server.hellos]
+            self.check_equal("the next one, or none", said, [(1, GREATEST - 1), (2, GREATEST)])
+
+    def test_no_status(self) -> None:
+        """Whatever is no status of 200 ends the run before anything is said."""
+        good = status_text([row(1)])
+        answers = [b"", good, answered(good, "HTTP/1.1 404 Not Found"), answered(good, "HTTP/1.1 2000 OK"),
+                   answered(good, "HTTP/1.0 200 OK"), answered(good).replace(b"\r\n\r\n", b"\r\n"), answered(good[:-1]),
+                   answered(good + b"}"), answered(b""), answered(b"\xff" + good), answered(b"[" * 100_000),
+                   answered(good.replace(b"take", b"t\xffke"))]
+        for number, answer in enumerate([*answers, *map(answered, spoilt_rows())]):
+            with Status(answer) as status, Server() as server:
+                found = self.ended(status.address, server.address), server.came
+                self.check_equal(f"no status, {number}: {answer[-40:]!r}", found, (Ran([], "status fault 5\n", 1), 0))
+
+    def test_broken_status(self) -> None:
+        """A status address that can't be reached, that breaks off, and that tells too much."""
+        with Server() as server:
+            with taken_port() as port:
+                self.check_equal("nobody tells", self.ended(f"127.0.0.1:{port}", server.address), Ran([], "address fault\n", 1))
+            self.check_equal("no address", self.ended("x", server.address), Ran([], "address fault\n", 1))
+            with Status(b"HTTP/1.1 200 OK\r\n", reset=True) as status:
+                self.check_equal("a reset", self.ended(status.address, server.address), Ran([], "status fault 1\n", 1))
+            body = status_text([])
+            for more, wanted in [(0, Ran([], "", 0)), (1, Ran([], "status fault 4\n", 1))]:
+                whole = answered(body).replace(b"\r\n\r\n", b"\r\nx: \r\n\r\n")
+                long = whole.replace(b"x: ", b"x: " + b"a" * (LONGEST + more - len(whole)))
+                with Status(long) as status:
+                    self.check_equal(f"an answer of {len(long)} bytes", self.ended(status.address, server.address), wanted)
+            self.check_equal("nothing was said", server.came, 0)
+
+    def test_no_server(self) -> None:
+        """A server that can't be reached is told, and what was ended before stays printed."""
+        with Status(answered(status_text([row(1), row(2)]))) as status:
+            with taken_port() as port:
+                self.check_equal("nobody listens", self.ended(status.address, f"127.0.0.1:{port}"), Ran([], "address fault\n", 1))
+            with Server() as server, open("/dev/full", "wb", buffering=0) as full:
+                self.check_equal("a full output", self.ended(status.address, server.address, stdout=full), Ran([], "run fault 2\n", 1))
+
+    def test_ages(self) -> None:
+        """A request has an age that a word says from this second on."""
+        with ThreadPoolExecutor(len(AGES)) as pool:
+            found = list(pool.map(self.around_an_age, AGES, AGES.values()))
+        for (older, age), ran in zip(AGES.items(), found):
+            before = [Ran([], "", 0)] if age else []
+            self.check_equal(f"an age of {older}", ran, [*before, Ran([f"1 7 1 take 6 {age} ended"], "", 0)])
+
+    def around_an_age(self, older: str, age: int) -> list[Ran]:
+        """What comes of a request of the start in the second before it has an age, where there is one, and in that in which it has."""
+        texts = [status_text([row(1, 0)], rv_uptime_seconds=second) for second in (age - 1, age) if second >= 0]
+        with Status(*map(answered, texts)) as status, Server() as server:
+            return [self.ended(status.address, server.address, older) for _ in texts]
+
+    def test_bad_words(self) -> None:
+        """Words that are none of it."""
+        bad = Ran([], "command fault 1\n", 2)
+        for older in ["", "60", "s", "60x", "60S", "60 s", " 60s", "60s ", "-1s", "+1s", "1.5s", "1e3s", "60sm", "60sms", "1s1", "ms", "25h",
+                      "1441m", "86401s", "86400001ms", "00000000000000000001s", "18446744073709551617s", "\u0661s", "60s\n"]:
+            self.check_equal(f"an age of {older!r}", self.ended("127.0.0.1:1", "127.0.0.1:1", older), bad)
+        whole = ["--status", "127.0.0.1:1", "--connect", "127.0.0.1:1", "--older", "60s"]
+        wrong: list[list[str]] = [
+            [], whole[2:], whole[:2] + whole[4:], whole[:4], [*whole, "x"], [*whole, *whole[:2]], [*whole, "--tries", "1"]]
+        for words in wrong:
+            self.check_equal(f"the words {words}", self.ran(words), bad)
 
 
-def bad_words() -> Iterator[Case]:
-    """Words that are none of it."""
-    bad = Ran([], "command fault 1\n", 2)
-    for older in ["", "60", "s", "60x", "60S", "60 s", " 60s", "60s ", "-1s", "+1s", "1.5s", "1e3s", "60sm", "60sms", "1s1", "ms", "25h",
-                  "1441m", "86401s", "86400001ms", "00000000000000000001s", "18446744073709551617s", "\u0661s", "60s\n"]:
-        yield Case(f"an age of {older!r}", run("127.0.0.1:1", "127.0.0.1:1", older), bad)
-    whole = ["--status", "127.0.0.1:1", "--connect", "127.0.0.1:1", "--older", "60s"]
-    for words in [[], whole[2:], whole[:2] + whole[4:], whole[:4], [*whole, "x"], [*whole, *whole[:2]], [*whole, "--tries", "1"]]:
-        ran = subprocess.run([PROGRAM, "end", *words], capture_output=True, timeout=PATIENCE)
-        yield Case(f"the words {words}", Ran(ran.stdout.decode().split("\n")[:-1], ran.stderr.decode(), ran.returncode), bad)
+class AtOnce(SideBySide):
+    """All of its cases at once, since they wait for the next look at a status."""
+
+    at_once = 16
 
 
-PARTS = [the_old_are_ended, none_is_old, more_than_a_look_shows, clients_are_looked_at_twice, what_comes_of_each, all_replaced,
-         great_incarnations, no_status, broken_status, no_server, bad_words,
-         *(functools.partial(an_age, older, age) for older, age in AGES.items())]
-
-
-def all_of(part: Callable[[], Iterator[Case]]) -> list[Case]:
-    """The cases of a part; one that went wrong is a case that fails."""
-    try:
-        return list(part())
-    except Exception as fault:  # noqa: BLE001: whatever it is, the others are told
-        return [Case(repr(part), repr(fault), "no fault")]
-
-
-def main() -> None:
-    """Runs all parts side by side, tells what came of each case, and ends."""
-    with concurrent.futures.ThreadPoolExecutor(len(PARTS)) as pool:
-        cases = [case for part in pool.map(all_of, PARTS) for case in part]
-    for case in cases:
-        print(f"{'ok' if case.found == case.wanted else 'FAILED'}: {case.name}")
-        if case.found != case.wanted:
-            print(f"  found  {case.found!r}\n  wanted {case.wanted!r}")
-    failed = sum(case.found != case.wanted for case in cases)
-    print(f"{len(cases) - failed} passed, {failed} failed")
-    sys.exit(failed > 0)
-
-
-if __name__ == "__main__":
-    main()
+def load_tests(_: unittest.TestLoader, suite: unittest.TestSuite, __: str | None) -> unittest.TestSuite:
+    """The cases, side by side."""
+    return AtOnce(cases_of(suite))
