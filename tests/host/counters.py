@@ -39,7 +39,7 @@ class Counting(HostileHost):
     def faults(self) -> Faults:
         """The faults that it counted, by kind; those that never came are left out."""
         named = ((FAULT.fullmatch(name), count) for name, count in numbers(self.status_port).items())
-        return {name[1]: count for name, count in named if name and count}
+        return {name[1]: int(count) for name, count in named if name and count}
 
     def counts(self, *wanted: Faults) -> None:
         """It comes to count one of these, and never another kind."""

@@ -152,7 +152,7 @@ def beside_many_who_send(program: str) -> None:
 
 def held_bytes(port: int) -> int:
     """How many bytes of connections a host holds."""
-    return numbers(port)["rv_buffer_bytes"]
+    return int(numbers(port)["rv_buffer_bytes"])
 
 
 def descriptors_are_spared(program: str) -> None:

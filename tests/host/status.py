@@ -7,6 +7,7 @@ import json
 import re
 import subprocess
 import time
+from typing import Any
 
 from tests.host.hostile import beside_a_good_client, one_that_waits, still_waits
 from tests.host.many import closing, connected, no_descriptors
@@ -261,14 +262,14 @@ def a_worked_scene(program: str) -> None:
         host.ended()
 
 
-def listed(port: int) -> list[list[object]]:
+def listed(port: int) -> list[list[Any]]:
     """The requests that no connection waits for, without their moments."""
     return [row[:2] + row[3:6] for row in unheard(port)]
 
 
-def unheard(port: int) -> list[list[int]]:
+def unheard(port: int) -> list[list[Any]]:
     """Their rows."""
-    return json.loads(page(port, "/status.json", JSON))["unheard"]
+    return list(json.loads(page(port, "/status.json", JSON))["unheard"])
 
 
 def a_moment_begins_anew(program: str) -> None:

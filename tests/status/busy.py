@@ -32,7 +32,7 @@ def history() -> List[List[int]]:
     return rows
 
 
-def waiting(count: int) -> List[List[object]]:
+def waiting(count: int) -> List[List[Any]]:
     """So many requests that wait, a second apart: call, queue or exchanger, milliseconds of the arrival, client, incarnation,
     number."""
     calls = ["take", "transfer", "swap"]
