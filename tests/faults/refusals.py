@@ -71,7 +71,7 @@ class Refusals(Case):
         built()
         self.folder = pathlib.Path(self.enterContext(tempfile.TemporaryDirectory(prefix="refusals-")))
 
-    def tests_of(self, crate: str) -> Tests:
+    def built_tests(self, crate: str) -> Tests:
         """The built tests of a crate."""
         tests = Tests(crate, self.folder)
         self.assertTrue(tests.program.exists(), f"{crate} has no built tests: rt ci makes them, and rt test")
@@ -93,13 +93,13 @@ class Refusals(Case):
         """Tests that hold whichever growth is refused."""
         for crate, held in HOLD.items():
             for name in held:
-                self.refuse_each(self.tests_of(crate), name)
+                self.refuse_each(self.built_tests(crate), name)
 
     def test_growths_alike(self) -> None:
         """Tests that ask for as many growths as each other, and for some."""
         for crate, pairs in ALIKE.items():
             for one, other in pairs:
                 with self.subTest(f"{crate} {one}, {other}"):
-                    first, second = (self.tests_of(crate).run(name).asked for name in (one, other))
+                    first, second = (self.built_tests(crate).run(name).asked for name in (one, other))
                     self.assertEqual(first, second)
                     self.assertTrue(first, "they ask for no memory")
