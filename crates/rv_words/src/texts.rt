@@ -39,7 +39,7 @@ const ABOUT: &[(&str, &str)] = &[
     ),
     (
         "record",
-        "The same, and append each request and its reply to a file: --to FILE, then the options of call",
+        "Do as call does, and append each request and its reply to a file: --to FILE, then its options",
     ),
     (
         "verify",
