@@ -1,11 +1,13 @@
 #!/usr/bin/env python3
 """Merges crates of a clone into others, each as modules of its neighbour, and renames crates and words. A tool for once.
 
-usage: merge.py TOP [--only SOURCE,..] [--without SOURCE,..] [--with SOURCE,..] [--words] [--crates] [--no-merges] [--list] [--no-format]
+usage: merge.py TOP [--only SOURCE,..] [--without SOURCE,..] [--with SOURCE,..] 
+                [--comments] [--words] [--crates] [--no-merges] [--list] [--no-format]
   TOP        a clone's top; its files are rewritten in place (git tells what changed)
   --only     just the merges of these source crates (default: all of MERGES, in their order)
   --without  all but these
   --with     also these of OPTIONAL
+  --comments first puts in the public comments of comments.json, beside this file
   --crates   also renames crates, by CRATES
   --words    also renames words, by WORDS and NAMES (after the merges); --no-merges: these alone
   --list     tells collisions and counts alone, and writes nothing
@@ -15,6 +17,7 @@ Each merge goes on from the tree that the one before left, so a crate may be mer
 import argparse
 import collections
 import dataclasses
+import json
 import pathlib
 import re
 import shutil
@@ -92,9 +95,9 @@ MERGES = [
     Merge("rv_inspect", "rv_run", folder="inspect", lemmas="OfInspect"),
 ]
 
-# Merges that are made only where --with names them: what they cost is measured first.
-# rv_waiters goes into rv_open only without `rv_open`: the three are more lines than a crate may have.
-OPTIONAL = {"rv_waiters"}
+# Merges that are made only where --with names them. rv_waiters goes into rv_open only without `rv_open`: the three are more lines
+# than a crate may have. So are rv_status and either of rv_log and rv_survey (2,286, 282 and 321).
+OPTIONAL = {"rv_waiters", "rv_log", "rv_survey"}
 
 # New names of crates, which begin with their layer's word.
 CRATES = {
@@ -109,11 +112,12 @@ SECTIONS = [
     ("The model: sessions, queues, accounts, their rules, and the state on which a future hangs",
      ["rv_session", "rv_dual", "rv_swap", "rv_due", "rv_account", "rv_rules", "rv_state"]),
     ("The core: what waits, the machine, and the book", ["rv_waiters", "rv_open", "rv_machine", "rv_book", "rv_lines"]),
-    ("Servers: connections, the hub, and what stands between it and sockets",
-     ["rv_wires", "rv_desk", "rv_hub", "rv_engine", "rv_traffic", "rv_status", "rv_server"]),
-    ("Clients, and worlds of both", ["rv_client", "rv_world", "rv_onward"]),
     ("Audit and verify", ["rv_audit", "rv_follow", "rv_replies", "rv_verify"]),
-    ("Programs", ["rv_words", "rv_run", "rv_host", "rv_app", "rv_steps", "rv_tests"]),
+    ("Servers: connections, the hub, and what stands between it and sockets",
+     ["rv_wires", "rv_desk", "rv_hub", "rv_engine", "rv_traffic", "rv_log", "rv_status", "rv_survey",
+      "rv_server"]),
+    ("Clients, and worlds of both", ["rv_client", "rv_world", "rv_onward"]),
+    ("Programs", ["rv_words", "rv_run", "rv_end", "rv_host", "rv_app", "rv_steps", "rv_tests"]),
 ]
 
 
@@ -167,17 +171,18 @@ NAMES = [("HubDesk", "Dispatcher", SERVERS), ("HearsOf", "SubscribesTo", SERVERS
 
 # What the tools have to know of folders of modules: a file, a text in it, and the new one.
 PATCHES = [
-    ("docs/PROVING.md", "or a large crate is cut (rv_world above rv_world).", "or a large crate is cut."),
+    ("docs/PROVING.md", "or cut a large crate (rv_world above rv_world);", "or cut a large crate;"),
     ("docs/PROVING.md", "- `yes` and `no` in patterns are constructors.",
      "- Of a module with a folder, as `src/resume` of rv_state: its definitions stand in `specs/resume`, which `specs/resume.antt`\n"
      "  lists; its lemmas in a folder with a name of its own, `proofs/Resumed`, since `proofs/resume` has its functions' answers.\n"
      "  `proofs/Resumed.antt` lists them by `pub mod`: what it lists by `mod` can't be named in those answers.\n"
      "- `yes` and `no` in patterns are constructors."),
-    ("CONTRIBUTING.md", "rv_state `After`, rv_state `SuitsCall` and rv_machine `reply_alone`",
-     "rv_state `After` and `SuitsCall`, and rv_machine `reply_alone`"),
+    ("CONTRIBUTING.md", "rv_state\n`After`, rv_state `SuitsCall` and rv_machine `reply_alone`",
+     "rv_state\n`After` and `SuitsCall`, and rv_machine `reply_alone`"),
     ("tools/docs.py", 'BESIDE = ("src/laws.rt", "src/testing.rt")', 'BESIDE = re.compile(r"src/(?:\\w+/)*(?:laws|testing)\\.rt:")'),
     ("tools/docs.py", "not at.startswith(BESIDE)", "not BESIDE.match(at)"),
-    ("tools/docs.py", 'ROOT.glob("crates/*/src/laws.rt")', 'ROOT.glob("crates/*/src/**/laws.rt")'),
+    ("tools/docs.py", '(path.parts[-3], law) for path in ROOT.glob("crates/*/src/laws.rt")',
+     '(path.relative_to(ROOT).parts[1], law) for path in ROOT.glob("crates/*/src/**/laws.rt")'),
     ("tools/docs.py", 'ROOT.glob("crates/*/src/*.rt")', 'ROOT.glob("crates/*/src/**/*.rt")'),
     ("tools/docs.py", r'r"\w+::shared::Shared\w*::lock"', r'r"\w+::locked::(?:shared::)?Shared\w*::lock"'),
     ("tools/edit_files.py", 'if beside and len(modules) == 1 and not re.search', 'if beside and not re.search'),
@@ -219,7 +224,7 @@ class Tree:
     @staticmethod
     def counts(name):
         first = name.split("/")[0]
-        return (first in ("crates", "crates.txt") or first in OUTSIDE) and pathlib.PurePath(name).suffix in TEXTS
+        return not name.startswith("tools/layers/") and (first in ("crates", "crates.txt") or first in OUTSIDE) and pathlib.PurePath(name).suffix in TEXTS
 
     def under(self, folder):
         return [name for name in self.texts if name.startswith(folder + "/")]
@@ -877,10 +882,20 @@ def outside_quotes(text, put):
     return "".join([*pieces, put(text[at:])])
 
 
+def links(tree, moved):
+    """Links of documents and paths in tools to files of crates that have a new name."""
+    short = {old.removeprefix("crates/"): to.removeprefix("crates/") for old, to in moved.items() if old != to}
+    if short:
+        pattern = re.compile("|".join(re.escape(old) for old in sorted(short, key=len, reverse=True)))
+        for name, text in tree.texts.items():
+            if name.endswith((".md", ".py")):
+                tree.texts[name] = pattern.sub(lambda found: short[found[0]], text)
+
+
 def reword(tree, told):
     """The words of WORDS and the names of NAMES, in texts and in the names of files."""
     identifier = re.compile(r"[A-Za-z_][A-Za-z0-9_]*")
-    counts, clashes, new = collections.Counter(), collections.Counter(), {}
+    counts, clashes, new, moved = collections.Counter(), collections.Counter(), {}, {}
     for name, text in tree.texts.items():
         crate = tree.crate_of(name)
         is_code = name.endswith((".rt", ".antt", ".edit")) and crate
@@ -907,8 +922,9 @@ def reword(tree, told):
             to = "/".join([head, *(put(part) for part in tail)])
         if to in new:
             told.append(f"OVERWRITTEN {name} -> {to}")
-        new[to] = fresh
+        new[to], moved[name] = fresh, to
     tree.texts = new
+    links(tree, moved)
     told += [f"WORD {word}: {count}" for word, count in counts.most_common()]
     told += [f"CLASH {clash}" for clash in sorted(clashes)]
     widths(tree, told)
@@ -988,12 +1004,35 @@ def crates_page(tree):
     tree.texts["crates/README.md"] = "\n".join(lines) + "\n"
 
 
+def out_of_order(tree):
+    """Crates that crates.txt has before one on which they stand."""
+    seen, names = set(), set(re.findall(r"^(\w+)[^#:\n]*:", tree.texts["crates.txt"], re.M))
+    for line in tree.texts["crates.txt"].split("\n"):
+        head, mark, rest = line.partition(":")
+        if mark and not line.startswith("#"):
+            seen.add(head.split()[0])
+            late = [dep for dep in rest.split() if dep in names - seen]
+            if late:
+                yield f"{head.split()[0]} stands before {', '.join(late)}"
+
+
+def put_comments(tree, told):
+    """The public comments of comments.json, each where its old text stands once."""
+    for found in json.loads((pathlib.Path(__file__).parent / "comments.json").read_text(encoding="utf-8")):
+        text = tree.texts.get(found["file"], "")
+        if text.count(found["old"]) == 1:
+            tree.texts[found["file"]] = text.replace(found["old"], found["new"])
+        else:
+            told.append(f"COMMENT {found['file']}: {found['old'][:100]!r} stands {text.count(found['old'])} times")
+
+
 def main():
     parser = argparse.ArgumentParser(description=__doc__, formatter_class=argparse.RawDescriptionHelpFormatter)
     parser.add_argument("top", type=pathlib.Path)
     parser.add_argument("--only", default="")
     parser.add_argument("--without", default="")
     parser.add_argument("--with", default="", dest="optional")
+    parser.add_argument("--comments", action="store_true")
     parser.add_argument("--crates", action="store_true")
     parser.add_argument("--words", action="store_true")
     parser.add_argument("--no-merges", action="store_true")
@@ -1005,6 +1044,8 @@ def main():
     tree, told = Tree(words.top.resolve()), []
     done = [merge for merge in MERGES if (not only or merge.source in only) and merge.source not in without]
     done = [] if words.no_merges else done
+    if words.comments:
+        put_comments(tree, told)
     for merge in done:
         apply(tree, merge, told)
     if words.words:
@@ -1023,6 +1064,7 @@ def main():
         widths(tree, told)
         if "crates/README.md" in tree.texts:
             crates_page(tree)
+    told += [f"ORDER {line}" for line in out_of_order(tree)]
     told += [f"EDIT {line}" for line in bad_edits(tree)]
     told += [f"TWICE {line}" for line in declared_twice(tree)]
     told += [f"LEFT {line}" for line in left(tree, [merge.source for merge in done])] if done else []
