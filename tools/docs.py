@@ -53,8 +53,8 @@ SAME = {"MAX_EXCHANGER": "MAX_QUEUE"}
 KINDS = ("must-fail", "edits", "test-edits")
 # Crates of tests and measurements, files of laws and of devices for tests, and what has no other body than its own.
 TESTS = ("rv_tests", "rv_steps")
-BESIDE = ("src/laws.rt", "src/testing.rt")
-NO_WRONG_BODY = (r"\w+::swap::Swap\w*::new", r"\w+::waiters::Waiters\w*::empty", r"\w+::shared::Shared\w*::lock",
+BESIDE = re.compile(r"src/(?:\w+/)*(?:laws|testing)\.rt:")
+NO_WRONG_BODY = (r"\w+::swap::Swap\w*::new", r"\w+::waiters::Waiters\w*::empty", r"\w+::locked::(?:shared::)?Shared\w*::lock",
                  r"\w+::account::Account\w*::allocator", r"\w+::\w+::Verifier\w*::machine", r"\w+::records::Records\w*::new",
                  r"\w+::desk::HubDesk\w*::machine", r"\w+::desk::HubDesk\w*::wires",
                  r"\w+::hub::Hub\w*::machine", r"\w+::engine::Engine\w*::hub",
@@ -245,7 +245,7 @@ def refusals():
 def laws():
     """MODEL names each law of the code, and no other; `.._end` is each law of its crate that ends so."""
     told = {pair for item in items(MODEL, "Laws") for pair in named(item)}
-    standing = {(path.parts[-3], law) for path in ROOT.glob("crates/*/src/laws.rt")
+    standing = {(path.relative_to(ROOT).parts[1], law) for path in ROOT.glob("crates/*/src/**/laws.rt")
                 for law in re.findall(r"^pub fn (\w+)", path.read_text(), re.M)}
     families = {(crate, name[2:]) for crate, name in told if name.startswith("..")}
     for crate, law in sorted(standing):
@@ -300,7 +300,7 @@ def functions():
         changed = {pattern.pattern for edit in proved if not edit.wrong for pattern in edit.functions() if pattern}
         for at, pattern in public_functions(folder).items():
             name = f"{folder.name}, {at}"
-            if folder.name not in TESTS and not at.startswith(BESIDE) and pattern.pattern not in NO_WRONG_BODY:
+            if folder.name not in TESTS and not BESIDE.match(at) and pattern.pattern not in NO_WRONG_BODY:
                 check(pattern.pattern in changed, f"{name}: no edit is in this public function")
 
 
@@ -373,7 +373,7 @@ def limits():
 def standing():
     """No page says what is to come, and each command that a page names is there."""
     targets = set(re.findall(r"^([\w-]+):", (ROOT / "Makefile").read_text(), re.M))
-    sources = [path.read_text() for path in ROOT.glob("crates/*/src/*.rt")]
+    sources = [path.read_text() for path in ROOT.glob("crates/*/src/**/*.rt")]
     runs = {word for source in sources for word in re.findall(r"^ */// `rv (\w+)", source, re.M)}
     for path in documents():
         text = path.read_text()
@@ -516,7 +516,7 @@ def versions():
     for name, form in [("python/src/rendezvous/__init__.py", r'^__version__ = "(.+)"$'),
                        ("java/src/main/java/rendezvous/RvClients.java", r'^    public static final String VERSION = "(.+)";$'),
                        ("java/pom.xml", r"^  <version>(.+)</version>$"),
-                       ("../crates/rv_options/src/version.rt", r'^pub const VERSION: &str = "(.+)";$')]:
+                       ("../crates/rv_words/src/options/version.rt", r'^pub const VERSION: &str = "(.+)";$')]:
         told[name] = re.findall(form, (ROOT / "clients" / name).read_text(), re.M)
     found = list(told.values())
     check(len(found[0]) == 1 and all(each == found[0] for each in found), f"there are more versions than one: {told}")

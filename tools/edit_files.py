@@ -86,8 +86,8 @@ def function_at(text, old, path, last=False):
             break
     # the prover names a method by the module of its type, which may be one above this file's, or one beside it
     above = "".join(f"(?:{part}::)?" if owner and index else f"{part}::" for index, part in enumerate(modules))
-    if beside and len(modules) == 1 and not re.search(rf"\b(?:struct|enum|trait) {beside}\b", text):
-        above = r"\w+::"
+    if beside and not re.search(rf"\b(?:struct|enum|trait) {beside}\b", text):
+        above = "".join(f"{part}::" for part in modules[:-1]) + (r"(?:\w+::)?" if modules[1:] else r"\w+::")
     return re.compile(rf"\w+::{above}{owner}{name}") if name else None
 
 

@@ -242,7 +242,7 @@ def crates_of(program):
 
 def the_progress_of_an_installation(_):
     """While crates are proved, each that ends is told, with how many there are; what went wrong is told behind them."""
-    count, names = len(crates_of("rv_app")), ["rv_item", "rv_text", "rv_machine", "rv_desk", "rv_world"]
+    count, names = len(crates_of("rv_app")), ["rv_json", "rv_text", "rv_machine", "rv_hub", "rv_world"]
     said = ("case $1 in version) echo stand-in;; run) echo it broke; exit 1;;\n"
             f"all) for crate in {' '.join(names)} rv_tests; do echo == $crate; done;; esac\n")
     with tempfile.TemporaryDirectory(prefix="rv-build-") as name:

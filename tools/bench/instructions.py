@@ -35,7 +35,7 @@ PARTS = {
             "rv_json::value", "rv_json::members", "rv_json::body", "rv_json::flat", "rv_json::scan", "rv_json::serde_json",
         "serde_json", "json::index"),
     "step: the machine and the book": (
-        "rv_book", "rv_machine", "rv_kept", "rv_recall", "rv_open", "rv_session", "rv_text::answer",
+        "rv_book", "rv_machine", "rv_session", "rv_text::answer",
         "rv_text::call"),
     "write: answer to text": ("rv_text::encode", "rv_json::writer", "json::write"),
     "print: output": ("rv_run::output", "rv_frame::sink"),

@@ -5,8 +5,8 @@ use Rattle.std.proofs.Common.{append_assoc, arith, false, true, inl, inr, length
 use Rattle.std.proofs.Common.{IfSome, None}
 use Rattle.std.proofs.lemmas.Bool.{cases_lt}
 use Rattle.std.proofs.lemmas.List.{take-append-le}
-use Rattle.rv_findings.specs.declared.verdict.AccountFinding.{AccountFinding}
-use Rattle.rv_findings.specs.declared.verdict.AccountVerdict.TheVariants as verdict
+use Rattle.rv_replies.specs.declared.findings.verdict.AccountFinding.{AccountFinding}
+use Rattle.rv_replies.specs.declared.findings.verdict.AccountVerdict.TheVariants as verdict
 use Rattle.rv_lines.specs.Lines.{lines}
 use Rattle.rv_replies.specs.declared.records.Records.{Records}
 use Rattle.rv_verify.specs.Ends.{AreWholeLines}

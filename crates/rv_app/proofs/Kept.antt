@@ -6,12 +6,13 @@ use Rattle.std.specs.List.{All, AllZip}
 use Rattle.std.proofs.lemmas.List.{take_all}
 use Rattle.std.proofs.lemmas.List.Elements.{All-cons, All-nil}
 use Rattle.rv_account.specs.Account.{Account}
-use Rattle.rv_breaking.specs.declared.rule.Rule.{Rule}
-use Rattle.rv_findings.specs.Statuses.{status_by}
-use Rattle.rv_findings.specs.declared.verdict.AccountVerdict.{AccountVerdict}
-use Rattle.rv_findings.specs.declared.verdict.AccountVerdict.TheVariants.{BadLine, BeyondLimits, Fault}
-use Rattle.rv_findings.specs.declared.verdict.AccountVerdict.TheVariants.{Legal as LegalSoFar, NotOpen}
-use Rattle.rv_inspect.specs.Statuses.{IsKeptBeside, IsLineKept}
+use Rattle.rv_audit.specs.declared.rule.Rule.{Rule}
+use Rattle.rv_replies.specs.findings.Statuses.{status_by}
+use Rattle.rv_replies.specs.declared.findings.verdict.AccountVerdict.{AccountVerdict}
+use Rattle.rv_replies.specs.declared.findings.verdict.AccountVerdict.TheVariants.{BadLine, BeyondLimits}
+use Rattle.rv_replies.specs.declared.findings.verdict.AccountVerdict.TheVariants.{Fault, Legal as LegalSoFar}
+use Rattle.rv_replies.specs.declared.findings.verdict.AccountVerdict.TheVariants.{NotOpen}
+use Rattle.rv_run.specs.inspect.Statuses.{IsKeptBeside, IsLineKept}
 use Rattle.rv_lines.specs.Lines.{lines}
 use Rattle.rv_replies.specs.Standing.{HasNoted, IsRecordLine}
 use Rattle.rv_replies.specs.declared.records.Line.{Line}

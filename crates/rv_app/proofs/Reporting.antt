@@ -1,10 +1,10 @@
 -- What is told of a finding is told of what that is.
 use Rattle.std.proofs.Common.{◌≡◌, ℕ, List, Err, IfErr, IfOk, Ok, OnOk, Option, Result, inl, inr, refl}
-use Rattle.rv_breaking.specs.declared.rule.Rule.{Rule}
-use Rattle.rv_findings.specs.declared.verdict.AccountFinding.{AccountFinding}
+use Rattle.rv_audit.specs.declared.rule.Rule.{Rule}
+use Rattle.rv_replies.specs.declared.findings.verdict.AccountFinding.{AccountFinding}
 use Rattle.rv_frame.specs.declared.sink.Sink.{Sink}
-use Rattle.rv_inspect.specs.Report.{BeginsReport, IsReport, StopsTaking, TookLines}
-use Rattle.rv_inspect.specs.Statuses.{TellsFound}
+use Rattle.rv_run.specs.inspect.Report.{BeginsReport, IsReport, StopsTaking, TookLines}
+use Rattle.rv_run.specs.inspect.Statuses.{TellsFound}
 use Rattle.rv_replies.specs.declared.records.Records.{Records}
 use Rattle.rv_run.specs.declared.fault.RunFault.{RunFault}
 use Rattle.rv_app.specs.Verifying.{IsRuleOf, Reports, StopsReporting}

@@ -2,12 +2,12 @@
 use Rattle.std.specs.Prelude.{ℕ, ◌⊎◌, List, Option, Some}
 use Rattle.std.specs.List.{All, AllZip}
 use Rattle.rv_account.specs.Account.{Account}
-use Rattle.rv_breaking.specs.declared.rule.Rule.{Rule}
-use Rattle.rv_findings.specs.Findings.{IsFinding}
-use Rattle.rv_findings.specs.declared.findings.Finding.TheVariants.{Kept, KeptUnseen}
-use Rattle.rv_findings.specs.declared.findings.Told.{Told}
-use Rattle.rv_findings.specs.declared.verdict.AccountFinding.{AccountFinding}
-use Rattle.rv_inspect.specs.Statuses.{TellsFound}
+use Rattle.rv_audit.specs.declared.rule.Rule.{Rule}
+use Rattle.rv_replies.specs.findings.Findings.{IsFinding}
+use Rattle.rv_replies.specs.declared.findings.Finding.TheVariants.{Kept, KeptUnseen}
+use Rattle.rv_replies.specs.declared.findings.Told.{Told}
+use Rattle.rv_replies.specs.declared.findings.verdict.AccountFinding.{AccountFinding}
+use Rattle.rv_run.specs.inspect.Statuses.{TellsFound}
 use Rattle.rv_lines.specs.Lines.{lines}
 use Rattle.rv_replies.specs.Lines.{ReadsTold}
 use Rattle.rv_replies.specs.Standing.{IsRecordLine}

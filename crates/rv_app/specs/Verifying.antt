@@ -1,13 +1,13 @@
 -- What `rv verify` tells of the bytes of an input and of a record beside it.
 use Rattle.std.specs.Prelude.{◌≡◌, ◌≢◌, ◌⊎◌, ◌-◌, ◌++◌, true, false, Bool, ℕ, List, None, Option, Some}
 use Rattle.std.specs.Prelude.{IsSome, length}
-use Rattle.rv_breaking.specs.declared.rule.Rule.{Rule}
-use Rattle.rv_findings.specs.declared.verdict.AccountFinding.{AccountFinding}
-use Rattle.rv_findings.specs.declared.verdict.AccountVerdict.{AccountVerdict}
-use Rattle.rv_findings.specs.declared.verdict.AccountVerdict.TheVariants as verdict
+use Rattle.rv_audit.specs.declared.rule.Rule.{Rule}
+use Rattle.rv_replies.specs.declared.findings.verdict.AccountFinding.{AccountFinding}
+use Rattle.rv_replies.specs.declared.findings.verdict.AccountVerdict.{AccountVerdict}
+use Rattle.rv_replies.specs.declared.findings.verdict.AccountVerdict.TheVariants as verdict
 use Rattle.rv_frame.specs.declared.sink.Sink.{Sink}
-use Rattle.rv_inspect.specs.Report.{BeginsReport, IsReport, StopsTaking, TookLines}
-use Rattle.rv_inspect.specs.Statuses.{TellsFound}
+use Rattle.rv_run.specs.inspect.Report.{BeginsReport, IsReport, StopsTaking, TookLines}
+use Rattle.rv_run.specs.inspect.Statuses.{TellsFound}
 use Rattle.rv_lines.specs.Lines.{lines}
 use Rattle.rv_replies.specs.declared.records.Records.{Records}
 use Rattle.rv_run.specs.declared.fault.RunFault.{RunFault}

@@ -1,8 +1,8 @@
 //! The faults that end the program with a line on standard error.
-use rv_command::CommandFault;
 use rv_end::StatusFault;
 use rv_run::RunFault;
 use rv_server::ServeFault;
+use rv_words::command::CommandFault;
 use thiserror::Error;
 
 /// The reason why the program ends before its command is done.

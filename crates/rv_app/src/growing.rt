@@ -5,8 +5,8 @@ ghost use Rattle.rv_app.specs.Verifying.{EndsAtFault};
 ghost use Rattle.rv_verify.specs.Stages.{AreNew};
 
 use crate::verify::{buffered, run_fault};
-use rv_findings::AccountFinding;
 use rv_replies::Records;
+use rv_replies::findings::AccountFinding;
 use rv_run::RunFault;
 use rv_verify::{OngoingAudit, Pause};
 use std::io::Read;

@@ -1,7 +1,7 @@
 //! Tells on a terminal how far a reading is.
 ghost use Rattle.std.specs.Prelude.{◌≡◌};
 
-use rv_inspect::progress_text;
+use rv_run::inspect::progress_text;
 use std::io;
 use std::io::{IsTerminal, Read};
 use std::time::Instant;

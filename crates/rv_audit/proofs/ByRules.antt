@@ -1,16 +1,16 @@
 -- An account is legal exactly where no rule is broken at any place, and an audit tells one thing of it.
-use Rattle.rv_breaking.proofs.Words.{◌≡◌, ◌<◌, ◌∙◌, inl, inr, ℕ, zero, suc, List, Some, refl, sym, ap}
-use Rattle.rv_breaking.proofs.Words.{subst, arith, slice_get, cases_lt, Entry, Account, before, Legal}
-use Rattle.rv_breaking.proofs.Words.{MayFollow, read_whole}
+use Rattle.rv_audit.proofs.Words.{◌≡◌, ◌<◌, ◌∙◌, inl, inr, ℕ, zero, suc, List, Some, refl, sym, ap}
+use Rattle.rv_audit.proofs.Words.{subst, arith, slice_get, cases_lt, Entry, Account, before, Legal}
+use Rattle.rv_audit.proofs.Words.{MayFollow, read_whole}
 use Rattle.std.proofs.lemmas.Bool.{cases_order}
 use Rattle.std.proofs.lemmas.List.{take-take}
 use Rattle.rv_rules.proofs.Fronts.{Legal-before}
-use Rattle.rv_breaking.specs.declared.rule.Rule.{Rule}
-use Rattle.rv_breaking.specs.Breaking.{rank_of}
+use Rattle.rv_audit.specs.declared.rule.Rule.{Rule}
+use Rattle.rv_audit.specs.Breaking.{rank_of}
 use Rattle.rv_audit.specs.Faults.{FirstFault, KeepsRules}
 use Rattle.rv_audit.specs.Laws.{LegalByRules, OneAudit}
-use Rattle.rv_breaking.proofs.RulesKept.{breaks_nothing}
-use Rattle.rv_breaking.proofs.RulesSuffice.{may_follow}
+use Rattle.rv_audit.proofs.RulesKept.{breaks_nothing}
+use Rattle.rv_audit.proofs.RulesSuffice.{may_follow}
 use Rattle.rv_audit.specs.declared.outcome.Audit.TheVariants as tells
 
 pub keeps_rules : (a : Account) → Legal a → (place : ℕ) → KeepsRules a place

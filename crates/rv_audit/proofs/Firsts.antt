@@ -1,18 +1,18 @@
 -- From the first rule that an entry breaks to an account's first fault.
 use Rattle.rv_audit.proofs.ByRules.{keeps_rules}
-use Rattle.rv_breaking.proofs.Words.{◌≡◌, ◌<◌, ◌∷◌, ◌∙◌, ℕ, zero, suc, List, [], length, take, Some}
-use Rattle.rv_breaking.proofs.Words.{None, refl, sym, ap, subst, arith, slice_get, none-some}
-use Rattle.rv_breaking.proofs.Words.{same_Some, Entry, Account, Legal, before, BreaksBehind, IsFront}
-use Rattle.rv_breaking.proofs.Words.{passed_account}
+use Rattle.rv_audit.proofs.Words.{◌≡◌, ◌<◌, ◌∷◌, ◌∙◌, ℕ, zero, suc, List, [], length, take, Some}
+use Rattle.rv_audit.proofs.Words.{None, refl, sym, ap, subst, arith, slice_get, none-some}
+use Rattle.rv_audit.proofs.Words.{same_Some, Entry, Account, Legal, before, BreaksBehind, IsFront}
+use Rattle.rv_audit.proofs.Words.{passed_account}
 use Rattle.std.proofs.lemmas.List.{take-take}
 use Rattle.rv_account.specs.Account.{Stored}
 use Rattle.rv_rules.proofs.Places.{get-take}
-use Rattle.rv_breaking.specs.declared.front.Front.{Front}
-use Rattle.rv_breaking.specs.declared.rule.Rule.{Rule}
-use Rattle.rv_breaking.specs.Breaking.{BreaksFirst, BreaksNone}
-use Rattle.rv_breaking.specs.Passed.{MayPass}
+use Rattle.rv_audit.specs.declared.front.Front.{Front}
+use Rattle.rv_audit.specs.declared.rule.Rule.{Rule}
+use Rattle.rv_audit.specs.Breaking.{BreaksFirst, BreaksNone}
+use Rattle.rv_audit.specs.Passed.{MayPass}
 use Rattle.rv_audit.specs.Faults.{FirstFault, KeepsRules}
-use Rattle.rv_breaking.proofs.RulesSuffice.{may_follow}
+use Rattle.rv_audit.proofs.RulesSuffice.{may_follow}
 use Rattle.rv_audit.specs.declared.outcome.Audit.TheVariants as tells
 
 -- ---- one place after the other

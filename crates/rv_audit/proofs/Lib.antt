@@ -1,2 +1,13 @@
 pub mod ByRules
 pub mod Firsts
+pub mod Words
+pub mod Pairs
+pub mod Beside
+pub mod Closing
+pub mod Saying
+pub mod Audited
+pub mod Passing
+pub mod Named
+pub mod RulesKept
+pub mod RulesSuffice
+pub mod Telling

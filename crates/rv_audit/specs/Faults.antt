@@ -3,8 +3,8 @@ use Rattle.std.specs.Prelude.{◌≡◌, ◌<◌, ℕ, Some, slice_get}
 use Rattle.rv_account.specs.declared.entry.Entry.{Entry}
 use Rattle.rv_account.specs.Account.{Account}
 use Rattle.rv_rules.specs.Legal.{Legal, before}
-use Rattle.rv_breaking.specs.declared.rule.Rule.{Rule}
-use Rattle.rv_breaking.specs.Breaking.{BreaksBehind, rank_of}
+use Rattle.rv_audit.specs.declared.rule.Rule.{Rule}
+use Rattle.rv_audit.specs.Breaking.{BreaksBehind, rank_of}
 use Rattle.rv_audit.specs.declared.outcome.Audit.{Audit}
 use Rattle.rv_audit.specs.declared.outcome.Audit.TheVariants as tells
 

@@ -2,4 +2,13 @@
 pub mod Faults
 pub mod Laws
 -- And what breaks each rule.
-pub use Rattle.rv_breaking.specs.Breaking
+-- What a reader must agree with: all that the public contracts cite.
+pub mod Breaking
+-- What the tables are to the entries that were passed, which a reader of an audit need not know.
+pub mod Passed
+pub mod Marks
+pub mod Lines
+pub mod Opens
+pub mod Sessions
+-- What only private clauses and proofs cite.
+pub mod Words

@@ -4,9 +4,10 @@ ghost use Rattle.rv_rules.specs.Legal.{Legal};
 ghost use Rattle.rv_audit.specs.Faults.{IsToldOf};
 ghost use Rattle.rv_audit.specs.declared.outcome.Audit.TheVariants as tells;
 
+use crate::front::Front;
 use crate::outcome::Audit;
+use crate::rules::first_broken;
 use rv_account::Account;
-use rv_breaking::{Front, first_broken};
 use rv_text::NoMemory;
 use std::alloc::Global;
 

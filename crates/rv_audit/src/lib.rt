@@ -1,11 +1,21 @@
-//! The auditor: it tells whether an account is legal, and else the first place at which a rule is broken, and
-//! the rule. Each entry is asked behind those before it that were passed.
+//! The auditor: it says whether an account is legal, and if not, the first place at which a rule is broken,
+//! and which. Each entry is checked after those before it have passed.
 #![tactic(auto)]
 
 mod auditing;
+mod brings;
+mod front;
 pub mod laws;
+mod lines;
+mod marks;
+mod opens;
 mod outcome;
+mod rule;
+mod rules;
+mod sessions;
 
 pub use auditing::audit;
+pub use front::Front;
 pub use outcome::Audit;
-pub use rv_breaking::Rule;
+pub use rule::Rule;
+pub use rules::first_broken;

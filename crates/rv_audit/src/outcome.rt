@@ -1,6 +1,6 @@
 //! The result of an audit.
+use crate::rule::Rule;
 use rv_account::Place;
-use rv_breaking::Rule;
 
 /// The result of an audit.
 #[derive(Clone, Copy)]

@@ -13,11 +13,11 @@ use Rattle.rv_state.specs.After.{Settled, following}
 use Rattle.rv_state.specs.Moves.{told_again}
 use Rattle.rv_state.proofs.Coming.{Comes}
 use Rattle.rv_state.proofs.ToldClients.{get_own, get_other}
-use Rattle.rv_kept.specs.Keeping.{AreKept, IsKept, IsKeptAs, client_of, front_of, kept_again, source_of}
-use Rattle.rv_kept.proofs.OwnKept.{own_kept}
-use Rattle.rv_kept.proofs.SettledKept.{settled_kept}
-use Rattle.rv_kept.proofs.OtherKept.{other_kept}
-use Rattle.rv_kept.proofs.KeptOn.{kept_on}
+use Rattle.rv_book.specs.kept.Keeping.{AreKept, IsKept, IsKeptAs, client_of, front_of, kept_again, source_of}
+use Rattle.rv_book.proofs.KeptReplies.OwnKept.{own_kept}
+use Rattle.rv_book.proofs.KeptReplies.SettledKept.{settled_kept}
+use Rattle.rv_book.proofs.KeptReplies.OtherKept.{other_kept}
+use Rattle.rv_book.proofs.KeptReplies.KeptOn.{kept_on}
 use Rattle.rv_machine.specs.Machines.{keys_settled}
 use Rattle.rv_book.specs.Operations.{Kepts, kept_after, kept_in, keeping_all, keeping_own}
 use Rattle.rv_book.proofs.KeepingAll.{IsAmong, kept_or_was}

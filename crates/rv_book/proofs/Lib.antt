@@ -16,3 +16,4 @@ pub mod Ticked
 pub mod RoomMade
 pub mod Said
 pub mod Opened
+pub mod KeptReplies

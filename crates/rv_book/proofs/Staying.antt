@@ -7,7 +7,7 @@ use Rattle.rv_book.proofs.Words.{length, option_and_then, option_map, refl, subs
 use Rattle.rv_book.proofs.Words.{reads_within, Reply, IsAsKept, reply_of, get-append_within, cases_lt}
 use Rattle.rv_book.proofs.Words.{none-some}
 use Rattle.rv_account.specs.Account.{Extends}
-use Rattle.rv_kept.proofs.KeptOn.{told_on}
+use Rattle.rv_book.proofs.KeptReplies.KeptOn.{told_on}
 use Rattle.rv_book.specs.Replies.{RepliesToArrival}
 use Rattle.rv_book.specs.Laws.{RepliesStay, StepsExtend}
 use Rattle.rv_rules.specs.StepLimits.{book_limits}

@@ -2,6 +2,7 @@
 #![tactic(auto)]
 
 mod book;
+mod kept;
 pub mod laws;
 mod state;
 mod verdict;

@@ -46,7 +46,7 @@ impl Pair {
 pub enum DualOutcome {
     /// It met the oldest of the other side.
     Met(Pair),
-    /// Nobody of the other side was there, and it waits behind all of its own side.
+    /// Nobody of the other side was there, and it waits after all of its own side.
     Parked,
 }
 

@@ -7,7 +7,7 @@ use Rattle.rv_account.specs.declared.entry.Entry.{Entry}
 use Rattle.rv_account.specs.Account.{Account}
 use Rattle.rv_lines.specs.Lines.{printed_lines}
 use Rattle.rv_lines.specs.Written.{account_lines, head_text}
-use Rattle.rv_desk.specs.View.{DeskState, DeskTerms}
+use Rattle.rv_hub.specs.desk.View.{DeskState, DeskTerms}
 use Rattle.rv_hub.specs.EventDeeds.{all_deeds, causes_of}
 use Rattle.rv_hub.specs.HubRuns.{AddsEntries, HubAnswer, RunsHub, made_in, run_deeds}
 use Rattle.rv_hub.proofs.Accounts.{events_lead}

@@ -3,8 +3,8 @@ use Rattle.std.proofs.Common.{◌≡◌, ◌≤◌, ◌+◌, ◌-◌, ◌∙◌,
 use Rattle.std.proofs.Common.{append-nil, append_assoc, arith, length, length-append, refl, subst, sym}
 use Rattle.std.proofs.lemmas.List.Elements.{All-weaker}
 use Rattle.rv_account.specs.declared.entry.Entry.{Entry}
-use Rattle.rv_connection.specs.Traffic.{AnswerByte, Traffic}
-use Rattle.rv_desk.specs.View.{DeskState, DeskTerms}
+use Rattle.rv_wires.specs.connection.Traffic.{AnswerByte, Traffic}
+use Rattle.rv_hub.specs.desk.View.{DeskState, DeskTerms}
 use Rattle.rv_hub.specs.HubRuns.{AddsEntries, TookEvent, made_in, run_deeds}
 use Rattle.rv_hub.specs.Pasts.{IsPast, Past}
 use Rattle.rv_hub.specs.Turns.{TakesEvent}

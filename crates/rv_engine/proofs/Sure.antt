@@ -4,9 +4,9 @@ use Rattle.std.proofs.Common.{length-append}
 use Rattle.std.proofs.Common.{sym, true}
 use Rattle.std.proofs.lemmas.Bool.{false≢true}
 use Rattle.std.proofs.lemmas.Option.{none-some, same_Some}
-use Rattle.rv_connection.specs.Traffic.{Traffic}
+use Rattle.rv_wires.specs.connection.Traffic.{Traffic}
 use Rattle.rv_wires.specs.Connections.{HasWire}
-use Rattle.rv_desk.specs.View.{DeskState}
+use Rattle.rv_hub.specs.desk.View.{DeskState}
 use Rattle.rv_hub.specs.declared.events.EventRefusal.{EventRefusal}
 use Rattle.rv_hub.specs.declared.events.HubEvent.{HubEvent}
 use Rattle.rv_hub.specs.declared.events.HubEvent.TheVariants as event

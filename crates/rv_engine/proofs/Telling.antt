@@ -5,13 +5,13 @@ use Rattle.std.specs.Prelude.{All, slice_get}
 use Rattle.rv_account.specs.declared.entry.Entry.{Entry}
 use Rattle.rv_text.specs.declared.answer.Answer.{Answer}
 use Rattle.rv_text.specs.declared.answer.Answer.TheVariants as answer
-use Rattle.rv_hearers.specs.declared.tables.Hearing.{Hearing}
-use Rattle.rv_desk.specs.View.{DeskState, DeskTerms, begun}
-use Rattle.rv_desk.specs.Deeds.{AnswersOrWaits, Deed, Does, DoesAll}
-use Rattle.rv_desk.specs.Deeds.{Asked, Closed, Elapsed, EndedInput, Lacked, Left, Lost, Opened, ReadNothing}
-use Rattle.rv_desk.specs.Deeds.{Told, TookIn, Wrote}
-use Rattle.rv_desk.specs.Order.{IsOwnDeed, IsStride, RunsStrides, TellsEach, TellsOneHearer}
-use Rattle.rv_desk.specs.Order.{TellsStillWaiting}
+use Rattle.rv_wires.specs.declared.hearers.tables.Hearing.{Hearing}
+use Rattle.rv_hub.specs.desk.View.{DeskState, DeskTerms, begun}
+use Rattle.rv_hub.specs.desk.Deeds.{AnswersOrWaits, Deed, Does, DoesAll}
+use Rattle.rv_hub.specs.desk.Deeds.{Asked, Closed, Elapsed, EndedInput, Lacked, Left, Lost, Opened}
+use Rattle.rv_hub.specs.desk.Deeds.{ReadNothing, Told, TookIn, Wrote}
+use Rattle.rv_hub.specs.desk.Order.{IsOwnDeed, IsStride, RunsStrides, TellsEach, TellsOneHearer}
+use Rattle.rv_hub.specs.desk.Order.{TellsStillWaiting}
 use Rattle.rv_hub.specs.declared.events.HubEvent.{HubEvent}
 use Rattle.rv_hub.specs.declared.events.HubEvent.TheVariants as event
 use Rattle.rv_hub.specs.Turns.{EventGoesOn, Offered, RunsTurns, TakesEvent, own_deeds}

@@ -4,8 +4,8 @@ use Rattle.std.proofs.Common.{length-append}
 use Rattle.std.proofs.Common.{drop, subst, sym}
 use Rattle.std.proofs.lemmas.List.{drop_all}
 use Rattle.rv_account.specs.declared.entry.Entry.{Entry}
-use Rattle.rv_desk.specs.Runs.{ListsChanged}
-use Rattle.rv_desk.specs.View.{DeskState, DeskTerms, begun}
+use Rattle.rv_hub.specs.desk.Runs.{ListsChanged}
+use Rattle.rv_hub.specs.desk.View.{DeskState, DeskTerms, begun}
 use Rattle.rv_hub.specs.declared.events.HubEvent.{HubEvent}
 use Rattle.rv_hub.specs.Turns.{EventRefused, TakesEvent}
 use Rattle.rv_engine.specs.declared.events.EngineFault.{EngineFault}

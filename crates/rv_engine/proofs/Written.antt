@@ -3,7 +3,7 @@ use Rattle.std.proofs.Common.{◌≡◌, ◌∙◌, ◌-◌, ℕ, List, [], ap, 
 use Rattle.std.proofs.Common.{drop, sym}
 use Rattle.std.proofs.lemmas.List.{length-drop}
 use Rattle.rv_account.specs.declared.entry.Entry.{Entry}
-use Rattle.rv_desk.specs.View.{DeskState}
+use Rattle.rv_hub.specs.desk.View.{DeskState}
 use Rattle.rv_engine.specs.Engines.{EngineState}
 use Rattle.rv_engine.specs.Handing.{Gathers, GathersFront, StoresLines, all_gone, gathered_count, lines_gone}
 use Rattle.rv_engine.specs.Handing.{unwritten}

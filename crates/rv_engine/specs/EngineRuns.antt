@@ -8,9 +8,9 @@ use Rattle.rv_account.specs.Limits.{max_moment}
 use Rattle.rv_rules.specs.StepLimits.{AreStepLimits}
 use Rattle.rv_lines.specs.Lines.{printed_lines}
 use Rattle.rv_lines.specs.Written.{account_lines}
-use Rattle.rv_connection.specs.History.{given_bytes}
-use Rattle.rv_connection.specs.Traffic.{AnswerByte, Traffic, bytes_of}
-use Rattle.rv_desk.specs.View.{DeskTerms}
+use Rattle.rv_wires.specs.connection.History.{given_bytes}
+use Rattle.rv_wires.specs.connection.Traffic.{AnswerByte, Traffic, bytes_of}
+use Rattle.rv_hub.specs.desk.View.{DeskTerms}
 use Rattle.rv_hub.specs.declared.events.HubEvent.{HubEvent}
 use Rattle.rv_hub.specs.EventDeeds.{all_deeds}
 use Rattle.rv_hub.specs.HandedOut.{ArePublic}

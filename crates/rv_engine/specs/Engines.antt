@@ -2,7 +2,7 @@
 use Rattle.std.specs.Prelude.{ℕ, ◌≡◌, ◌≤◌, List, [], drop, false, length, string_bytes, vec_capacity}
 use Rattle.rv_account.specs.declared.entry.Entry.{Entry}
 use Rattle.rv_wires.specs.Flags.{AreListed}
-use Rattle.rv_desk.specs.View.{DeskState}
+use Rattle.rv_hub.specs.desk.View.{DeskState}
 use Rattle.rv_hub.specs.Hubs.{hub_state}
 use Rattle.rv_engine.specs.declared.looks.LookList.{LookList}
 use Rattle.rv_engine.specs.declared.parts.EngineParts.{EngineParts}

@@ -7,8 +7,8 @@ use Rattle.rv_frame.specs.declared.sink.Sink.{Sink}
 use Rattle.rv_frame.specs.Sink.{SinkTakes, sink_failed}
 use Rattle.rv_lines.specs.Lines.{printed_lines}
 use Rattle.rv_lines.specs.Written.{entry_text}
-use Rattle.rv_desk.specs.View.{DeskTerms, begun}
-use Rattle.rv_desk.specs.Runs.{ListsChanged}
+use Rattle.rv_hub.specs.desk.View.{DeskTerms, begun}
+use Rattle.rv_hub.specs.desk.Runs.{ListsChanged}
 use Rattle.rv_hub.specs.declared.events.EventRefusal.{EventRefusal}
 use Rattle.rv_hub.specs.declared.events.HubEvent.{HubEvent}
 use Rattle.rv_hub.specs.declared.events.HubEvent.TheVariants as event

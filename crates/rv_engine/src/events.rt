@@ -3,8 +3,8 @@ ghost use Rattle.std.specs.Prelude.{◌≡◌, ℕ};
 ghost use Rattle.rv_engine.specs.Handing.{TellsStored, told_hub};
 
 use rv_frame::WriteFault;
-use rv_hearers::ConnectionNumber;
 use rv_hub::{EventRefusal, HubEvent};
+use rv_wires::hearers::ConnectionNumber;
 use thiserror::Error;
 
 /// What happened to a connection, or that time went on. That entries are written is no such event: the engine

@@ -11,8 +11,8 @@ use crate::calls::note_arrivals;
 use crate::events::EngineFault;
 use crate::gathering::{gather, gather_kept};
 use crate::parts::EngineParts;
-use rv_hearers::ConnectionNumber;
 use rv_hub::HubEvent;
+use rv_wires::hearers::ConnectionNumber;
 
 /// Gathers the lines of the entries that are left, as far as memory allows.
 pub(crate) fn catch_up(parts: &mut EngineParts)

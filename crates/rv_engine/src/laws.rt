@@ -2,8 +2,8 @@
 ghost use Rattle.rv_engine.specs.EngineRuns.{AccountsAreKept, EnginesAreRuns, HandsOnNext, LeftIsStored};
 ghost use Rattle.rv_engine.specs.EngineRuns.{ToldIsStored, WrittenAreCounted};
 
-/// The hub behind an engine's calls is that of the events that were handed on, in order, and the lines of all
-/// entries that these made are written or gathered, in order, but of those that are left.
+/// After an engine's calls its hub is that of the events that were handed on, in order, and the lines of all
+/// entries that these made are written or gathered, in order, except those that are left.
 pub fn engines_are_runs()
     ensures { EnginesAreRuns }
 {}

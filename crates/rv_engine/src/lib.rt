@@ -1,5 +1,5 @@
-//! What stands between a hub and its sockets: events are handed on, the lines of the entries that they make
-//! are gathered for the account, and the connections that are to be looked at are listed. No socket is in it.
+//! What is between a hub and its sockets: it hands on events, gathers the lines of the entries that they make
+//! for the account, and lists the connections to look at. No socket is in it.
 #![tactic(auto)]
 
 mod calls;

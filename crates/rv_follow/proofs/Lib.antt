@@ -1,1 +1,2 @@
 pub mod Redone
+pub mod OfAsked

@@ -10,8 +10,8 @@ use Rattle.rv_account.specs.Limits.{FitsEntry}
 use Rattle.rv_machine.specs.Machines.{state_in}
 use Rattle.rv_machine.specs.Redoing.{IsRedone}
 use Rattle.rv_machine.specs.declared.machine.Machine.{Machine}
-use Rattle.rv_resume.specs.Resuming.{CanResume, StaysInRoom}
-use Rattle.rv_resume.proofs.ResumeLaws.{entries_resume}
+use Rattle.rv_state.specs.resume.Resuming.{CanResume, StaysInRoom}
+use Rattle.rv_state.proofs.Resumed.ResumeLaws.{entries_resume}
 use Rattle.rv_session.specs.declared.client.LastRequest.{LastRequest}
 use Rattle.rv_state.specs.After.{Settled, closed, following, met_by, parked, request_after, settled_all}
 use Rattle.rv_state.specs.After.{state_after, told_own, told_partner, with_last, with_open}

@@ -7,14 +7,14 @@ use Rattle.rv_account.specs.declared.entry.Entry.{Entry}
 use Rattle.rv_machine.specs.Machines.{keys_settled, state_in}
 use Rattle.rv_machine.specs.Redoing.{NeedsNoMemory}
 use Rattle.rv_machine.specs.declared.machine.Machine.{Machine}
-use Rattle.rv_resume.specs.Resuming.{StaysInRoom}
+use Rattle.rv_state.specs.resume.Resuming.{StaysInRoom}
 use Rattle.rv_state.specs.After.{following, state_after}
 use Rattle.rv_state.specs.Follows.{FollowsState}
 use Rattle.rv_state.specs.Moves.{told_again}
 use Rattle.rv_state.specs.State.{ClientState, State, client_at}
 use Rattle.rv_follow.specs.declared.following.Followed.{Followed}
 use Rattle.rv_follow.specs.declared.following.Followed.TheVariants as followed
-use Rattle.rv_asked.specs.Ruling.{IsFirstBroken, NamesClosed}
+use Rattle.rv_follow.specs.asked.Ruling.{IsFirstBroken, NamesClosed}
 
 -- the entry follows the state, and the state after it has room
 pub record FollowsInRoom (s : State) (e : Entry) : Type 0 where

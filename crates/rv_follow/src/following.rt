@@ -1,7 +1,7 @@
 //! An entry that was written before is followed by a machine, or it is told why not.
 ghost use Rattle.rv_account.specs.Limits.{FitsEntry};
 ghost use Rattle.rv_machine.specs.Machines.{state_in};
-ghost use Rattle.rv_resume.specs.Resuming.{CanResume};
+ghost use Rattle.rv_state.specs.resume.Resuming.{CanResume};
 ghost use Rattle.rv_state.specs.Follows.{FollowsState};
 ghost use Rattle.rv_follow.specs.Outcomes.{IsFollowed};
 

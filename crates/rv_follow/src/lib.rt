@@ -1,7 +1,8 @@
 //! Entries that were written before: whether one follows what a machine holds, which rule it breaks first if
-//! not, and the machine behind it.
+//! not, and the machine after it.
 #![tactic(auto)]
 
+mod asked;
 mod following;
 pub mod laws;
 mod room;

@@ -9,15 +9,16 @@ ghost use Rattle.rv_account.specs.declared.entry.Act.TheVariants.{Arrive, Cancel
 ghost use Rattle.rv_account.specs.Account.{Among};
 ghost use Rattle.rv_account.specs.Limits.{FitsEntry, max_moment};
 ghost use Rattle.rv_machine.specs.Machines.{state_in};
-ghost use Rattle.rv_resume.specs.Resuming.{CanResume, StaysInRoom};
+ghost use Rattle.rv_state.specs.resume.Resuming.{CanResume, StaysInRoom};
 ghost use Rattle.rv_state.specs.After.{following, met_by, state_after, stays_open};
 ghost use Rattle.rv_state.specs.Follows.{FollowsState};
 ghost use Rattle.rv_state.specs.State.{client_at, place_list};
-ghost use Rattle.rv_asked.specs.Rooming.{AwaitsNothing, HasAwaiting, HasSpace, IsWaitedFor, IsUnawaited};
-ghost use Rattle.rv_asked.specs.Walking.{HoldsOfAll};
+ghost use Rattle.rv_follow.specs.asked.Rooming.{AwaitsNothing, HasAwaiting, HasSpace, IsWaitedFor};
+ghost use Rattle.rv_follow.specs.asked.Rooming.{IsUnawaited};
+ghost use Rattle.rv_follow.specs.asked.Walking.{HoldsOfAll};
 
+use crate::asked::{is_waiting, opposite};
 use rv_account::{Act, Entry, Place, lasts, need_of};
-use rv_asked::{is_waiting, opposite};
 use rv_machine::Machine;
 use rv_text::{Call, Key};
 

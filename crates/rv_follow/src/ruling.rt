@@ -2,16 +2,16 @@
 ghost use Rattle.std.specs.Prelude.{◌≡◌, ◌↔◌, IfNone, IfSome, IsTrue};
 ghost use Rattle.rv_account.specs.Limits.{FitsEntry};
 ghost use Rattle.rv_audit.specs.Breaking.{rank_of};
-ghost use Rattle.rv_breaking.specs.declared.rule.Rule.{Rule};
-ghost use Rattle.rv_breaking.specs.declared.rule.Rule.TheVariants.{P2};
+ghost use Rattle.rv_audit.specs.declared.rule.Rule.{Rule};
+ghost use Rattle.rv_audit.specs.declared.rule.Rule.TheVariants.{P2};
 ghost use Rattle.rv_machine.specs.Machines.{state_in};
-ghost use Rattle.rv_resume.specs.Resuming.{CanResume};
+ghost use Rattle.rv_state.specs.resume.Resuming.{CanResume};
 ghost use Rattle.rv_state.specs.Kept.{NamesOpen};
-ghost use Rattle.rv_asked.specs.Ruling.{IsFirstBroken, KeepsUpTo, KeepsRule};
+ghost use Rattle.rv_follow.specs.asked.Ruling.{IsFirstBroken, KeepsUpTo, KeepsRule};
 ghost use Rattle.rv_follow.specs.Told.{IsRulingOf};
 
+use crate::asked::{keeps, names_open};
 use rv_account::Entry;
-use rv_asked::{keeps, names_open};
 use rv_audit::Rule;
 use rv_machine::Machine;
 

@@ -1,7 +1,7 @@
 //! Laws of frames in bytes: each contract is one, and no body does anything.
 ghost use Rattle.rv_frame.specs.Laws.{FedIsCut, OneCut, PiecesJoin, TakenIsCut};
 
-/// Bytes have at most one cut into whole frames and an end behind them.
+/// Bytes have at most one cut into whole frames and an end after them.
 pub fn one_cut()
     ensures { OneCut }
 {}

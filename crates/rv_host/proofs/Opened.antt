@@ -3,15 +3,15 @@ use Rattle.std.proofs.Common.{[], ◌≡◌, ◌≤◌, ℕ, arith, refl, subst,
 use Rattle.rv_account.specs.Limits.{max_moment}
 use Rattle.rv_rules.specs.Steps.{capped_moment}
 use Rattle.rv_state.specs.State.{opening}
-use Rattle.rv_desk.specs.View.{DeskState}
+use Rattle.rv_hub.specs.desk.View.{DeskState}
 use Rattle.rv_engine.specs.Engines.{EngineState}
 use Rattle.rv_engine.specs.EngineRuns.{BeginsStored}
 use Rattle.rv_machine.specs.Machines.{state_in}
 use Rattle.rv_machine.specs.declared.machine.Machine.{Machine}
-use Rattle.rv_resume.specs.Resuming.{CanResume}
-use Rattle.rv_resume.proofs.ResumeLaws.{openings_resume}
-use Rattle.rv_options.specs.Numbers.{Fits}
-use Rattle.rv_options.specs.declared.number.HostNumber.TheVariants as number
+use Rattle.rv_state.specs.resume.Resuming.{CanResume}
+use Rattle.rv_state.proofs.Resumed.ResumeLaws.{openings_resume}
+use Rattle.rv_words.specs.options.Numbers.{Fits}
+use Rattle.rv_words.specs.declared.options.number.HostNumber.TheVariants as number
 
 within : (n : ℕ) → capped_moment n ≤ max_moment
 within n = omega arith

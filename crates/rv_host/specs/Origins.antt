@@ -1,7 +1,7 @@
 -- How many open connections come from one address.
 use Rattle.std.specs.Prelude.{ℕ, ◌<◌, ◌&&◌, Bool, List, None, Option, Some, eqb, false, is_some}
 use Rattle.std.specs.List.{count_by, zip}
-use Rattle.rv_links.specs.declared.link.Socket.{Socket}
+use Rattle.rv_traffic.specs.declared.links.link.Socket.{Socket}
 
 abbrev pub is_address : ℕ → Option ℕ → Bool
 is_address address None = false

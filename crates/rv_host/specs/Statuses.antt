@@ -1,8 +1,8 @@
 -- The status of a server that doesn't start by its words.
 use Rattle.std.specs.Prelude.{List, ℕ, ◌≡◌}
 use Rattle.clap.specs.Words.{Text}
-use Rattle.rv_options.specs.Faults.{IsFault, status_of}
-use Rattle.rv_options.specs.declared.fault.HostFault.{HostFault}
+use Rattle.rv_words.specs.options.Faults.{IsFault, status_of}
+use Rattle.rv_words.specs.declared.options.fault.HostFault.{HostFault}
 
 -- the status is that of a fault which the words have
 pub record RefusesWords (words : List Text) (status : ℕ) : Type 0 where

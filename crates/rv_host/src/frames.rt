@@ -3,11 +3,11 @@ ghost use Rattle.std.specs.Prelude.{◌≡◌, get_or, replicate, slice_set, IfO
 ghost use Rattle.rv_host.specs.Times.{IsSeenSince};
 
 use crate::overdue::seen_since;
-use rv_connection::Wire;
-use rv_hearers::ConnectionNumber;
+use rv_wires::connection::Wire;
+use rv_wires::hearers::ConnectionNumber;
 use std::alloc::{AllocError, Global};
 
-/// By the number of each connection the look since which it is seen in the middle of one frame, if it is.
+/// For each connection, by its number, the look since which it is in the middle of one frame, if it is.
 #[derive(Drop)]
 pub(crate) struct FrameLooks {
     since: Vec<Option<u64>>,

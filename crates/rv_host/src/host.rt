@@ -1,9 +1,9 @@
 //! The life of a server: from its words to its end.
 ghost use Rattle.std.specs.Prelude.{◌≡◌};
 ghost use Rattle.clap.specs.Walk.{texts};
-ghost use Rattle.rv_options.specs.Faults.{status_of};
-ghost use Rattle.rv_options.specs.Options.{FitOptions, NamesOptions};
-ghost use Rattle.rv_options.specs.declared.options.HostOptions.{HostOptions as Options};
+ghost use Rattle.rv_words.specs.options.Faults.{status_of};
+ghost use Rattle.rv_words.specs.options.Options.{FitOptions, NamesOptions};
+ghost use Rattle.rv_words.specs.declared.options.HostOptions.{HostOptions as Options};
 ghost use Rattle.rv_host.specs.Statuses.{RefusesWords};
 
 use crate::fault::HostEnd;
@@ -11,7 +11,7 @@ use crate::report::HostReport;
 use crate::shell::Shell;
 use crate::start::begin;
 use os::errno;
-use rv_options::{HostFault, HostOptions, read_host};
+use rv_words::options::{HostFault, HostOptions, read_host};
 use std::fs::File;
 use std::io;
 use std::io::Write;

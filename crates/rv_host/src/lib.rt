@@ -1,4 +1,4 @@
-//! The server that stays, `rv host`: one thread, one poll, and an engine behind them.
+//! The server that stays, `rv host`: one thread and one poll around an engine.
 #![tactic(auto)]
 
 mod door;

@@ -1,10 +1,10 @@
 //! From which address each connection comes, and how many may come from one.
 ghost use Rattle.std.specs.Prelude.{◌≡◌, ◌↔◌, get_or, replicate, slice_set, IfOk, IsTrue, None, Some};
-ghost use Rattle.rv_links.specs.Table.{link_at};
+ghost use Rattle.rv_traffic.specs.links.Table.{link_at};
 ghost use Rattle.rv_host.specs.Origins.{MayCome, count_from, is_from};
 
-use rv_hearers::ConnectionNumber;
-use rv_links::Links;
+use rv_traffic::links::Links;
+use rv_wires::hearers::ConnectionNumber;
 use std::alloc::{AllocError, Global};
 use std::net::{IpAddr, SocketAddr};
 

@@ -8,11 +8,11 @@ use crate::reserve::Reserve;
 use crate::shell::Shell;
 use mio::net::{TcpListener, TcpStream};
 use rv_hub::Hub;
-use rv_options::{HostOptions, VERSION};
 use rv_status::{
     FaultCounts, HostStatus, StatusNumbers, StatusPages, StatusSample, StatusTimes, take_sample,
 };
 use rv_survey::{Sights, list_queues, renew, unheard_row, waiting_row};
+use rv_words::options::{HostOptions, VERSION};
 use std::alloc::{AllocError, Global};
 use std::hash::RandomState;
 

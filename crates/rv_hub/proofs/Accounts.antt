@@ -21,23 +21,23 @@ use Rattle.rv_rules.specs.Legal.{Legal}
 use Rattle.rv_rules.specs.StepLimits.{AreStepLimits, StepLimits}
 use Rattle.rv_rules.specs.Steps.{Answers, NextUnder, OldIncarnationDue}
 use Rattle.rv_state.specs.After.{due_at, state_of}
-use Rattle.rv_resume.specs.Resuming.{CanResume}
+use Rattle.rv_state.specs.resume.Resuming.{CanResume}
 use Rattle.rv_state.specs.Agreement.{BecameOf, IsClientOrNew}
 use Rattle.rv_state.specs.Moves.{Move, StateNextAtUnder, StateNextUnder, Ticked, answer_told, state_moment}
 use Rattle.rv_state.specs.Moves.{ticked_at, ticked_if, told_again}
 use Rattle.rv_state.specs.Moves.{unticked}
 use Rattle.rv_state.specs.State.{ClientState, State, client_at}
 use Rattle.rv_state.proofs.StateLaws.{moves_step_under, states_agree, ticks_step}
-use Rattle.rv_waiting.proofs.OwnMoments.{none_due_now}
-use Rattle.rv_waiting.proofs.WaitingLaws.{moves_last, ticks_last}
-use Rattle.rv_desk.specs.View.{DeskState, DeskTerms, begun}
-use Rattle.rv_desk.specs.Deeds.{AnswersOrWaits, Deed, Does, DoesAll, DoesElapse, MakesStep, Stepped}
-use Rattle.rv_desk.specs.Deeds.{entries_of_deed}
-use Rattle.rv_desk.specs.Deeds.{Asked, Closed, Elapsed, EndedInput, Lacked, Left, Lost, Opened, ReadNothing}
-use Rattle.rv_desk.specs.Deeds.{Told, TookIn, Wrote}
-use Rattle.rv_desk.specs.Runs.{Cause, Heard, RunsBook, Time}
-use Rattle.rv_desk.specs.Telling.{IsToldAgain}
-use Rattle.rv_desk.proofs.OneBook.{one_run}
+use Rattle.rv_state.proofs.OfWaiting.OwnMoments.{none_due_now}
+use Rattle.rv_state.proofs.OfWaiting.WaitingLaws.{moves_last, ticks_last}
+use Rattle.rv_hub.specs.desk.View.{DeskState, DeskTerms, begun}
+use Rattle.rv_hub.specs.desk.Deeds.{AnswersOrWaits, Deed, Does, DoesAll, DoesElapse, MakesStep, Stepped}
+use Rattle.rv_hub.specs.desk.Deeds.{entries_of_deed}
+use Rattle.rv_hub.specs.desk.Deeds.{Asked, Closed, Elapsed, EndedInput, Lacked, Left, Lost, Opened}
+use Rattle.rv_hub.specs.desk.Deeds.{ReadNothing, Told, TookIn, Wrote}
+use Rattle.rv_hub.specs.desk.Runs.{Cause, Heard, RunsBook, Time}
+use Rattle.rv_hub.specs.desk.Telling.{IsToldAgain}
+use Rattle.rv_hub.proofs.OfDesk.OneBook.{one_run}
 use Rattle.rv_hub.specs.HubRuns.{AddsEntries, AnswersByRules, BeginsAccount, DeedsLeadOn, DoesEvents}
 use Rattle.rv_hub.specs.HubRuns.{EventsLeadOn}
 use Rattle.rv_hub.specs.HubRuns.{IsHubAccount, LeadsToAccount, TellsPublicReply}

@@ -2,12 +2,12 @@
 use Rattle.std.proofs.Common.{◌≡◌, ◌≤◌, ℕ, [], None, Option, Some, refl, sym, subst}
 use Rattle.std.proofs.Common.{Bool, false, length, true}
 use Rattle.std.specs.Prelude.{IsSome}
-use Rattle.rv_connection.specs.Steps.{input_ended, left_by}
+use Rattle.rv_wires.specs.connection.Steps.{input_ended, left_by}
 use Rattle.rv_wires.specs.Connections.{HasWire}
-use Rattle.rv_desk.specs.declared.desk.HubDesk.{HubDesk}
-use Rattle.rv_desk.specs.View.{ChangesBytes, DeskState}
-use Rattle.rv_desk.specs.Deeds.{DoesAll, DoesClose, DoesOpen, DoesWrite}
-use Rattle.rv_desk.specs.Fields.{desk_state, desk_terms}
+use Rattle.rv_hub.specs.declared.desk.HubDesk.{HubDesk}
+use Rattle.rv_hub.specs.desk.View.{ChangesBytes, DeskState}
+use Rattle.rv_hub.specs.desk.Deeds.{DoesAll, DoesClose, DoesOpen, DoesWrite}
+use Rattle.rv_hub.specs.desk.Fields.{desk_state, desk_terms}
 use Rattle.rv_hub.specs.declared.events.HubEvent.{HubEvent}
 use Rattle.rv_hub.specs.declared.events.HubEvent.TheVariants as event
 use Rattle.rv_hub.specs.Events.{EventCan}

@@ -7,11 +7,11 @@ use Rattle.rv_text.specs.declared.answer.Answer.TheVariants as answer
 use Rattle.rv_account.specs.declared.entry.Entry.{Entry}
 use Rattle.rv_rules.specs.StepLimits.{StepLimits}
 use Rattle.rv_state.specs.State.{State}
-use Rattle.rv_desk.specs.View.{DeskState, DeskTerms}
-use Rattle.rv_desk.specs.Deeds.{AnswersOrWaits, Deed, Does, DoesAll, MakesStep, Stepped, entries_of_deed}
-use Rattle.rv_desk.specs.Deeds.{Asked, Closed, Elapsed, EndedInput, Lacked, Left, Lost, Opened, ReadNothing}
-use Rattle.rv_desk.specs.Deeds.{Told, TookIn, Wrote}
-use Rattle.rv_desk.specs.Runs.{Cause, Heard, RunsBook}
+use Rattle.rv_hub.specs.desk.View.{DeskState, DeskTerms}
+use Rattle.rv_hub.specs.desk.Deeds.{AnswersOrWaits, Deed, Does, DoesAll, MakesStep, Stepped, entries_of_deed}
+use Rattle.rv_hub.specs.desk.Deeds.{Asked, Closed, Elapsed, EndedInput, Lacked, Left, Lost, Opened}
+use Rattle.rv_hub.specs.desk.Deeds.{ReadNothing, Told, TookIn, Wrote}
+use Rattle.rv_hub.specs.desk.Runs.{Cause, Heard, RunsBook}
 use Rattle.rv_hub.specs.EventDeeds.{causes_of}
 
 -- a run that begins with equal moments and states

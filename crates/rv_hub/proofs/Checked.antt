@@ -3,9 +3,9 @@ use Rattle.std.proofs.Common.{◌≡◌, ◌<◌, ◌⊎◌, [], ℕ, arith, ref
 use Rattle.std.proofs.Common.{Bool, Err, IfErr, Ok, OnOk, Result, length}
 use Rattle.std.proofs.lemmas.Option.{none-some}
 use Rattle.rv_state.specs.State.{State}
-use Rattle.rv_hearers.specs.Hearing.{nobody}
+use Rattle.rv_wires.specs.hearers.Hearing.{nobody}
 use Rattle.rv_wires.specs.Connections.{HasWire, none_open}
-use Rattle.rv_desk.specs.View.{DeskState}
+use Rattle.rv_hub.specs.desk.View.{DeskState}
 use Rattle.rv_hub.specs.declared.events.EventRefusal.{EventRefusal}
 use Rattle.rv_hub.specs.declared.events.EventRefusal.TheVariants as refused
 use Rattle.rv_hub.specs.declared.events.HubEvent.{HubEvent}

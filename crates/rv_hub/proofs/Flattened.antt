@@ -2,10 +2,10 @@
 use Rattle.std.proofs.Common.{◌≡◌, ◌∙◌, ◌++◌, ◌∷◌, ℕ, suc, List, [], Some, length, refl, sym, ap, subst}
 use Rattle.std.specs.Prelude.{flat_map, slice_get}
 use Rattle.std.proofs.lemmas.Grind.{flat_map-append}
-use Rattle.rv_desk.specs.View.{DeskState, DeskTerms}
-use Rattle.rv_desk.specs.Deeds.{Deed, DoesAll, entries_of_deed}
-use Rattle.rv_desk.specs.Order.{IsStride, IsTurn, RunsStrides, deeds_of}
-use Rattle.rv_desk.proofs.Chains.{does_append}
+use Rattle.rv_hub.specs.desk.View.{DeskState, DeskTerms}
+use Rattle.rv_hub.specs.desk.Deeds.{Deed, DoesAll, entries_of_deed}
+use Rattle.rv_hub.specs.desk.Order.{IsStride, IsTurn, RunsStrides, deeds_of}
+use Rattle.rv_hub.proofs.OfDesk.Chains.{does_append}
 use Rattle.rv_hub.specs.Turns.{Offered, RunsTurns, all_deeds, made_by}
 
 -- ---- strides and turns

@@ -26,14 +26,14 @@ use Rattle.rv_state.specs.Agreement.{BecameOf}
 use Rattle.rv_state.specs.Moves.{answer_told, told_again}
 use Rattle.rv_state.specs.State.{State}
 use Rattle.rv_state.proofs.StateLaws.{states_agree}
-use Rattle.rv_resume.specs.Resuming.{CanResume}
-use Rattle.rv_waiting.proofs.WaitingLaws.{moves_answer, old_fits, told_fits}
-use Rattle.rv_connection.specs.History.{Given}
-use Rattle.rv_desk.specs.View.{DeskState, DeskTerms, begun}
-use Rattle.rv_desk.specs.Deeds.{Deed, Does, DoesAll, Stepped, entries_of_deed, rests_on}
-use Rattle.rv_desk.specs.Deeds.{Asked, Closed, Elapsed, EndedInput, Lacked, Left, Lost, Opened, ReadNothing}
-use Rattle.rv_desk.specs.Deeds.{Told, TookIn, Wrote}
-use Rattle.rv_desk.specs.Telling.{IsToldAgain}
+use Rattle.rv_state.specs.resume.Resuming.{CanResume}
+use Rattle.rv_state.proofs.OfWaiting.WaitingLaws.{moves_answer, old_fits, told_fits}
+use Rattle.rv_wires.specs.connection.History.{Given}
+use Rattle.rv_hub.specs.desk.View.{DeskState, DeskTerms, begun}
+use Rattle.rv_hub.specs.desk.Deeds.{Deed, Does, DoesAll, Stepped, entries_of_deed, rests_on}
+use Rattle.rv_hub.specs.desk.Deeds.{Asked, Closed, Elapsed, EndedInput, Lacked, Left, Lost, Opened}
+use Rattle.rv_hub.specs.desk.Deeds.{ReadNothing, Told, TookIn, Wrote}
+use Rattle.rv_hub.specs.desk.Telling.{IsToldAgain}
 use Rattle.rv_hub.specs.EventDeeds.{all_deeds}
 use Rattle.rv_hub.specs.HandedOut.{ArePublic, DeedsTellPublicly, HandedOutIsPublic, IsPublic}
 use Rattle.rv_hub.specs.HubRuns.{DoesEvents, IsHubAccount}

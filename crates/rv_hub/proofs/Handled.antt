@@ -5,13 +5,13 @@ use Rattle.std.proofs.Common.{Bool, Err, IfErr, OnErr, Ok, Result, option_to_lis
 use Rattle.std.specs.Prelude.{IsErrAnd}
 use Rattle.std.specs.Option.{unwrap_or}
 use Rattle.rv_account.specs.declared.entry.Entry.{Entry}
-use Rattle.rv_desk.specs.declared.desk.HubDesk.{HubDesk}
-use Rattle.rv_desk.specs.View.{DeskState, DeskTerms, begun}
-use Rattle.rv_desk.specs.Deeds.{DoesAll}
-use Rattle.rv_desk.specs.Rest.{HasComeToStop}
-use Rattle.rv_desk.specs.Runs.{ListsChanged}
-use Rattle.rv_desk.specs.Fields.{desk_state, desk_terms}
-use Rattle.rv_desk.proofs.Listing.{deeds_are_listed}
+use Rattle.rv_hub.specs.declared.desk.HubDesk.{HubDesk}
+use Rattle.rv_hub.specs.desk.View.{DeskState, DeskTerms, begun}
+use Rattle.rv_hub.specs.desk.Deeds.{DoesAll}
+use Rattle.rv_hub.specs.desk.Rest.{HasComeToStop}
+use Rattle.rv_hub.specs.desk.Runs.{ListsChanged}
+use Rattle.rv_hub.specs.desk.Fields.{desk_state, desk_terms}
+use Rattle.rv_hub.proofs.OfDesk.Listing.{deeds_are_listed}
 use Rattle.rv_hub.specs.declared.events.EventRefusal.{EventRefusal}
 use Rattle.rv_hub.specs.declared.events.HubEvent.{HubEvent}
 use Rattle.rv_hub.specs.Events.{EventCan, EventCannotBe}

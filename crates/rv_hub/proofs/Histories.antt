@@ -11,18 +11,18 @@ use Rattle.rv_text.specs.declared.answer.Answer.{Answer}
 use Rattle.rv_text.specs.declared.answer.Answer.TheVariants as answer
 use Rattle.rv_text.specs.declared.answer.Refusal.TheVariants.{BadText, NoMemory}
 use Rattle.rv_text.specs.Bodies.{answer_text}
-use Rattle.rv_connection.specs.Traffic.{Traffic}
-use Rattle.rv_connection.specs.Steps.{AnswersBy, TakesIn, fresh_traffic, input_ended, left_by, taken}
-use Rattle.rv_connection.specs.History.{IsHistory}
-use Rattle.rv_connection.proofs.Kept.{keeps_answer, keeps_end, keeps_frame, keeps_leaving, keeps_piece}
-use Rattle.rv_connection.proofs.Kept.{keeps_release, opens}
+use Rattle.rv_wires.specs.connection.Traffic.{Traffic}
+use Rattle.rv_wires.specs.connection.Steps.{AnswersBy, TakesIn, fresh_traffic, input_ended, left_by, taken}
+use Rattle.rv_wires.specs.connection.History.{IsHistory}
+use Rattle.rv_wires.proofs.OfConnection.Kept.{keeps_answer, keeps_end, keeps_frame, keeps_leaving}
+use Rattle.rv_wires.proofs.OfConnection.Kept.{keeps_piece, keeps_release, opens}
 use Rattle.rv_wires.specs.Connections.{ChangesWire, HasWire, ReleasesOpen, SetsWire}
-use Rattle.rv_desk.specs.View.{DeskState, DeskTerms}
-use Rattle.rv_desk.specs.Deeds.{AnswersNow, AnswersOrWaits, Deed, Does, IsDueWith}
-use Rattle.rv_desk.specs.Deeds.{entries_of_deed, rests_on}
-use Rattle.rv_desk.specs.Deeds.{Asked, Closed, Elapsed, EndedInput, Lacked, Left, Lost, Opened, ReadNothing}
-use Rattle.rv_desk.specs.Deeds.{Told, TookIn, Wrote}
-use Rattle.rv_desk.proofs.Answering.{some_is}
+use Rattle.rv_hub.specs.desk.View.{DeskState, DeskTerms}
+use Rattle.rv_hub.specs.desk.Deeds.{AnswersNow, AnswersOrWaits, Deed, Does, IsDueWith}
+use Rattle.rv_hub.specs.desk.Deeds.{entries_of_deed, rests_on}
+use Rattle.rv_hub.specs.desk.Deeds.{Asked, Closed, Elapsed, EndedInput, Lacked, Left, Lost, Opened}
+use Rattle.rv_hub.specs.desk.Deeds.{ReadNothing, Told, TookIn, Wrote}
+use Rattle.rv_hub.proofs.OfDesk.Answering.{some_is}
 use Rattle.rv_hub.specs.Pasts.{DeedsKeepPasts, HasPast, IsPast, Past, history_of, is_deed_of, no_past}
 use Rattle.rv_hub.specs.Pasts.{past_after, past_by, with_answer}
 use Rattle.rv_hub.specs.Pasts.{with_frame, with_said}

@@ -19,3 +19,4 @@ pub mod HandedOver
 pub mod ComesOf
 pub mod Paired
 pub mod Checked
+pub mod OfDesk

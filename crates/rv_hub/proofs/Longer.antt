@@ -14,15 +14,15 @@ use Rattle.rv_rules.specs.StepLimits.{StepLimits}
 use Rattle.rv_state.specs.After.{due_at, following}
 use Rattle.rv_state.specs.Moves.{Move, StateNextAtUnder, ticked_at, ticked_if}
 use Rattle.rv_state.specs.State.{OpenPlace, State}
-use Rattle.rv_resume.proofs.Counts.{length_acted}
+use Rattle.rv_state.proofs.Resumed.Counts.{length_acted}
 use Rattle.rv_machine.specs.Needing.{act_of}
 use Rattle.rv_machine.proofs.RoomTaken.{StaysOrEnters, move_kinds}
-use Rattle.rv_desk.specs.View.{DeskState, DeskTerms}
-use Rattle.rv_desk.specs.Deeds.{AnswersOrWaits, Deed, Does, DoesAll, entries_of_deed}
-use Rattle.rv_desk.specs.Runs.{Cause, Heard, RunsBook, Time}
-use Rattle.rv_desk.proofs.OneBook.{one_run}
-use Rattle.rv_desk.specs.Deeds.{Asked, Closed, Elapsed, EndedInput, Lacked, Left, Lost, Opened, ReadNothing}
-use Rattle.rv_desk.specs.Deeds.{Told, TookIn, Wrote}
+use Rattle.rv_hub.specs.desk.View.{DeskState, DeskTerms}
+use Rattle.rv_hub.specs.desk.Deeds.{AnswersOrWaits, Deed, Does, DoesAll, entries_of_deed}
+use Rattle.rv_hub.specs.desk.Runs.{Cause, Heard, RunsBook, Time}
+use Rattle.rv_hub.proofs.OfDesk.OneBook.{one_run}
+use Rattle.rv_hub.specs.desk.Deeds.{Asked, Closed, Elapsed, EndedInput, Lacked, Left, Lost, Opened}
+use Rattle.rv_hub.specs.desk.Deeds.{ReadNothing, Told, TookIn, Wrote}
 
 -- ---- the account
 

@@ -5,9 +5,9 @@ use Rattle.std.proofs.Common.{length}
 use Rattle.std.specs.Prelude.{Bool, flat_map}
 use Rattle.std.proofs.lemmas.Grind.{flat_map-append}
 use Rattle.rv_account.specs.declared.entry.Entry.{Entry}
-use Rattle.rv_desk.specs.View.{DeskState, DeskTerms, begun}
-use Rattle.rv_desk.specs.Deeds.{Deed, entries_of_deed}
-use Rattle.rv_desk.specs.Runs.{RunsBook}
+use Rattle.rv_hub.specs.desk.View.{DeskState, DeskTerms, begun}
+use Rattle.rv_hub.specs.desk.Deeds.{Deed, entries_of_deed}
+use Rattle.rv_hub.specs.desk.Runs.{RunsBook}
 use Rattle.rv_hub.specs.EventDeeds.{all_deeds, causes_of, event_deeds}
 use Rattle.rv_hub.specs.HubRuns.{DoesEvents, HubAnswer, HubsAreRuns, RefusedEvent, RunsHub}
 use Rattle.rv_hub.specs.HubRuns.{TookEvent, made_in, run_deeds}

@@ -5,16 +5,16 @@ use Rattle.std.proofs.Common.{false, true, length, option_to_list}
 use Rattle.std.specs.Prelude.{Contains}
 use Rattle.std.proofs.lemmas.Bool.{cases_eq}
 use Rattle.std.proofs.lemmas.List.{length-append, length-map}
-use Rattle.rv_connection.specs.Traffic.{AnswerByte, IsBad, IsDue, IsFinished, IsWholeFrame, Traffic, bytes_of}
-use Rattle.rv_connection.specs.Traffic.{held_count, most_held}
-use Rattle.rv_connection.specs.Steps.{Releases, fresh_traffic}
+use Rattle.rv_wires.specs.connection.Traffic.{AnswerByte, IsBad, IsDue, IsFinished, IsWholeFrame, Traffic}
+use Rattle.rv_wires.specs.connection.Traffic.{bytes_of, held_count, most_held}
+use Rattle.rv_wires.specs.connection.Steps.{Releases, fresh_traffic}
 use Rattle.rv_wires.specs.Connections.{ReleasesOpen}
-use Rattle.rv_desk.specs.View.{DeskState, DeskTerms}
-use Rattle.rv_desk.specs.Deeds.{Deed, Does, DoesAll}
-use Rattle.rv_desk.specs.Deeds.{Closed, EndedInput, Left, Opened, Wrote}
-use Rattle.rv_desk.specs.Rest.{HasComeToStop}
-use Rattle.rv_desk.proofs.Answering.{due_length, some_is}
-use Rattle.rv_desk.proofs.Rows.{there_first}
+use Rattle.rv_hub.specs.desk.View.{DeskState, DeskTerms}
+use Rattle.rv_hub.specs.desk.Deeds.{Deed, Does, DoesAll}
+use Rattle.rv_hub.specs.desk.Deeds.{Closed, EndedInput, Left, Opened, Wrote}
+use Rattle.rv_hub.specs.desk.Rest.{HasComeToStop}
+use Rattle.rv_hub.proofs.OfDesk.Answering.{due_length, some_is}
+use Rattle.rv_hub.proofs.OfDesk.Rows.{there_first}
 use Rattle.rv_hub.specs.declared.events.HubEvent.{HubEvent}
 use Rattle.rv_hub.specs.declared.events.HubEvent.TheVariants as event
 use Rattle.rv_hub.specs.Turns.{goes_on_first, own_deeds}

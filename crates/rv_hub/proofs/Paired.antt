@@ -22,16 +22,16 @@ use Rattle.rv_rules.specs.StepLimits.{AreStepLimits, StepLimits}
 use Rattle.rv_rules.specs.Steps.{NextUnder}
 use Rattle.rv_rules.proofs.Growing.{act_read, reads_on}
 use Rattle.rv_rules.proofs.Places.{get-append_cases, get-append_end, within}
-use Rattle.rv_connection.specs.Traffic.{Traffic}
-use Rattle.rv_connection.specs.History.{Given, owed_count}
-use Rattle.rv_hearers.specs.declared.tables.Hearing.{Hearing}
-use Rattle.rv_hearers.specs.Hearing.{SetsHearing, WhoHears}
+use Rattle.rv_wires.specs.connection.Traffic.{Traffic}
+use Rattle.rv_wires.specs.connection.History.{Given, owed_count}
+use Rattle.rv_wires.specs.declared.hearers.tables.Hearing.{Hearing}
+use Rattle.rv_wires.specs.hearers.Hearing.{SetsHearing, WhoHears}
 use Rattle.rv_wires.specs.Connections.{ChangesWire, HasWire, ReleasesOpen, SetsWire, WiresState}
-use Rattle.rv_desk.specs.View.{DeskState, DeskTerms, begun}
-use Rattle.rv_desk.specs.Deeds.{AnswersNow, AnswersOrWaits, Deed, Does, DoesAll, IsDueWith, WaitsNow}
-use Rattle.rv_desk.specs.Deeds.{entries_of_deed, rests_on}
-use Rattle.rv_desk.specs.Deeds.{Asked, Closed, Elapsed, EndedInput, Lacked, Left, Lost, Opened, ReadNothing}
-use Rattle.rv_desk.specs.Deeds.{Stepped, Told, TookIn, Wrote}
+use Rattle.rv_hub.specs.desk.View.{DeskState, DeskTerms, begun}
+use Rattle.rv_hub.specs.desk.Deeds.{AnswersNow, AnswersOrWaits, Deed, Does, DoesAll, IsDueWith, WaitsNow}
+use Rattle.rv_hub.specs.desk.Deeds.{entries_of_deed, rests_on}
+use Rattle.rv_hub.specs.desk.Deeds.{Asked, Closed, Elapsed, EndedInput, Lacked, Left, Lost, Opened}
+use Rattle.rv_hub.specs.desk.Deeds.{ReadNothing, Stepped, Told, TookIn, Wrote}
 use Rattle.rv_hub.specs.EventDeeds.{all_deeds}
 use Rattle.rv_hub.specs.HubRuns.{AddsEntries, IsHubAccount}
 use Rattle.rv_hub.specs.Pairing.{ArePaired, BeginsPairs, FramesAreAnswered, HasPairs, InPairs, IsAnswerTo}

@@ -25,8 +25,8 @@ use Rattle.rv_state.specs.Moves.{SessionLacks, StateNextAtUnder, answer_told, ca
 use Rattle.rv_state.specs.State.{ClientState, State, client_at}
 use Rattle.rv_state.proofs.StateLaws.{moves_step_under}
 use Rattle.rv_state.specs.Moves.{StateNextUnder}
-use Rattle.rv_desk.specs.View.{DeskState}
-use Rattle.rv_desk.specs.Telling.{IsToldAgain}
+use Rattle.rv_hub.specs.desk.View.{DeskState}
+use Rattle.rv_hub.specs.desk.Telling.{IsToldAgain}
 use Rattle.rv_hub.specs.HubRuns.{IsHubAccount, TellsAsARepeat}
 use Rattle.rv_hub.proofs.Accounts.{fitting_number, next_here, told_became}
 

@@ -4,13 +4,13 @@ use Rattle.std.proofs.Common.{refl, sym, ap, subst, arith}
 use Rattle.std.proofs.Common.{Bool, false, true, length}
 use Rattle.std.specs.Option.{unwrap_or}
 use Rattle.std.proofs.lemmas.Bool.{cases_lt}
-use Rattle.rv_connection.specs.Traffic.{IsBad, IsDue, IsWholeFrame, Traffic, held_count, most_held}
+use Rattle.rv_wires.specs.connection.Traffic.{IsBad, IsDue, IsWholeFrame, Traffic, held_count, most_held}
 use Rattle.rv_wires.specs.Connections.{ReleasesOpen}
-use Rattle.rv_desk.specs.declared.desk.HubDesk.{HubDesk}
-use Rattle.rv_desk.specs.View.{DeskState, DeskTerms, begun}
-use Rattle.rv_desk.specs.Deeds.{DoesAll, Wrote}
-use Rattle.rv_desk.specs.Rest.{HasComeToStop, HearersInTime, TakesNoMore}
-use Rattle.rv_desk.specs.Fields.{IsDeskReady, IsSteady, desk_state, desk_terms}
+use Rattle.rv_hub.specs.declared.desk.HubDesk.{HubDesk}
+use Rattle.rv_hub.specs.desk.View.{DeskState, DeskTerms, begun}
+use Rattle.rv_hub.specs.desk.Deeds.{DoesAll, Wrote}
+use Rattle.rv_hub.specs.desk.Rest.{HasComeToStop, HearersInTime, TakesNoMore}
+use Rattle.rv_hub.specs.desk.Fields.{IsDeskReady, IsSteady, desk_state, desk_terms}
 use Rattle.rv_hub.specs.declared.events.EventRefusal.{EventRefusal}
 use Rattle.rv_hub.specs.declared.events.HubEvent.{HubEvent}
 use Rattle.rv_hub.specs.declared.events.HubEvent.TheVariants as event
@@ -23,7 +23,7 @@ use Rattle.rv_hub.proofs.Longer.{IsWithin, within_all}
 use Rattle.rv_hub.proofs.Owning.{at_last, written_stopped}
 use Rattle.rv_hub.proofs.Staying.{TakesNone, none_closed}
 use Rattle.rv_hub.proofs.Whole.{goes_do}
-use Rattle.rv_desk.proofs.Answering.{some_is}
+use Rattle.rv_hub.proofs.OfDesk.Answering.{some_is}
 
 -- ---- what can be, can be where no connection has changed yet
 

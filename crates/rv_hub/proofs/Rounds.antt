@@ -5,13 +5,13 @@ use Rattle.std.proofs.Common.{append_assoc, drop, length}
 use Rattle.std.specs.Prelude.{flat_map}
 use Rattle.std.proofs.lemmas.Grind.{flat_map-append}
 use Rattle.std.proofs.lemmas.List.{append-nil, drop-drop, length-drop}
-use Rattle.rv_desk.specs.declared.desk.HubDesk.{HubDesk}
-use Rattle.rv_desk.specs.View.{DeskState, DeskTerms}
-use Rattle.rv_desk.specs.Deeds.{Deed, entries_of_deed, told_in_deeds}
-use Rattle.rv_desk.specs.Order.{IsTurn}
-use Rattle.rv_desk.specs.Rest.{HasComeToStop, TakesNoMore}
-use Rattle.rv_desk.specs.Fields.{IsSteady, desk_state, desk_terms}
-use Rattle.rv_desk.specs.Going.{TakesItsTurn, work_left}
+use Rattle.rv_hub.specs.declared.desk.HubDesk.{HubDesk}
+use Rattle.rv_hub.specs.desk.View.{DeskState, DeskTerms}
+use Rattle.rv_hub.specs.desk.Deeds.{Deed, entries_of_deed, told_in_deeds}
+use Rattle.rv_hub.specs.desk.Order.{IsTurn}
+use Rattle.rv_hub.specs.desk.Rest.{HasComeToStop, TakesNoMore}
+use Rattle.rv_hub.specs.desk.Fields.{IsSteady, desk_state, desk_terms}
+use Rattle.rv_hub.specs.desk.Going.{TakesItsTurn, work_left}
 use Rattle.rv_hub.specs.Turns.{IsWholeTurn, Offered, RunsTurns, made_by, offered_to}
 use Rattle.rv_hub.specs.Steps.{IsGoing, IsOffering, TurnsOn, less_by, offer_from}
 use Rattle.rv_hub.proofs.TurnByTurn.{no_turns, turn_first}

@@ -9,13 +9,13 @@ use Rattle.std.proofs.lemmas.List.{length-drop}
 use Rattle.std.proofs.lemmas.List.Elements.{Contains-append_cases, Contains-append_left}
 use Rattle.std.proofs.lemmas.List.Elements.{Contains-append_right, Contains-push_cases}
 use Rattle.std.proofs.lemmas.Option.{none-some}
-use Rattle.rv_connection.specs.Traffic.{IsBad, IsDue, IsFinished, IsWholeFrame, Traffic}
-use Rattle.rv_desk.specs.View.{DeskState, DeskTerms}
-use Rattle.rv_desk.specs.Deeds.{Deed, told_in_deeds}
-use Rattle.rv_desk.specs.Order.{IsTurn}
-use Rattle.rv_desk.specs.Rest.{HasComeToStop, TakesNoMore}
-use Rattle.rv_desk.specs.Runs.{StaysOrTold}
-use Rattle.rv_desk.proofs.Others.{others_stay}
+use Rattle.rv_wires.specs.connection.Traffic.{IsBad, IsDue, IsFinished, IsWholeFrame, Traffic}
+use Rattle.rv_hub.specs.desk.View.{DeskState, DeskTerms}
+use Rattle.rv_hub.specs.desk.Deeds.{Deed, told_in_deeds}
+use Rattle.rv_hub.specs.desk.Order.{IsTurn}
+use Rattle.rv_hub.specs.desk.Rest.{HasComeToStop, TakesNoMore}
+use Rattle.rv_hub.specs.desk.Runs.{StaysOrTold}
+use Rattle.rv_hub.proofs.OfDesk.Others.{others_stay}
 use Rattle.rv_hub.specs.Turns.{Offered, offered_to}
 use Rattle.rv_hub.specs.Steps.{IsGoing, IsOffering, less_by}
 

@@ -5,9 +5,9 @@ use Rattle.std.specs.Prelude.{cond, nat_eq, slice_get}
 use Rattle.std.proofs.lemmas.Grind.{flat_map-append}
 use Rattle.std.proofs.lemmas.List.{length-append, length-take-le}
 use Rattle.std.proofs.lemmas.Option.{none-some}
-use Rattle.rv_desk.specs.View.{DeskState, DeskTerms}
-use Rattle.rv_desk.specs.Deeds.{Deed, bytes_by, bytes_in, told_in_deeds, told_of_deed}
-use Rattle.rv_desk.proofs.Chains.{left_append}
+use Rattle.rv_hub.specs.desk.View.{DeskState, DeskTerms}
+use Rattle.rv_hub.specs.desk.Deeds.{Deed, bytes_by, bytes_in, told_in_deeds, told_of_deed}
+use Rattle.rv_hub.proofs.OfDesk.Chains.{left_append}
 use Rattle.rv_hub.specs.Turns.{HasTurn, IsWholeTurn, Offered, RunsTurns, all_deeds, offered_behind}
 use Rattle.rv_hub.specs.Turns.{offered_to}
 use Rattle.rv_hub.specs.Steps.{less_by}

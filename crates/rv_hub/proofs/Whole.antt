@@ -5,11 +5,11 @@ use Rattle.std.specs.Prelude.{flat_map}
 use Rattle.std.proofs.lemmas.Grind.{flat_map-append}
 use Rattle.std.proofs.lemmas.List.{append-nil}
 use Rattle.rv_account.specs.declared.entry.Entry.{Entry}
-use Rattle.rv_desk.specs.View.{DeskState, DeskTerms, begun, moment_now}
-use Rattle.rv_desk.specs.Deeds.{Deed, DoesAll, entries_of_deed, told_in_deeds}
-use Rattle.rv_desk.specs.Deeds.{Elapsed}
-use Rattle.rv_desk.proofs.Chains.{does_append}
-use Rattle.rv_desk.proofs.Quiet.{keys_quiet}
+use Rattle.rv_hub.specs.desk.View.{DeskState, DeskTerms, begun, moment_now}
+use Rattle.rv_hub.specs.desk.Deeds.{Deed, DoesAll, entries_of_deed, told_in_deeds}
+use Rattle.rv_hub.specs.desk.Deeds.{Elapsed}
+use Rattle.rv_hub.proofs.OfDesk.Chains.{does_append}
+use Rattle.rv_hub.proofs.OfDesk.Quiet.{keys_quiet}
 use Rattle.rv_hub.specs.declared.events.HubEvent.{HubEvent}
 use Rattle.rv_hub.specs.declared.events.HubEvent.TheVariants as event
 use Rattle.rv_hub.specs.EventDeeds.{all_deeds, event_deeds, goes_deeds}

@@ -11,18 +11,18 @@ use Rattle.rv_text.specs.declared.message.Key.{Key}
 use Rattle.rv_text.specs.declared.answer.Answer.{Answer}
 use Rattle.rv_text.specs.declared.answer.Answer.TheVariants as answer
 use Rattle.rv_account.specs.declared.entry.Entry.{Entry}
-use Rattle.rv_hearers.specs.declared.tables.Hearing.{Hearing}
-use Rattle.rv_desk.specs.declared.desk.HubDesk.{HubDesk}
-use Rattle.rv_desk.specs.View.{DeskState, DeskTerms}
-use Rattle.rv_desk.specs.Deeds.{Deed, Does, DoesAll, entries_of_deed, told_of_deed, told_in_deeds}
-use Rattle.rv_desk.specs.Deeds.{Closed, Elapsed, Told}
-use Rattle.rv_desk.specs.Order.{IsStride, TellsOverdue, TellsStillWaiting}
-use Rattle.rv_desk.specs.Fields.{IsDeskReady, desk_state, desk_terms}
-use Rattle.rv_desk.specs.Going.{PassesIt}
-use Rattle.rv_desk.specs.Runs.{StaysOrTold}
-use Rattle.rv_desk.proofs.Others.{keys_kept, kept_on}
-use Rattle.rv_desk.proofs.Quiet.{keys_quiet}
-use Rattle.rv_desk.proofs.Rows.{there_first}
+use Rattle.rv_wires.specs.declared.hearers.tables.Hearing.{Hearing}
+use Rattle.rv_hub.specs.declared.desk.HubDesk.{HubDesk}
+use Rattle.rv_hub.specs.desk.View.{DeskState, DeskTerms}
+use Rattle.rv_hub.specs.desk.Deeds.{Deed, Does, DoesAll, entries_of_deed, told_of_deed, told_in_deeds}
+use Rattle.rv_hub.specs.desk.Deeds.{Closed, Elapsed, Told}
+use Rattle.rv_hub.specs.desk.Order.{IsStride, TellsOverdue, TellsStillWaiting}
+use Rattle.rv_hub.specs.desk.Fields.{IsDeskReady, desk_state, desk_terms}
+use Rattle.rv_hub.specs.desk.Going.{PassesIt}
+use Rattle.rv_hub.specs.desk.Runs.{StaysOrTold}
+use Rattle.rv_hub.proofs.OfDesk.Others.{keys_kept, kept_on}
+use Rattle.rv_hub.proofs.OfDesk.Quiet.{keys_quiet}
+use Rattle.rv_hub.proofs.OfDesk.Rows.{there_first}
 use Rattle.rv_hub.specs.declared.events.HubEvent.{HubEvent}
 use Rattle.rv_hub.specs.declared.events.HubEvent.TheVariants as event
 use Rattle.rv_hub.specs.Turns.{RunsTurns, goes_on_first, made_by, offer_in}

@@ -1,9 +1,9 @@
 -- The deeds of a hub's events, read off what the events are.
 use Rattle.std.specs.Prelude.{ℕ, Bool, List, [], ◌∷◌, ◌++◌, map, option_to_list}
 use Rattle.rv_account.specs.declared.entry.Entry.{Entry}
-use Rattle.rv_desk.specs.View.{DeskState, DeskTerms, moment_now}
-use Rattle.rv_desk.specs.Deeds.{Deed, Elapsed, step_of}
-use Rattle.rv_desk.specs.Runs.{Cause, Heard, Time}
+use Rattle.rv_hub.specs.desk.View.{DeskState, DeskTerms, moment_now}
+use Rattle.rv_hub.specs.desk.Deeds.{Deed, Elapsed, step_of}
+use Rattle.rv_hub.specs.desk.Runs.{Cause, Heard, Time}
 use Rattle.rv_hub.specs.declared.events.HubEvent.{HubEvent}
 use Rattle.rv_hub.specs.Turns.{EventGoesOn, TakesEvent, last_deeds, own_deeds}
 pub use Rattle.rv_hub.specs.Turns.{all_deeds}

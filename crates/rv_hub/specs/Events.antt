@@ -1,7 +1,7 @@
 -- What happens to a hub, and which of it can't be.
 use Rattle.std.specs.Prelude.{ℕ, ◌≡◌, ◌<◌, ◌≤◌, ◌⊎◌, None, false, length, true}
 use Rattle.rv_wires.specs.Connections.{HasWire}
-use Rattle.rv_desk.specs.View.{DeskState}
+use Rattle.rv_hub.specs.desk.View.{DeskState}
 use Rattle.rv_hub.specs.declared.events.EventRefusal.{EventRefusal}
 use Rattle.rv_hub.specs.declared.events.EventRefusal.TheVariants as refused
 use Rattle.rv_hub.specs.declared.events.HubEvent.{HubEvent}

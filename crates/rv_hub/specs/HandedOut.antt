@@ -11,9 +11,9 @@ use Rattle.rv_account.specs.Account.{Account}
 use Rattle.rv_account.specs.Limits.{max_moment}
 use Rattle.rv_rules.specs.Replies.{HasReply}
 use Rattle.rv_rules.specs.StepLimits.{AreStepLimits}
-use Rattle.rv_connection.specs.History.{Given}
-use Rattle.rv_desk.specs.View.{DeskState, DeskTerms}
-use Rattle.rv_desk.specs.Deeds.{Deed, DoesAll, entries_of_deed}
+use Rattle.rv_wires.specs.connection.History.{Given}
+use Rattle.rv_hub.specs.desk.View.{DeskState, DeskTerms}
+use Rattle.rv_hub.specs.desk.Deeds.{Deed, DoesAll, entries_of_deed}
 use Rattle.rv_hub.specs.EventDeeds.{all_deeds}
 use Rattle.rv_hub.specs.HubRuns.{AddsEntries, DoesEvents, IsHubAccount}
 use Rattle.rv_hub.specs.Pasts.{Past, past_after}

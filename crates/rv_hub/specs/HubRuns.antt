@@ -14,10 +14,10 @@ use Rattle.rv_rules.specs.Legal.{Legal}
 use Rattle.rv_rules.specs.StepLimits.{AreStepLimits}
 use Rattle.rv_rules.specs.Steps.{Answers, NextUnder, OldIncarnationDue}
 use Rattle.rv_state.specs.After.{due_at, state_of}
-use Rattle.rv_resume.specs.Resuming.{CanResume}
-use Rattle.rv_desk.specs.View.{DeskState, DeskTerms, begun}
-use Rattle.rv_desk.specs.Deeds.{Asked, Deed, Does, DoesAll, Stepped, Told, entries_of_deed}
-use Rattle.rv_desk.specs.Runs.{RunsBook}
+use Rattle.rv_state.specs.resume.Resuming.{CanResume}
+use Rattle.rv_hub.specs.desk.View.{DeskState, DeskTerms, begun}
+use Rattle.rv_hub.specs.desk.Deeds.{Asked, Deed, Does, DoesAll, Stepped, Told, entries_of_deed}
+use Rattle.rv_hub.specs.desk.Runs.{RunsBook}
 use Rattle.rv_hub.specs.declared.events.HubEvent.{HubEvent}
 use Rattle.rv_hub.specs.EventDeeds.{all_deeds, causes_of, event_deeds}
 use Rattle.rv_hub.specs.Turns.{TakesEvent, made_by}

@@ -1,6 +1,6 @@
 -- What the parts of a hub hold.
-use Rattle.rv_desk.specs.View.{DeskState, DeskTerms}
-use Rattle.rv_desk.specs.Fields.{IsDeskReady, desk_state, desk_terms}
+use Rattle.rv_hub.specs.desk.View.{DeskState, DeskTerms}
+use Rattle.rv_hub.specs.desk.Fields.{IsDeskReady, desk_state, desk_terms}
 use Rattle.rv_hub.specs.declared.parts.HubParts.{HubParts}
 use Rattle.rv_hub.specs.Turns.{IsAtRest}
 

@@ -10,3 +10,4 @@ pub mod Pairing
 pub mod Hubs
 -- What private clauses and proofs cite.
 pub mod Steps
+pub mod desk

@@ -15,11 +15,11 @@ use Rattle.rv_account.specs.Account.{Account, act_at, own_moment}
 use Rattle.rv_account.specs.Limits.{max_moment}
 use Rattle.rv_rules.specs.StepLimits.{AreStepLimits, StepLimits}
 use Rattle.rv_rules.specs.Steps.{NextUnder}
-use Rattle.rv_connection.specs.History.{Given}
-use Rattle.rv_hearers.specs.declared.tables.Hearing.{Hearing}
+use Rattle.rv_wires.specs.connection.History.{Given}
+use Rattle.rv_wires.specs.declared.hearers.tables.Hearing.{Hearing}
 use Rattle.rv_wires.specs.Connections.{HasWire}
-use Rattle.rv_desk.specs.View.{DeskState, DeskTerms}
-use Rattle.rv_desk.specs.Deeds.{Deed}
+use Rattle.rv_hub.specs.desk.View.{DeskState, DeskTerms}
+use Rattle.rv_hub.specs.desk.Deeds.{Deed}
 use Rattle.rv_hub.specs.EventDeeds.{all_deeds}
 use Rattle.rv_hub.specs.HubRuns.{AddsEntries, DoesEvents, IsHubAccount}
 use Rattle.rv_hub.specs.Pasts.{HasPast, Past, no_past, past_after}

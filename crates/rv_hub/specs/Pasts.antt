@@ -5,12 +5,12 @@ use Rattle.rv_text.specs.declared.answer.Answer.{Answer}
 use Rattle.rv_text.specs.declared.answer.Answer.TheVariants as answer
 use Rattle.rv_text.specs.declared.answer.Refusal.TheVariants.{BadText, NoMemory}
 use Rattle.rv_text.specs.Bodies.{answer_text}
-use Rattle.rv_connection.specs.Traffic.{Traffic}
-use Rattle.rv_connection.specs.History.{Given, History, IsHistory}
-use Rattle.rv_desk.specs.View.{DeskState, DeskTerms}
-use Rattle.rv_desk.specs.Deeds.{Deed, DoesAll, entries_of_deed, rests_on}
-use Rattle.rv_desk.specs.Deeds.{Asked, Closed, Elapsed, EndedInput, Lacked, Left, Lost, Opened, ReadNothing}
-use Rattle.rv_desk.specs.Deeds.{Told, TookIn, Wrote}
+use Rattle.rv_wires.specs.connection.Traffic.{Traffic}
+use Rattle.rv_wires.specs.connection.History.{Given, History, IsHistory}
+use Rattle.rv_hub.specs.desk.View.{DeskState, DeskTerms}
+use Rattle.rv_hub.specs.desk.Deeds.{Deed, DoesAll, entries_of_deed, rests_on}
+use Rattle.rv_hub.specs.desk.Deeds.{Asked, Closed, Elapsed, EndedInput, Lacked, Left, Lost, Opened}
+use Rattle.rv_hub.specs.desk.Deeds.{ReadNothing, Told, TookIn, Wrote}
 
 pub record Past : Type 0 where
   -- all bytes that were taken of its input

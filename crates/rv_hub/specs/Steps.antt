@@ -1,11 +1,11 @@
 -- What the parts of an event leave of a desk.
 use Rattle.std.specs.Prelude.{ℕ, ◌≡◌, ◌<◌, ◌≤◌, ◌⊎◌, List, [], ◌++◌, None, Option, Some, Contains}
 use Rattle.std.specs.Prelude.{drop, length}
-use Rattle.rv_desk.specs.declared.desk.HubDesk.{HubDesk}
-use Rattle.rv_desk.specs.View.{DeskState}
-use Rattle.rv_desk.specs.Fields.{desk_state, desk_terms}
-use Rattle.rv_desk.specs.Deeds.{Deed, DoesAll}
-use Rattle.rv_desk.specs.Rest.{HasComeToStop, TakesNoMore}
+use Rattle.rv_hub.specs.declared.desk.HubDesk.{HubDesk}
+use Rattle.rv_hub.specs.desk.View.{DeskState}
+use Rattle.rv_hub.specs.desk.Fields.{desk_state, desk_terms}
+use Rattle.rv_hub.specs.desk.Deeds.{Deed, DoesAll}
+use Rattle.rv_hub.specs.desk.Rest.{HasComeToStop, TakesNoMore}
 use Rattle.rv_hub.specs.declared.events.HubEvent.{HubEvent}
 use Rattle.rv_hub.specs.declared.events.HubEvent.TheVariants as event
 use Rattle.rv_hub.specs.Turns.{EventGoesOn, Offered, RunsTurns, made_by, own_deeds}

@@ -4,12 +4,13 @@ use Rattle.std.specs.Prelude.{Option, Some, cond, suc}
 use Rattle.std.specs.Prelude.{flat_map, length, nat_eq, option_to_list, slice_get, take}
 use Rattle.rv_text.specs.declared.message.Key.{Key}
 use Rattle.rv_account.specs.declared.entry.Entry.{Entry}
-use Rattle.rv_connection.specs.Traffic.{IsBad, IsWholeFrame, Traffic, held_count, most_held}
-use Rattle.rv_desk.specs.View.{DeskState, DeskTerms, begun, moment_now}
-use Rattle.rv_desk.specs.Deeds.{Deed, DoesAll, bytes_in, entries_of_deed, told_in_deeds}
-use Rattle.rv_desk.specs.Deeds.{Closed, Elapsed, EndedInput, Left, Opened, Wrote}
-use Rattle.rv_desk.specs.Order.{IsStride, IsTurn, TellsOverdue, left_behind}
-use Rattle.rv_desk.specs.Rest.{HasComeToStop, HearersInTime, HearersOwe, HearersWait, OwersHear, TakesNoMore}
+use Rattle.rv_wires.specs.connection.Traffic.{IsBad, IsWholeFrame, Traffic, held_count, most_held}
+use Rattle.rv_hub.specs.desk.View.{DeskState, DeskTerms, begun, moment_now}
+use Rattle.rv_hub.specs.desk.Deeds.{Deed, DoesAll, bytes_in, entries_of_deed, told_in_deeds}
+use Rattle.rv_hub.specs.desk.Deeds.{Closed, Elapsed, EndedInput, Left, Opened, Wrote}
+use Rattle.rv_hub.specs.desk.Order.{IsStride, IsTurn, TellsOverdue, left_behind}
+use Rattle.rv_hub.specs.desk.Rest.{HasComeToStop, HearersInTime, HearersOwe, HearersWait, OwersHear}
+use Rattle.rv_hub.specs.desk.Rest.{TakesNoMore}
 use Rattle.rv_hub.specs.declared.events.EventRefusal.{EventRefusal}
 use Rattle.rv_hub.specs.declared.events.EventRefusal.TheVariants as refused
 use Rattle.rv_hub.specs.declared.events.HubEvent.{HubEvent}

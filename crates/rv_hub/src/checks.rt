@@ -1,14 +1,14 @@
 //! Which events can't be.
 ghost use Rattle.std.specs.Prelude.{◌≡◌, ◌⊎◌, ◌≤◌, ◌<◌, Some, true, false, length, IfErr, IfOk, OnOk};
 ghost use Rattle.rv_wires.specs.Connections.{HasWire};
-ghost use Rattle.rv_desk.specs.Fields.{desk_state};
+ghost use Rattle.rv_hub.specs.desk.Fields.{desk_state};
 ghost use Rattle.rv_hub.specs.declared.events.EventRefusal.TheVariants as refused;
 ghost use Rattle.rv_hub.specs.Events.{EventCan, EventCannotBe, IsNotOpen};
 
+use crate::desk::HubDesk;
 use crate::events::{EventRefusal, HubEvent};
-use rv_connection::Wire;
-use rv_desk::HubDesk;
-use rv_hearers::ConnectionNumber;
+use rv_wires::connection::Wire;
+use rv_wires::hearers::ConnectionNumber;
 
 // The open connection of a number.
 fn open_wire(desk: &HubDesk, connection: ConnectionNumber) -> Result<&Wire, EventRefusal>

@@ -1,5 +1,5 @@
 //! What happens to a hub.
-use rv_hearers::ConnectionNumber;
+use rv_wires::hearers::ConnectionNumber;
 use thiserror::Error;
 
 /// An event of a hub. Each is handed over with its moment.
@@ -9,7 +9,7 @@ pub enum HubEvent<'a> {
     Opened,
     /// A piece of a connection's input came.
     Came(ConnectionNumber, &'a [u8]),
-    /// A connection's input ended, behind its last byte: none is taken from then on.
+    /// A connection's input ended, after its last byte: none is taken from then on.
     Ended(ConnectionNumber),
     /// A connection's peer is gone.
     Gone(ConnectionNumber),

@@ -1,10 +1,10 @@
 //! Events, one at a time.
 ghost use Rattle.std.specs.Prelude.{◌≡◌, ◌≤◌, ◌++◌, [], option_to_list};
 ghost use Rattle.std.specs.Prelude.{IfErr, IfOk, OnErr, OnOk};
-ghost use Rattle.rv_desk.specs.View.{begun};
-ghost use Rattle.rv_desk.specs.Deeds.{DoesAll};
-ghost use Rattle.rv_desk.specs.Runs.{ListsChanged};
-ghost use Rattle.rv_desk.specs.Fields.{IsDeskReady, IsSteady, desk_state, desk_terms};
+ghost use Rattle.rv_hub.specs.desk.View.{begun};
+ghost use Rattle.rv_hub.specs.desk.Deeds.{DoesAll};
+ghost use Rattle.rv_hub.specs.desk.Runs.{ListsChanged};
+ghost use Rattle.rv_hub.specs.desk.Fields.{IsDeskReady, IsSteady, desk_state, desk_terms};
 ghost use Rattle.rv_hub.specs.declared.events.HubEvent.TheVariants as what;
 ghost use Rattle.rv_hub.specs.declared.events.EventRefusal.TheVariants as refused;
 ghost use Rattle.rv_hub.specs.Events.{EventCan};
@@ -13,10 +13,10 @@ ghost use Rattle.rv_hub.specs.Turns.{last_deeds, offer_in};
 ghost use Rattle.rv_hub.specs.Steps.{ActsOwn, IsGoing, RunsOn, offer_from};
 
 use crate::checks::check;
+use crate::desk::HubDesk;
 use crate::events::{EventRefusal, HubEvent};
 use crate::progress::turn_all;
-use rv_desk::HubDesk;
-use rv_hearers::ConnectionNumber;
+use rv_wires::hearers::ConnectionNumber;
 
 // The connection that goes on behind time, before those that were freed.
 fn first_of(event: &HubEvent<'_>) -> Option<ConnectionNumber>

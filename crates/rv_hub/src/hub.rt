@@ -1,16 +1,16 @@
 //! The hub: what is asked of it, and its events.
 ghost use Rattle.std.specs.Prelude.{◌≡◌};
 
+use crate::desk::HubDesk;
 use crate::events::{EventRefusal, HubEvent};
 use crate::handling;
 use crate::parts::HubParts;
 use rv_account::Entry;
-use rv_connection::Wire;
-use rv_desk::HubDesk;
-use rv_hearers::ConnectionNumber;
 use rv_machine::Machine;
 use rv_rules::Limits;
 use rv_text::NoMemory;
+use rv_wires::connection::Wire;
+use rv_wires::hearers::ConnectionNumber;
 use std::alloc::Global;
 use std::marker::Model;
 
@@ -44,14 +44,14 @@ impl Hub {
     ghost use Rattle.std.specs.Prelude.{IsTrue, OnErr, OnOk, [], max};
     ghost use Rattle.std.specs.Option.{option_copied};
     ghost use Rattle.rv_machine.specs.Machines.{state_in};
-    ghost use Rattle.rv_resume.specs.Resuming.{CanResume};
+    ghost use Rattle.rv_state.specs.resume.Resuming.{CanResume};
     ghost use Rattle.rv_rules.specs.StepLimits.{AreStepLimits};
-    ghost use Rattle.rv_hearers.specs.Hearing.{nobody};
+    ghost use Rattle.rv_wires.specs.hearers.Hearing.{nobody};
     ghost use Rattle.rv_wires.specs.Connections.{AllHeldBack, IsTotalHeld, IsTotalUnread, none_open};
-    ghost use Rattle.rv_desk.specs.View.{begun};
-    ghost use Rattle.rv_desk.specs.Telling.{CountsUnheard, IsUnheard};
-    ghost use Rattle.rv_desk.specs.Rest.{IsNextMoment};
-    ghost use Rattle.rv_desk.specs.Runs.{ListsChanged};
+    ghost use Rattle.rv_hub.specs.desk.View.{begun};
+    ghost use Rattle.rv_hub.specs.desk.Telling.{CountsUnheard, IsUnheard};
+    ghost use Rattle.rv_hub.specs.desk.Rest.{IsNextMoment};
+    ghost use Rattle.rv_hub.specs.desk.Runs.{ListsChanged};
     ghost use Rattle.rv_hub.specs.Hubs.{IsHub, hub_state, hub_terms};
     ghost use Rattle.rv_hub.specs.Turns.{EventRefused, TakesEvent, TakesPiece};
 

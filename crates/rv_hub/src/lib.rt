@@ -3,6 +3,7 @@
 #![tactic(auto)]
 
 mod checks;
+mod desk;
 mod events;
 mod handling;
 mod hub;

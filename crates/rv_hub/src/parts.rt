@@ -1,5 +1,5 @@
 //! What a hub is made of.
-use rv_desk::HubDesk;
+use crate::desk::HubDesk;
 
 /// A desk, and whether a journal is kept: contracts see a hub so.
 #[derive(Drop)]

@@ -1,13 +1,13 @@
 //! Connections go on until nobody is to go on any more.
 ghost use Rattle.std.specs.Prelude.{◌<◌, length, [], option_to_list, ◌++◌};
-ghost use Rattle.rv_desk.specs.Fields.{IsSteady, desk_state};
-ghost use Rattle.rv_desk.specs.Rest.{HasComeToStop, TakesNoMore};
-ghost use Rattle.rv_desk.specs.Going.{TakesItsTurn};
+ghost use Rattle.rv_hub.specs.desk.Fields.{IsSteady, desk_state};
+ghost use Rattle.rv_hub.specs.desk.Rest.{HasComeToStop, TakesNoMore};
+ghost use Rattle.rv_hub.specs.desk.Going.{TakesItsTurn};
 ghost use Rattle.rv_hub.specs.Turns.{offered_to};
 ghost use Rattle.rv_hub.specs.Steps.{IsGoing, IsOffering, TurnsOn, offer_from};
 
-use rv_desk::HubDesk;
-use rv_hearers::ConnectionNumber;
+use crate::desk::HubDesk;
+use rv_wires::hearers::ConnectionNumber;
 
 // A connection goes on until it stops. Bytes of a piece are taken of the connection alone of which it came.
 fn turn(

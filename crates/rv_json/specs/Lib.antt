@@ -8,3 +8,4 @@ pub mod Sorted
 pub mod Finding
 pub mod Alone
 pub mod Writing
+pub mod Limits

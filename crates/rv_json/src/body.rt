@@ -47,9 +47,9 @@ pub trait Body: Drop {
 #[derive(Clone, Copy)]
 struct Refused;
 
-/// What is alone in the object that the bytes are the text of. [`TextFault::NoMemory`] comes only if a
-/// growth was refused. A compact text of whole numbers, texts and lists of texts is read in one pass with no
-/// memory but that of its items, and any other as `serde_json` reads it.
+/// The value whose members, and no others, the object has whose text the bytes are. [`TextFault::NoMemory`]
+/// comes only if a growth was refused. A compact text of whole numbers, texts and lists of texts is read in
+/// one pass, with no memory but that of its items; any other as `serde_json` reads it.
 pub fn decode<B: Body>(alloc: Global, bytes: &[u8]) -> Result<B, TextFault>
     ensures { FindsIn B.form bytes.now result }
 {

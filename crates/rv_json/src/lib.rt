@@ -1,9 +1,12 @@
-//! A body's JSON; the members of its object, read by name or written in their place; what is alone in it.
+//! A body's JSON: its object's members, read and written by name, and the value that has exactly these
+//! members.
 #![tactic(auto)]
 
 mod body;
 mod fault;
 mod flat;
+mod item;
+mod items;
 mod list;
 mod members;
 mod pair;
@@ -14,6 +17,8 @@ mod writer;
 pub use body::{Body, decode};
 pub use fault::{NoMemory, TextFault};
 pub use flat::{FlatMember, Plain};
+pub use item::{Item, MAX_ITEM_BYTES};
+pub use items::{Items, MAX_DRAIN};
 pub use members::{Members, find_text, find_whole, read_text, read_whole, take_item, take_texts};
 pub use pair::two_objects;
 pub use value::{MAX_BODY_BYTES, read_value};

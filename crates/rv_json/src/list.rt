@@ -5,9 +5,10 @@ ghost use Rattle.rv_json.specs.Finding.{Finds, texts_in};
 ghost use Rattle.rv_json.specs.Listed.{texts_read};
 
 use crate::fault::{NoMemory, TextFault};
+use crate::item::Item;
+use crate::items::{Items, MAX_DRAIN};
 use crate::members::items_of;
 use crate::scan::scan_element;
-use rv_item::{Item, Items, MAX_DRAIN};
 use serde_json::Value;
 use std::alloc::Global;
 

@@ -10,8 +10,9 @@ ghost use Rattle.rv_json.specs.declared.fault.TextFault.TheVariants as fault;
 
 use crate::fault::TextFault;
 use crate::flat::{FlatMember, Plain, find};
+use crate::item::Item;
+use crate::items::{Items, MAX_DRAIN};
 use crate::list::read_items;
-use rv_item::{Item, Items, MAX_DRAIN};
 use serde_json::{Map, Value};
 use std::alloc::Global;
 

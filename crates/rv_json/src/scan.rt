@@ -9,8 +9,8 @@ ghost use Rattle.rv_json.specs.Flat.{flat_members};
 ghost use Rattle.rv_json.specs.Scan.{plain_text, field_text, FitsPlain, BeginsByList, IsListText, mark_after};
 
 use crate::flat::{FlatMember, Plain};
+use crate::items::MAX_DRAIN;
 use crate::value::has_body_length;
-use rv_item::MAX_DRAIN;
 
 // Whether the byte stands for itself in a JSON string.
 #[inline(always)]
@@ -212,10 +212,10 @@ fn scan_flat<'a>(text: &'a str, places: &mut [FlatMember<'a>]) -> Option<usize>
     None
 }
 
-/// Reads the members of the object that the bytes are the text of into the first places, and tells how many
-/// they are; of a name that stands twice the last counts. `None` says nothing of the bytes: it comes for all
-/// that isn't the compact text of whole numbers below 10^19, texts with no escape and lists of at most 16 of
-/// these, or that has more members than places.
+/// Reads the members of the object whose text the bytes are into the first places, and gives how many there
+/// are; if a name occurs twice, the last counts. `None` says nothing about the bytes: they may be anything
+/// but the compact text of whole numbers below 10^19, texts with no escape and lists of at most 16 of these,
+/// or have more members than places.
 pub(crate) fn scan_body<'a>(bytes: &'a [u8], places: &mut [FlatMember<'a>]) -> Option<usize>
     ensures within { IfSome result (λ count. count ≤ length places.new) }
     ensures length { IfSome result (λ count. HasBodyLength bytes.now) }

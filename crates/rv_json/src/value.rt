@@ -1,4 +1,4 @@
-//! The JSON value that a body's bytes are the text of.
+//! The JSON value whose text a body's bytes are.
 ghost use Rattle.std.specs.Prelude.{◌↔◌, IsTrue, IfOk, IfErr};
 ghost use Rattle.serde_json.specs.View.{view};
 ghost use Rattle.rv_json.specs.Bodies.{HasBodyLength, Reads, Unread};

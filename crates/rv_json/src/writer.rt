@@ -5,8 +5,8 @@ ghost use Rattle.serde_json.specs.Data.{no_members, string, number, unsigned, ar
 ghost use Rattle.serde_json.specs.View.{items_of};
 
 use crate::fault::NoMemory;
+use crate::items::Items;
 use json::Writer;
-use rv_item::Items;
 use std::alloc::Global;
 
 // The room that a text begins with. Most need no more.

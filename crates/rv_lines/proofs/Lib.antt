@@ -12,3 +12,5 @@ pub mod Booked
 pub mod OneLine
 pub mod ReadBack
 pub mod Turns
+-- The lemmas that the proofs of this crate share.
+pub mod Texts

@@ -27,7 +27,7 @@ use Rattle.rv_text.proofs.Sizes.{IsFlat, IsFlatMember}
 use Rattle.rv_text.proofs.Sound.{answer_sound, answer_within, message_sound, message_within}
 use Rattle.rv_account.specs.declared.entry.Entry.{Entry}
 use Rattle.rv_book.specs.Limits.{FitsEntry}
-use Rattle.rv_written.proofs.Texts.{AllUpTo, message_fits, up_to_behind}
+use Rattle.rv_lines.proofs.Texts.{AllUpTo, message_fits, up_to_behind}
 use Rattle.rv_lines.specs.Written.{FitPlaces, entry_text, head_text, max_partner, message_in, partners_text}
 use Rattle.rv_lines.specs.Written.{places_text, said_text}
 use Rattle.rv_lines.proofs.Cutting.{Lacks}

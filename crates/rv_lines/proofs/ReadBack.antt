@@ -11,7 +11,7 @@ use Rattle.rv_text.proofs.Written.{written_body}
 use Rattle.rv_account.specs.declared.entry.Entry.{Entry}
 use Rattle.rv_book.specs.Limits.{FitsEntry}
 use Rattle.rv_book.specs.Steps.{max_moment}
-use Rattle.rv_written.proofs.Texts.{AllUpTo, message_fits, up_to_behind}
+use Rattle.rv_lines.proofs.Texts.{AllUpTo, message_fits, up_to_behind}
 use Rattle.rv_lines.specs.Laws.{WrittenLines}
 use Rattle.rv_lines.specs.Lines.{lines, printed_lines}
 use Rattle.rv_lines.specs.Number.{WritesUpTo}

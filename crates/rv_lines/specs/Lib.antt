@@ -8,3 +8,5 @@ pub mod Written
 pub mod Entries
 pub mod Faults
 pub mod Pieces
+-- What a reader must agree with: all that the public contracts cite.
+pub mod EntryText

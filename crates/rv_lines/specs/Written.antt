@@ -6,8 +6,8 @@ use Rattle.rv_account.specs.Account.{Account}
 use Rattle.rv_book.specs.Limits.{FitEntries}
 use Rattle.rv_book.specs.Steps.{max_entries, max_moment}
 -- Handed on from below: the line of an entry, and the first.
-pub use Rattle.rv_written.specs.Written.{FitPartners, FitPlaces, entry_text, head_text, max_partner}
-pub use Rattle.rv_written.specs.Written.{max_partners, message_in, partners_text, places_text, said_text}
+pub use Rattle.rv_lines.specs.EntryText.{FitPartners, FitPlaces, entry_text, head_text, max_partner}
+pub use Rattle.rv_lines.specs.EntryText.{max_partners, message_in, partners_text, places_text, said_text}
 
 -- the line of the epoch and the opening moment, and a line for each entry
 abbrev pub account_lines : Account → List (List ℕ)

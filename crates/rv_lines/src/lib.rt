@@ -7,10 +7,11 @@ mod fault;
 pub mod laws;
 mod line;
 mod number;
+mod written;
 
 pub use account::{read_account, read_head};
 pub use entry::read_entry;
 pub use fault::{AccountFault, LineFault};
 pub use line::{cut_at, first_line};
 pub use number::{read_between, read_identifier, read_number};
-pub use rv_written::{entry_line, head_line};
+pub use written::{entry_line, head_line};

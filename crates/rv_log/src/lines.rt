@@ -8,8 +8,8 @@ use std::alloc::{AllocError, Global};
 // The most bytes of a line without its LF: with it a pipe takes so many whole or not at all.
 const MOST: usize = 4_095;
 
-/// The line of a text, with its time in front, if there is one, and LF behind it: at most 4,096 bytes, for
-/// which the text is cut behind a whole character.
+/// The line of a text: its time first, if there is one, and LF last. It has at most 4,096 bytes, for which
+/// the text is cut after a whole character.
 pub fn line(alloc: Global, at: Option<HttpDate>, text: &str) -> Result<Vec<u8>, AllocError>
     ensures exact { IfOk result (λ bytes. IsLogLine at text.now bytes.items) }
     ensures short { IfOk result (λ bytes. length bytes.items ≤ 4096) }

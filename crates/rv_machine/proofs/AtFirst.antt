@@ -10,7 +10,7 @@ use Rattle.rv_machine.specs.declared.tables.Holdings.{Holdings}
 use Rattle.rv_rules.specs.Reach.{most_known}
 use Rattle.rv_machine.specs.Machines.{IsWhole, state_in}
 use Rattle.rv_machine.specs.Numbering.{AreNumbered}
-use Rattle.rv_open.specs.OpenMap.{count_waiting}
+use Rattle.rv_machine.specs.open_places.OpenMap.{count_waiting}
 
 module _ (m : Holdings) (none : m.table ≡ []) (nobody : m.clients.clients ≡ empty) where
   nothing : (i : ℕ) (one : OpenPlace) → slice_get m.table i ≡ Some one → ⊥

@@ -29,13 +29,13 @@ use Rattle.rv_machine.specs.Ending.{EndsWaiting, counted}
 use Rattle.rv_machine.specs.Entering.{HasSpaceFor, WaitsForNothing, LastWaits}
 use Rattle.rv_machine.specs.Machines.{IsWhole, MovesBy, keys_settled, state_in}
 use Rattle.rv_machine.specs.Numbering.{AreNumbered, IsNumbered}
-use Rattle.rv_open.specs.OpenMap.{count_waiting}
+use Rattle.rv_machine.specs.open_places.OpenMap.{count_waiting}
 use Rattle.rv_machine.proofs.EndedLast.{found_waiting, idle_waits, known_after}
 use Rattle.rv_machine.proofs.KeyLines.{awaited_there, key_last, key_next, key_refused}
 use Rattle.rv_machine.proofs.SpaceLines.{has_space, lacks_space}
 use Rattle.rv_machine.proofs.Staying.{moves_refused, moves_staying}
 use Rattle.rv_machine.proofs.Stopping.{settled_one, stopped_one}
-use Rattle.rv_resume.proofs.Sessions.{put_own}
+use Rattle.rv_state.proofs.Resumed.Sessions.{put_own}
 
 -- ---- where no entry is made
 

@@ -15,7 +15,7 @@ use Rattle.rv_state.specs.Follows.{NumberIsNext}
 use Rattle.rv_state.proofs.Words.{none-some, same_Some}
 use Rattle.rv_machine.specs.declared.tables.Holdings.{Holdings}
 use Rattle.rv_machine.specs.Machines.{IsConsistent, IsWhole, IsWaiter, AwaitsPlace, state_in}
-use Rattle.rv_resume.proofs.Sessions.{put_other, put_own}
+use Rattle.rv_state.proofs.Resumed.Sessions.{put_other, put_own}
 
 -- where the request of a session waits, by the session
 abbrev pub awaited_by : Option ClientState → Option ℕ

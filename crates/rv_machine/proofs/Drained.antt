@@ -33,7 +33,7 @@ use Rattle.rv_machine.specs.declared.tables.Holdings.{Holdings}
 use Rattle.rv_machine.specs.Arriving.{Arrives}
 use Rattle.rv_machine.specs.Ending.{counted}
 use Rattle.rv_machine.specs.Machines.{IsConsistent, IsWaiter, keys_settled, state_in}
-use Rattle.rv_open.specs.OpenMap.{line_in}
+use Rattle.rv_machine.specs.open_places.OpenMap.{line_in}
 use Rattle.rv_machine.specs.Taking.{TakesAll, items_of, settled_taken, told_taken, without_taken}
 use Rattle.rv_machine.proofs.Concluded.{asked_in, asked_state}
 use Rattle.rv_machine.proofs.Leaving.{having_met, none_more}

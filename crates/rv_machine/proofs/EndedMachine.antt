@@ -12,9 +12,9 @@ use Rattle.rv_state.specs.After.{closed}
 use Rattle.rv_state.proofs.Words.{same_Some}
 use Rattle.rv_machine.specs.declared.tables.Holdings.{Holdings}
 use Rattle.rv_machine.specs.Ending.{EndsWaiting}
-use Rattle.rv_open.specs.Indexed.{ClosesPlace}
+use Rattle.rv_machine.specs.open_places.Indexed.{ClosesPlace}
 use Rattle.rv_machine.specs.Machines.{IsConsistent, IsWhole, state_in}
-use Rattle.rv_open.specs.OpenMap.{duty_at, count_waiting}
+use Rattle.rv_machine.specs.open_places.OpenMap.{duty_at, count_waiting}
 use Rattle.rv_machine.proofs.EndingOne.{awaited, clients_are, ended_consistent, less_waits, opens_are}
 
 -- the duty of who waits is that of its place and client

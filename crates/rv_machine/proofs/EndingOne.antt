@@ -16,12 +16,12 @@ use Rattle.rv_state.specs.After.{answered, but, closed, with_request}
 use Rattle.rv_state.proofs.TableClients.{clients_after_tell}
 use Rattle.rv_state.proofs.Words.{same_Some}
 use Rattle.rv_state.proofs.Filtered.{filter_get, find_get, rises_left}
-use Rattle.rv_open.specs.OpenMap.{PlacesRise, found_at, count_waiting, all_but}
+use Rattle.rv_machine.specs.open_places.OpenMap.{PlacesRise, found_at, count_waiting, all_but}
 use Rattle.rv_machine.specs.Machines.{IsConsistent, IsWaiter, AwaitsPlace}
-use Rattle.rv_open.proofs.Closing.{found_apart}
-use Rattle.rv_open.proofs.Indexing.{one_less}
-use Rattle.rv_open.proofs.Limits.{left_apart}
-use Rattle.rv_open.proofs.Parted.{but_cons, but_none}
+use Rattle.rv_machine.proofs.OfOpenPlaces.Closing.{found_apart}
+use Rattle.rv_machine.proofs.OfOpenPlaces.Indexing.{one_less}
+use Rattle.rv_machine.proofs.OfOpenPlaces.Limits.{left_apart}
+use Rattle.rv_machine.proofs.OfOpenPlaces.Parted.{but_cons, but_none}
 use Rattle.rv_machine.proofs.Told.{told_other, told_own}
 
 -- the one place that is closed

@@ -5,11 +5,11 @@ use Rattle.rv_state.specs.State.{OpenPlace, State, Waiter}
 use Rattle.rv_state.specs.After.{closed}
 use Rattle.rv_state.proofs.Words.{none-some, same_Some}
 use Rattle.rv_state.proofs.Filtered.{filter_get, rises_left}
-use Rattle.rv_open.specs.OpenMap.{PlacesRise, found_at, count_waiting, all_but}
+use Rattle.rv_machine.specs.open_places.OpenMap.{PlacesRise, found_at, count_waiting, all_but}
 use Rattle.rv_machine.specs.Machines.{IsConsistent, IsWaiter, AwaitsPlace}
-use Rattle.rv_open.proofs.Closing.{found_apart}
+use Rattle.rv_machine.proofs.OfOpenPlaces.Closing.{found_apart}
 use Rattle.rv_machine.proofs.EndingOne.{but_one}
-use Rattle.rv_open.proofs.Indexing.{one_less}
+use Rattle.rv_machine.proofs.OfOpenPlaces.Indexing.{one_less}
 
 -- how many wait where one place less is open
 pub no_more_wait : (all : List OpenPlace) (there : OpenPlace) → PlacesRise all

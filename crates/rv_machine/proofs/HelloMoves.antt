@@ -29,7 +29,7 @@ use Rattle.rv_machine.specs.declared.machine.Said.TheVariants as said
 use Rattle.rv_machine.specs.Ending.{EndsWaiting}
 use Rattle.rv_machine.specs.Entering.{HasSpaceFor, WaitsForNothing, IsNewHello}
 use Rattle.rv_machine.specs.Machines.{MovesBy, keys_settled, state_in}
-use Rattle.rv_open.specs.OpenMap.{count_waiting}
+use Rattle.rv_machine.specs.open_places.OpenMap.{count_waiting}
 use Rattle.rv_machine.proofs.EndedLast.{idle_waits}
 use Rattle.rv_machine.proofs.HelloLines.{hello_again, hello_enters, hello_no_client, hello_no_entry}
 use Rattle.rv_machine.proofs.HelloLines.{hello_older, hello_other}

@@ -11,7 +11,7 @@ use Rattle.rv_state.proofs.Words.{none-some, same_Some}
 use Rattle.rv_machine.specs.declared.tables.Holdings.{Holdings}
 use Rattle.rv_machine.specs.Entering.{WaitsForNothing}
 use Rattle.rv_machine.specs.Machines.{IsConsistent, IsWhole, IsWaiter, AwaitsPlace, state_in}
-use Rattle.rv_resume.proofs.Sessions.{put_other, put_own}
+use Rattle.rv_state.proofs.Resumed.Sessions.{put_other, put_own}
 
 module _ (s : State) (is : IsConsistent s) (client : ℕ) (idle : WaitsForNothing s client) (session :
     ClientState)

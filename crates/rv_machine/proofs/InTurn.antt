@@ -11,7 +11,7 @@ use Rattle.rv_state.specs.Moves.{Ticked, ticked_at, ticked_if, ticking}
 use Rattle.rv_machine.specs.declared.tables.Holdings.{Holdings}
 use Rattle.rv_machine.specs.Ending.{counted}
 use Rattle.rv_machine.specs.Machines.{keys_settled, state_in}
-use Rattle.rv_open.specs.OpenMap.{count_waiting, due_in}
+use Rattle.rv_machine.specs.open_places.OpenMap.{count_waiting, due_in}
 use Rattle.rv_machine.specs.Ticking.{EndsFirst, EndsNext, TimesOut}
 use Rattle.rv_machine.proofs.Stopping.{settled_one, settled_twice, stopped_none, stopped_one, stopped_twice}
 

@@ -28,9 +28,9 @@ use Rattle.rv_machine.specs.declared.tables.Holdings.{Holdings}
 use Rattle.rv_machine.specs.Arriving.{Arrives, MayArrive}
 use Rattle.rv_machine.specs.Ending.{counted}
 use Rattle.rv_machine.specs.Machines.{keys_settled, state_in}
-use Rattle.rv_open.specs.OpenMap.{opposed_in}
+use Rattle.rv_machine.specs.open_places.OpenMap.{opposed_in}
 use Rattle.rv_machine.proofs.Concluded.{asked_in, asked_state, with_states}
-use Rattle.rv_open.proofs.Parted.{but_none}
+use Rattle.rv_machine.proofs.OfOpenPlaces.Parted.{but_none}
 use Rattle.rv_machine.proofs.Told.{asked_own}
 
 -- ---- who doesn't stay

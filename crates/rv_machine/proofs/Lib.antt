@@ -35,3 +35,4 @@ pub mod RoomTaken
 pub mod NoRoom
 pub mod Redoing
 pub mod Resumed
+pub mod OfOpenPlaces

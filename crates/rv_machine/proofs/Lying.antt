@@ -8,7 +8,7 @@ use Rattle.rv_state.specs.State.{OpenPlace, State, Waiter, same_side}
 use Rattle.rv_state.proofs.Filtered.{filter_get}
 use Rattle.rv_state.proofs.SideLines.{same_side_is}
 use Rattle.rv_machine.specs.Machines.{IsConsistent}
-use Rattle.rv_open.specs.OpenMap.{line_in}
+use Rattle.rv_machine.specs.open_places.OpenMap.{line_in}
 
 pub no_giver : (queue other : ℕ) → Takes other ≡ Gives queue → ⊥
 no_giver queue other is = cc

@@ -25,9 +25,9 @@ use Rattle.rv_state.specs.After.{settled_all, told_own, told_partner, with_open}
 use Rattle.rv_machine.specs.declared.tables.Holdings.{Holdings}
 use Rattle.rv_machine.specs.Arriving.{Arrives, MayArrive}
 use Rattle.rv_machine.specs.Ending.{counted}
-use Rattle.rv_open.specs.Indexed.{ClosesFirst}
+use Rattle.rv_machine.specs.open_places.Indexed.{ClosesFirst}
 use Rattle.rv_machine.specs.Machines.{IsConsistent, IsWhole, keys_settled, state_in}
-use Rattle.rv_open.specs.OpenMap.{facing, count_waiting}
+use Rattle.rv_machine.specs.open_places.OpenMap.{facing, count_waiting}
 use Rattle.rv_machine.proofs.Asked.{arrived_by, asked_as}
 use Rattle.rv_machine.proofs.Concluded.{asked_consistent}
 use Rattle.rv_machine.proofs.EndingOne.{but_one}

@@ -27,9 +27,9 @@ use Rattle.rv_state.proofs.TableClients.{clients_after_tell}
 use Rattle.rv_state.proofs.Words.{none-some, same_Some}
 use Rattle.rv_machine.specs.declared.tables.Holdings.{Holdings}
 use Rattle.rv_machine.specs.Arriving.{MayArrive}
-use Rattle.rv_open.specs.Indexed.{ClosesFirst}
+use Rattle.rv_machine.specs.open_places.Indexed.{ClosesFirst}
 use Rattle.rv_machine.specs.Machines.{IsConsistent, IsWaiter, keys_settled, state_in}
-use Rattle.rv_open.specs.OpenMap.{facing, found_at, line_in, count_waiting}
+use Rattle.rv_machine.specs.open_places.OpenMap.{facing, found_at, line_in, count_waiting}
 use Rattle.rv_machine.specs.Telling.{MayTell, TellsOne, TellsWaiter, WasTold, machine_told, told_on_side}
 use Rattle.rv_machine.proofs.Asked.{asked_then_told, met_clients}
 use Rattle.rv_machine.proofs.EndingOne.{awaited, but_one, ended_consistent, less_waits}

@@ -21,7 +21,7 @@ use Rattle.rv_state.specs.After.{Settled, key_of_waiter, receipt_of, session_ver
 use Rattle.rv_state.specs.After.{told_own, told_partner}
 use Rattle.rv_state.proofs.Filtered.{find_get}
 use Rattle.rv_state.proofs.Words.{cons_option, none-some, same_Some}
-use Rattle.rv_open.specs.OpenMap.{found_at}
+use Rattle.rv_machine.specs.open_places.OpenMap.{found_at}
 use Rattle.rv_machine.specs.Machines.{IsConsistent, IsWaiter, WaitsLong}
 use Rattle.rv_machine.specs.Telling.{told_arriving, told_on_side}
 use Rattle.rv_machine.proofs.Lying.{gives_item}

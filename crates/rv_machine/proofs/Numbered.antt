@@ -15,7 +15,7 @@ use Rattle.rv_machine.specs.declared.tables.Holdings.{Holdings}
 use Rattle.rv_machine.specs.Ending.{EndsWaiting}
 use Rattle.rv_machine.specs.Machines.{state_in}
 use Rattle.rv_machine.specs.Numbering.{AreNumbered, IsNumbered}
-use Rattle.rv_resume.proofs.Sessions.{put_other, put_own}
+use Rattle.rv_state.proofs.Resumed.Sessions.{put_other, put_own}
 
 abbrev pub AllNumbered : FinMap nat_cmp ClientState → Type 0
 AllNumbered clients = (client : ℕ) (session : ClientState) → get clients client ≡ Some session

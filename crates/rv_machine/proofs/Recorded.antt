@@ -1,11 +1,11 @@
 -- A machine that counted one entry more.
 use Rattle.std.proofs.Common.{◌<◌, ◌≤◌, ◌+◌, ℕ, arith}
-use Rattle.rv_open.specs.OpenMap.{most_counted}
+use Rattle.rv_machine.specs.open_places.OpenMap.{most_counted}
 use Rattle.rv_rules.specs.Steps.{max_moment}
 use Rattle.rv_machine.specs.declared.tables.Holdings.{Holdings}
 use Rattle.rv_machine.specs.Ending.{counted}
 use Rattle.rv_machine.specs.Machines.{IsWhole}
-use Rattle.rv_open.specs.OpenMap.{count_waiting}
+use Rattle.rv_machine.specs.open_places.OpenMap.{count_waiting}
 
 pub recorded_ready : (m : Holdings) (moment : ℕ) → IsWhole m → moment ≤ max_moment
     → m.length + count_waiting m.table < most_counted → IsWhole (counted m moment)

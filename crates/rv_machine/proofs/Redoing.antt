@@ -40,7 +40,7 @@ use Rattle.rv_machine.specs.Stepping.{IsHearing}
 use Rattle.rv_machine.specs.Needing.{act_of}
 use Rattle.rv_machine.specs.Redoing.{MayRedo, IsRedone, NeedsNoMemory}
 use Rattle.rv_machine.proofs.HelloMoves.{greeted_idle}
-use Rattle.rv_resume.specs.Resuming.{CanResume}
+use Rattle.rv_state.specs.resume.Resuming.{CanResume}
 
 -- it is no refusal
 abbrev pub Answers : Answer → Type 0

@@ -32,7 +32,7 @@ use Rattle.rv_machine.specs.Limiting.{LacksPlace}
 use Rattle.rv_machine.specs.Machines.{MovesBy, state_in}
 use Rattle.rv_machine.specs.Needing.{EntersWithSpace}
 use Rattle.rv_machine.specs.Numbering.{AreNumbered}
-use Rattle.rv_open.specs.OpenMap.{count_waiting}
+use Rattle.rv_machine.specs.open_places.OpenMap.{count_waiting}
 use Rattle.rv_machine.proofs.KeyLines.{key_last, key_next, key_refused}
 use Rattle.rv_machine.proofs.SpaceLines.{call_agrees, call_differs, has_place, has_space, lacks_place}
 use Rattle.rv_machine.proofs.SpaceLines.{lacks_space}

@@ -11,11 +11,11 @@ use Rattle.rv_text.specs.declared.call.Call.TheVariants as call
 use Rattle.rv_text.specs.declared.call.Side.{Side}
 use Rattle.rv_session.specs.Clients.{place_awaited, place_waiting}
 use Rattle.rv_session.specs.declared.client.LastRequest.TheVariants.{Waits}
-use Rattle.rv_open.proofs.Indexing.{stands_found}
-use Rattle.rv_open.specs.OpenMap.{found_at}
-use Rattle.rv_open.specs.Reopening.{MayResume, StandsOpen}
-use Rattle.rv_resume.proofs.Decided.{side_fits}
-use Rattle.rv_resume.specs.Resuming.{CanResume, FitsLastRequest, IsLastAt}
+use Rattle.rv_machine.proofs.OfOpenPlaces.Indexing.{stands_found}
+use Rattle.rv_machine.specs.open_places.OpenMap.{found_at}
+use Rattle.rv_machine.specs.open_places.Reopening.{MayResume, StandsOpen}
+use Rattle.rv_state.proofs.Resumed.Decided.{side_fits}
+use Rattle.rv_state.specs.resume.Resuming.{CanResume, FitsLastRequest, IsLastAt}
 use Rattle.rv_state.specs.State.{ClientState, OpenPlace, State, Waiter, client_at}
 use Rattle.rv_state.proofs.Words.{none-some}
 use Rattle.rv_machine.specs.Machines.{AwaitsPlace, IsConsistent, IsWaiter, LiesThere}

@@ -18,9 +18,9 @@ use Rattle.rv_state.specs.After.{acted, met_by}
 use Rattle.rv_state.specs.Moves.{EntersMove, Move, RefusesMove, RepeatsMove, StateNextAtUnder, answer_after}
 use Rattle.rv_state.specs.Moves.{answer_told, entering, staying, told_again}
 use Rattle.rv_state.proofs.OpensBy.{opens_by}
-use Rattle.rv_resume.proofs.Counts.{parks_within, waiting_within}
+use Rattle.rv_state.proofs.Resumed.Counts.{parks_within, waiting_within}
 use Rattle.rv_machine.specs.Needing.{act_of, message_need}
-use Rattle.rv_open.specs.OpenMap.{count_waiting}
+use Rattle.rv_machine.specs.open_places.OpenMap.{count_waiting}
 use Rattle.rv_machine.proofs.Deciding.{by_cancel, by_hello, by_request}
 
 -- ---- which moves there are

@@ -23,7 +23,7 @@ use Rattle.rv_session.specs.declared.client.LastRequest.TheVariants.{RepliedTo, 
 use Rattle.rv_session.specs.Clients.{clients_asked, place_waiting, with_last_number}
 use Rattle.rv_account.specs.declared.entry.Act.TheVariants.{Arrive}
 use Rattle.rv_account.specs.Calls.{Lasts, may_name, need_by, need_of, opposite}
-use Rattle.rv_open.specs.OpenMap.{most_counted}
+use Rattle.rv_machine.specs.open_places.OpenMap.{most_counted}
 use Rattle.rv_rules.specs.Steps.{max_moment}
 use Rattle.rv_state.specs.State.{OpenPlace, State, Waiter, client_at}
 use Rattle.rv_state.specs.After.{Following, advanced, following, lasts_by, met_by, opened_by, request_after}
@@ -32,12 +32,12 @@ use Rattle.rv_state.specs.Follows.{NumberIsNext}
 use Rattle.rv_state.proofs.Filtered.{append_get}
 use Rattle.rv_state.proofs.Words.{none-some, same_Some}
 use Rattle.rv_waiters.specs.Meeting.{StaysBy}
-use Rattle.rv_open.specs.OpenMap.{PlacesRise, found_at, opposed_in, count_waiting}
+use Rattle.rv_machine.specs.open_places.OpenMap.{PlacesRise, found_at, opposed_in, count_waiting}
 use Rattle.rv_machine.specs.Machines.{IsConsistent, IsWaiter, LiesThere, AwaitsPlace, last_key_in}
 use Rattle.rv_machine.proofs.Asked.{arrived_by, asked_as}
-use Rattle.rv_open.proofs.Indexing.{stands_found}
-use Rattle.rv_open.proofs.Kept.{rise_more, in_end}
-use Rattle.rv_open.proofs.Parted.{but_none}
+use Rattle.rv_machine.proofs.OfOpenPlaces.Indexing.{stands_found}
+use Rattle.rv_machine.proofs.OfOpenPlaces.Kept.{rise_more, in_end}
+use Rattle.rv_machine.proofs.OfOpenPlaces.Parted.{but_none}
 use Rattle.rv_machine.proofs.Told.{asked_other, asked_own}
 
 -- ---- the state after it

@@ -25,9 +25,9 @@ use Rattle.rv_waiters.specs.Meeting.{StaysBy}
 use Rattle.rv_machine.specs.declared.tables.Holdings.{Holdings}
 use Rattle.rv_machine.specs.Arriving.{Arrives, MayArrive, after_put}
 use Rattle.rv_machine.specs.Ending.{counted}
-use Rattle.rv_open.specs.Indexed.{own_duty}
+use Rattle.rv_machine.specs.open_places.Indexed.{own_duty}
 use Rattle.rv_machine.specs.Machines.{IsConsistent, IsWhole, keys_settled, state_in}
-use Rattle.rv_open.specs.OpenMap.{opposed_in, count_waiting}
+use Rattle.rv_machine.specs.open_places.OpenMap.{opposed_in, count_waiting}
 use Rattle.rv_machine.proofs.Asked.{asked_then_told}
 use Rattle.rv_machine.proofs.Stayed.{follows_as, known_after, none_met, put_or_waits, stayed}
 use Rattle.rv_machine.proofs.Stayed.{stayed_consistent}

@@ -9,7 +9,7 @@ use Rattle.std.proofs.lemmas.List.Sums.{fold-append}
 use Rattle.rv_text.specs.declared.answer.Reply.{Reply}
 use Rattle.rv_state.specs.State.{OpenPlace, State, Waiter}
 use Rattle.rv_state.specs.After.{Settled, but, closed, settled_at, stopped, tell}
-use Rattle.rv_open.proofs.Parted.{but_none, filter_twice}
+use Rattle.rv_machine.proofs.OfOpenPlaces.Parted.{but_none, filter_twice}
 
 filter_same : {X : Type 0} (p q : X → Bool) (xs : List X) → ((x : X) → p x ≡ q x) → filter p xs ≡ filter q xs
 filter_same p q [] same = refl

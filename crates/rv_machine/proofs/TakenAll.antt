@@ -18,10 +18,10 @@ use Rattle.rv_state.specs.After.{tell}
 use Rattle.rv_state.proofs.ToldClients.{get_tell_all, told_client}
 use Rattle.rv_machine.specs.declared.tables.Holdings.{Holdings}
 use Rattle.rv_machine.specs.Machines.{IsWhole, keys_settled, state_in}
-use Rattle.rv_open.specs.OpenMap.{line_in, all_but}
+use Rattle.rv_machine.specs.open_places.OpenMap.{line_in, all_but}
 use Rattle.rv_machine.specs.Taking.{TakesAll, TakesOne, items_of, settled_taken, told_taken, without_taken}
 use Rattle.rv_machine.proofs.Leaving.{closed_none}
-use Rattle.rv_open.proofs.Parted.{but_cons, but_none}
+use Rattle.rv_machine.proofs.OfOpenPlaces.Parted.{but_cons, but_none}
 
 -- ---- places that are closed one after another
 

@@ -17,9 +17,9 @@ use Rattle.rv_state.specs.After.{Settled, closed}
 use Rattle.rv_state.proofs.Words.{none-some}
 use Rattle.rv_state.proofs.Filtered.{find_get}
 use Rattle.rv_machine.specs.declared.tables.Holdings.{Holdings}
-use Rattle.rv_open.specs.Indexed.{ClosesPlace, ClosesFirst}
+use Rattle.rv_machine.specs.open_places.Indexed.{ClosesPlace, ClosesFirst}
 use Rattle.rv_machine.specs.Machines.{IsConsistent, IsWhole, IsWaiter, keys_settled, state_in}
-use Rattle.rv_open.specs.OpenMap.{duty_at, count_waiting}
+use Rattle.rv_machine.specs.open_places.OpenMap.{duty_at, count_waiting}
 use Rattle.rv_machine.specs.Taking.{TakesOne, settled_taken, told_taken}
 use Rattle.rv_machine.proofs.EndedMachine as ended
 use Rattle.rv_machine.proofs.EndingOne.{but_one}

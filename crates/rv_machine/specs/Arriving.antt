@@ -1,6 +1,6 @@
 -- What it is that a request arrives at a machine.
 use Rattle.std.specs.Prelude.{◌≡◌, ◌+◌, ◌≤◌, ◌++◌, ℕ, Option, Some, None}
-use Rattle.rv_open.specs.OpenMap.{most_counted}
+use Rattle.rv_machine.specs.open_places.OpenMap.{most_counted}
 use Rattle.rv_text.specs.declared.message.Key.{Key}
 use Rattle.rv_text.specs.declared.call.Call.{Call}
 use Rattle.rv_text.specs.Limits.{FitsCall}
@@ -18,7 +18,7 @@ use Rattle.rv_state.specs.Follows.{NumberIsNext, partners_of}
 use Rattle.rv_state.specs.Moves.{told_again}
 use Rattle.rv_machine.specs.declared.tables.Holdings.{Holdings}
 use Rattle.rv_machine.specs.Machines.{IsWhole, keys_settled, state_in}
-use Rattle.rv_open.specs.OpenMap.{count_waiting}
+use Rattle.rv_machine.specs.open_places.OpenMap.{count_waiting}
 
 -- a request of this key with this call is its session's next, and there is room for its entries
 pub record MayArrive (m : Holdings) (moment : ℕ) (key : Key) (call : Call) : Type 0 where

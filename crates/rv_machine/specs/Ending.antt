@@ -5,7 +5,7 @@ use Rattle.rv_state.specs.State.{OpenPlace, Waiter}
 use Rattle.rv_state.specs.After.{closed}
 use Rattle.rv_machine.specs.declared.tables.Holdings.{Holdings}
 use Rattle.rv_machine.specs.Machines.{state_in}
-use Rattle.rv_open.specs.OpenMap.{found_at}
+use Rattle.rv_machine.specs.open_places.OpenMap.{found_at}
 
 -- the wait of the request at a place is over, which has this reply: its place is closed, its client told, and
 -- its key listed

@@ -11,7 +11,7 @@ use Rattle.rv_state.specs.Follows.{IsNewIncarnation}
 use Rattle.rv_state.specs.State.{ClientState, State, client_at}
 use Rattle.rv_machine.specs.declared.tables.Holdings.{Holdings}
 use Rattle.rv_machine.specs.Machines.{state_in}
-use Rattle.rv_open.specs.OpenMap.{count_waiting}
+use Rattle.rv_machine.specs.open_places.OpenMap.{count_waiting}
 
 -- so many entries more can be made, beside those that end what waits
 abbrev pub HasSpaceFor : StepLimits → Holdings → ℕ → Type 0

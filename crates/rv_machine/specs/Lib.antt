@@ -13,3 +13,4 @@ pub mod Needing
 pub mod Taking
 pub mod Redoing
 pub mod Remaking
+pub mod open_places

@@ -2,7 +2,7 @@
 use Rattle.std.specs.Prelude.{◌≡◌, ◌+◌, ◌≤◌, ◌++◌, [], ℕ, List, map, Option, Some, None, IsSome}
 use Rattle.std.specs.Prelude.{option_to_list, slice_get}
 use Rattle.std.specs.Prelude.{vec_capacity, vec_len}
-use Rattle.rv_open.specs.OpenMap.{most_counted}
+use Rattle.rv_machine.specs.open_places.OpenMap.{most_counted}
 use Rattle.rv_text.specs.declared.message.Key.{Key}
 use Rattle.rv_text.specs.declared.message.Message.{Message}
 use Rattle.rv_text.specs.declared.answer.Refusal.{Refusal}
@@ -23,7 +23,7 @@ use Rattle.rv_rules.specs.Reach.{most_known}
 use Rattle.rv_machine.specs.declared.tables.Holdings.{Holdings}
 use Rattle.rv_machine.specs.declared.machine.Said.{Said}
 use Rattle.rv_machine.specs.declared.machine.Said.TheVariants as said
-use Rattle.rv_open.specs.OpenMap.{PlacesRise, StandBelow, found_at, count_waiting}
+use Rattle.rv_machine.specs.open_places.OpenMap.{PlacesRise, StandBelow, found_at, count_waiting}
 
 -- ---- what a machine holds
 

@@ -5,7 +5,7 @@ use Rattle.rv_account.specs.declared.entry.Act.TheVariants.{Hello, Arrive, Cance
 use Rattle.rv_state.specs.State.{State}
 use Rattle.rv_state.specs.After.{due_at, following}
 use Rattle.rv_state.specs.Follows.{MomentFits, NumberFits, NumberWaits}
-use Rattle.rv_resume.specs.Resuming.{CanResume, StaysInRoom}
+use Rattle.rv_state.specs.resume.Resuming.{CanResume, StaysInRoom}
 use Rattle.rv_machine.specs.declared.tables.Holdings.{Holdings}
 use Rattle.rv_machine.specs.Machines.{keys_settled, state_in}
 

@@ -1,5 +1,5 @@
 -- Why no machine was made of a state.
-use Rattle.rv_resume.specs.Resuming.{CanResume}
+use Rattle.rv_state.specs.resume.Resuming.{CanResume}
 use Rattle.rv_state.specs.State.{State}
 use Rattle.rv_machine.specs.declared.state.NoMachine.{NoMachine}
 use Rattle.rv_machine.specs.declared.state.NoMachine.TheVariants.{Unfit, NoMemory}

@@ -8,7 +8,7 @@ use Rattle.rv_state.specs.State.{OpenPlace, State, place_list}
 use Rattle.rv_state.specs.After.{Settled, closed, receipt_of, session_version, settled_all}
 use Rattle.rv_machine.specs.declared.tables.Holdings.{Holdings}
 use Rattle.rv_machine.specs.Machines.{keys_settled, state_in}
-use Rattle.rv_open.specs.OpenMap.{line_in, count_waiting}
+use Rattle.rv_machine.specs.open_places.OpenMap.{line_in, count_waiting}
 
 -- what is told who gives what the request of this key takes, by its session's version
 abbrev pub told_taken : State → Key → OpenPlace → Key → Option Reply

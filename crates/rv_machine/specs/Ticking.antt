@@ -7,7 +7,7 @@ use Rattle.rv_state.specs.After.{closed, stopped}
 use Rattle.rv_state.specs.Moves.{ticked_at}
 use Rattle.rv_machine.specs.declared.tables.Holdings.{Holdings}
 use Rattle.rv_machine.specs.Machines.{keys_settled, state_in}
-use Rattle.rv_open.specs.OpenMap.{due_in, count_waiting}
+use Rattle.rv_machine.specs.open_places.OpenMap.{due_in, count_waiting}
 
 -- the first wait that is due at a moment is over, by a time-out
 pub record EndsNext (old new : Holdings) (moment : ℕ) : Type 0 where

@@ -6,7 +6,7 @@ ghost use Rattle.rv_text.specs.Limits.{FitsCall, FitsQueue};
 ghost use Rattle.rv_text.specs.declared.call.Side.TheVariants.{Gives, Takes};
 ghost use Rattle.rv_machine.specs.Arriving.{Arrives, IsAsBefore, MayArrive};
 ghost use Rattle.rv_machine.specs.Machines.{IsWhole};
-ghost use Rattle.rv_open.specs.OpenMap.{line_in};
+ghost use Rattle.rv_machine.specs.open_places.OpenMap.{line_in};
 ghost use Rattle.rv_machine.specs.Taking.{TakesAll, TakesOne};
 
 use crate::meets::receipt;

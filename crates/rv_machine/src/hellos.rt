@@ -1,7 +1,7 @@
 //! Hellos: the first one of a client, and those of a later incarnation.
 ghost use Rattle.std.specs.Prelude.{◌≡◌, ◌≤◌, ◌<◌, ◌+◌, [], None, IfOk, IfErr, option_to_list};
 ghost use Rattle.std.specs.FinMap.{get};
-ghost use Rattle.rv_open.specs.OpenMap.{count_waiting, most_counted};
+ghost use Rattle.rv_machine.specs.open_places.OpenMap.{count_waiting, most_counted};
 ghost use Rattle.rv_text.specs.declared.message.Message.TheVariants.{Hello};
 ghost use Rattle.rv_account.specs.Account.{entry};
 ghost use Rattle.rv_account.specs.declared.entry.Act.TheVariants as act;

@@ -11,7 +11,7 @@ ghost use Rattle.rv_state.specs.State.{line};
 ghost use Rattle.rv_text.specs.declared.call.Side.TheVariants.{Gives};
 ghost use Rattle.rv_machine.specs.Arriving.{Arrives, IsAsBefore, MayArrive};
 ghost use Rattle.rv_machine.specs.Machines.{IsWhole, state_in};
-ghost use Rattle.rv_open.specs.OpenMap.{opposed_in};
+ghost use Rattle.rv_machine.specs.open_places.OpenMap.{opposed_in};
 
 use crate::tables::Holdings;
 use rv_account::{Act, Entry, Partners};

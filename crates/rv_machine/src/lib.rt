@@ -8,6 +8,7 @@ mod leaves;
 mod looks;
 mod machine;
 mod meets;
+mod open_places;
 mod redo;
 mod requests;
 mod space;

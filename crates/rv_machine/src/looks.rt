@@ -2,7 +2,7 @@
 ghost use Rattle.std.specs.Prelude.{◌≡◌, ◌≤◌, ◌+◌, IfNone, IfSome, length, option_map, slice_get, ℕ, []};
 ghost use Rattle.std.specs.FinMap.{len};
 ghost use Rattle.rv_text.specs.Limits.{FitsQueue, FitsSide};
-ghost use Rattle.rv_open.specs.OpenMap.{first_behind, most_counted};
+ghost use Rattle.rv_machine.specs.open_places.OpenMap.{first_behind, most_counted};
 ghost use Rattle.rv_session.specs.ClientOrder.{next_client};
 ghost use Rattle.rv_text.specs.declared.call.Side.TheVariants.{Gives, Takes};
 ghost use Rattle.rv_state.specs.After.{due_at};

@@ -5,14 +5,14 @@ ghost use Rattle.std.specs.FinMap.{get};
 ghost use Rattle.rv_text.specs.Calls.{drains_of, item_of, side_of};
 ghost use Rattle.rv_machine.specs.Arriving.{Arrives, IsAsBefore, MayArrive};
 ghost use Rattle.rv_machine.specs.Machines.{IsWhole};
-ghost use Rattle.rv_open.specs.OpenMap.{opposed_in};
+ghost use Rattle.rv_machine.specs.open_places.OpenMap.{opposed_in};
 ghost use Rattle.rv_state.specs.After.{receipt_of};
 ghost use Rattle.rv_machine.specs.Telling.{TellsOne, TellsWaiter, told_arriving, told_on_side};
 
+use crate::open_places::MetPlace;
 use crate::stays::copy_item;
 use crate::tables::Holdings;
 use rv_account::{Act, Entry, Partners};
-use rv_open::MetPlace;
 use rv_session::{Duty, OpenPlace, Place, Waiter};
 use rv_text::{Call, Item, Key, NoMemory, Reply, Side, Version, Wait};
 

@@ -2,7 +2,7 @@
 ghost use Rattle.std.specs.Prelude.{◌≡◌, ◌↔◌, ◌≤◌, ◌<◌, ◌+◌, true, false, IsTrue};
 ghost use Rattle.rv_rules.specs.Steps.{max_entries};
 ghost use Rattle.rv_text.specs.Limits.{FitsCall, FitsMessage};
-ghost use Rattle.rv_open.specs.OpenMap.{count_waiting, most_counted};
+ghost use Rattle.rv_machine.specs.open_places.OpenMap.{count_waiting, most_counted};
 ghost use Rattle.rv_machine.specs.Entering.{HasSpaceFor};
 ghost use Rattle.rv_machine.specs.Limiting.{LacksPlace, LacksPlaceFor};
 ghost use Rattle.rv_machine.specs.Machines.{IsWhole, state_in};

@@ -9,7 +9,7 @@ ghost use Rattle.rv_text.specs.Limits.{FitsCall};
 ghost use Rattle.rv_waiters.specs.Meeting.{StaysBy};
 ghost use Rattle.rv_machine.specs.Arriving.{Arrives, IsAsBefore, MayArrive, after_put};
 ghost use Rattle.rv_machine.specs.Machines.{IsWhole, state_in};
-ghost use Rattle.rv_open.specs.OpenMap.{opposed_in};
+ghost use Rattle.rv_machine.specs.open_places.OpenMap.{opposed_in};
 
 use crate::tables::Holdings;
 use rv_account::{Act, Entry, Partners, deadline_after};

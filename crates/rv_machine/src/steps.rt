@@ -10,9 +10,9 @@ ghost use Rattle.rv_machine.specs.Numbering.{AreNumbered};
 ghost use Rattle.rv_machine.specs.Stepping.{IsHearing, IsNoRequest, MadeNothing, IsTick};
 
 use crate::machine::{Machine, Said};
+use crate::open_places::OpenTable;
 use crate::tables::Holdings;
 use rv_account::Entry;
-use rv_open::OpenTable;
 use rv_rules::{Limits, MOST_KNOWN};
 use rv_session::Clients;
 use rv_text::{Message, NoMemory, Refusal};

@@ -1,14 +1,14 @@
 //! The tables of a machine: the state of an account, and what changes them together.
 ghost use Rattle.std.specs.Prelude.{◌≡◌, ◌+◌, ◌<◌, ◌≤◌};
-ghost use Rattle.rv_open.specs.OpenMap.{count_waiting, most_counted};
-ghost use Rattle.rv_open.specs.Indexed.{WaitsIn};
+ghost use Rattle.rv_machine.specs.open_places.OpenMap.{count_waiting, most_counted};
+ghost use Rattle.rv_machine.specs.open_places.Indexed.{WaitsIn};
 ghost use Rattle.rv_machine.specs.Machines.{IsWhole, SameListRoom};
 ghost use Rattle.rv_machine.specs.Ending.{EndsWaiting, counted};
 ghost use Rattle.rv_account.specs.Account.{entry};
 ghost use Rattle.rv_rules.specs.Steps.{max_moment};
 
+use crate::open_places::OpenTable;
 use rv_account::{Act, Entry, Partners};
-use rv_open::OpenTable;
 use rv_session::{Clients, Place};
 use rv_text::{Key, Reply};
 use std::alloc::Global;

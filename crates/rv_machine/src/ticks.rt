@@ -3,7 +3,7 @@ ghost use Rattle.std.specs.Prelude.{◌≡◌, ◌≤◌, [], true, false, optio
 ghost use Rattle.rv_rules.specs.Steps.{max_moment};
 ghost use Rattle.rv_machine.specs.Machines.{IsWhole, SameListRoom, state_in};
 ghost use Rattle.rv_machine.specs.Numbering.{AreNumbered};
-ghost use Rattle.rv_open.specs.OpenMap.{due_in};
+ghost use Rattle.rv_machine.specs.open_places.OpenMap.{due_in};
 ghost use Rattle.rv_machine.specs.Ticking.{EndsFirst, EndsNext, TimesOut};
 
 use crate::tables::Holdings;

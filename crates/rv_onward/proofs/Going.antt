@@ -11,15 +11,15 @@ use Rattle.rv_account.specs.declared.entry.Entry.{Entry}
 use Rattle.rv_rules.specs.Legal.{Legal, before}
 use Rattle.rv_state.specs.After.{state_of}
 use Rattle.rv_state.proofs.StateLaws.{states_agree}
-use Rattle.rv_resume.specs.Laws.{HadRoom}
-use Rattle.rv_resume.specs.Resuming.{CanResume, StaysInRoom}
-use Rattle.rv_resume.proofs.ResumeLaws.{openings_resume}
+use Rattle.rv_state.specs.resume.Laws.{HadRoom}
+use Rattle.rv_state.specs.resume.Resuming.{CanResume, StaysInRoom}
+use Rattle.rv_state.proofs.Resumed.ResumeLaws.{openings_resume}
 use Rattle.rv_hub.specs.HubRuns.{IsHubAccount}
 use Rattle.rv_hub.proofs.Accounts.{begins}
 use Rattle.rv_hub.proofs.Paired.{pairs_begin}
-use Rattle.rv_parts.specs.World.{empty_account}
-use Rattle.rv_crashes.specs.Crashes.{Crashed, Server, ServerDoes, Stored, made, server_in}
-use Rattle.rv_crashes.specs.Laws.{DeedsKeepServers, IsServer, ServersBegin}
+use Rattle.rv_world.specs.parts.World.{empty_account}
+use Rattle.rv_onward.specs.crashes.Crashes.{Crashed, Server, ServerDoes, Stored, made, server_in}
+use Rattle.rv_onward.specs.crashes.Laws.{DeedsKeepServers, IsServer, ServersBegin}
 use Rattle.rv_onward.specs.Laws.{BeginsHub, HubsBegin, HubsGoOn}
 use Rattle.rv_onward.specs.Room.{LetsGoOn}
 use Rattle.rv_onward.specs.Serving.{new_hub}

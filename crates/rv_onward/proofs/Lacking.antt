@@ -4,11 +4,11 @@ use Rattle.std.specs.List.{Contains}
 use Rattle.rv_text.specs.declared.message.Message.{Message}
 use Rattle.rv_text.specs.declared.answer.Answer.TheVariants.{Refused}
 use Rattle.rv_text.specs.declared.answer.Refusal.TheVariants.{NoMemory}
-use Rattle.rv_parts.proofs.Words.{Contains-push}
-use Rattle.rv_parts.specs.declared.packet.Packet.{Packet}
-use Rattle.rv_parts.specs.Events.{sender}
-use Rattle.rv_crashes.specs.Crashes.{Lacked, Server}
-use Rattle.rv_crashes.specs.Laws.{DeedsKeepServers, IsServer}
+use Rattle.rv_world.proofs.OfParts.Words.{Contains-push}
+use Rattle.rv_world.specs.declared.parts.packet.Packet.{Packet}
+use Rattle.rv_world.specs.parts.Events.{sender}
+use Rattle.rv_onward.specs.crashes.Crashes.{Lacked, Server}
+use Rattle.rv_onward.specs.crashes.Laws.{DeedsKeepServers, IsServer}
 use Rattle.rv_onward.specs.Laws.{LacksMemory}
 use Rattle.rv_onward.proofs.Servers.{contains_more, server_more}
 use Rattle.rv_onward.proofs.Serving.{carried}

@@ -9,9 +9,9 @@ use Rattle.std.proofs.lemmas.List.Elements.{All-get_or}
 use Rattle.std.proofs.lemmas.Option.{get_or_from_slice_get, none-some, same_Some}
 use Rattle.rv_rules.proofs.Places.{get-append_within}
 use Rattle.rv_frame.specs.Cut.{frame_bytes}
-use Rattle.rv_connection.specs.Traffic.{AnswerByte, resting}
-use Rattle.rv_connection.specs.History.{Given, given_bytes}
-use Rattle.rv_crashes.specs.Crashes.{Server}
+use Rattle.rv_wires.specs.connection.Traffic.{AnswerByte, resting}
+use Rattle.rv_wires.specs.connection.History.{Given, given_bytes}
+use Rattle.rv_onward.specs.crashes.Crashes.{Server}
 use Rattle.rv_onward.specs.Laws.{SentMayLeave}
 use Rattle.rv_onward.specs.Serving.{IsHeldAtServer, MayLeave}
 

@@ -5,3 +5,4 @@ mod Serving
 mod Lacking
 mod Leaving
 mod Going
+mod OfCrashes

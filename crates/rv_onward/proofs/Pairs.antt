@@ -3,7 +3,7 @@ use Rattle.std.proofs.Common.{inl, inr, ◌≡◌, ◌∙◌, ◌++◌, ◌∷�
 use Rattle.std.proofs.Common.{length, slice_get}
 use Rattle.std.proofs.lemmas.Option.{same_Some}
 use Rattle.rv_rules.proofs.Places.{get-append_cases, get-append_end, within}
-use Rattle.rv_connection.specs.History.{Given}
+use Rattle.rv_wires.specs.connection.History.{Given}
 
 -- the fact holds of each frame and the answer at its place
 abbrev pub EachPair : (List ℕ → Given → Type 0) → List (List ℕ) → List Given → Type 0

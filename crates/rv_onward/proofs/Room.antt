@@ -17,15 +17,15 @@ use Rattle.rv_rules.proofs.Places.{get-append_cases}
 use Rattle.rv_state.specs.After.{due_at, state_of}
 use Rattle.rv_state.specs.Moves.{Move, ticked_at, ticked_if}
 use Rattle.rv_state.specs.State.{OpenPlace, State}
-use Rattle.rv_resume.specs.Laws.{HadRoom}
-use Rattle.rv_resume.specs.Resuming.{StaysInRoom}
-use Rattle.rv_resume.proofs.AccountLaws.{accounts_resume}
+use Rattle.rv_state.specs.resume.Laws.{HadRoom}
+use Rattle.rv_state.specs.resume.Resuming.{StaysInRoom}
+use Rattle.rv_state.proofs.Resumed.AccountLaws.{accounts_resume}
 use Rattle.rv_machine.specs.Needing.{act_of}
 use Rattle.rv_machine.proofs.RoomTaken.{StaysOrEnters, move_kinds}
-use Rattle.rv_desk.specs.View.{DeskState, DeskTerms, begun}
-use Rattle.rv_desk.specs.Deeds.{Deed, Does, MakesStep, Stepped, entries_of_deed}
-use Rattle.rv_desk.specs.Deeds.{Asked, Closed, Elapsed, EndedInput, Lacked, Left, Lost, Opened, ReadNothing}
-use Rattle.rv_desk.specs.Deeds.{Told, TookIn, Wrote}
+use Rattle.rv_hub.specs.desk.View.{DeskState, DeskTerms, begun}
+use Rattle.rv_hub.specs.desk.Deeds.{Deed, Does, MakesStep, Stepped, entries_of_deed}
+use Rattle.rv_hub.specs.desk.Deeds.{Asked, Closed, Elapsed, EndedInput, Lacked, Left, Lost, Opened}
+use Rattle.rv_hub.specs.desk.Deeds.{ReadNothing, Told, TookIn, Wrote}
 use Rattle.rv_hub.specs.HubRuns.{AddsEntries, IsHubAccount}
 use Rattle.rv_hub.specs.Turns.{made_by}
 use Rattle.rv_hub.proofs.Accounts.{deed_leads, deeds_lead, deeds_rise, events_rise, same_account}

@@ -5,7 +5,7 @@ use Rattle.std.proofs.Common.{append_assoc, arith, drop, length}
 use Rattle.std.specs.List.{All, Contains}
 use Rattle.std.proofs.lemmas.List.{length-take-le, take-append-drop}
 use Rattle.std.proofs.lemmas.List.Elements.{All-cons, All-nil}
-use Rattle.rv_parts.proofs.Words.{Contains-append_left, Contains-push}
+use Rattle.rv_world.proofs.OfParts.Words.{Contains-append_left, Contains-push}
 use Rattle.rv_text.specs.declared.message.Message.{Message}
 use Rattle.rv_text.specs.declared.answer.Answer.{Answer}
 use Rattle.rv_account.specs.declared.entry.Entry.{Entry}
@@ -16,11 +16,11 @@ use Rattle.rv_rules.specs.Resting.{rests_on}
 use Rattle.rv_rules.specs.StepLimits.{StepLimits}
 use Rattle.rv_rules.specs.Steps.{NextUnder, Ticks}
 use Rattle.rv_hub.specs.HubRuns.{AddsEntries}
-use Rattle.rv_parts.specs.declared.packet.Packet.{Packet}
-use Rattle.rv_parts.specs.Events.{sender}
-use Rattle.rv_crashes.specs.Crashes.{Crashed, IsOfMessages, Lacked, Passed, Server, ServerDeed, ServerDoes}
-use Rattle.rv_crashes.specs.Crashes.{Stepped, Stored, made, withholds}
-use Rattle.rv_crashes.specs.Laws.{DeedsKeepServers, IsHeldRightly, IsServer}
+use Rattle.rv_world.specs.declared.parts.packet.Packet.{Packet}
+use Rattle.rv_world.specs.parts.Events.{sender}
+use Rattle.rv_onward.specs.crashes.Crashes.{Crashed, IsOfMessages, Lacked, Passed, Server, ServerDeed}
+use Rattle.rv_onward.specs.crashes.Crashes.{ServerDoes, Stepped, Stored, made, withholds}
+use Rattle.rv_onward.specs.crashes.Laws.{DeedsKeepServers, IsHeldRightly, IsServer}
 use Rattle.rv_onward.specs.Serving.{IsOfHub, RunsServer}
 
 -- ---- more messages

@@ -27,14 +27,14 @@ use Rattle.rv_state.specs.After.{state_of}
 use Rattle.rv_state.specs.Moves.{StateNextUnder, Ticked, answer_told, ticked_at, told_again}
 use Rattle.rv_state.specs.State.{State}
 use Rattle.rv_state.proofs.StateLaws.{moves_step_under, ticks_step}
-use Rattle.rv_connection.specs.History.{Given}
+use Rattle.rv_wires.specs.connection.History.{Given}
 use Rattle.rv_wires.specs.Connections.{HasWire, WiresState}
-use Rattle.rv_desk.specs.View.{DeskState, DeskTerms, begun}
-use Rattle.rv_desk.specs.Deeds.{AnswersOrWaits, Deed, Does, DoesAll, DoesElapse, IsDueWith, MakesStep}
-use Rattle.rv_desk.specs.Deeds.{Stepped, entries_of_deed}
-use Rattle.rv_desk.specs.Deeds.{Asked, Closed, Elapsed, EndedInput, Lacked, Left, Lost, Opened, ReadNothing}
-use Rattle.rv_desk.specs.Deeds.{Told, TookIn, Wrote}
-use Rattle.rv_desk.specs.Telling.{IsToldAgain}
+use Rattle.rv_hub.specs.desk.View.{DeskState, DeskTerms, begun}
+use Rattle.rv_hub.specs.desk.Deeds.{AnswersOrWaits, Deed, Does, DoesAll, DoesElapse, IsDueWith, MakesStep}
+use Rattle.rv_hub.specs.desk.Deeds.{Stepped, entries_of_deed}
+use Rattle.rv_hub.specs.desk.Deeds.{Asked, Closed, Elapsed, EndedInput, Lacked, Left, Lost, Opened}
+use Rattle.rv_hub.specs.desk.Deeds.{ReadNothing, Told, TookIn, Wrote}
+use Rattle.rv_hub.specs.desk.Telling.{IsToldAgain}
 use Rattle.rv_hub.specs.EventDeeds.{all_deeds}
 use Rattle.rv_hub.specs.HubRuns.{AddsEntries, IsHubAccount}
 use Rattle.rv_hub.specs.Pairing.{HasPairs}
@@ -48,11 +48,11 @@ use Rattle.rv_hub.proofs.Histories.{by_own, past_on}
 use Rattle.rv_hub.proofs.Longer.{answers_written, deed_counts, deeds_count}
 use Rattle.rv_hub.proofs.Paired.{deeds_pairs, same_length}
 use Rattle.rv_hub.proofs.Repeating.{account_is, as_a_repeat}
-use Rattle.rv_parts.proofs.Words.{Contains-push}
-use Rattle.rv_parts.specs.declared.packet.Packet.{Packet}
-use Rattle.rv_parts.specs.Events.{sender}
-use Rattle.rv_crashes.specs.Crashes.{Server}
-use Rattle.rv_crashes.specs.Laws.{DeedsKeepServers}
+use Rattle.rv_world.proofs.OfParts.Words.{Contains-push}
+use Rattle.rv_world.specs.declared.parts.packet.Packet.{Packet}
+use Rattle.rv_world.specs.parts.Events.{sender}
+use Rattle.rv_onward.specs.crashes.Crashes.{Server}
+use Rattle.rv_onward.specs.crashes.Laws.{DeedsKeepServers}
 use Rattle.rv_onward.specs.Laws.{HubsAreServers}
 use Rattle.rv_onward.specs.Serving.{AreHeldAtServer, IsHeldAtServer, IsHubServer, IsOfHub, LeadsServer}
 use Rattle.rv_onward.specs.Serving.{messages_by, messages_in, messages_of}

@@ -7,18 +7,18 @@ use Rattle.rv_account.specs.Account.{Account}
 use Rattle.rv_account.specs.Limits.{max_moment}
 use Rattle.rv_rules.specs.Legal.{before}
 use Rattle.rv_rules.specs.StepLimits.{AreStepLimits, StepLimits}
-use Rattle.rv_resume.specs.Laws.{HadRoom}
-use Rattle.rv_connection.specs.Traffic.{Traffic}
-use Rattle.rv_connection.specs.History.{Given, given_bytes}
-use Rattle.rv_desk.specs.View.{DeskState, DeskTerms}
-use Rattle.rv_desk.specs.Deeds.{Deed}
+use Rattle.rv_state.specs.resume.Laws.{HadRoom}
+use Rattle.rv_wires.specs.connection.Traffic.{Traffic}
+use Rattle.rv_wires.specs.connection.History.{Given, given_bytes}
+use Rattle.rv_hub.specs.desk.View.{DeskState, DeskTerms}
+use Rattle.rv_hub.specs.desk.Deeds.{Deed}
 use Rattle.rv_hub.specs.EventDeeds.{all_deeds}
 use Rattle.rv_hub.specs.HubRuns.{AddsEntries, DoesEvents, IsHubAccount}
 use Rattle.rv_hub.specs.Pairing.{HasPairs, on_nothing}
 use Rattle.rv_hub.specs.Pasts.{HasPast, Past, no_past, past_after}
 use Rattle.rv_hub.specs.Turns.{made_by}
-use Rattle.rv_parts.specs.World.{empty_account}
-use Rattle.rv_crashes.specs.Crashes.{Crashed, Lacked, Server, Stored, server_in}
+use Rattle.rv_world.specs.parts.World.{empty_account}
+use Rattle.rv_onward.specs.crashes.Crashes.{Crashed, Lacked, Server, Stored, server_in}
 use Rattle.rv_onward.specs.Room.{LetsGoOn}
 use Rattle.rv_onward.specs.Serving.{IsHeldFor, IsHubServer, LeadsServer, MayLeave, RunsServer}
 use Rattle.rv_onward.specs.Serving.{messages_in, new_hub}

@@ -2,3 +2,4 @@
 pub mod Room
 pub mod Serving
 pub mod Laws
+pub mod crashes

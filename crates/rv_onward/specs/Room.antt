@@ -5,10 +5,10 @@ use Rattle.rv_account.specs.Limits.{max_moment}
 use Rattle.rv_rules.specs.Legal.{Legal, before}
 use Rattle.rv_rules.specs.StepLimits.{AreStepLimits}
 use Rattle.rv_state.specs.After.{state_of}
-use Rattle.rv_resume.specs.Laws.{HadRoom}
-use Rattle.rv_resume.specs.Resuming.{CanResume}
-use Rattle.rv_desk.specs.View.{DeskState, DeskTerms}
-use Rattle.rv_desk.specs.Deeds.{Deed, DoesAll, entries_of_deed}
+use Rattle.rv_state.specs.resume.Laws.{HadRoom}
+use Rattle.rv_state.specs.resume.Resuming.{CanResume}
+use Rattle.rv_hub.specs.desk.View.{DeskState, DeskTerms}
+use Rattle.rv_hub.specs.desk.Deeds.{Deed, DoesAll, entries_of_deed}
 use Rattle.rv_hub.specs.HubRuns.{AddsEntries, DoesEvents, IsHubAccount}
 use Rattle.rv_hub.specs.Turns.{made_by}
 

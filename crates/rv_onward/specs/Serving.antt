@@ -8,19 +8,19 @@ use Rattle.rv_text.specs.Bodies.{IsMessageBody, answer_text}
 use Rattle.rv_account.specs.Account.{Account}
 use Rattle.rv_rules.specs.StepLimits.{StepLimits}
 use Rattle.rv_state.specs.After.{state_of}
-use Rattle.rv_connection.specs.History.{Given}
-use Rattle.rv_hearers.specs.Hearing.{nobody}
+use Rattle.rv_wires.specs.connection.History.{Given}
+use Rattle.rv_wires.specs.hearers.Hearing.{nobody}
 use Rattle.rv_wires.specs.Connections.{none_open}
-use Rattle.rv_desk.specs.View.{DeskState}
-use Rattle.rv_desk.specs.Deeds.{Deed, step_of}
+use Rattle.rv_hub.specs.desk.View.{DeskState}
+use Rattle.rv_hub.specs.desk.Deeds.{Deed, step_of}
 use Rattle.rv_hub.specs.EventDeeds.{all_deeds}
 use Rattle.rv_hub.specs.Pairing.{on_nothing}
 use Rattle.rv_hub.specs.Pasts.{Past}
-use Rattle.rv_parts.specs.declared.packet.Packet.{Packet}
-use Rattle.rv_parts.specs.Events.{sender}
-use Rattle.rv_crashes.specs.Crashes.{Crashed, IsOfMessages, Lacked, MaySend, Server, ServerDeed, ServerDoes}
-use Rattle.rv_crashes.specs.Crashes.{Stepped, made}
-use Rattle.rv_crashes.specs.Laws.{IsServer}
+use Rattle.rv_world.specs.declared.parts.packet.Packet.{Packet}
+use Rattle.rv_world.specs.parts.Events.{sender}
+use Rattle.rv_onward.specs.crashes.Crashes.{Crashed, IsOfMessages, Lacked, MaySend, Server, ServerDeed}
+use Rattle.rv_onward.specs.crashes.Crashes.{ServerDoes, Stepped, made}
+use Rattle.rv_onward.specs.crashes.Laws.{IsServer}
 
 -- ---- the deeds
 

@@ -18,7 +18,7 @@ pub fn hubs_are_servers()
     ensures events { HubsAreServers }
     ensures lacks { LacksMemory }
 {
-    rv_crashes::laws::deeds_keep_servers();
+    crate::crashes::laws::deeds_keep_servers();
 }
 
 /// Of an answer no byte leaves before the server may send it.
@@ -32,6 +32,6 @@ pub fn hubs_go_on()
     ensures begins { HubsBegin }
     ensures goes_on { HubsGoOn }
 {
-    rv_crashes::laws::servers_begin();
-    rv_crashes::laws::deeds_keep_servers();
+    crate::crashes::laws::servers_begin();
+    crate::crashes::laws::deeds_keep_servers();
 }

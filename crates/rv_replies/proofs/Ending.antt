@@ -8,7 +8,8 @@ use Rattle.std.proofs.Common.{◌+◌, ◌<◌, add-one, get_or, take}
 use Rattle.std.proofs.Math.Seq.{take-length, take-suc}
 use Rattle.rv_rules.proofs.Deciding.{key_or_other}
 use Rattle.rv_rules.proofs.Places.{get-append, get-append_cases, get-append_end}
-use Rattle.rv_findings.specs.declared.fate.Fate.TheVariants.{CancelledUnseen, RepliedTo, Unnamed, Waits}
+use Rattle.rv_replies.specs.declared.findings.fate.Fate.TheVariants.{CancelledUnseen, RepliedTo, Unnamed}
+use Rattle.rv_replies.specs.declared.findings.fate.Fate.TheVariants.{Waits}
 
 ended_twice : (told : Option Reply) (fate : Fate) → ended_by told (ended_by told fate) ≡ ended_by told fate
 ended_twice None fate = refl

@@ -11,14 +11,14 @@ use Rattle.rv_replies.specs.Firsts.{IsBeside, IsFirstOf, KnowsFirsts, NotesFirst
 use Rattle.rv_replies.specs.declared.records.Beside.{Beside}
 use Rattle.rv_text.specs.declared.answer.Reply.{Reply}
 use Rattle.rv_text.specs.declared.call.Call.{Call}
-use Rattle.rv_findings.specs.Names.{key_name}
-use Rattle.rv_findings.specs.declared.name.Name.{Name}
-use Rattle.rv_findings.specs.declared.findings.Told.{Told}
+use Rattle.rv_replies.specs.findings.Names.{key_name}
+use Rattle.rv_replies.specs.declared.findings.name.Name.{Name}
+use Rattle.rv_replies.specs.declared.findings.Told.{Told}
 use Rattle.rv_replies.specs.declared.firsts.Firsts.{Firsts}
 use Rattle.rv_replies.specs.declared.reading.Flaw.{Flaw}
 use Rattle.rv_replies.specs.declared.records.Line.{Line}
 use Rattle.rv_replies.specs.declared.records.Line.TheVariants as line
-use Rattle.rv_findings.proofs.Names.{named_apart, named_own}
+use Rattle.rv_replies.proofs.OfFindings.Names.{named_apart, named_own}
 
 pub same_told : (told other : Told) → line.Told told ≡ line.Told other → told ≡ other
 same_told told other is = cc

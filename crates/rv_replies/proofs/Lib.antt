@@ -10,3 +10,4 @@ pub mod FirstLines
 pub mod Taking
 pub mod Writing
 pub mod Ending
+pub mod OfFindings

@@ -16,7 +16,7 @@ use Rattle.rv_text.proofs.Decoding.{at_most_one}
 use Rattle.rv_text.proofs.Readers.{message_reader}
 use Rattle.rv_text.proofs.Written.{written_answer, written_body}
 use Rattle.rv_replies.specs.Lines.{AsksMember, HasTwo, ReadsTold, TellsMember}
-use Rattle.rv_findings.specs.declared.findings.Told.{Told}
+use Rattle.rv_replies.specs.declared.findings.Told.{Told}
 
 same_request : (k l : Key) (c d : Call) → Request k c ≡ Request l d → k ≡ l
 same_request k l c d is = cc

@@ -23,7 +23,8 @@ use Rattle.rv_state.proofs.FollowsBoth.{account_to_state}
 use Rattle.rv_state.proofs.Telling.{all_settled, own_replies, own_waits, settled_replies, settled_waits_not}
 use Rattle.rv_replies.proofs.Arriving.{own_told_in}
 use Rattle.rv_replies.proofs.Settled.{settled_has, settled_told}
-use Rattle.rv_findings.specs.declared.fate.Fate.TheVariants.{CancelledUnseen, RepliedTo, Unnamed, Waits}
+use Rattle.rv_replies.specs.declared.findings.fate.Fate.TheVariants.{CancelledUnseen, RepliedTo, Unnamed}
+use Rattle.rv_replies.specs.declared.findings.fate.Fate.TheVariants.{Waits}
 use Rattle.rv_state.specs.Follows.{NumberFits}
 
 -- what no reply changes stays

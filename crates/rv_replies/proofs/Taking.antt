@@ -11,7 +11,7 @@ use Rattle.rv_replies.specs.Known.{AsksAbout}
 use Rattle.rv_replies.specs.Firsts.{KnowsFirsts, NotesFirst}
 use Rattle.rv_replies.specs.Standing.{AsksNothing, HasNoted}
 use Rattle.rv_replies.proofs.FirstLines.{flawed_more, no_told, same_told, told_more}
-use Rattle.rv_findings.specs.declared.fate.Fate.TheVariants.{Unnamed}
+use Rattle.rv_replies.specs.declared.findings.fate.Fate.TheVariants.{Unnamed}
 use Rattle.rv_replies.specs.declared.reading.Flaw.{Flaw}
 use Rattle.std.proofs.lemmas.Bool.{false≢true}
 use Rattle.std.specs.Map.{lookup}
@@ -19,7 +19,7 @@ use Rattle.rv_replies.proofs.Words.{ℕ}
 use Rattle.rv_replies.specs.declared.records.Line.{Line}
 use Rattle.rv_replies.specs.declared.records.Line.TheVariants as line
 use Rattle.rv_replies.specs.declared.records.Records.{Records}
-use Rattle.rv_findings.specs.declared.findings.Told.{Told}
+use Rattle.rv_replies.specs.declared.findings.Told.{Told}
 
 -- two facts of what came out well give a third, and three a fourth
 pub on_ok_two : {A E : Type 0} {P Q S : Type 0} (r : Result A E) → (P → Q → S) → OnOk r P → OnOk r Q

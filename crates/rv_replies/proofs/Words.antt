@@ -12,9 +12,9 @@ pub use Rattle.rv_state.specs.Agreement.{HasReplied}
 pub use Rattle.rv_state.specs.Moves.{told_again}
 pub use Rattle.rv_state.proofs.Coming.{Comes, more}
 pub use Rattle.rv_replies.specs.Ending.{buried, ended, ended_by, own_fate, told_last_by, told_now}
-pub use Rattle.rv_findings.specs.Fates.{GivesReply, IsFateOf, NamesNowhere, WaitsWith}
-pub use Rattle.rv_findings.specs.Names.{is_named, key_name}
+pub use Rattle.rv_replies.specs.findings.Fates.{GivesReply, IsFateOf, NamesNowhere, WaitsWith}
+pub use Rattle.rv_replies.specs.findings.Names.{is_named, key_name}
 pub use Rattle.rv_replies.specs.Known.{IsAbout, fate_in}
 pub use Rattle.rv_replies.specs.Noting.{Changes, EndsEach, NotesOwn, StaysKnown, Turns}
-pub use Rattle.rv_findings.specs.declared.fate.Fate.{Fate}
+pub use Rattle.rv_replies.specs.declared.findings.fate.Fate.{Fate}
 pub use Rattle.rv_replies.specs.declared.fates.Fates.{Fates}

@@ -6,14 +6,14 @@ use Rattle.std.specs.Map.{lookup}
 use Rattle.rv_text.specs.declared.message.Key.{Key}
 use Rattle.rv_text.specs.declared.answer.Reply.{Reply}
 use Rattle.rv_replies.specs.Ending.{ended_by}
-use Rattle.rv_findings.specs.Names.{key_name}
+use Rattle.rv_replies.specs.findings.Names.{key_name}
 use Rattle.rv_replies.specs.Known.{AsksAbout, fate_in}
 use Rattle.rv_replies.specs.Noting.{Changes}
-use Rattle.rv_findings.specs.declared.fate.Fate.{Fate}
-use Rattle.rv_findings.specs.declared.fate.Fate.TheVariants.{Unnamed}
+use Rattle.rv_replies.specs.declared.findings.fate.Fate.{Fate}
+use Rattle.rv_replies.specs.declared.findings.fate.Fate.TheVariants.{Unnamed}
 use Rattle.rv_replies.specs.declared.fates.Fates.{Fates}
-use Rattle.rv_findings.specs.declared.name.Name.{Name}
-use Rattle.rv_findings.proofs.Names.{named_apart, named_own}
+use Rattle.rv_replies.specs.declared.findings.name.Name.{Name}
+use Rattle.rv_replies.proofs.OfFindings.Names.{named_apart, named_own}
 
 abbrev same : Name → Name → Bool
 same a b =

@@ -10,8 +10,9 @@ use Rattle.rv_state.specs.Moves.{told_again}
 use Rattle.rv_state.specs.State.{ClientState, State, client_at}
 use Rattle.rv_replies.specs.declared.changes.Change.{Change}
 use Rattle.rv_replies.specs.declared.changes.Change.TheVariants.{Becomes, Cancels, Ends}
-use Rattle.rv_findings.specs.declared.fate.Fate.{Fate}
-use Rattle.rv_findings.specs.declared.fate.Fate.TheVariants.{CancelledUnseen, RepliedTo, Unnamed, Waits}
+use Rattle.rv_replies.specs.declared.findings.fate.Fate.{Fate}
+use Rattle.rv_replies.specs.declared.findings.fate.Fate.TheVariants.{CancelledUnseen, RepliedTo, Unnamed}
+use Rattle.rv_replies.specs.declared.findings.fate.Fate.TheVariants.{Waits}
 
 -- that of a request that came with this call, and has this reply or waits
 abbrev pub own_fate : Call → Option Reply → Fate

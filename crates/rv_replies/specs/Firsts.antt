@@ -2,8 +2,8 @@
 use Rattle.std.specs.Prelude.{◌≡◌, ◌≢◌, ◌⊎◌, ◌≤◌, ℕ, List, Option, None, Some, IsSome, slice_get, unwrap_or}
 use Rattle.std.specs.Map.{lookup}
 use Rattle.rv_text.specs.declared.message.Key.{Key}
-use Rattle.rv_findings.specs.Names.{is_named}
-use Rattle.rv_findings.specs.declared.findings.Told.{Told}
+use Rattle.rv_replies.specs.findings.Names.{is_named}
+use Rattle.rv_replies.specs.declared.findings.Told.{Told}
 use Rattle.rv_replies.specs.declared.firsts.Firsts.{Firsts}
 use Rattle.rv_replies.specs.declared.records.Line.{Line}
 use Rattle.rv_replies.specs.declared.records.Line.TheVariants as line

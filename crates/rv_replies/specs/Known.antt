@@ -8,11 +8,11 @@ use Rattle.rv_rules.specs.Legal.{Legal}
 use Rattle.rv_state.specs.After.{following, state_of}
 use Rattle.rv_machine.specs.Machines.{keys_settled, state_in}
 use Rattle.rv_machine.specs.declared.machine.Machine.{Machine}
-use Rattle.rv_findings.specs.declared.fate.Fate.{Fate}
-use Rattle.rv_findings.specs.declared.fate.Fate.TheVariants.{Unnamed}
+use Rattle.rv_replies.specs.declared.findings.fate.Fate.{Fate}
+use Rattle.rv_replies.specs.declared.findings.fate.Fate.TheVariants.{Unnamed}
 use Rattle.rv_replies.specs.declared.fates.Fates.{Fates}
-use Rattle.rv_findings.specs.Names.{is_named}
-use Rattle.rv_findings.specs.Fates.{IsFateOf}
+use Rattle.rv_replies.specs.findings.Names.{is_named}
+use Rattle.rv_replies.specs.findings.Fates.{IsFateOf}
 
 -- what is known of the key's request
 abbrev pub fate_in : Fates → Key → Option Fate

@@ -7,3 +7,4 @@ pub mod Standing
 pub mod Ending
 pub mod Noting
 pub mod Reading
+pub mod findings

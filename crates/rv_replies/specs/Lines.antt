@@ -12,7 +12,7 @@ use Rattle.rv_text.specs.declared.message.Message.TheVariants.{Request}
 use Rattle.rv_text.specs.Limits.{FitsAnswer, FitsMessage}
 use Rattle.rv_text.specs.Members.{object_of}
 use Rattle.rv_text.specs.Rows.{answer_row, message_row}
-use Rattle.rv_findings.specs.declared.findings.Told.{Told}
+use Rattle.rv_replies.specs.declared.findings.Told.{Told}
 
 -- the value is an object with two members
 pub record HasTwo (value : Data) (members : Members) : Type 0 where

@@ -7,7 +7,7 @@ use Rattle.rv_account.specs.declared.entry.Act.TheVariants.{Arrive, Cancel, Hell
 use Rattle.rv_state.specs.State.{State}
 use Rattle.rv_replies.specs.Ending.{buried, ended_by, own_fate, told_last_by}
 use Rattle.rv_replies.specs.Known.{fate_in}
-use Rattle.rv_findings.specs.declared.fate.Fate.{Fate}
+use Rattle.rv_replies.specs.declared.findings.fate.Fate.{Fate}
 use Rattle.rv_replies.specs.declared.fates.Fates.{Fates}
 
 -- of this key alone what is known changes so

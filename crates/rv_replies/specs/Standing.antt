@@ -5,13 +5,13 @@ use Rattle.rv_replies.specs.declared.fates.Fates.{Fates}
 use Rattle.rv_replies.specs.declared.records.Line.{Line}
 use Rattle.rv_replies.specs.declared.records.Line.TheVariants as line
 use Rattle.rv_replies.specs.declared.records.Records.{Records}
-use Rattle.rv_findings.specs.declared.findings.Told.{Told}
-use Rattle.rv_findings.specs.declared.findings.Finding.{Finding}
-use Rattle.rv_findings.specs.declared.findings.Finding.TheVariants.{NoRecord}
+use Rattle.rv_replies.specs.declared.findings.Told.{Told}
+use Rattle.rv_replies.specs.declared.findings.Finding.{Finding}
+use Rattle.rv_replies.specs.declared.findings.Finding.TheVariants.{NoRecord}
 use Rattle.rv_replies.specs.Known.{IsAbout, fate_in}
 use Rattle.rv_replies.specs.Firsts.{KnowsFirsts}
 use Rattle.rv_replies.specs.Lines.{ReadsTold}
-use Rattle.rv_findings.specs.Findings.{IsFinding}
+use Rattle.rv_replies.specs.findings.Findings.{IsFinding}
 
 -- the text is the record of this reply, or of none
 abbrev pub IsRecordLine : List ℕ → Line → Type 0

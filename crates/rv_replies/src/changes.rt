@@ -2,7 +2,7 @@
 ghost use Rattle.std.specs.Prelude.{◌≡◌};
 ghost use Rattle.rv_replies.specs.Ending.{buried, changed, ended, own_fate};
 
-use rv_findings::Fate;
+use crate::findings::Fate;
 use rv_text::{Call, Reply};
 use std::mem;
 

@@ -6,10 +6,10 @@ ghost use Rattle.rv_text.specs.declared.message.Key as message;
 ghost use Rattle.rv_replies.specs.Ending.{changed, ended_by, own_fate, told_last_by, told_now};
 
 use crate::changes::{Change, own_fate, turn};
+use crate::findings::{Fate, Name};
 use crate::telling::{told_last_by, told_now};
 use indexmap::IndexMap;
 use rv_account::{Act, Entry};
-use rv_findings::{Fate, Name};
 use rv_machine::Machine;
 use rv_text::{Call, Key, NoMemory};
 use std::alloc::Global;

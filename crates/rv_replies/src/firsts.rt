@@ -2,8 +2,8 @@
 ghost use Rattle.std.specs.Prelude.{◌≡◌, None, OnOk, is_some};
 ghost use Rattle.rv_text.specs.declared.message.Key as message;
 
+use crate::findings::Name;
 use indexmap::IndexMap;
-use rv_findings::Name;
 use rv_text::{Key, NoMemory};
 use std::alloc::Global;
 

@@ -3,6 +3,7 @@
 
 mod changes;
 mod fates;
+pub mod findings;
 mod firsts;
 mod reading;
 mod records;

@@ -8,7 +8,7 @@ ghost use Rattle.serde_json.specs.View.{members_view, view};
 ghost use Rattle.rv_json.specs.Bodies.{IsNotJson, Reads};
 ghost use Rattle.rv_replies.specs.Lines.{AsksMember, HasTwo, ReadsTold, TellsMember};
 ghost use Rattle.rv_replies.specs.Reading.{HasMemberText, IsShallow};
-ghost use Rattle.rv_findings.specs.declared.findings.Told as told;
+ghost use Rattle.rv_replies.specs.declared.findings.Told as told;
 ghost use Rattle.rv_text.specs.declared.call.Call as calls;
 ghost use Rattle.rv_text.specs.declared.message.Key as keys;
 ghost use Rattle.rv_text.specs.declared.answer.Reply as replies;
@@ -16,7 +16,7 @@ ghost use Rattle.rv_text.specs.declared.answer.Answer.TheVariants as answers;
 ghost use Rattle.rv_text.specs.declared.message.Message.TheVariants as messages;
 ghost use Rattle.rv_text.specs.Bodies.{IsAnswerBody, IsMessageBody};
 
-use rv_findings::Told;
+use crate::findings::Told;
 use rv_json::two_objects;
 use rv_text::{
     Answer, Call, Key, Message, NoMemory, Reply, TextFault, decode_answer, decode_message,

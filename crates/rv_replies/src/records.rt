@@ -4,13 +4,13 @@ ghost use Rattle.std.specs.Prelude.{◌↔◌, IsTrue, None, Some, option_map, s
 ghost use Rattle.rv_account.specs.Account.{Account, with_entry};
 ghost use Rattle.rv_rules.specs.Legal.{Legal};
 ghost use Rattle.rv_replies.specs.Firsts.{IsBeside};
-ghost use Rattle.rv_findings.specs.declared.findings.Told as replies;
+ghost use Rattle.rv_replies.specs.declared.findings.Told as replies;
 
 use crate::fates::Fates;
+use crate::findings::{Fate, Finding, Told, is_same_reply, judge};
 use crate::firsts::Firsts;
 use crate::reading::{Flaw, NotRead, read_told};
 use rv_account::Entry;
-use rv_findings::{Fate, Finding, Told, is_same_reply, judge};
 use rv_machine::Machine;
 use rv_text::NoMemory;
 use std::alloc::{AllocError, Global};
@@ -56,9 +56,9 @@ impl Records {
     ghost use Rattle.rv_replies.specs.Known.{AsksAbout, HasPassedBy, IsAbout, fate_in};
     ghost use Rattle.rv_replies.specs.Firsts.{NotesFirst, StandsBeside};
     ghost use Rattle.rv_replies.specs.Standing.{AddsLine, AsksNothing, IsLineFinding, HasNoted};
-    ghost use Rattle.rv_findings.specs.declared.fate.Fate as fates;
+    ghost use Rattle.rv_replies.specs.declared.findings.fate.Fate as fates;
     ghost use Rattle.rv_replies.specs.declared.records.Line.TheVariants as kinds;
-    ghost use Rattle.rv_findings.specs.Fates.{IsFateOf};
+    ghost use Rattle.rv_replies.specs.findings.Fates.{IsFateOf};
 
     /// The record of no line. It takes no memory yet.
     pub fn new(alloc: Global) -> Records

@@ -4,8 +4,8 @@ ghost use Rattle.rv_machine.specs.Machines.{state_in};
 ghost use Rattle.rv_state.specs.Moves.{told_again};
 ghost use Rattle.rv_replies.specs.Ending.{told_last_by, told_now};
 
+use crate::findings::told_by;
 use rv_account::Act;
-use rv_findings::told_by;
 use rv_machine::Machine;
 use rv_session::LastRequest;
 use rv_text::{Key, NoMemory, Reply};
@@ -37,8 +37,7 @@ pub(crate) fn told_last_by(
     }
 }
 
-/// What is told who waited until an act, by the machine behind it. A hello may have taken the session of the
-/// one that waited.
+/// What a waiter is told until an act, by the machine after it. A hello may have taken the waiter's session.
 pub(crate) fn told_now(
     alloc: Global,
     machine: &Machine,

@@ -4,3 +4,7 @@ pub mod Giving
 pub mod Printing
 pub mod Sending
 pub mod ShortTexts
+pub mod OfCalls
+pub mod OfTurns
+pub mod OfPlay
+pub mod OfInspect

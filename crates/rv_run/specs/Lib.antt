@@ -2,3 +2,7 @@
 pub mod Faults
 pub mod Input
 pub mod Output
+pub mod calls
+pub mod turns
+pub mod play
+pub mod inspect

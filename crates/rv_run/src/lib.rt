@@ -2,9 +2,13 @@
 //! end by the same faults.
 #![tactic(auto)]
 
+pub mod calls;
 mod fault;
 mod input;
+pub mod inspect;
 mod output;
+pub mod play;
+pub mod turns;
 
 pub use fault::RunFault;
 pub use input::read_input;

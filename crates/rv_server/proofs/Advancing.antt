@@ -11,11 +11,11 @@ use Rattle.rv_frame.specs.Stream.{HasFed, Stream}
 use Rattle.rv_frame.specs.declared.source.Source.{Source}
 use Rattle.rv_frame.specs.declared.sink.Sink.{Sink}
 use Rattle.rv_frame.proofs.Cuts.{row_append}
-use Rattle.rv_locked.specs.Asking.{Cover, GetsStamps}
+use Rattle.rv_server.specs.locked.Asking.{Cover, GetsStamps}
 use Rattle.rv_server.specs.Progress.{AnswersFrame, Out, Progress, StopsAtFrame, out}
 use Rattle.rv_server.specs.Reading.{FailsAtSink, ReadsOn, ReadsOut, TakesFrame}
-use Rattle.rv_locked.specs.Stamps.{Numbered, added_entries}
-use Rattle.rv_locked.specs.FrameStamps.{AreFor, IsFor, IsWaiting}
+use Rattle.rv_server.specs.locked.Stamps.{Numbered, added_entries}
+use Rattle.rv_server.specs.locked.FrameStamps.{AreFor, IsFor, IsWaiting}
 use Rattle.rv_server.specs.AnsweredFrames.{AnsweredFrame, AreAnsweredFrames, IsAnsweredFrame, stamps_of}
 use Rattle.rv_server.specs.Works.{AreForNext, Connection, Listed, StopsBetween, Worked, Works, connection}
 use Rattle.rv_server.specs.Works.{max_frames, nothing}

@@ -5,21 +5,21 @@ use Rattle.rv_frame.specs.Cut.{IsFrameBody}
 use Rattle.rv_frame.specs.Sink.{SinkTakes, sink_failed}
 use Rattle.rv_frame.specs.declared.sink.Sink.{Sink}
 use Rattle.std.proofs.KnownBytes.{Appends-nil, Appends-trans}
-use Rattle.rv_locked.specs.Asking.{GetsStamps, GetsTold, TellsFrame}
+use Rattle.rv_server.specs.locked.Asking.{GetsStamps, GetsTold, TellsFrame}
 use Rattle.rv_server.specs.Asking.{StopsAsking}
 use Rattle.rv_server.specs.Progress.{AnswersFrame, Out, StopsAtFrame}
-use Rattle.rv_locked.specs.Stamps.{Numbered}
+use Rattle.rv_server.specs.locked.Stamps.{Numbered}
 use Rattle.rv_server.specs.AnsweredFrames.{AnsweredFrame, BodySays, IsAnsweredFrame}
 use Rattle.rv_server.specs.Works.{Listed}
-use Rattle.rv_locked.specs.Writing.{IsAnswer, WritesAnswer, WritesPart}
-use Rattle.rv_locked.specs.declared.asking.FrameAnswer.{FrameAnswer}
-use Rattle.rv_locked.specs.declared.asking.FrameAnswer.TheVariants as told
+use Rattle.rv_server.specs.locked.Writing.{IsAnswer, WritesAnswer, WritesPart}
+use Rattle.rv_server.specs.declared.locked.asking.FrameAnswer.{FrameAnswer}
+use Rattle.rv_server.specs.declared.locked.asking.FrameAnswer.TheVariants as told
 use Rattle.rv_server.specs.declared.fault.WorkFault.{WorkFault}
 use Rattle.rv_server.specs.declared.fault.WorkFault.TheVariants.{BadLength, CutFrame, NoMemory, ReadFault}
 use Rattle.rv_server.specs.declared.fault.WorkFault.TheVariants.{TooLong, WriteFault}
-use Rattle.rv_locked.proofs.Getting.{nothing_got}
-use Rattle.rv_locked.specs.declared.item.Item.{Item}
-use Rattle.rv_locked.specs.declared.item.Item.TheVariants as item
+use Rattle.rv_server.proofs.OfLocked.Getting.{nothing_got}
+use Rattle.rv_server.specs.declared.locked.item.Item.{Item}
+use Rattle.rv_server.specs.declared.locked.item.Item.TheVariants as item
 
 -- what is told of a frame and the item that stands for it say what the answer says
 says_of : (body : List ℕ) (got : List Numbered) (t : FrameAnswer) (i : Item) (answer : List ℕ)

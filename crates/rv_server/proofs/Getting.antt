@@ -5,15 +5,15 @@ use Rattle.std.specs.List.{All}
 use Rattle.std.proofs.lemmas.List.Elements.{All-append, All-cons, All-head, All-nil, All-tail}
 use Rattle.std.proofs.lemmas.List.Sums.{sum_by-append, sum_by-cons}
 use Rattle.rv_text.specs.declared.answer.Answer.{Answer}
-use Rattle.rv_locked.specs.Asking.{Cover, GetsStamps, GetsTold, TellsFrame}
-use Rattle.rv_locked.proofs.Getting.{nothing_got}
+use Rattle.rv_server.specs.locked.Asking.{Cover, GetsStamps, GetsTold, TellsFrame}
+use Rattle.rv_server.proofs.OfLocked.Getting.{nothing_got}
 use Rattle.rv_server.specs.Asking.{GetsSome, OnlyWaited, StopsAsking, Waits}
-use Rattle.rv_locked.specs.Stamps.{Covers, Numbered, added_entries, added_by}
-use Rattle.rv_locked.specs.FrameStamps.{IsFor, IsWaiting, LastSays, WaitsBetween}
+use Rattle.rv_server.specs.locked.Stamps.{Covers, Numbered, added_entries, added_by}
+use Rattle.rv_server.specs.locked.FrameStamps.{IsFor, IsWaiting, LastSays, WaitsBetween}
 use Rattle.rv_server.specs.declared.fault.WorkFault.{WorkFault}
 use Rattle.rv_server.specs.declared.fault.WorkFault.TheVariants as fault
-use Rattle.rv_locked.specs.declared.asking.FrameAnswer.{FrameAnswer}
-use Rattle.rv_locked.specs.declared.asking.FrameAnswer.TheVariants.{BadText, NoMemory, Said}
+use Rattle.rv_server.specs.declared.locked.asking.FrameAnswer.{FrameAnswer}
+use Rattle.rv_server.specs.declared.locked.asking.FrameAnswer.TheVariants.{BadText, NoMemory, Said}
 
 pub added_append : (front stamps : List Numbered)
     → added_entries (front ++ stamps) ≡ added_entries front + added_entries stamps

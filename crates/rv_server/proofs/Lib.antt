@@ -5,3 +5,4 @@ pub mod Getting
 pub mod Answering
 pub mod Advancing
 pub mod Passing
+pub mod OfLocked

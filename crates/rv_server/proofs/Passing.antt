@@ -12,8 +12,8 @@ use Rattle.rv_frame.specs.Sink.{SinkTakes, sink_contents, sink_device, sink_fail
 use Rattle.rv_frame.specs.declared.sink.Sink.{Sink}
 use Rattle.rv_frame.specs.declared.source.Source.{Source}
 use Rattle.rv_server.specs.Sending.{IsFirstFault, held_behind}
-use Rattle.rv_locked.specs.FrameStamps.{IsWaiting}
-use Rattle.rv_locked.specs.Stamps.{Numbered}
+use Rattle.rv_server.specs.locked.FrameStamps.{IsWaiting}
+use Rattle.rv_server.specs.locked.Stamps.{Numbered}
 use Rattle.rv_server.specs.Works.{AnswerBreaksOff, Listed, StopsBetween, Worked, Works, connection}
 use Rattle.rv_server.specs.declared.fault.WorkFault.{WorkFault}
 use Rattle.rv_server.specs.declared.fault.WorkFault.TheVariants.{BadLength, CutFrame, NoMemory, ReadFault}

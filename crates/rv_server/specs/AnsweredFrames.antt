@@ -4,10 +4,10 @@ use Rattle.rv_text.specs.declared.answer.Answer.{Answer}
 use Rattle.rv_text.specs.declared.answer.Refusal.TheVariants as refusal
 use Rattle.rv_text.specs.Bodies.{answer_text, refused_text}
 use Rattle.rv_frame.specs.Cut.{IsFrameBody}
-use Rattle.rv_locked.specs.Stamps.{Numbered}
-use Rattle.rv_locked.specs.FrameStamps.{AreFor, IsNoMessage, LastSays}
-use Rattle.rv_locked.specs.declared.item.Item.{Item}
-use Rattle.rv_locked.specs.declared.item.Item.TheVariants.{BadText, NoMemory, Said}
+use Rattle.rv_server.specs.locked.Stamps.{Numbered}
+use Rattle.rv_server.specs.locked.FrameStamps.{AreFor, IsNoMessage, LastSays}
+use Rattle.rv_server.specs.declared.locked.item.Item.{Item}
+use Rattle.rv_server.specs.declared.locked.item.Item.TheVariants.{BadText, NoMemory, Said}
 
 -- one frame that was answered: its body, the stamps that were got for it, and the body of its answer
 pub record AnsweredFrame : Type 0 where

@@ -2,11 +2,11 @@
 use Rattle.std.specs.Prelude.{ℕ, ◌≡◌, Bool, List, true}
 use Rattle.std.specs.List.{All}
 use Rattle.rv_text.specs.declared.answer.Answer.{Answer}
-use Rattle.rv_locked.specs.Asking.{GetsStamps}
-use Rattle.rv_locked.specs.Stamps.{Numbered}
-use Rattle.rv_locked.specs.FrameStamps.{IsWaiting}
-use Rattle.rv_locked.specs.declared.asking.FrameAnswer.{FrameAnswer}
-use Rattle.rv_locked.specs.declared.asking.FrameAnswer.TheVariants.{Said}
+use Rattle.rv_server.specs.locked.Asking.{GetsStamps}
+use Rattle.rv_server.specs.locked.Stamps.{Numbered}
+use Rattle.rv_server.specs.locked.FrameStamps.{IsWaiting}
+use Rattle.rv_server.specs.declared.locked.asking.FrameAnswer.{FrameAnswer}
+use Rattle.rv_server.specs.declared.locked.asking.FrameAnswer.TheVariants.{Said}
 use Rattle.rv_server.specs.declared.fault.WorkFault.{WorkFault}
 use Rattle.rv_server.specs.declared.fault.WorkFault.TheVariants as fault
 

@@ -8,3 +8,4 @@ pub mod Reading
 pub mod Asking
 pub mod Sending
 pub mod Progress
+pub mod locked

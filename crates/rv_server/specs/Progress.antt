@@ -7,9 +7,9 @@ use Rattle.rv_frame.specs.declared.sink.Sink.{Sink}
 use Rattle.rv_frame.specs.Source.{SourceGives}
 use Rattle.rv_server.specs.declared.fault.WorkFault.{WorkFault}
 use Rattle.rv_server.specs.declared.fault.WorkFault.TheVariants.{NoMemory, WriteFault}
-use Rattle.rv_locked.specs.Stamps.{Numbered, added_entries}
+use Rattle.rv_server.specs.locked.Stamps.{Numbered, added_entries}
 use Rattle.rv_server.specs.AnsweredFrames.{AnsweredFrame, AreAnsweredFrames, IsAnsweredFrame, stamps_of}
-use Rattle.rv_locked.specs.Asking.{Cover, GetsStamps}
+use Rattle.rv_server.specs.locked.Asking.{Cover, GetsStamps}
 use Rattle.rv_server.specs.Asking.{OnlyWaited}
 use Rattle.rv_server.specs.Works.{Connection, Listed}
 

@@ -10,10 +10,10 @@ use Rattle.rv_frame.specs.declared.source.Source.{Source}
 use Rattle.rv_server.specs.declared.fault.WorkFault.{WorkFault}
 use Rattle.rv_server.specs.declared.fault.WorkFault.TheVariants.{BadLength, CutFrame, NoMemory, ReadFault}
 use Rattle.rv_server.specs.declared.fault.WorkFault.TheVariants.{TooLong, WriteFault}
-use Rattle.rv_locked.specs.declared.item.Item.{Item}
+use Rattle.rv_server.specs.declared.locked.item.Item.{Item}
 use Rattle.rv_server.specs.declared.served.Served.{Served}
-use Rattle.rv_locked.specs.Stamps.{Covers, Numbered, Stamped, added_entries, shown_stamps}
-use Rattle.rv_locked.specs.FrameStamps.{AreFor, IsWaiting}
+use Rattle.rv_server.specs.locked.Stamps.{Covers, Numbered, Stamped, added_entries, shown_stamps}
+use Rattle.rv_server.specs.locked.FrameStamps.{AreFor, IsWaiting}
 use Rattle.rv_server.specs.AnsweredFrames.{AnsweredFrame, AreAnsweredFrames, IsAnsweredFrame, stamps_of}
 
 -- the most frames of a connection

@@ -1,14 +1,14 @@
 //! Asks the desk for one frame, until its answer is one that doesn't wait.
 ghost use Rattle.std.specs.Prelude.{◌≡◌, [], false, true, IfErr, IfOk, IsTrue, OnErr};
 ghost use Rattle.rv_frame.specs.Sink.{SinkTakes, sink_failed};
-ghost use Rattle.rv_locked.specs.Asking.{GetsTold};
-ghost use Rattle.rv_locked.specs.Stamps.{shown_stamps};
+ghost use Rattle.rv_server.specs.locked.Asking.{GetsTold};
+ghost use Rattle.rv_server.specs.locked.Stamps.{shown_stamps};
 ghost use Rattle.rv_server.specs.Asking.{StopsAsking, Waits};
 
 use crate::context::WorkerContext;
 use crate::fault::WorkFault;
+use crate::locked::{Clock, Desk, FrameAnswer, Gate, Seat};
 use rv_frame::{Sink, WriteFault};
-use rv_locked::{Clock, Desk, FrameAnswer, Gate, Seat};
 use rv_text::{Answer, NoMemory};
 use std::io::Write;
 use std::sync::Wait;
@@ -40,7 +40,7 @@ impl<'a, T: Wait, D: Desk, L: Ledger, C: Clock, G: Gate> WorkerContext<'a, T, D,
             (shown_stamps D.stamped stamps.old.items) seat.new (shown_stamps D.stamped stamps.new.items)) }
         ensures refused { OnErr result ((seat.new ≡ seat.old) × (stamps.new.items ≡ stamps.old.items)) }
     {
-        rv_locked::ask_once(
+        crate::locked::ask_once(
             self.rt,
             self.alloc,
             self.shared,

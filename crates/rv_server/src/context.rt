@@ -1,5 +1,5 @@
 //! The parts that all workers of a server share.
-use rv_locked::{Desk, Shared};
+use crate::locked::{Desk, Shared};
 use std::alloc::Global;
 use std::sync::ledger::Ledger;
 

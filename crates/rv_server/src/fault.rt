@@ -5,9 +5,9 @@ use rv_frame::{ReadFault, WriteFault};
 use std::alloc::AllocError;
 use thiserror::Error;
 
-/// The reason why [`work`](crate::work) stopped. All frames before the fault were answered, but if memory was
-/// refused, some that were read may not have been. More may have been read behind the frame of a write fault
-/// and behind a frame too many.
+/// Why [`work`](crate::work) stopped. All frames before the fault were answered, except that, if memory was
+/// refused, some that were read may not have been. More may have been read after the frame of a write fault,
+/// and after one frame too many.
 #[derive(Clone, Copy, Debug, PartialEq, Eq, Error)]
 pub enum WorkFault {
     /// 1: a read failed, at this call or at an earlier one. The source has failed.

@@ -5,13 +5,14 @@ mod asking;
 mod context;
 mod fault;
 mod inlet;
+mod locked;
 mod sending;
 mod served;
 mod sockets;
 mod worker;
 
 pub use fault::WorkFault;
-pub use rv_locked::{
+pub use locked::{
     Clock, Closing, Desk, ForeignSeat, Gate, Item, Locked, MAX_WORKERS, Seat, Shared, finish,
     serve_message,
 };

@@ -8,10 +8,10 @@ ghost use Rattle.rv_server.specs.Works.{listing_of};
 
 use crate::context::WorkerContext;
 use crate::fault::WorkFault;
+use crate::locked::{Clock, Desk, Gate, Seat};
 use crate::served::Served;
 use crate::worker::work;
 use rv_frame::{Sink, Source};
-use rv_locked::{Clock, Desk, Gate, Seat};
 use std::alloc::Global;
 use std::io;
 use std::io::{BufWriter, Read, Write};

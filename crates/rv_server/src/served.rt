@@ -1,5 +1,5 @@
 //! A worker's report on the frames of a connection.
-use rv_locked::{Desk, Item};
+use crate::locked::{Desk, Item};
 use std::alloc::Global;
 
 /// A worker's report on the frames of a connection: one item for each frame that was answered whole, and all

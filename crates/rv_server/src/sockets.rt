@@ -4,9 +4,9 @@ ghost use Rattle.std.specs.Vec.{vec_capacity};
 ghost use Rattle.rv_server.specs.declared.sockets.ServeFault.TheVariants.{NoMemory, NoWorker};
 
 use crate::context::WorkerContext;
+use crate::locked::{Clock, Desk, Gate, Seat, Shared};
 use crossbeam_channel::{Receiver, Sender};
 use rv_frame::Source;
-use rv_locked::{Clock, Desk, Gate, Seat, Shared};
 use std::alloc::{AllocError, Global};
 use std::net::{TcpListener, TcpStream};
 use std::sync::Wait;

@@ -121,7 +121,7 @@ impl Claims {
         }
     }
 
-    /// The table, of which no duty is made any more but by what it is asked then.
+    /// The table. It makes no more of the duties that were owed, only those of later requests.
     pub fn done(self) -> Clients
         ensures { result ≡ self.table }
     {

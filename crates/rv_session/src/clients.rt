@@ -181,8 +181,8 @@ impl Clients {
         }
     }
 
-    /// What stands of a key: the reason why it is refused, what stands of its session's last number, or that
-    /// it is the next one. It copies nothing.
+    /// What a key means to the table: why it is refused, what became of its session's last number, or that it
+    /// is the next one. It copies nothing.
     #[tactic(auto, using(crate::proofs::KeyMeaning::client_standing_says))]
     pub fn look(&self, key: &Key) -> KeyStanding<'_>
         ensures standing { stands_as result ≡ key_standing self.now key.now }

@@ -1,6 +1,6 @@
-//! The sessions of an epoch: one for each client, with what stands of its last request, by places of the
-//! account or with all texts; and the duty to settle a request, which can't be copied, and can't be dropped
-//! unless it is laid aside.
+//! The sessions of an epoch: one for each client, with what became of its last request, as places of the
+//! account or with all texts; and the duty to settle a request, which can't be copied, nor dropped unless it
+//! is laid aside.
 #![tactic(auto)]
 
 mod claims;

@@ -135,8 +135,8 @@ impl Sessions {
         self.put(client, Session::fresh(incarnation, version))
     }
 
-    /// What stands of a key: the reason why it is refused, what stands of its session's last number, or that
-    /// it is the next one.
+    /// What a key means to the table: why it is refused, what became of its session's last number, or that it
+    /// is the next one.
     #[tactic(auto, using(crate::proofs::Meaning::standing_in_means))]
     pub fn look(&self, key: &Key) -> Standing
         ensures standing { result ≡ standing_of self.now key.now }

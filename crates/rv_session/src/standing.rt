@@ -19,7 +19,7 @@ pub enum Greeting {
     OtherVersion(Version),
 }
 
-/// What stands of a key.
+/// What a key means to a table of sessions.
 #[derive(Clone, Copy)]
 pub enum Standing {
     /// The key is refused: for another epoch, no session, an old incarnation, an old number, a request

@@ -64,3 +64,5 @@ pub mod StateLaws
 pub mod CanEnter
 pub mod LimitLaws
 pub mod TableClients
+pub mod Resumed
+pub mod OfWaiting

@@ -8,3 +8,7 @@ pub mod Kept
 pub mod Settling
 pub mod Laws
 pub mod StepLaws
+-- What a reader must agree with: all that the public contracts cite.
+pub mod Standing
+pub mod resume
+pub mod waiting

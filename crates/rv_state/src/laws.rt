@@ -109,7 +109,7 @@ pub fn limits_only_refuse()
     ensures { LimitsOnlyRefuse }
 {}
 
-/// What limits bound is at most its limit behind a step, or at most what it was before.
+/// After a step what limits bound is at most its limit, or at most what it was before.
 pub fn limits_hold()
     ensures { LimitsHold }
 {}

@@ -2,3 +2,8 @@
 #![tactic(auto)]
 
 pub mod laws;
+mod places;
+pub mod resume;
+mod waiting;
+
+pub use places::{is_last_of, lies_open};

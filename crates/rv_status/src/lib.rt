@@ -1,5 +1,5 @@
-//! What a server tells of itself over HTTP: a page for people, the same as JSON, metrics, and that it turns;
-//! and the connections that ask for it, few and not for long.
+//! What a server shows of itself over HTTP: a page for people, the same as JSON, metrics, and whether it
+//! works; and the few, short connections that ask for it.
 #![tactic(auto)]
 
 mod answers;

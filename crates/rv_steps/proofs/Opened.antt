@@ -6,8 +6,8 @@ use Rattle.rv_rules.specs.Steps.{capped_moment}
 use Rattle.rv_state.specs.State.{opening}
 use Rattle.rv_machine.specs.Machines.{state_in}
 use Rattle.rv_machine.specs.declared.machine.Machine.{Machine}
-use Rattle.rv_resume.specs.Resuming.{CanResume}
-use Rattle.rv_resume.proofs.ResumeLaws.{openings_resume}
+use Rattle.rv_state.specs.resume.Resuming.{CanResume}
+use Rattle.rv_state.proofs.Resumed.ResumeLaws.{openings_resume}
 
 fits : FitsIdentifier 1
 fits = grind arith

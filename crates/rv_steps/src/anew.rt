@@ -5,8 +5,8 @@ use crate::steps::{Made, answer_line};
 use rv_account::Entry;
 use rv_follow::{Followed, follow};
 use rv_machine::Machine;
-use rv_resume::Snapshot;
 use rv_rules::Limits;
+use rv_state::resume::Snapshot;
 use rv_text::{Key, NoMemory};
 use std::alloc::Global;
 

@@ -9,11 +9,11 @@
 //! open connections among so many numbers, and the last line.
 use crate::hexes::{written_hex, written_sum};
 use rv_account::Entry;
-use rv_connection::Wire;
-use rv_hearers::ConnectionNumber;
 use rv_hub::{EventRefusal, Hub};
 use rv_lines::entry_line;
 use rv_text::NoMemory;
+use rv_wires::connection::Wire;
+use rv_wires::hearers::ConnectionNumber;
 use std::alloc::Global;
 
 // More bytes to hand out are told by their sum.

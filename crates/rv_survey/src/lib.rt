@@ -1,4 +1,4 @@
-//! What of a hub is told to whoever looks at a server: what waits in its queues, and its oldest requests.
+//! What a server's status shows of a hub: what waits in its queues, and its oldest requests.
 #![tactic(auto)]
 
 mod oldest;

@@ -8,9 +8,8 @@ use std::alloc::AllocError;
 // A list has so many rows at most.
 const MOST: usize = 100;
 
-/// Puts the row of a client, if it has one now, in place of those that a list has of it: behind all that are
-/// as old or older. The first 100 are kept. Where memory is refused the client has no row; it never is once
-/// 101 rows had room.
+/// Replaces a client's rows in a list by the row that it has now, if any, after all that are as old or older.
+/// The first 100 are kept. If memory is refused the client has no row; it never is once 101 rows had room.
 pub fn renew(
     rows: &mut Vec<WaitingRow>,
     client: u64,

@@ -8,7 +8,7 @@ use Rattle.std.specs.Prelude.{nat_le, nat_lt}
 use Rattle.json.proofs.Printed.Utf8.{are_ascii, IsUtf8-are_ascii}
 use Rattle.serde_json.specs.Data.{string}
 use Rattle.serde_json.specs.View.{items_of}
-use Rattle.rv_item.specs.Limits.{FitsItem}
+use Rattle.rv_json.specs.Limits.{FitsItem}
 use Rattle.rv_text.specs.declared.call.Wait.TheVariants as wait
 use Rattle.rv_text.specs.Members.{Limit, up_to, from_one_to, Keeps, Member, word, whole, item_text}
 use Rattle.rv_text.specs.Members.{item_texts, wait_time, field_of, IsWithin, limited_members, WithinFrom}

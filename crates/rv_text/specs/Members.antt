@@ -2,7 +2,7 @@
 use Rattle.std.specs.Prelude.{ℕ, ◌≤◌, List, [], ◌∷◌, map, codes}
 use Rattle.serde_json.specs.Data.{Data, number, unsigned, string, array, object, Members, no_members, put}
 use Rattle.serde_json.specs.View.{items_of}
-pub use Rattle.rv_item.specs.Limits.{FitsItem, FitsItems}
+pub use Rattle.rv_json.specs.Limits.{FitsItem, FitsItems}
 use Rattle.rv_text.specs.declared.call.Wait.{Wait}
 use Rattle.rv_text.specs.declared.call.Wait.TheVariants as wait
 

@@ -3,8 +3,7 @@ ghost use Rattle.std.specs.Prelude.{◌≡◌, ◌↔◌, IfOk, IsTrue, length};
 
 use crate::message::{Key, MAX_IDENTIFIER, fits_identifier};
 use crate::version::Version;
-use rv_item::{Item, Items};
-use rv_json::NoMemory;
+use rv_json::{Item, Items, NoMemory};
 use std::alloc::Global;
 use thiserror::Error;
 

@@ -3,8 +3,7 @@ ghost use Rattle.std.specs.Prelude.{◌≡◌, ◌↔◌, IfOk, IsTrue, option_m
 ghost use Rattle.rv_text.specs.Limits.{FitsMax};
 
 use self::Side::{Exchanges, Gives, Looks, Takes};
-use rv_item::{Item, MAX_DRAIN};
-use rv_json::NoMemory;
+use rv_json::{Item, MAX_DRAIN, NoMemory};
 use std::alloc::Global;
 
 /// The greatest number of a queue; the least is 0.

@@ -15,8 +15,7 @@ use crate::call::{Call, Side, Wait};
 use crate::laws::body_constants;
 use crate::message::{Key, Message};
 use crate::version::Version;
-use rv_item::Item;
-use rv_json::{NoMemory, ObjectText};
+use rv_json::{Item, NoMemory, ObjectText};
 use std::alloc::Global;
 
 /// The body of [`Refusal::BadText`], which answers bytes that are no message's body.

@@ -18,6 +18,5 @@ pub use encode::{
     no_memory_body,
 };
 pub use message::{Key, MAX_IDENTIFIER, Message, fits_identifier};
-pub use rv_item::{Item, Items, MAX_DRAIN};
-pub use rv_json::{MAX_BODY_BYTES, NoMemory, TextFault};
+pub use rv_json::{Item, Items, MAX_BODY_BYTES, MAX_DRAIN, NoMemory, TextFault};
 pub use version::Version;

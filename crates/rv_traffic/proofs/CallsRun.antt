@@ -2,7 +2,7 @@
 use Rattle.std.proofs.Common.{ℕ, ◌≡◌, ◌∷◌, ◌++◌, ◌∙◌, Bool, List, [], None, Option, Some, ap, append-nil}
 use Rattle.std.proofs.Common.{append_assoc, arith, false, inl}
 use Rattle.std.proofs.Common.{inr, refl, subst, sym, true}
-use Rattle.rv_desk.specs.View.{DeskTerms}
+use Rattle.rv_hub.specs.desk.View.{DeskTerms}
 use Rattle.rv_hub.specs.declared.events.HubEvent.{HubEvent}
 use Rattle.rv_engine.specs.Engines.{EngineState, engine_state}
 use Rattle.rv_engine.specs.EngineRuns.{EngineDeed, GatheredLines, HandedOn, Looked, NotTaken}

@@ -4,8 +4,8 @@ use Rattle.std.proofs.Common.{append_assoc, arith, length, length-append, map, s
 use Rattle.std.proofs.lemmas.List.{get_or-set_other, length-map}
 use Rattle.std.specs.Prelude.{AllPairs, Contains}
 use Rattle.rv_engine.specs.Engines.{EngineState}
-use Rattle.rv_links.specs.declared.link.Socket.{Socket}
-use Rattle.rv_links.specs.Table.{ChangesOne, link_at}
+use Rattle.rv_traffic.specs.declared.links.link.Socket.{Socket}
+use Rattle.rv_traffic.specs.links.Table.{ChangesOne, link_at}
 use Rattle.rv_traffic.specs.Rounds.{GoesRound, TakesTurns, Turn, round_begun}
 use Rattle.rv_traffic.specs.Views.{TrafficState}
 use Rattle.rv_traffic.proofs.Staying.{StaysBut}

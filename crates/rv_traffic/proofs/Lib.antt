@@ -9,3 +9,4 @@ pub mod Shared
 pub mod Counted
 pub mod CallsRun
 pub mod OneDevice
+pub mod OfLinks

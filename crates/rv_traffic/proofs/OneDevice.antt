@@ -7,7 +7,7 @@ use Rattle.std.proofs.lemmas.List.{take-append-drop}
 use Rattle.std.specs.Io.KnownBytes.{Appends}
 use Rattle.std.specs.Prelude.{Err, IfErr, IfOk, Ok, OnOk, Result}
 use Rattle.rv_account.specs.declared.entry.Entry.{Entry}
-use Rattle.rv_desk.specs.View.{DeskTerms}
+use Rattle.rv_hub.specs.desk.View.{DeskTerms}
 use Rattle.rv_frame.specs.declared.sink.Sink.{Sink}
 use Rattle.rv_frame.specs.Sink.{SinkTakes, sink_contents, sink_failed}
 use Rattle.rv_engine.specs.declared.events.EngineFault.{EngineFault}

@@ -2,7 +2,7 @@
 use Rattle.std.proofs.Common.{◌≡◌, ◌≢◌, ◌≤◌, ◌∙◌, ◌++◌, ◌+◌, ℕ, Bool, List, [], ◌∷◌, ◌⊎◌, ap, append-nil}
 use Rattle.std.proofs.Common.{append_assoc, arith, inr, length, map, refl, subst, sym}
 use Rattle.std.specs.Prelude.{AllPairs}
-use Rattle.rv_desk.specs.View.{DeskTerms}
+use Rattle.rv_hub.specs.desk.View.{DeskTerms}
 use Rattle.rv_traffic.specs.declared.traffic.TheConstants.{SHARES}
 use Rattle.rv_traffic.specs.Calls.{IsOverfull, OffersOne}
 use Rattle.rv_traffic.specs.Rounds.{SharesNext, SharesNone, SharesOut, SharesTurn, TakesShares, Turn}

@@ -5,7 +5,7 @@ use Rattle.std.proofs.Common.{IsSome, slice_set, subst}
 use Rattle.std.proofs.lemmas.List.{set-get_or, set-set}
 use Rattle.std.specs.Io.KnownBytes.{Consumes, Keeps}
 use Rattle.rv_wires.specs.Connections.{HasWire}
-use Rattle.rv_desk.specs.View.{DeskState, DeskTerms}
+use Rattle.rv_hub.specs.desk.View.{DeskState, DeskTerms}
 use Rattle.rv_account.specs.declared.entry.Entry.{Entry}
 use Rattle.rv_hub.specs.declared.events.HubEvent.{HubEvent}
 use Rattle.rv_hub.specs.declared.parts.HubParts.{HubParts}
@@ -13,8 +13,8 @@ use Rattle.rv_hub.specs.Hubs.{hub_terms}
 use Rattle.rv_engine.specs.Engines.{EngineState}
 use Rattle.rv_engine.specs.Handing.{Gathers, HandsOn}
 use Rattle.rv_engine.proofs.Through.{handed_through}
-use Rattle.rv_links.specs.declared.link.Socket.{Socket}
-use Rattle.rv_links.specs.Table.{ChangesOne, link_at}
+use Rattle.rv_traffic.specs.declared.links.link.Socket.{Socket}
+use Rattle.rv_traffic.specs.links.Table.{ChangesOne, link_at}
 use Rattle.rv_traffic.specs.Calls.{GivesUp, Hands, MayBeOffered, TellsGone}
 use Rattle.rv_traffic.specs.Views.{TrafficState}
 

@@ -6,14 +6,14 @@ use Rattle.std.proofs.lemmas.List.{drop-append-le, drop_all, length-drop, set-ge
 use Rattle.std.proofs.lemmas.Bool.{false≢true}
 use Rattle.std.proofs.lemmas.Option.{same_Some}
 use Rattle.std.specs.Io.KnownBytes.{Consumes}
-use Rattle.rv_desk.specs.View.{DeskTerms}
+use Rattle.rv_hub.specs.desk.View.{DeskTerms}
 use Rattle.rv_hub.specs.declared.events.HubEvent.{HubEvent}
 use Rattle.rv_engine.specs.Engines.{EngineState}
 use Rattle.rv_engine.specs.Handing.{HandsOn}
 use Rattle.rv_account.specs.declared.entry.Entry.{Entry}
-use Rattle.rv_links.specs.declared.link.ReadOutcome.TheVariants as input
-use Rattle.rv_links.specs.declared.link.Socket.{Socket}
-use Rattle.rv_links.specs.Table.{ChangesOne, PendsSlot, ReadsSlot, link_at, pending_of}
+use Rattle.rv_traffic.specs.declared.links.link.ReadOutcome.TheVariants as input
+use Rattle.rv_traffic.specs.declared.links.link.Socket.{Socket}
+use Rattle.rv_traffic.specs.links.Table.{ChangesOne, PendsSlot, ReadsSlot, link_at, pending_of}
 use Rattle.rv_traffic.specs.declared.outcomes.Reading.{Reading}
 use Rattle.rv_traffic.specs.declared.outcomes.Reading.TheVariants as reading
 use Rattle.rv_traffic.specs.Calls.{ChangesLink, GaveEnd, GivesUp, Hands, IsReadable, KeepsUntaken, KeepsWhole}

@@ -3,9 +3,9 @@ use Rattle.std.proofs.Common.{◌≡◌, ◌<◌, ◌≤◌, ℕ, IsSome, List, 
 use Rattle.std.proofs.Common.{◌∷◌, [], inl, inr, nat_eq, true}
 use Rattle.std.proofs.Common.{option_map, refl, suc, subst, sym, take, zero}
 use Rattle.std.proofs.lemmas.Bool.{eqb-true, false≢true}
-use Rattle.rv_links.specs.declared.link.Socket.{Socket}
-use Rattle.rv_links.specs.declared.link.WriteOutcome.TheVariants as output
-use Rattle.rv_links.specs.Table.{ChangesOne, IsWritable, WritesSlot, link_at, rested}
+use Rattle.rv_traffic.specs.declared.links.link.Socket.{Socket}
+use Rattle.rv_traffic.specs.declared.links.link.WriteOutcome.TheVariants as output
+use Rattle.rv_traffic.specs.links.Table.{ChangesOne, IsWritable, WritesSlot, link_at, rested}
 use Rattle.rv_traffic.specs.Calls.{ChangesLink, TookNone, TookSome}
 use Rattle.rv_traffic.proofs.Tables.{keeps_same}
 

@@ -2,7 +2,7 @@
 -- and of a hub's, hold of a whole turn of a server.
 use Rattle.std.specs.Prelude.{ℕ, ◌≡◌, ◌++◌, Bool, List, [], None, Option, Some, false, true}
 use Rattle.rv_account.specs.declared.entry.Entry.{Entry}
-use Rattle.rv_desk.specs.View.{DeskTerms}
+use Rattle.rv_hub.specs.desk.View.{DeskTerms}
 use Rattle.rv_frame.specs.declared.sink.Sink.{Sink}
 use Rattle.rv_frame.specs.Sink.{SinkTakes, sink_failed}
 use Rattle.rv_hub.specs.declared.events.HubEvent.{HubEvent}

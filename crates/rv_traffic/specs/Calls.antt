@@ -4,19 +4,19 @@ use Rattle.std.specs.Prelude.{◌+◌, drop, false, length, take, true}
 use Rattle.std.specs.List.{sum_by}
 use Rattle.std.specs.Io.KnownBytes.{Appends, Consumes, IsAtEnd, Keeps}
 use Rattle.rv_account.specs.declared.entry.Entry.{Entry}
-use Rattle.rv_connection.specs.Traffic.{MayOffer, Traffic}
+use Rattle.rv_wires.specs.connection.Traffic.{MayOffer, Traffic}
 use Rattle.rv_wires.specs.Connections.{HasWire, IsTotalHeld, IsTotalUnread}
-use Rattle.rv_desk.specs.View.{DeskState, DeskTerms}
+use Rattle.rv_hub.specs.desk.View.{DeskState, DeskTerms}
 use Rattle.rv_hub.specs.declared.events.HubEvent.{HubEvent}
 use Rattle.rv_hub.specs.declared.events.HubEvent.TheVariants as event
 use Rattle.rv_engine.specs.Engines.{EngineState}
 use Rattle.rv_engine.specs.Handing.{Gathers, HandsOn, LooksAt}
-use Rattle.rv_links.specs.declared.link.Socket.{Socket}
-use Rattle.rv_links.specs.Reading.{KeepsOutput}
-use Rattle.rv_links.specs.declared.link.WriteOutcome.TheVariants as output
-use Rattle.rv_links.specs.Writing.{KeepsInput, WritesOnce}
-use Rattle.rv_links.specs.Table.{ChangesOne, IsFreshSlot, IsWritable, link_at, pending_at}
-use Rattle.rv_links.specs.Table.{pending_of, rested}
+use Rattle.rv_traffic.specs.declared.links.link.Socket.{Socket}
+use Rattle.rv_traffic.specs.links.Reading.{KeepsOutput}
+use Rattle.rv_traffic.specs.declared.links.link.WriteOutcome.TheVariants as output
+use Rattle.rv_traffic.specs.links.Writing.{KeepsInput, WritesOnce}
+use Rattle.rv_traffic.specs.links.Table.{ChangesOne, IsFreshSlot, IsWritable, link_at, pending_at}
+use Rattle.rv_traffic.specs.links.Table.{pending_of, rested}
 use Rattle.rv_traffic.specs.declared.traffic.TheConstants.{SHARE, SMALL}
 use Rattle.rv_traffic.specs.declared.outcomes.Reading.{Reading}
 use Rattle.rv_traffic.specs.declared.outcomes.Reading.TheVariants as reading

@@ -4,3 +4,4 @@ pub mod Calls
 pub mod Waiting
 pub mod Rounds
 pub mod CallRuns
+pub mod links

@@ -3,11 +3,11 @@ use Rattle.std.specs.Prelude.{ℕ, ◌≡◌, ◌≢◌, ◌<◌, ◌≤◌, ◌
 use Rattle.std.specs.Prelude.{Option, Some, false, length, map, true}
 use Rattle.std.specs.List.{count_by}
 use Rattle.rv_wires.specs.Connections.{HasWire}
-use Rattle.rv_desk.specs.View.{DeskTerms}
+use Rattle.rv_hub.specs.desk.View.{DeskTerms}
 use Rattle.rv_engine.specs.Engines.{EngineState}
 use Rattle.rv_engine.specs.EngineRuns.{ChangesLooks}
 use Rattle.rv_engine.specs.Handing.{Gathers, LooksAt}
-use Rattle.rv_links.specs.Table.{HasInput, IsWritable, link_at, pending_of}
+use Rattle.rv_traffic.specs.links.Table.{HasInput, IsWritable, link_at, pending_of}
 use Rattle.rv_traffic.specs.declared.traffic.TheConstants.{SHARES}
 use Rattle.rv_traffic.specs.declared.outcomes.ReadFaults.{ReadFaults}
 use Rattle.rv_traffic.specs.declared.outcomes.Reading.{Reading}

@@ -4,7 +4,7 @@ use Rattle.rv_hub.specs.declared.events.HubEvent.{HubEvent}
 use Rattle.rv_hub.specs.declared.events.HubEvent.TheVariants as event
 use Rattle.rv_hub.specs.Hubs.{hub_terms}
 use Rattle.rv_engine.specs.Engines.{EngineState, engine_state}
-use Rattle.rv_links.specs.declared.link.Socket.{Socket}
+use Rattle.rv_traffic.specs.declared.links.link.Socket.{Socket}
 use Rattle.rv_traffic.specs.declared.traffic.Switchboard.{Switchboard}
 use Rattle.rv_traffic.specs.declared.waiting.WaitingLists.{WaitingLists}
 

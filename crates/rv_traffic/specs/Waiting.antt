@@ -1,7 +1,7 @@
 -- Who waits for a share of a server's turns.
 use Rattle.std.specs.Prelude.{ℕ, ◌≡◌, ◌<◌, List, [], ◌∷◌, length}
 use Rattle.rv_engine.specs.Handing.{AddsLooks}
-use Rattle.rv_links.specs.Table.{link_at, pending_of}
+use Rattle.rv_traffic.specs.links.Table.{link_at, pending_of}
 use Rattle.rv_traffic.specs.Calls.{MayBeOffered}
 use Rattle.rv_traffic.specs.Views.{TrafficState, WaitLists}
 

@@ -1,17 +1,17 @@
 //! What is asked of a connection before its turn.
 ghost use Rattle.std.specs.Prelude.{◌≡◌, ◌<◌, ◌≤◌, ◌+◌, [], length, None, Some};
 ghost use Rattle.std.specs.Bool.{OnFalse, OnTrue};
-ghost use Rattle.rv_connection.specs.Traffic.{Traffic};
+ghost use Rattle.rv_wires.specs.connection.Traffic.{Traffic};
 ghost use Rattle.rv_wires.specs.Connections.{HasWire};
-ghost use Rattle.rv_links.specs.Table.{HasInput, IsWritable, link_at, pending_of};
+ghost use Rattle.rv_traffic.specs.links.Table.{HasInput, IsWritable, link_at, pending_of};
 ghost use Rattle.rv_engine.specs.Engines.{engine_state};
 ghost use Rattle.rv_traffic.specs.Calls.{IsOverfull, HasRoomLeft, MayBeOffered};
 ghost use Rattle.rv_traffic.specs.Views.{traffic_state};
 
+use crate::links::Links;
 use crate::traffic::Switchboard;
 use rv_engine::Engine;
-use rv_hearers::ConnectionNumber;
-use rv_links::Links;
+use rv_wires::hearers::ConnectionNumber;
 
 // Whether more of a connection's input may be offered.
 pub(crate) fn may_offer(engine: &Engine, number: ConnectionNumber) -> bool

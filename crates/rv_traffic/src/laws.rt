@@ -7,7 +7,7 @@ ghost use Rattle.rv_traffic.specs.CallRuns.{WriteRoundsAreRuns, WrittenLinesAreO
 
 use std::io::{Read, Write};
 
-/// What each call does to the engine is a run of it, and calls one behind another are one run: so a server's
+/// What each call does to the engine is a run of it, and calls one after another are one run: so a server's
 /// whole turn is one.
 pub fn calls_are_runs<S: Read + Write>()
     ensures joined { RunsAreJoined }

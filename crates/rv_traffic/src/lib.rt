@@ -1,10 +1,12 @@
-//! An engine over the sockets of its connections: what is read of each is handed on, and what leaves is told.
+//! An engine over the sockets of its connections: what is read from each is handed on, and what leaves is
+//! reported.
 #![tactic(auto)]
 
 mod accepting;
 mod asking;
 mod giving_up;
 pub mod laws;
+pub mod links;
 mod outcomes;
 mod reading;
 mod rounds;

@@ -37,6 +37,6 @@ pub enum Writing {
 pub struct ReadFaults {
     /// The sockets of so many failed.
     pub broken: usize,
-    /// To what was to be pending of so many memory was refused.
+    /// For this many, memory was refused for what was to be pending.
     pub no_memory: usize,
 }

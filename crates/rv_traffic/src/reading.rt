@@ -2,17 +2,17 @@
 ghost use Rattle.std.specs.Prelude.{◌≡◌, ◌≤◌, ◌<◌, [], drop, length, take, IsSome};
 ghost use Rattle.rv_hub.specs.Hubs.{hub_terms};
 ghost use Rattle.rv_engine.specs.Engines.{engine_state};
-ghost use Rattle.rv_links.specs.Table.{link_at, pending_of};
+ghost use Rattle.rv_traffic.specs.links.Table.{link_at, pending_of};
 ghost use Rattle.rv_traffic.specs.Calls.{MayBeOffered, OffersPiece, ReadsNew, ReadsOne};
 ghost use Rattle.rv_traffic.specs.Views.{SameTerms, traffic_state};
 
 use crate::asking::{is_none_pending, is_over, may_offer};
 use crate::giving_up::give_up;
+use crate::links::ReadOutcome;
 use crate::outcomes::Reading;
 use crate::traffic::{SMALL, Switchboard};
 use rv_engine::LinkEvent;
-use rv_hearers::ConnectionNumber;
-use rv_links::ReadOutcome;
+use rv_wires::hearers::ConnectionNumber;
 use std::io::Read;
 
 // So many bytes of a piece, or all.

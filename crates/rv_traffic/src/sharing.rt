@@ -2,7 +2,7 @@
 ghost use Rattle.std.specs.Prelude.{◌≡◌, ◌≤◌, ◌<◌, [], drop, length, take, IsSome};
 ghost use Rattle.rv_hub.specs.Hubs.{hub_terms};
 ghost use Rattle.rv_engine.specs.Engines.{engine_state};
-ghost use Rattle.rv_links.specs.Table.{link_at, pending_of};
+ghost use Rattle.rv_traffic.specs.links.Table.{link_at, pending_of};
 ghost use Rattle.rv_traffic.specs.Calls.{MayBeOffered, OffersOne, OffersShare};
 ghost use Rattle.rv_traffic.specs.Rounds.{DoesIfReady, SharesNext, SharesNone, SharesOut, SharesTurn};
 ghost use Rattle.std.specs.Bool.{OnFalse, OnTrue};
@@ -13,7 +13,7 @@ use crate::reading::at_most;
 use crate::rounds::settle;
 use crate::traffic::{SHARE, SHARES, Switchboard};
 use rv_engine::LinkEvent;
-use rv_hearers::ConnectionNumber;
+use rv_wires::hearers::ConnectionNumber;
 
 // The first of these bytes, at most a share.
 fn share_of(bytes: &[u8]) -> &[u8]

@@ -8,13 +8,13 @@ ghost use Rattle.rv_engine.specs.Handing.{HandsOn, HasWorked, IsNotTold, IsRefus
 ghost use Rattle.rv_engine.specs.Handing.{unwritten};
 
 use crate::accepting::Opened;
+use crate::links::Links;
 use crate::outcomes::ReadFaults;
 use crate::waiting::WaitingLists;
 use crate::{accepting, asking, giving_up, rounds, sharing};
 use rv_engine::{Engine, EngineFault, LinkEvent};
 use rv_frame::Sink;
-use rv_hearers::ConnectionNumber;
-use rv_links::Links;
+use rv_wires::hearers::ConnectionNumber;
 use std::io::{Read, Write};
 
 /// A piece of at most so many bytes is small: it is offered as it comes.
@@ -105,7 +105,7 @@ impl<S: Drop> Switchboard<S> {
     ghost use Rattle.rv_engine.specs.Handing.{Gathers, LooksAt};
     ghost use Rattle.rv_traffic.specs.Calls.{Attaches, GivesUp, Hands};
     ghost use Rattle.std.specs.Option.{option_map};
-    ghost use Rattle.rv_links.specs.Table.{ChangesOne, heeded, link_at};
+    ghost use Rattle.rv_traffic.specs.links.Table.{ChangesOne, heeded, link_at};
     ghost use Rattle.rv_traffic.specs.CallRuns.{OnlyCalls, RunsOver};
     ghost use Rattle.rv_traffic.specs.Views.{SameTerms, traffic_state};
 
@@ -244,9 +244,10 @@ impl<S: Read + Drop> Switchboard<S> {
     ghost use Rattle.rv_traffic.specs.CallRuns.{OnlyCalls};
     ghost use Rattle.rv_traffic.specs.Views.{SameTerms, traffic_state};
 
-    /// Reads once from each that is to be looked at, at a moment, if it may be offered more, nothing of it is
-    /// pending and no more is held of all than there is room for: all of them are to be written to. A small
-    /// piece is offered, and another is pending and waits for its share. It gives how many failed.
+    /// Reads once, at a moment, from each connection that is to be looked at, if it may be offered more, none
+    /// of its bytes are pending, and no more bytes are held in all than there is room for. After that each is
+    /// to be written to. A small piece is offered; a longer one is pending, and waits for its share. Gives
+    /// how many failed.
     pub fn read_round(&mut self, room: u128, now: u64) -> ReadFaults
         ensures reads { ReadsRound S.remaining room self.old.engine.hub.has_journal
             (hub_terms self.old.engine.hub) now (traffic_state self.old) result (traffic_state self.new) }
@@ -262,9 +263,9 @@ impl<S: Write + Drop> Switchboard<S> {
     ghost use Rattle.rv_traffic.specs.CallRuns.{OnlyCalls};
     ghost use Rattle.rv_traffic.specs.Views.{SameTerms, traffic_state};
 
-    /// Writes once to each that is to be looked at, at a moment, which then is only if it can be read or
-    /// written again at once. One that the hub closed loses its socket, and the hub is told of one that has
-    /// none. It gives how many failed.
+    /// Writes once, at a moment, to each connection that is to be looked at; after that only those are that
+    /// can be read or written again at once. One that the hub closed loses its socket, and the hub is told of
+    /// one that has none. Gives how many failed.
     pub fn write_round(&mut self, now: u64) -> usize
         ensures writes { WritesRound S.contents self.old.engine.hub.has_journal
             (hub_terms self.old.engine.hub) now (traffic_state self.old) result (traffic_state self.new) }

@@ -3,17 +3,17 @@ ghost use Rattle.std.specs.Prelude.{◌≡◌, [], None, IsSome};
 ghost use Rattle.rv_wires.specs.Connections.{HasWire};
 ghost use Rattle.rv_hub.specs.Hubs.{hub_terms};
 ghost use Rattle.rv_engine.specs.Engines.{engine_state};
-ghost use Rattle.rv_links.specs.Table.{link_at};
+ghost use Rattle.rv_traffic.specs.links.Table.{link_at};
 ghost use Rattle.rv_traffic.specs.Calls.{WritesOne};
 ghost use Rattle.rv_traffic.specs.Views.{SameTerms, traffic_state};
 
 use crate::asking::{is_open, ready_of};
 use crate::giving_up::give_up;
+use crate::links::WriteOutcome;
 use crate::outcomes::Writing;
 use crate::traffic::Switchboard;
 use rv_engine::LinkEvent;
-use rv_hearers::ConnectionNumber;
-use rv_links::WriteOutcome;
+use rv_wires::hearers::ConnectionNumber;
 use std::io::Write;
 
 // Writes once to an open connection's socket, and tells the hub how many bytes that took.

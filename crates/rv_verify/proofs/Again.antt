@@ -11,8 +11,8 @@ use Rattle.rv_account.specs.Account.{call_in}
 use Rattle.rv_rules.proofs.Places.{get-take, within}
 use Rattle.rv_text.specs.Calls.{side_of}
 use Rattle.rv_text.specs.declared.call.Call.{Call}
-use Rattle.rv_breaking.specs.declared.rule.Rule.{Rule}
-use Rattle.rv_breaking.specs.declared.rule.Rule.TheVariants.{P1}
+use Rattle.rv_audit.specs.declared.rule.Rule.{Rule}
+use Rattle.rv_audit.specs.declared.rule.Rule.TheVariants.{P1}
 use Rattle.rv_lines.specs.Lines.{lines}
 use Rattle.rv_lines.specs.declared.fault.LineFault.{LineFault}
 use Rattle.rv_lines.proofs.Cutting.{lines_cut, lines_last}

@@ -5,9 +5,9 @@ use Rattle.rv_account.specs.declared.entry.Entry.{Entry}
 use Rattle.rv_audit.specs.Faults.{IsToldOf}
 use Rattle.rv_audit.specs.declared.outcome.Audit.{Audit}
 use Rattle.rv_audit.specs.declared.outcome.Audit.TheVariants as tells
-use Rattle.rv_breaking.specs.declared.rule.Rule.{Rule}
+use Rattle.rv_audit.specs.declared.rule.Rule.{Rule}
 use Rattle.rv_audit.proofs.ByRules.{one_audit}
-use Rattle.rv_asked.specs.Ruling.{IsOnNamed}
+use Rattle.rv_follow.specs.asked.Ruling.{IsOnNamed}
 use Rattle.rv_lines.specs.Reading.{ReadsAccount}
 use Rattle.rv_lines.proofs.OneReading.{account_one, read_has_no_bad}
 use Rattle.rv_account.specs.Limits.{FitEntries, max_moment}
@@ -15,8 +15,8 @@ use Rattle.rv_verify.specs.Laws.{SayTheSame, VerdictsAgree}
 use Rattle.rv_verify.specs.Verdicts.{IsVerdictOn, ReadsLong, TellsBeyond, long_limits}
 use Rattle.rv_verify.proofs.Small.{entries_fit, few_entries, front_room}
 use Rattle.rv_verify.proofs.Wider.{entries_wider}
-use Rattle.rv_findings.specs.declared.verdict.AccountVerdict.{AccountVerdict}
-use Rattle.rv_findings.specs.declared.verdict.AccountVerdict.TheVariants as verdict
+use Rattle.rv_replies.specs.declared.findings.verdict.AccountVerdict.{AccountVerdict}
+use Rattle.rv_replies.specs.declared.findings.verdict.AccountVerdict.TheVariants as verdict
 
 -- ---- reading
 

@@ -14,7 +14,7 @@ use Rattle.rv_verify.specs.declared.ongoing.OngoingAudit.{OngoingAudit}
 use Rattle.rv_verify.specs.declared.ongoing.Pause.{Pause}
 use Rattle.rv_verify.specs.declared.ongoing.Pause.TheVariants as pause
 use Rattle.rv_verify.specs.declared.ongoing.Until.TheVariants as far
-use Rattle.rv_findings.specs.declared.verdict.AccountFinding.{AccountFinding}
+use Rattle.rv_replies.specs.declared.findings.verdict.AccountFinding.{AccountFinding}
 use Rattle.rv_verify.proofs.Joining.{piece_more}
 
 module _ (whole piece : List ℕ) (are : AreWholeLines whole) (lacks : Lacks 10 piece) where

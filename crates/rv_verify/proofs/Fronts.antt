@@ -11,7 +11,7 @@ use Rattle.rv_rules.proofs.Places.{get-take, within}
 use Rattle.rv_audit.specs.Breaking.{BreaksBehind}
 use Rattle.rv_audit.specs.Faults.{Breaks, FirstFault, KeepsRules}
 use Rattle.rv_audit.specs.declared.outcome.Audit.TheVariants as tells
-use Rattle.rv_breaking.specs.declared.rule.Rule.{Rule}
+use Rattle.rv_audit.specs.declared.rule.Rule.{Rule}
 use Rattle.rv_audit.proofs.ByRules.{legal_by_rules}
 use Rattle.rv_verify.specs.Verdicts.{AuditTells}
 

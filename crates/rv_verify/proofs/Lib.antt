@@ -15,3 +15,5 @@ pub mod Agreeing
 pub mod Meeting
 pub mod Again
 pub mod Recorded
+-- The lemma that a proof of this crate cites.
+pub mod Told

@@ -9,8 +9,8 @@ use Rattle.rv_account.specs.Account.{Account, with_entry}
 use Rattle.rv_audit.specs.declared.outcome.Audit.TheVariants as tells
 use Rattle.rv_lines.proofs.OneReading.{account_one, front_of_front, front_read, front_read_as}
 use Rattle.rv_lines.proofs.Turns.{so_many_lines}
-use Rattle.rv_resume.specs.Laws.{HadRoom}
-use Rattle.rv_resume.specs.Resuming.{StaysInRoom}
+use Rattle.rv_state.specs.resume.Laws.{HadRoom}
+use Rattle.rv_state.specs.resume.Resuming.{StaysInRoom}
 use Rattle.rv_rules.specs.Legal.{Legal, before}
 use Rattle.rv_rules.proofs.Fronts.{Legal-before}
 use Rattle.rv_state.specs.After.{state_of}

@@ -14,9 +14,9 @@ use Rattle.rv_state.proofs.Agreed.{agreed}
 use Rattle.rv_audit.specs.Breaking.{BreaksBehind, NamesTaken, NamesWrongly}
 use Rattle.rv_audit.specs.Faults.{Breaks, FirstFault, IsToldOf}
 use Rattle.rv_audit.specs.Breaking.{IsPaired, IsSwapped}
-use Rattle.rv_breaking.specs.declared.rule.Rule.{Rule}
-use Rattle.rv_breaking.specs.declared.rule.Rule.TheVariants.{M1, M2, M3, N1, N2, N3, P1, P2, P3, P4, S1, S2}
-use Rattle.rv_asked.specs.Ruling.{IsOnNamed, NamesClosed}
+use Rattle.rv_audit.specs.declared.rule.Rule.{Rule}
+use Rattle.rv_audit.specs.declared.rule.Rule.TheVariants.{M1, M2, M3, N1, N2, N3, P1, P2, P3, P4, S1, S2}
+use Rattle.rv_follow.specs.asked.Ruling.{IsOnNamed, NamesClosed}
 use Rattle.rv_verify.specs.Naming.{HaveMet, rule_by_side}
 use Rattle.rv_verify.specs.Verdicts.{AuditTells}
 

@@ -6,8 +6,8 @@ use Rattle.rv_account.specs.Account.{Account}
 use Rattle.rv_account.specs.Limits.{max_moment}
 use Rattle.rv_account.specs.declared.entry.Entry.{Entry}
 use Rattle.rv_machine.specs.Machines.{state_in}
-use Rattle.rv_resume.specs.Resuming.{CanResume, StaysInRoom}
-use Rattle.rv_resume.proofs.ResumeLaws.{openings_resume}
+use Rattle.rv_state.specs.resume.Resuming.{CanResume, StaysInRoom}
+use Rattle.rv_state.proofs.Resumed.ResumeLaws.{openings_resume}
 use Rattle.rv_rules.specs.Legal.{Legal}
 use Rattle.rv_rules.specs.Steps.{capped_moment}
 use Rattle.rv_rules.proofs.Words.{none-some}

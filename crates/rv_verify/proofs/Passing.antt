@@ -14,12 +14,12 @@ use Rattle.rv_rules.proofs.Places.{get-append_cases}
 use Rattle.rv_state.specs.After.{following, state_after, state_of}
 use Rattle.rv_state.specs.Follows.{FollowsState}
 use Rattle.rv_state.proofs.Agreed.{state_pushed}
-use Rattle.rv_resume.specs.Laws.{HadRoom}
-use Rattle.rv_resume.specs.Resuming.{StaysInRoom}
+use Rattle.rv_state.specs.resume.Laws.{HadRoom}
+use Rattle.rv_state.specs.resume.Resuming.{StaysInRoom}
 use Rattle.rv_machine.specs.Machines.{keys_settled, state_in}
 use Rattle.rv_machine.specs.declared.machine.Machine.{Machine}
 use Rattle.rv_follow.specs.Outcomes.{HasFollowed}
-use Rattle.rv_asked.proofs.RuleLaws.{follows_legally}
+use Rattle.rv_follow.proofs.OfAsked.RuleLaws.{follows_legally}
 use Rattle.rv_lines.specs.Reading.{SaysAct}
 use Rattle.rv_lines.proofs.Turns.{account_more}
 use Rattle.rv_replies.specs.Known.{HasPassedBy}

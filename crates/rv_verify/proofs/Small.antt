@@ -24,9 +24,9 @@ use Rattle.rv_state.proofs.Agreed.{agreed}
 use Rattle.rv_state.proofs.Counted.{open_number}
 use Rattle.rv_state.proofs.Filtered.{mapped_there}
 use Rattle.rv_state.proofs.Words.{same_Some}
-use Rattle.rv_resume.specs.Resuming.{StaysInRoom}
-use Rattle.rv_resume.proofs.Alone.{filter_short}
-use Rattle.rv_resume.proofs.Counts.{arrived_len, cancelled_len, greeted_len, ticked_len}
+use Rattle.rv_state.specs.resume.Resuming.{StaysInRoom}
+use Rattle.rv_state.proofs.Resumed.Alone.{filter_short}
+use Rattle.rv_state.proofs.Resumed.Counts.{arrived_len, cancelled_len, greeted_len, ticked_len}
 use Rattle.rv_verify.specs.Laws.{LegalHadRoom}
 use Rattle.rv_verify.specs.Verdicts.{ReadsLongEntry}
 use Rattle.rv_verify.proofs.Passing.{entry_fits}

@@ -7,16 +7,16 @@ use Rattle.rv_account.specs.Account.{Account, with_entry}
 use Rattle.rv_rules.specs.Legal.{Legal, before}
 use Rattle.rv_state.specs.After.{state_of}
 use Rattle.rv_state.proofs.Agreed.{agreed, state_pushed}
-use Rattle.rv_resume.specs.Laws.{HadRoom}
-use Rattle.rv_resume.specs.Resuming.{StaysInRoom}
+use Rattle.rv_state.specs.resume.Laws.{HadRoom}
+use Rattle.rv_state.specs.resume.Resuming.{StaysInRoom}
 use Rattle.rv_machine.specs.Machines.{state_in}
-use Rattle.rv_breaking.specs.declared.rule.Rule.{Rule}
-use Rattle.rv_asked.specs.Ruling.{IsFirstBroken, IsOnNamed, NamesClosed}
-use Rattle.rv_asked.proofs.RuleLaws.{closed_breaks, follows_legally, rules_break}
+use Rattle.rv_audit.specs.declared.rule.Rule.{Rule}
+use Rattle.rv_follow.specs.asked.Ruling.{IsFirstBroken, IsOnNamed, NamesClosed}
+use Rattle.rv_follow.proofs.OfAsked.RuleLaws.{closed_breaks, follows_legally, rules_break}
 use Rattle.rv_verify.specs.Standing.{HasRead, StandsAt, StopsBehind}
 use Rattle.rv_verify.specs.Verdicts.{AuditTells, IsVerdictOn, ReadsLong, TellsFaultOf}
-use Rattle.rv_findings.specs.declared.verdict.AccountVerdict.{AccountVerdict}
-use Rattle.rv_findings.specs.declared.verdict.AccountVerdict.TheVariants as verdict
+use Rattle.rv_replies.specs.declared.findings.verdict.AccountVerdict.{AccountVerdict}
+use Rattle.rv_replies.specs.declared.findings.verdict.AccountVerdict.TheVariants as verdict
 use Rattle.rv_verify.specs.declared.verifier.StopReason.{StopReason}
 use Rattle.rv_verify.specs.declared.verifier.StopReason.TheVariants as stop
 use Rattle.rv_verify.specs.declared.verifier.Verifier.{Verifier}

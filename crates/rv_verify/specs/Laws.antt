@@ -4,14 +4,14 @@ use Rattle.rv_account.specs.Account.{Account}
 use Rattle.rv_audit.specs.Faults.{IsToldOf}
 use Rattle.rv_audit.specs.declared.outcome.Audit.{Audit}
 use Rattle.rv_audit.specs.declared.outcome.Audit.TheVariants as tells
-use Rattle.rv_asked.specs.Ruling.{IsOnNamed}
+use Rattle.rv_follow.specs.asked.Ruling.{IsOnNamed}
 use Rattle.rv_lines.specs.Reading.{ReadsAccount}
-use Rattle.rv_resume.specs.Laws.{HadRoom}
+use Rattle.rv_state.specs.resume.Laws.{HadRoom}
 use Rattle.rv_rules.specs.Legal.{Legal}
 use Rattle.rv_verify.specs.Noting.{IsLongestLegal}
 use Rattle.rv_verify.specs.Verdicts.{IsVerdictOn, ReadsLong}
-use Rattle.rv_findings.specs.declared.verdict.AccountVerdict.{AccountVerdict}
-use Rattle.rv_findings.specs.declared.verdict.AccountVerdict.TheVariants as verdict
+use Rattle.rv_replies.specs.declared.findings.verdict.AccountVerdict.{AccountVerdict}
+use Rattle.rv_replies.specs.declared.findings.verdict.AccountVerdict.TheVariants as verdict
 
 -- both say that the account is legal, or tell the same fault; of an entry that names a closed place the rule
 -- is

@@ -4,8 +4,8 @@ use Rattle.rv_text.specs.declared.call.Side.{Side}
 use Rattle.rv_text.specs.declared.call.Side.TheVariants.{Exchanges, Gives, Looks, Takes}
 use Rattle.rv_account.specs.Account.{Among}
 use Rattle.rv_account.specs.declared.entry.Entry.{Entry}
-use Rattle.rv_breaking.specs.declared.rule.Rule.{Rule}
-use Rattle.rv_breaking.specs.declared.rule.Rule.TheVariants.{P2, S1}
+use Rattle.rv_audit.specs.declared.rule.Rule.{Rule}
+use Rattle.rv_audit.specs.declared.rule.Rule.TheVariants.{P2, S1}
 use Rattle.rv_verify.specs.Verdicts.{ReadsLongEntry, TellsFaultAt}
 
 -- an entry at the place, with these partners, names one of the named, or is one of them and names one

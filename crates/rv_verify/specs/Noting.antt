@@ -3,11 +3,11 @@ use Rattle.std.specs.Prelude.{◌≡◌, ◌<◌, ◌≤◌, ℕ, List, Option, 
 use Rattle.rv_account.specs.Account.{Account}
 use Rattle.rv_replies.specs.Standing.{HasNoted}
 use Rattle.rv_replies.specs.declared.records.Records.{Records}
-use Rattle.rv_resume.specs.Laws.{HadRoom}
+use Rattle.rv_state.specs.resume.Laws.{HadRoom}
 use Rattle.rv_rules.specs.Legal.{Legal}
 use Rattle.rv_verify.specs.Ends.{HoldsOfLines}
 use Rattle.rv_verify.specs.Verdicts.{ReadsLong}
-use Rattle.rv_findings.specs.declared.verdict.AccountFinding.{AccountFinding}
+use Rattle.rv_replies.specs.declared.findings.verdict.AccountFinding.{AccountFinding}
 
 -- some first lines are read as this account, which is legal, and whose state has had room after each entry;
 -- so are no more of them

@@ -13,7 +13,7 @@ use Rattle.rv_verify.specs.declared.ongoing.Until.TheVariants as far
 use Rattle.rv_verify.specs.declared.stage.Stage.{Stage}
 use Rattle.rv_verify.specs.declared.ongoing.Pause.{Pause}
 use Rattle.rv_verify.specs.declared.ongoing.Pause.TheVariants as pause
-use Rattle.rv_findings.specs.declared.verdict.AccountFinding.{AccountFinding}
+use Rattle.rv_replies.specs.declared.findings.verdict.AccountFinding.{AccountFinding}
 
 -- it can read on
 abbrev pub CanGoOn : OngoingAudit → Type 0

@@ -8,12 +8,12 @@ use Rattle.rv_account.specs.declared.entry.Entry.{Entry}
 use Rattle.rv_rules.specs.Legal.{Legal}
 use Rattle.rv_state.specs.After.{state_of}
 use Rattle.rv_state.specs.State.{State}
-use Rattle.rv_resume.specs.Laws.{HadRoom}
-use Rattle.rv_resume.specs.Resuming.{CanResume}
+use Rattle.rv_state.specs.resume.Laws.{HadRoom}
+use Rattle.rv_state.specs.resume.Resuming.{CanResume}
 use Rattle.rv_machine.specs.Machines.{state_in}
 use Rattle.rv_machine.specs.declared.machine.Machine.{Machine}
 use Rattle.rv_follow.specs.Outcomes.{PassesRoom}
-use Rattle.rv_asked.specs.Ruling.{IsFirstBroken, NamesClosed}
+use Rattle.rv_follow.specs.asked.Ruling.{IsFirstBroken, NamesClosed}
 use Rattle.rv_verify.specs.Verdicts.{ReadsLong}
 use Rattle.rv_verify.specs.declared.verifier.StopReason.{StopReason}
 use Rattle.rv_verify.specs.declared.verifier.StopReason.TheVariants as stop

@@ -9,16 +9,16 @@ use Rattle.rv_account.specs.Account.{Account}
 use Rattle.rv_account.specs.declared.entry.Entry.{Entry}
 use Rattle.rv_rules.specs.Legal.{Legal, before}
 use Rattle.rv_state.specs.After.{state_of}
-use Rattle.rv_resume.specs.Laws.{HadRoom}
-use Rattle.rv_resume.specs.Resuming.{StaysInRoom}
+use Rattle.rv_state.specs.resume.Laws.{HadRoom}
+use Rattle.rv_state.specs.resume.Resuming.{StaysInRoom}
 use Rattle.rv_audit.specs.Faults.{IsToldOf}
 use Rattle.rv_audit.specs.declared.outcome.Audit.{Audit}
 use Rattle.rv_audit.specs.declared.outcome.Audit.TheVariants as tells
-use Rattle.rv_breaking.specs.declared.rule.Rule.{Rule}
-use Rattle.rv_asked.specs.Ruling.{IsOnNamed, NamesClosed}
+use Rattle.rv_audit.specs.declared.rule.Rule.{Rule}
+use Rattle.rv_follow.specs.asked.Ruling.{IsOnNamed, NamesClosed}
 use Rattle.rv_lines.specs.Reading.{FirstBadLineUnder, LineLimits, ReadsAccountUnder, ReadsEntryUpTo}
-use Rattle.rv_findings.specs.declared.verdict.AccountVerdict.{AccountVerdict}
-use Rattle.rv_findings.specs.declared.verdict.AccountVerdict.TheVariants as verdict
+use Rattle.rv_replies.specs.declared.findings.verdict.AccountVerdict.{AccountVerdict}
+use Rattle.rv_replies.specs.declared.findings.verdict.AccountVerdict.TheVariants as verdict
 
 -- places up to 2^53 - 1, and as many entries
 abbrev pub long_limits : LineLimits

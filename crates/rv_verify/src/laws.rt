@@ -11,8 +11,8 @@ pub fn legal_had_room()
     ensures { LegalHadRoom }
 {}
 
-/// Of lines that are read as a legal account, whose state has had room after each entry, the account on which
-/// the findings of a record are is that one.
+/// If lines are read as a legal account whose state had room after each entry, the findings on a record are
+/// on that account.
 pub fn legal_is_noted()
     ensures { LegalIsNoted }
 {}

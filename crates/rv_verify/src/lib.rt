@@ -10,6 +10,7 @@ mod parts;
 mod reading;
 mod recording;
 mod stage;
+mod torn;
 mod verifier;
 
 pub use fault::VerifyFault;
@@ -17,3 +18,4 @@ pub use naming::rule_at;
 pub use ongoing::{OngoingAudit, Pause};
 pub use reading::verify;
 pub use recording::read_records;
+pub use torn::is_torn;

@@ -2,7 +2,7 @@
 ghost use Rattle.std.specs.Prelude.{◌≡◌, ◌<◌, ◌⊎◌, ℕ, List, Ok, Err, Some, IfOk, IsOk, length, true, false};
 ghost use Rattle.rv_account.specs.Account.{Among, call_in};
 ghost use Rattle.rv_account.specs.declared.entry.Entry as entries;
-ghost use Rattle.rv_breaking.specs.declared.rule.Rule.TheVariants.{P1};
+ghost use Rattle.rv_audit.specs.declared.rule.Rule.TheVariants.{P1};
 ghost use Rattle.rv_lines.specs.Lines.{lines};
 ghost use Rattle.rv_text.specs.Calls.{side_of};
 ghost use Rattle.rv_text.specs.declared.call.Call as calls;

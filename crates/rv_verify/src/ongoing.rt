@@ -1,6 +1,6 @@
 //! Audits an account as it comes, also while it grows.
 ghost use Rattle.std.specs.Prelude.{◌≡◌, ◌≢◌, ◌↔◌, ◌∷◌, ◌++◌, [], ℕ, List, Some, IfOk, IsTrue, OnOk};
-ghost use Rattle.rv_findings.specs.declared.verdict.AccountVerdict.TheVariants as verdict;
+ghost use Rattle.rv_replies.specs.declared.findings.verdict.AccountVerdict.TheVariants as verdict;
 ghost use Rattle.rv_replies.specs.declared.records.Records as records;
 ghost use Rattle.rv_lines.specs.Lines.{lines};
 ghost use Rattle.rv_verify.specs.Ends.{AreWholeLines};
@@ -14,8 +14,8 @@ use crate::fault::VerifyFault;
 use crate::parts::{NextPart, more_of_line};
 use crate::reading::is_torn;
 use crate::stage::Stage;
-use rv_findings::AccountFinding;
 use rv_replies::Records;
+use rv_replies::findings::AccountFinding;
 use std::alloc::Global;
 use std::io::BufRead;
 
@@ -173,8 +173,8 @@ impl OngoingAudit {
         Ok(finding_on(&mut self.stage, false))
     }
 
-    /// What is told of an account that goes on: of its whole lines alone. Its end is torn if bytes behind
-    /// them were read.
+    /// What is known of an account that goes on: of its whole lines only. Its end is torn if bytes after them
+    /// were read.
     pub fn break_off(self) -> AccountFinding
         ensures found { (read : List (List ℕ)) (r : records.Records) → HasReadLines read self.stage r
             → IsFoundOfLines read r result }

@@ -8,8 +8,8 @@ ghost use Rattle.rv_verify.specs.Verdicts.{ReadsLongEntry};
 
 use crate::fault::VerifyFault;
 use crate::ongoing::OngoingAudit;
-use rv_findings::AccountFinding;
 use rv_replies::Records;
+use rv_replies::findings::AccountFinding;
 use std::alloc::Global;
 use std::io::BufRead;
 
@@ -38,7 +38,7 @@ pub(crate) fn is_torn(alloc: Global, piece: &[u8]) -> Result<bool, VerifyFault>
     ensures yes { result ≡ Ok true → (e : entries.Entry) → ¬ ReadsLongEntry piece.now e }
     ensures no { result ≡ Ok false → (e : entries.Entry) × ReadsLongEntry piece.now e }
 {
-    match rv_torn::is_torn(alloc, piece) {
+    match crate::torn::is_torn(alloc, piece) {
         Ok(torn) => Ok(torn),
         Err(_) => Err(VerifyFault::NoMemory),
     }

@@ -1,6 +1,6 @@
 //! How far the lines of an account were read, from the first one on.
 ghost use Rattle.std.specs.Prelude.{◌≡◌, ◌≢◌, ◌↔◌, ◌∷◌, ◌++◌, [], ℕ, List, None, Some, IfOk, IsTrue, OnOk};
-ghost use Rattle.rv_findings.specs.declared.verdict.AccountVerdict.TheVariants as verdict;
+ghost use Rattle.rv_replies.specs.declared.findings.verdict.AccountVerdict.TheVariants as verdict;
 ghost use Rattle.rv_replies.specs.declared.records.Records as records;
 ghost use Rattle.rv_verify.specs.Noting.{HasNotedOf};
 ghost use Rattle.rv_verify.specs.Stages.{AreNew, CanTakeLine, HasFault, HasReadLines, HasReadNoting};
@@ -10,9 +10,9 @@ ghost use Rattle.rv_verify.specs.Verdicts.{IsVerdictOn};
 
 use crate::fault::VerifyFault;
 use crate::verifier::Verifier;
-use rv_findings::AccountVerdict;
 use rv_lines::{LineFault, read_head};
 use rv_replies::Records;
+use rv_replies::findings::AccountVerdict;
 use std::alloc::Global;
 
 /// The lines of an account that were read so far.

@@ -5,9 +5,9 @@ ghost use Rattle.rv_text.specs.Limits.{FitsIdentifier};
 ghost use Rattle.rv_text.specs.Members.{max_identifier};
 ghost use Rattle.rv_account.specs.Limits.{max_moment};
 ghost use Rattle.rv_account.specs.declared.entry.Entry as entries;
-ghost use Rattle.rv_findings.specs.declared.verdict.AccountVerdict.TheVariants as verdict;
+ghost use Rattle.rv_replies.specs.declared.findings.verdict.AccountVerdict.TheVariants as verdict;
 ghost use Rattle.rv_machine.specs.Machines.{state_in};
-ghost use Rattle.rv_resume.specs.Resuming.{CanResume};
+ghost use Rattle.rv_state.specs.resume.Resuming.{CanResume};
 ghost use Rattle.rv_lines.specs.Entries.{IsNoNext};
 ghost use Rattle.rv_lines.specs.Reading.{ReadsHead};
 ghost use Rattle.rv_verify.specs.Verdicts.{IsVerdictOn, ReadsLongEntry, long_limits};
@@ -22,11 +22,11 @@ ghost use Rattle.rv_verify.specs.Stages.{AreNew, HasReadNoting};
 use crate::fault::VerifyFault;
 use rv_account::Entry;
 use rv_audit::Rule;
-use rv_findings::AccountVerdict;
 use rv_follow::{Followed, follow};
 use rv_lines::{LineFault, read_entry};
 use rv_machine::Machine;
 use rv_replies::Records;
+use rv_replies::findings::AccountVerdict;
 use rv_text::{MAX_IDENTIFIER, NoMemory};
 use std::alloc::Global;
 
@@ -37,7 +37,7 @@ pub(crate) enum StopReason {
     Breaks(Rule),
     /// This entry names a place that is open nowhere, and breaks no rule before P1.
     NotOpen(Entry),
-    /// The state behind an entry has no room.
+    /// The state after an entry has no room.
     BeyondLimits,
 }
 

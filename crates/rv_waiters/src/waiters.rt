@@ -140,9 +140,9 @@ impl Waiters {
         self.reserve_on(call.side())
     }
 
-    /// Lays one who waited before behind all others of its side: a request with its duty, the item of a put
-    /// with none. Nobody may face it, its place is to be above those of all that wait, and its side is to
-    /// have room. All others stay.
+    /// Adds one who waited before as the last of its side: a request with its duty, a put's item with none.
+    /// Nobody may face it, its place must be above those of all that wait, and its side must have room. All
+    /// others stay.
     pub fn lay(&mut self, side: Side, place: Place, duty: Option<Duty>)
         requires fits { FitsSide side }
         requires owed { MayWaitBy side place duty }

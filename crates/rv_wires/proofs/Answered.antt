@@ -5,9 +5,9 @@ use Rattle.std.proofs.Common.{IfSome, Result, Ok, Err, OnOk, OnErr}
 use Rattle.std.specs.declared.alloc.AllocError.{AllocError}
 use Rattle.std.proofs.Common.{true, inl, inr, IsSome, unwrap_or, vec_capacity}
 use Rattle.rv_wires.specs.Table.{TableState, get, with_slot}
-use Rattle.rv_connection.specs.Traffic.{Traffic, first_rests_on, held_count}
-use Rattle.rv_connection.specs.Steps.{AnswersBy}
-use Rattle.rv_hearers.specs.Pairs.{ChangesPairs, pair_count}
+use Rattle.rv_wires.specs.connection.Traffic.{Traffic, first_rests_on, held_count}
+use Rattle.rv_wires.specs.connection.Steps.{AnswersBy}
+use Rattle.rv_wires.specs.hearers.Pairs.{ChangesPairs, pair_count}
 use Rattle.rv_wires.specs.declared.table.WireSlot.{WireSlot}
 use Rattle.rv_wires.specs.declared.slots.Slots.{Slots}
 use Rattle.rv_wires.specs.Connections.{count_at}

@@ -5,9 +5,9 @@ use Rattle.std.proofs.Common.{inl, inr, List, slice_set}
 use Rattle.std.proofs.lemmas.Bool.{cases_eq}
 use Rattle.std.proofs.lemmas.List.{set-get_or}
 use Rattle.rv_wires.specs.Table.{SetsSlot, TableState, get, with_slot}
-use Rattle.rv_connection.specs.Traffic.{held_count}
-use Rattle.rv_hearers.specs.declared.pairs.Pairs.{Pairs}
-use Rattle.rv_hearers.specs.Pairs.{ChangesPairs, stands_under}
+use Rattle.rv_wires.specs.connection.Traffic.{held_count}
+use Rattle.rv_wires.specs.declared.hearers.pairs.Pairs.{Pairs}
+use Rattle.rv_wires.specs.hearers.Pairs.{ChangesPairs, stands_under}
 use Rattle.rv_wires.specs.declared.table.WireSlot.{WireSlot}
 use Rattle.rv_wires.specs.Connections.{count_at}
 use Rattle.rv_wires.specs.Fields.{AreHeld, IsIndexOf, Remarks, has_mark, is_slot_marked}

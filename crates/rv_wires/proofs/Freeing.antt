@@ -6,8 +6,9 @@ use Rattle.std.specs.List.{All}
 use Rattle.std.proofs.lemmas.List.{length-map}
 use Rattle.std.proofs.lemmas.List.Elements.{All-cons, All-head, All-nil, All-tail}
 use Rattle.rv_frame.specs.Cut.{frame_bytes}
-use Rattle.rv_connection.specs.Traffic.{AnswerByte, Traffic, bytes_of, first_rests_on, held_count, resting}
-use Rattle.rv_connection.specs.Steps.{AnswersBy, Frees, HoldsBack, Releases}
+use Rattle.rv_wires.specs.connection.Traffic.{AnswerByte, Traffic, bytes_of, first_rests_on, held_count}
+use Rattle.rv_wires.specs.connection.Traffic.{resting}
+use Rattle.rv_wires.specs.connection.Steps.{AnswersBy, Frees, HoldsBack, Releases}
 
 some_none : {A : Type 0} (x : A) → Some x ≡ None → ⊥
 some_none x is = cc

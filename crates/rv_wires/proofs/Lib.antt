@@ -11,3 +11,5 @@ pub mod Reaching
 pub mod Leading
 pub mod Tallying
 pub mod Unreads
+pub mod OfHearers
+pub mod OfConnection

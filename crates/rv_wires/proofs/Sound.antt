@@ -6,11 +6,12 @@ use Rattle.std.proofs.Common.{inl, inr, length-append, length-drop}
 use Rattle.std.proofs.lemmas.Bool.{cases_eq}
 use Rattle.std.proofs.lemmas.List.{length-map}
 use Rattle.rv_wires.specs.Table.{SetsSlot, TableState, get, with_slot}
-use Rattle.rv_connection.specs.Traffic.{AnswerByte, Traffic, bytes_of, first_rests_on, held_count, resting}
+use Rattle.rv_wires.specs.connection.Traffic.{AnswerByte, Traffic, bytes_of, first_rests_on, held_count}
+use Rattle.rv_wires.specs.connection.Traffic.{resting}
 use Rattle.rv_frame.specs.Cut.{frame_bytes}
-use Rattle.rv_connection.specs.Steps.{AnswersBy, TakesIn, fresh_traffic, left_by}
-use Rattle.rv_hearers.specs.declared.pairs.Pairs.{Pairs}
-use Rattle.rv_hearers.specs.Pairs.{SamePairs, pair_count, stands_under}
+use Rattle.rv_wires.specs.connection.Steps.{AnswersBy, TakesIn, fresh_traffic, left_by}
+use Rattle.rv_wires.specs.declared.hearers.pairs.Pairs.{Pairs}
+use Rattle.rv_wires.specs.hearers.Pairs.{SamePairs, pair_count, stands_under}
 use Rattle.rv_wires.specs.declared.table.WireSlot.{WireSlot}
 use Rattle.rv_wires.specs.declared.slots.Slots.{Slots}
 use Rattle.rv_wires.specs.Fields.{SameBut}

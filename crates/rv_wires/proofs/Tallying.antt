@@ -2,8 +2,8 @@
 use Rattle.std.proofs.Common.{◌≡◌, ◌⊎◌, ◌<◌, ◌≤◌, ◌+◌, ◌∙◌, ℕ, List, Option, None, Some, arith, refl, sym}
 use Rattle.std.proofs.Common.{ap, subst, inl, inr, Contains, Err, IsSome, Ok, OnErr, Result, [], length}
 use Rattle.rv_wires.specs.Table.{get}
-use Rattle.rv_connection.specs.Traffic.{Traffic}
-use Rattle.rv_connection.specs.Steps.{HoldsBack, Releases}
+use Rattle.rv_wires.specs.connection.Traffic.{Traffic}
+use Rattle.rv_wires.specs.connection.Steps.{HoldsBack, Releases}
 use Rattle.rv_wires.specs.declared.changes.ChangeList.{ChangeList}
 use Rattle.rv_wires.specs.declared.noted.Noted.{Noted}
 use Rattle.rv_wires.specs.declared.slots.Slots.{Slots}

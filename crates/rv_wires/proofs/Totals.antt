@@ -3,7 +3,7 @@ use Rattle.std.proofs.Common.{◌≡◌, ◌≢◌, ◌<◌, ◌≤◌, ◌+◌,
 use Rattle.std.proofs.Common.{ap}
 use Rattle.std.proofs.Common.{inl, inr, zero, suc}
 use Rattle.std.proofs.lemmas.Bool.{cases_eq}
-use Rattle.rv_connection.specs.Traffic.{Traffic}
+use Rattle.rv_wires.specs.connection.Traffic.{Traffic}
 use Rattle.rv_wires.specs.Connections.{count_at, total_below}
 
 abbrev pub AllBelow : (ℕ → Option Traffic) → ℕ → Type 0

@@ -3,8 +3,8 @@ use Rattle.std.proofs.Common.{◌≡◌, ◌<◌, ◌≤◌, ◌*◌, ◌^◌, �
 use Rattle.std.proofs.Common.{zero, suc}
 use Rattle.std.proofs.Common.{ap, subst, inl, inr, IfOk, Err, Ok, OnErr, OnOk, Result, [], lit<}
 use Rattle.std.proofs.lemmas.Bool.{cases_eq}
-use Rattle.rv_connection.specs.Traffic.{Traffic}
-use Rattle.rv_connection.specs.Steps.{AnswersBy, fresh_traffic}
+use Rattle.rv_wires.specs.connection.Traffic.{Traffic}
+use Rattle.rv_wires.specs.connection.Steps.{AnswersBy, fresh_traffic}
 use Rattle.rv_wires.specs.Table.{get}
 use Rattle.rv_wires.specs.declared.noted.Noted.{Noted}
 use Rattle.rv_wires.specs.Connections.{ChangesWire, Notes, OpensWire, SetsWire, Tally, WiresState, count_at}

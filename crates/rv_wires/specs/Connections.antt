@@ -1,8 +1,8 @@
 -- What contracts see of all connections, and what each call changes of them.
 use Rattle.std.specs.Prelude.{ℕ, ◌≡◌, ◌≢◌, ◌+◌, ◌≤◌, ◌↔◌, List, [], ◌∷◌, None, Option, Some, zero, suc}
 use Rattle.std.specs.Prelude.{◌⊎◌, AllPairs, Contains, IsSomeAnd, length}
-use Rattle.rv_connection.specs.Traffic.{AnswerByte, Traffic, held_count}
-use Rattle.rv_connection.specs.Steps.{HoldsBack, Releases, fresh_traffic}
+use Rattle.rv_wires.specs.connection.Traffic.{AnswerByte, Traffic, held_count}
+use Rattle.rv_wires.specs.connection.Steps.{HoldsBack, Releases, fresh_traffic}
 
 pub record WiresState : Type 0 where
   -- of each number the bytes of the connection that is open under it, if one is

@@ -2,13 +2,13 @@
 use Rattle.std.specs.Prelude.{ℕ, ◌≡◌, ◌≢◌, ◌≤◌, ◌+◌, Bool, None, Option, Some, false, nat_eq, vec_capacity}
 use Rattle.std.specs.Prelude.{◌<◌, ◌⊎◌, true, unwrap_or, List, [], length, AllPairs, Contains, IsSome}
 use Rattle.rv_wires.specs.Table.{get, with_slot}
-use Rattle.rv_connection.specs.Traffic.{Traffic, first_rests_on, held_count}
-use Rattle.rv_hearers.specs.declared.pairs.Pairs.{Pairs}
-use Rattle.rv_hearers.specs.Pairs.{pair_count, stands_under}
+use Rattle.rv_wires.specs.connection.Traffic.{Traffic, first_rests_on, held_count}
+use Rattle.rv_wires.specs.declared.hearers.pairs.Pairs.{Pairs}
+use Rattle.rv_wires.specs.hearers.Pairs.{pair_count, stands_under}
 use Rattle.rv_wires.specs.declared.table.WireSlot.{WireSlot}
 use Rattle.rv_wires.specs.declared.slots.Slots.{Slots}
 use Rattle.rv_wires.specs.Connections.{IsReleased, ReleasesOpen, WiresState, total_below}
-use Rattle.rv_connection.specs.Steps.{AnswersBy}
+use Rattle.rv_wires.specs.connection.Steps.{AnswersBy}
 
 abbrev pub wire_of : Option WireSlot → Option Traffic
 wire_of None = None

@@ -8,3 +8,5 @@ pub mod Noting
 pub mod Table
 pub mod Lending
 pub mod Flags
+pub mod hearers
+pub mod connection

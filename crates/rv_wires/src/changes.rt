@@ -3,8 +3,8 @@ ghost use Rattle.std.specs.Prelude.{◌≡◌, ◌<◌, ◌≤◌, ℕ, [], Cont
 ghost use Rattle.rv_wires.specs.Connections.{ListsAll, ListsOne};
 ghost use Rattle.rv_wires.specs.Noting.{IsChanges};
 
-use rv_connection::NoMemory;
-use rv_hearers::ConnectionNumber;
+use crate::connection::NoMemory;
+use crate::hearers::ConnectionNumber;
 use std::alloc::Global;
 
 // The numbers that are listed, with room for all that have a flag.

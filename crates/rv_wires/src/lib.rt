@@ -3,11 +3,13 @@
 #![tactic(auto)]
 
 mod changes;
+pub mod connection;
+pub mod hearers;
 mod noted;
 mod slots;
 mod table;
 mod wires;
 
-pub use rv_connection::NoMemory;
-pub use rv_hearers::ConnectionNumber;
+pub use connection::NoMemory;
+pub use hearers::ConnectionNumber;
 pub use wires::Wires;

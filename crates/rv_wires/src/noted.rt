@@ -2,8 +2,8 @@
 ghost use Rattle.std.specs.Prelude.{◌≡◌, ◌≤◌, None, true, [], length, IfOk, IsSome, OnErr, OnOk};
 ghost use Rattle.std.specs.Option.{option_copied};
 ghost use Rattle.rv_frame.specs.Cut.{IsFrameBody};
-ghost use Rattle.rv_connection.specs.Traffic.{IsDue};
-ghost use Rattle.rv_connection.specs.Steps.{AnswersBy, TakesIn, input_ended, left_by, taken};
+ghost use Rattle.rv_wires.specs.connection.Traffic.{IsDue};
+ghost use Rattle.rv_wires.specs.connection.Steps.{AnswersBy, TakesIn, input_ended, left_by, taken};
 ghost use Rattle.rv_wires.specs.Connections.{AllHeldBack, ChangesWire, HasWire, Notes, NotesReleased};
 ghost use Rattle.rv_wires.specs.Connections.{OpensWire};
 ghost use Rattle.rv_wires.specs.Connections.{ReleasesAll, SetsWire, none_open};
@@ -11,9 +11,9 @@ ghost use Rattle.rv_wires.specs.Fields.{slots_state};
 ghost use Rattle.rv_wires.specs.Noting.{IsNoted, tally_of};
 
 use crate::changes::ChangeList;
+use crate::connection::{NoMemory, Wire};
+use crate::hearers::ConnectionNumber;
 use crate::slots::Slots;
-use rv_connection::{NoMemory, Wire};
-use rv_hearers::ConnectionNumber;
 use std::alloc::Global;
 
 // The connections, with room in the list for each that is open.

@@ -4,19 +4,19 @@ ghost use Rattle.std.specs.Prelude.{ℕ, [], ◌*◌, Some, IfOk, IfSome, IsSome
 ghost use Rattle.std.specs.Bool.{OnFalse, OnTrue};
 ghost use Rattle.std.specs.Option.{option_copied};
 ghost use Rattle.rv_frame.specs.Cut.{IsFrameBody};
-ghost use Rattle.rv_connection.specs.Traffic.{IsDue};
-ghost use Rattle.rv_connection.specs.Steps.{AnswersBy, TakesIn, input_ended, left_by, taken};
+ghost use Rattle.rv_wires.specs.connection.Traffic.{IsDue};
+ghost use Rattle.rv_wires.specs.connection.Steps.{AnswersBy, TakesIn, input_ended, left_by, taken};
 ghost use Rattle.rv_wires.specs.Connections.{ChangesWire, HasWire, IsReleased, IsTotalHeld, OpensWire};
 ghost use Rattle.rv_wires.specs.Connections.{ReleasesAll, SetsWire, none_open};
 ghost use Rattle.rv_wires.specs.Fields.{AreHeldBack, Drops, Gives, IsHeldIn, HasIndex, IsReaching};
 ghost use Rattle.rv_wires.specs.Fields.{IsSoundSlots, OwesFirst, ReleasesOne};
 ghost use Rattle.rv_wires.specs.Fields.{Remarks, SameBut, KeepsRest, StandsByMark, mark_count, slots_state};
-ghost use Rattle.rv_hearers.specs.Pairs.{pair_count, stands_under};
+ghost use Rattle.rv_wires.specs.hearers.Pairs.{pair_count, stands_under};
 ghost use Rattle.rv_wires.specs.Table.{get};
 
+use crate::connection::{NoMemory, Wire};
+use crate::hearers::{ConnectionNumber, Pairs};
 use crate::table::{WireSlot, WireTable};
-use rv_connection::{NoMemory, Wire};
-use rv_hearers::{ConnectionNumber, Pairs};
 use std::alloc::{AllocError, Global};
 
 // The connections, each under its number.

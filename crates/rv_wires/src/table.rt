@@ -1,6 +1,6 @@
 //! A table of connections under numbers: a number is given anew once nothing is under it.
-use rv_connection::{NoMemory, Wire};
-use rv_hearers::ConnectionNumber;
+use crate::connection::{NoMemory, Wire};
+use crate::hearers::ConnectionNumber;
 use std::alloc::Global;
 use std::marker::Model;
 

@@ -4,9 +4,9 @@ ghost use Rattle.rv_wires.specs.Connections.{count_at, unread_count};
 ghost use Rattle.rv_wires.specs.Fields.{slots_state};
 ghost use Rattle.rv_wires.specs.Noting.{IsNoted, IsUnreadIn};
 
+use crate::connection::{NoMemory, Wire};
+use crate::hearers::ConnectionNumber;
 use crate::noted::Noted;
-use rv_connection::{NoMemory, Wire};
-use rv_hearers::ConnectionNumber;
 use std::alloc::Global;
 use std::mem;
 
@@ -51,8 +51,8 @@ impl Wires {
     ghost use Rattle.std.specs.Prelude.{IsSome, OnErr, OnOk};
     ghost use Rattle.std.specs.Option.{option_copied};
     ghost use Rattle.rv_frame.specs.Cut.{IsFrameBody};
-    ghost use Rattle.rv_connection.specs.Traffic.{IsDue};
-    ghost use Rattle.rv_connection.specs.Steps.{AnswersBy, TakesIn, input_ended, left_by, taken};
+    ghost use Rattle.rv_wires.specs.connection.Traffic.{IsDue};
+    ghost use Rattle.rv_wires.specs.connection.Steps.{AnswersBy, TakesIn, input_ended, left_by, taken};
     ghost use Rattle.rv_wires.specs.Connections.{AllHeldBack, ChangesWire, HasWire, IsTotalHeld, Notes};
     ghost use Rattle.rv_wires.specs.Connections.{IsTotalUnread};
     ghost use Rattle.rv_wires.specs.Connections.{NotesReleased};
@@ -231,7 +231,7 @@ impl Wires {
         self.noted.slots.held
     }
 
-    /// How many bytes of all connections are unread.
+    /// How many bytes are unread, over all connections.
     pub fn unread_count(&self) -> u128
         ensures { IsTotalUnread (wires_in self.now).wires result }
     {

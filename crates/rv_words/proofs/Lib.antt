@@ -5,3 +5,5 @@ pub mod OwnWords
 pub mod Helps
 pub mod Listing
 pub mod Cutting
+pub mod OfOptions
+pub mod OfCommand

@@ -3,7 +3,7 @@ use Rattle.std.specs.Prelude.{codes, List, ℕ, [], ◌∷◌}
 use Rattle.clap.specs.Words.{App, IsAmong, Text, fault_of, kind_of, with_subcommand}
 use Rattle.clap.specs.declared.error.kind.ErrorKind.{ErrorKind}
 use Rattle.clap.specs.declared.error.kind.ErrorKind.TheVariants.{DisplayHelp}
-use Rattle.rv_options.specs.Words.{host_app}
+use Rattle.rv_words.specs.options.Words.{host_app}
 use Rattle.rv_words.specs.Program.{rv_app, with_commands}
 use Rattle.rv_words.specs.Verifying.{verify_app}
 use Rattle.rv_words.specs.declared.helping.HelpAnswer.{HelpAnswer}

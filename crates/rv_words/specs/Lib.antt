@@ -6,3 +6,5 @@ pub mod Program
 pub mod Recorded
 pub mod Verifying
 pub mod Versions
+pub mod options
+pub mod command

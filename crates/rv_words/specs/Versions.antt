@@ -1,7 +1,7 @@
 -- The words of `rv version`, and the answer.
 use Rattle.std.specs.Prelude.{codes, List, ℕ, [], ◌∷◌, ◌++◌, ◌≡◌}
 use Rattle.clap.specs.Words.{Text}
-use Rattle.rv_options.specs.declared.version.TheConstants.{VERSION}
+use Rattle.rv_words.specs.declared.options.version.TheConstants.{VERSION}
 
 -- the program's name and `version` alone
 abbrev pub AsksVersion : List Text → Type 0

@@ -6,11 +6,11 @@ ghost use Rattle.rv_words.specs.Beginning.{BeginWithout};
 ghost use Rattle.rv_words.specs.Helping.{IsHelpFor, help_app, help_status};
 
 use crate::fault::CommandFault;
+use crate::options::host_words;
 use crate::program::{program, with_command, with_commands};
 use crate::verifying;
 use crate::words::words_of_help;
 use clap::error::ErrorKind;
-use rv_options::host_words;
 use std::alloc::{AllocError, Global};
 use std::fmt;
 

@@ -2,9 +2,11 @@
 //! read their own words.
 #![tactic(auto)]
 
+pub mod command;
 mod duration;
 mod fault;
 mod helping;
+pub mod options;
 mod program;
 mod reading;
 mod recorded;

@@ -10,11 +10,11 @@ ghost use Rattle.rv_words.specs.Verifying.{SaysVerify};
 ghost use Rattle.rv_words.specs.Verifying.{file_rule, verify_app};
 
 use crate::fault::CommandFault;
+use crate::options::{ListedOption, with_options};
 use crate::program::named;
 use crate::reading::{taken, text_of};
 use crate::words::words_of_verify;
 use clap::{Arg, ArgAction, ArgMatches};
-use rv_options::{ListedOption, with_options};
 use std::alloc::{AllocError, Global};
 
 /// What the words call standard input.

@@ -3,7 +3,7 @@ ghost use Rattle.std.specs.Prelude.{◌≡◌, ◌↔◌, IfOk, IsTrue, string_b
 ghost use Rattle.clap.specs.Walk.{texts};
 ghost use Rattle.rv_words.specs.Versions.{AsksVersion, version_words};
 
-use rv_options::VERSION;
+use crate::options::VERSION;
 use std::alloc::{AllocError, Global};
 
 /// Whether the words are `rv version`, and no more. The first word is the program's name.

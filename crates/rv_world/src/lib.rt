@@ -2,10 +2,11 @@
 #![tactic(auto)]
 
 pub mod laws;
+mod parts;
 mod runs;
 mod world;
 
+pub use parts::{Event, Packet, Seen, WorldRefusal};
 pub use runs::run;
 pub use rv_audit::{Audit, Rule, audit};
-pub use rv_parts::{Event, Packet, Seen, WorldRefusal};
 pub use world::World;

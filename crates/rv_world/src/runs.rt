@@ -1,13 +1,13 @@
 //! Lists of events.
 ghost use Rattle.std.specs.Prelude.{IfErr, IfOk, OnOk};
 ghost use Rattle.std.specs.List.{All};
-ghost use Rattle.rv_parts.specs.Headline.{Headline};
-ghost use Rattle.rv_parts.specs.Limits.{FitsEvent};
-ghost use Rattle.rv_parts.specs.Runs.{Runs, StopsAt, StopsIn};
-ghost use Rattle.rv_parts.specs.World.{first_world};
+ghost use Rattle.rv_world.specs.parts.Headline.{Headline};
+ghost use Rattle.rv_world.specs.parts.Limits.{FitsEvent};
+ghost use Rattle.rv_world.specs.parts.Runs.{Runs, StopsAt, StopsIn};
+ghost use Rattle.rv_world.specs.parts.World.{first_world};
 
+use crate::parts::{Event, WorldRefusal};
 use crate::world::World;
-use rv_parts::{Event, WorldRefusal};
 use std::alloc::Global;
 
 // Gives a world each of these events. The first that is refused ends it, with its number and its refusal.

@@ -1,13 +1,13 @@
 //! The world: every server, client and packet, and one event at a time.
 ghost use Rattle.std.specs.Prelude.{◌≡◌, IfOk, IfSome, IfNone, option_map, slice_get, ℕ};
 ghost use Rattle.rv_text.specs.Limits.{FitsAnswer, FitsIdentifier};
-ghost use Rattle.rv_parts.specs.World.{IsAccountOf, first_world};
-ghost use Rattle.rv_parts.specs.Limits.{FitsEvent};
-ghost use Rattle.rv_parts.specs.Events.{EventComesTo};
-ghost use Rattle.rv_parts.specs.Parts.{IsBookOf, IsSoundState, KnowsNewest, world_of};
+ghost use Rattle.rv_world.specs.parts.World.{IsAccountOf, first_world};
+ghost use Rattle.rv_world.specs.parts.Limits.{FitsEvent};
+ghost use Rattle.rv_world.specs.parts.Events.{EventComesTo};
+ghost use Rattle.rv_world.specs.parts.Parts.{IsBookOf, IsSoundState, KnowsNewest, world_of};
 
+use crate::parts::{Event, Saying, Seen, WorldRefusal, WorldState};
 use rv_book::{Account, Book};
-use rv_parts::{Event, Saying, Seen, WorldRefusal, WorldState};
 use rv_text::{Answer, Call, Key, NoMemory, Reply};
 use std::alloc::Global;
 use std::marker::Model;
@@ -57,8 +57,8 @@ fn take(state: &mut WorldState, event: &Event) -> Result<Seen, WorldRefusal>
 }
 
 impl Model for World {
-    ghost use Rattle.rv_parts.specs.World.{World};
-    ghost use Rattle.rv_parts.specs.Parts.{IsSoundState, world_of};
+    ghost use Rattle.rv_world.specs.parts.World.{World};
+    ghost use Rattle.rv_world.specs.parts.Parts.{IsSoundState, world_of};
 
     ghost Value = { World };
 
@@ -68,7 +68,7 @@ impl Model for World {
 }
 
 impl World {
-    ghost use Rattle.rv_parts.specs.Headline.{Headline, OnlyGrows};
+    ghost use Rattle.rv_world.specs.parts.Headline.{Headline, OnlyGrows};
 
     /// The world that begins in an epoch, from 1 to 2^53 - 1: a server with an empty account, opened at
     /// moment 0, and nothing else. Fails only if memory was refused.

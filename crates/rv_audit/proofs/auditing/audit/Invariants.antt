@@ -1,4 +1,4 @@
-use Rattle.rv_breaking.proofs.Words.{◌≡◌, ◌-◌, length, IsFront}
+use Rattle.rv_audit.proofs.Words.{◌≡◌, ◌-◌, length, IsFront}
 use Rattle.rv_audit.proofs.auditing.audit.Given as goal
 
 abbrev pub invariant-loop-entry : goal.invariant-loop-entry

@@ -2,9 +2,9 @@ use Rattle.std.proofs.Common.{◌≡◌, ◌∙◌, ◌<◌, ℕ, arith, length,
 use Rattle.std.proofs.lemmas.Bool.{false≢true}
 use Rattle.std.proofs.lemmas.Bool.Decides.{nat_tests}
 use Rattle.rv_machine.specs.Machines.{state_in}
-use Rattle.rv_asked.specs.Rooming.{HasSpace}
-use Rattle.rv_asked.proofs.DueNow.{Iff}
-use Rattle.rv_asked.proofs.Comers.{alone_places, alone_room, alone_space}
+use Rattle.rv_follow.specs.asked.Rooming.{HasSpace}
+use Rattle.rv_follow.proofs.OfAsked.DueNow.{Iff}
+use Rattle.rv_follow.proofs.OfAsked.Comers.{alone_places, alone_room, alone_space}
 use Rattle.rv_follow.proofs.room.alone_fits.Goals as goal
 
 less_told : (n m : ℕ) → n ≡ m → Iff (IsTrue (nat_lt n 100000)) (m < 100000)

@@ -1,5 +1,5 @@
 use Rattle.rv_machine.specs.Machines.{state_in}
-use Rattle.rv_asked.proofs.Hellos.{cancel_told}
+use Rattle.rv_follow.proofs.OfAsked.Hellos.{cancel_told}
 use Rattle.rv_follow.proofs.room.cancel_fits.Goals as goal
 
 pub returns : goal.returns

@@ -1,6 +1,6 @@
 use Rattle.rv_machine.specs.Machines.{state_in}
-use Rattle.rv_asked.specs.Rooming.{IsUnawaited}
-use Rattle.rv_asked.specs.Walking.{HoldsBefore}
+use Rattle.rv_follow.specs.asked.Rooming.{IsUnawaited}
+use Rattle.rv_follow.specs.asked.Walking.{HoldsBefore}
 use Rattle.rv_follow.proofs.room.first_awaited.Given as goal
 
 abbrev pub invariant-loop-place : goal.invariant-loop-place

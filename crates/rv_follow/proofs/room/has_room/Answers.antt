@@ -1,11 +1,11 @@
 use Rattle.std.proofs.Common.{refl, sym, subst, IsTrue, true}
 use Rattle.rv_account.specs.declared.entry.Act.{Act}
 use Rattle.rv_machine.specs.Machines.{state_in}
-use Rattle.rv_resume.specs.Resuming.{StaysInRoom}
+use Rattle.rv_state.specs.resume.Resuming.{StaysInRoom}
 use Rattle.rv_state.specs.After.{following}
 use Rattle.rv_state.specs.Follows.{DueOnlyAtTick}
-use Rattle.rv_asked.proofs.DueNow.{Iff}
-use Rattle.rv_asked.proofs.Hellos.{tick_stays}
+use Rattle.rv_follow.proofs.OfAsked.DueNow.{Iff}
+use Rattle.rv_follow.proofs.OfAsked.Hellos.{tick_stays}
 use Rattle.rv_follow.proofs.room.has_room.Goals as goal
 
 pub returns-in-Tick : goal.returns-in-Tick

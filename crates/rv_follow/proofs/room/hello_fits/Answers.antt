@@ -1,5 +1,5 @@
 use Rattle.rv_machine.specs.Machines.{state_in}
-use Rattle.rv_asked.proofs.Hellos.{hello_refused, hello_told}
+use Rattle.rv_follow.proofs.OfAsked.Hellos.{hello_refused, hello_told}
 use Rattle.rv_follow.proofs.room.hello_fits.Goals as goal
 
 pub returns-then-not-has_place : goal.returns-then-not-has_place

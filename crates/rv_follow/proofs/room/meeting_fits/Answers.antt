@@ -1,7 +1,7 @@
 use Rattle.std.proofs.Common.{◌∙◌, refl, sym}
 use Rattle.std.proofs.lemmas.Bool.{false≢true}
 use Rattle.rv_machine.specs.Machines.{state_in}
-use Rattle.rv_asked.proofs.Comers.{met_awaited, met_full, met_space}
+use Rattle.rv_follow.proofs.OfAsked.Comers.{met_awaited, met_full, met_space}
 use Rattle.rv_follow.proofs.room.meeting_fits.Goals as goal
 
 pub returns-then-has_space : goal.returns-then-has_space

@@ -1,7 +1,7 @@
 use Rattle.std.proofs.Common.{◌∙◌, sym}
 use Rattle.std.proofs.lemmas.Bool.{false≢true}
 use Rattle.rv_machine.specs.Machines.{state_in}
-use Rattle.rv_asked.proofs.Closed.{names_closed}
+use Rattle.rv_follow.proofs.OfAsked.Closed.{names_closed}
 use Rattle.rv_follow.proofs.ruling.rule_on.Goals as goal
 
 pub returns-else-names_open : goal.returns-else-names_open

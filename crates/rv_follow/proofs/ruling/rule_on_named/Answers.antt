@@ -1,5 +1,5 @@
 use Rattle.rv_machine.specs.Machines.{state_in}
-use Rattle.rv_asked.proofs.AllKept.{all_follow}
+use Rattle.rv_follow.proofs.OfAsked.AllKept.{all_follow}
 use Rattle.rv_follow.proofs.ruling.rule_on_named.Goals as goal
 
 pub returns-in-None : goal.returns-in-None

@@ -1,6 +1,6 @@
 -- By what was checked of the connection.
 use Rattle.std.proofs.Common.{subst, sym}
-use Rattle.rv_desk.specs.Fields.{desk_state}
+use Rattle.rv_hub.specs.desk.Fields.{desk_state}
 use Rattle.rv_hub.specs.declared.events.HubEvent.{HubEvent}
 use Rattle.rv_hub.specs.Events.{EventCan}
 use Rattle.rv_hub.proofs.Checked.{ok_can, took_cannot}

@@ -1,6 +1,6 @@
 -- Each event that can be has its own deed.
 use Rattle.std.proofs.Common.{ap}
-use Rattle.rv_desk.specs.Fields.{desk_state}
+use Rattle.rv_hub.specs.desk.Fields.{desk_state}
 use Rattle.rv_hub.specs.declared.events.HubEvent.{HubEvent}
 use Rattle.rv_hub.specs.Steps.{opened_number}
 use Rattle.rv_hub.specs.Turns.{own_deeds}

@@ -1,7 +1,7 @@
 -- An event's parts, one after another.
 use Rattle.std.proofs.Common.{◌≡◌, ◌∙◌, inr}
-use Rattle.rv_desk.specs.Fields.{desk_state, desk_terms}
-use Rattle.rv_desk.specs.View.{begun}
+use Rattle.rv_hub.specs.desk.Fields.{desk_state, desk_terms}
+use Rattle.rv_hub.specs.desk.View.{begun}
 use Rattle.rv_hub.proofs.Handled.{going_on, listed_it, on_err, refused_by, refused_check, rest_same, takes_it}
 use Rattle.rv_hub.proofs.Handled.{within_on}
 use Rattle.rv_hub.proofs.Resting.{at_rest, gives_it, ready_behind, takes_piece}

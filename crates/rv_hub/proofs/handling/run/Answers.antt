@@ -1,6 +1,6 @@
 -- Whoever was told as time went on goes on behind the event's connection.
 use Rattle.std.proofs.Common.{◌++◌, ℕ, Option, option_to_list, subst, sym}
-use Rattle.rv_desk.specs.Fields.{desk_state}
+use Rattle.rv_hub.specs.desk.Fields.{desk_state}
 use Rattle.rv_hub.specs.Steps.{IsGoing, IsOffering, TurnsOn}
 use Rattle.rv_hub.specs.Turns.{goes_on_first, offer_in}
 use Rattle.rv_hub.proofs.Whom.{passed_going, passed_offering, ran_on}

@@ -1,8 +1,8 @@
 -- The piece is offered to its own connection.
 use Rattle.std.proofs.Common.{◌<◌, length, subst, sym}
-use Rattle.rv_desk.specs.Fields.{desk_state}
-use Rattle.rv_desk.specs.Going.{TakesItsTurn}
-use Rattle.rv_desk.specs.Rest.{TakesNoMore}
+use Rattle.rv_hub.specs.desk.Fields.{desk_state}
+use Rattle.rv_hub.specs.desk.Going.{TakesItsTurn}
+use Rattle.rv_hub.specs.desk.Rest.{TakesNoMore}
 use Rattle.rv_hub.specs.Steps.{offer_from}
 use Rattle.rv_hub.proofs.Staying.{offered_other, offered_own}
 use Rattle.rv_hub.proofs.progress.turn.Goals as goal

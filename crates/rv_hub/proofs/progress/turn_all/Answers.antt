@@ -2,7 +2,7 @@
 use Rattle.std.proofs.Common.{◌+◌, ◌++◌, ◌≤◌, [], ℕ, Option, arith, drop, length, option_to_list}
 use Rattle.std.proofs.Common.{subst, sym}
 use Rattle.std.proofs.lemmas.List.{length-drop, take_rest}
-use Rattle.rv_desk.specs.Fields.{desk_state}
+use Rattle.rv_hub.specs.desk.Fields.{desk_state}
 use Rattle.rv_hub.specs.Steps.{IsGoing, IsOffering, TurnsOn, offer_from}
 use Rattle.rv_hub.specs.Turns.{offered_to}
 use Rattle.rv_hub.proofs.Rounds.{first_going, first_offering, first_on, first_within}

@@ -1,9 +1,9 @@
 -- The first of those that were freed goes on, with what is left of the piece.
 use Rattle.std.proofs.Common.{◌<◌, arith, length, subst}
 use Rattle.std.proofs.lemmas.List.{take_rest}
-use Rattle.rv_desk.specs.Fields.{desk_state}
-use Rattle.rv_desk.specs.Going.{TakesItsTurn}
-use Rattle.rv_desk.specs.Rest.{TakesNoMore}
+use Rattle.rv_hub.specs.desk.Fields.{desk_state}
+use Rattle.rv_hub.specs.desk.Going.{TakesItsTurn}
+use Rattle.rv_hub.specs.desk.Rest.{TakesNoMore}
 use Rattle.rv_hub.specs.Steps.{offer_from}
 use Rattle.rv_hub.specs.Turns.{offered_to}
 use Rattle.rv_hub.proofs.Rounds.{far_begun, far_ended, far_on, far_smaller, far_within, steady_freed}

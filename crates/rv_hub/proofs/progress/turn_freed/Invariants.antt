@@ -1,7 +1,7 @@
 -- Those that went on so far are the first.
 use Rattle.std.proofs.Common.{◌+◌, ◌-◌, length}
-use Rattle.rv_desk.specs.Fields.{IsSteady}
-use Rattle.rv_desk.specs.Going.{work_left}
+use Rattle.rv_hub.specs.desk.Fields.{IsSteady}
+use Rattle.rv_hub.specs.desk.Going.{work_left}
 use Rattle.rv_hub.proofs.Rounds.{TurnsSoFar}
 use Rattle.rv_hub.proofs.progress.turn_freed.Given as goal
 

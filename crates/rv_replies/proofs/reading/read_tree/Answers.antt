@@ -2,7 +2,7 @@
 use Rattle.std.proofs.Common.{◌∙◌, sym}
 use Rattle.std.proofs.lemmas.Bool.{false≢true}
 use Rattle.serde_json.specs.View.{members_view, view}
-use Rattle.rv_findings.proofs.Names.{named_as}
+use Rattle.rv_replies.proofs.OfFindings.Names.{named_as}
 use Rattle.rv_replies.proofs.OneRecord.{keys_apart}
 use Rattle.rv_replies.proofs.reading.read_tree.Goals as goal
 

@@ -1,7 +1,7 @@
 -- It tells another reply; or the same by the same call, in another line; or neither.
 use Rattle.std.proofs.Common.{ap, inl, inr, refl, sym, ◌∙◌}
 use Rattle.std.proofs.lemmas.Bool.{false≢true}
-use Rattle.rv_findings.specs.declared.findings.Told.{Told}
+use Rattle.rv_replies.specs.declared.findings.Told.{Told}
 use Rattle.rv_replies.proofs.FirstLines.{one_told}
 use Rattle.rv_replies.proofs.records.compared.Goals as goal
 use Rattle.rv_replies.proofs.records.compared.Goals.{

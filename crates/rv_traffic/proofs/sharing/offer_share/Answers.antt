@@ -2,7 +2,7 @@
 use Rattle.std.proofs.Common.{◌≡◌, ◌≤◌, ◌∙◌, ℕ, List, ap, drop, length, refl, subst, take}
 use Rattle.rv_hub.specs.declared.events.HubEvent.TheVariants as event
 use Rattle.rv_engine.specs.Engines.{engine_state}
-use Rattle.rv_links.specs.Table.{link_at, pending_of}
+use Rattle.rv_traffic.specs.links.Table.{link_at, pending_of}
 use Rattle.rv_traffic.specs.declared.traffic.TheConstants.{SHARE}
 use Rattle.rv_traffic.proofs.Tables.{may_end}
 use Rattle.rv_traffic.proofs.WhatCame.{share_offered, share_within}

@@ -1,7 +1,7 @@
 -- Who has no socket.
 use Rattle.std.proofs.Common.{◌∙◌, sym}
 use Rattle.std.proofs.lemmas.Bool.{false≢true}
-use Rattle.rv_links.specs.Table.{link_at}
+use Rattle.rv_traffic.specs.links.Table.{link_at}
 use Rattle.rv_traffic.proofs.Tables.{none_there}
 use Rattle.rv_traffic.proofs.writing.write_one.Goals as goal
 

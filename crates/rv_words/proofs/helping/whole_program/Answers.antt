@@ -2,7 +2,7 @@
 use Rattle.std.proofs.Common.{◌≡◌, ◌∙◌, [], ◌∷◌, IfOk, ap, codes, subst}
 use Rattle.clap.specs.Simple.{app_of_fields}
 use Rattle.clap.specs.Words.{App, app_of, with_subcommand}
-use Rattle.rv_options.specs.Words.{host_app}
+use Rattle.rv_words.specs.options.Words.{host_app}
 use Rattle.rv_words.specs.Program.{rv_app, with_commands}
 use Rattle.rv_words.specs.Verifying.{verify_app}
 use Rattle.rv_words.proofs.helping.whole_program.Goals as goal

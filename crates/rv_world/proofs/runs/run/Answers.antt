@@ -1,6 +1,6 @@
 -- The headline at the end.
-use Rattle.rv_parts.proofs.Words.{subst, World, Runs}
-use Rattle.rv_parts.proofs.TheHeadline.{headline_holds}
+use Rattle.rv_world.proofs.OfParts.Words.{subst, World, Runs}
+use Rattle.rv_world.proofs.OfParts.TheHeadline.{headline_holds}
 use Rattle.rv_world.proofs.runs.run.Goals as goal
 
 pub returns-clause-headline : goal.returns-clause-headline

@@ -1,5 +1,5 @@
 -- One event after the other.
-use Rattle.rv_parts.proofs.EventLists.{runs_on}
+use Rattle.rv_world.proofs.OfParts.EventLists.{runs_on}
 use Rattle.rv_world.proofs.runs.take_each.Goals as goal
 
 pub loop-i-preserved : goal.loop-i-preserved

@@ -1,5 +1,5 @@
 -- The events so far lead to the world.
-use Rattle.rv_parts.proofs.Words.{Runs}
+use Rattle.rv_world.proofs.OfParts.Words.{Runs}
 use Rattle.std.proofs.Common.{take}
 use Rattle.rv_world.proofs.runs.take_each.Given as goal
 

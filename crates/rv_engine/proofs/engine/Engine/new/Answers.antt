@@ -1,6 +1,6 @@
 -- No line is gathered, no entry left, and no connection listed.
 use Rattle.std.proofs.Common.{◌∙◌, ap, arith, length, sym}
-use Rattle.rv_desk.specs.View.{DeskState}
+use Rattle.rv_hub.specs.desk.View.{DeskState}
 use Rattle.rv_machine.specs.Machines.{state_in}
 use Rattle.rv_machine.specs.declared.machine.Machine.{Machine}
 use Rattle.rv_engine.proofs.Through.{all_gathered, state_is}

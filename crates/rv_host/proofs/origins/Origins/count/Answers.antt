@@ -6,8 +6,8 @@ use Rattle.std.proofs.lemmas.List.{take_all}
 use Rattle.std.proofs.lemmas.List.Sums.{count_by_more_no, count_by_more_yes}
 use Rattle.std.proofs.lemmas.Slice.Zip.{get_or-zip, length-zip}
 use Rattle.std.specs.List.{count_by, zip}
-use Rattle.rv_links.specs.Table.{link_at}
-use Rattle.rv_links.specs.declared.link.Socket.{Socket}
+use Rattle.rv_traffic.specs.links.Table.{link_at}
+use Rattle.rv_traffic.specs.declared.links.link.Socket.{Socket}
 use Rattle.rv_host.specs.Origins.{count_from, is_from}
 use Rattle.rv_host.proofs.origins.Origins.count.Goals as goal
 use Rattle.rv_host.proofs.origins.Origins.count.Goals.{else-is_from, then-is_from}

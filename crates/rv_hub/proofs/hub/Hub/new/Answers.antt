@@ -1,6 +1,6 @@
 -- No connection is open, so none has anything to do.
 use Rattle.rv_machine.specs.Machines.{state_in}
-use Rattle.rv_desk.specs.Fields.{desk_state}
+use Rattle.rv_hub.specs.desk.Fields.{desk_state}
 use Rattle.rv_hub.proofs.Checked.{new_rest}
 use Rattle.rv_hub.proofs.hub.Hub.new.Goals as goal
 

@@ -1,8 +1,8 @@
 -- What an arrival that has space moves, and one that has none.
 use Rattle.std.proofs.Common.{◌≤◌, ◌+◌, ◌∙◌, subst, sym}
 use Rattle.std.proofs.lemmas.Bool.{false≢true}
-use Rattle.rv_open.specs.OpenMap.{most_counted}
-use Rattle.rv_open.specs.OpenMap.{count_waiting}
+use Rattle.rv_machine.specs.open_places.OpenMap.{most_counted}
+use Rattle.rv_machine.specs.open_places.OpenMap.{count_waiting}
 use Rattle.rv_machine.proofs.KeyLines.{number_next}
 use Rattle.rv_machine.proofs.NumberedArrivals.{arrives_numbered}
 use Rattle.rv_machine.proofs.RequestMoves.{arrives_request, crowds_request, fills_request}

@@ -2,7 +2,7 @@
 use Rattle.std.specs.Prelude.{◌≡◌, length}
 use Rattle.rv_machine.specs.Machines.{IsWhole, SameListRoom, state_in}
 use Rattle.rv_machine.specs.Numbering.{AreNumbered}
-use Rattle.rv_open.specs.OpenMap.{due_in}
+use Rattle.rv_machine.specs.open_places.OpenMap.{due_in}
 use Rattle.rv_machine.specs.Ticking.{EndsFirst}
 use Rattle.rv_machine.proofs.tables.Holdings.end_due.Given as goal
 

@@ -1,7 +1,7 @@
 -- No message needs room where it finds no space or no place.
 use Rattle.std.proofs.Common.{◌<◌, ◌+◌, ℕ, subst}
 use Rattle.rv_machine.specs.Machines.{state_in}
-use Rattle.rv_open.specs.OpenMap.{count_waiting}
+use Rattle.rv_machine.specs.open_places.OpenMap.{count_waiting}
 use Rattle.rv_machine.proofs.NoRoom.{crowded_none, full_none}
 use Rattle.rv_machine.proofs.tables.Holdings.enters.Goals as goal
 use Rattle.rv_machine.proofs.tables.Holdings.enters.Goals.{then-is_full-via-then-is_full}

@@ -2,10 +2,10 @@
 use Rattle.std.proofs.Common.{◌≡◌, ◌≤◌, ◌∙◌, arith, ap, sym, subst}
 use Rattle.std.specs.FinMap.{FinMap, len}
 use Rattle.std.specs.Ordering.{nat_cmp}
-use Rattle.rv_open.specs.Reopening.{MayResume}
-use Rattle.rv_resume.specs.Resuming.{most_resumed_clients}
-use Rattle.rv_resume.proofs.MapOf.{map_long}
-use Rattle.rv_resume.specs.Checking.{state_by}
+use Rattle.rv_machine.specs.open_places.Reopening.{MayResume}
+use Rattle.rv_state.specs.resume.Resuming.{most_resumed_clients}
+use Rattle.rv_state.proofs.Resumed.MapOf.{map_long}
+use Rattle.rv_state.specs.resume.Checking.{state_by}
 use Rattle.rv_session.specs.Clients.{ClientStates}
 use Rattle.rv_state.specs.State.{ClientState, State}
 use Rattle.rv_machine.specs.Machines.{IsConsistent}

@@ -13,7 +13,7 @@ use Rattle.rv_account.specs.Calls.{opposite}
 use Rattle.rv_state.specs.After.{told_own}
 use Rattle.rv_machine.specs.declared.tables.Holdings.{Holdings}
 use Rattle.rv_machine.specs.Arriving.{Arrives}
-use Rattle.rv_open.specs.Indexed.{ClosesFirst}
+use Rattle.rv_machine.specs.open_places.Indexed.{ClosesFirst}
 use Rattle.rv_machine.specs.Machines.{IsWhole, state_in}
 use Rattle.rv_machine.specs.Telling.{TellsOne, TellsWaiter}
 use Rattle.rv_machine.proofs.MetMachine.{new_arrives, new_ready}

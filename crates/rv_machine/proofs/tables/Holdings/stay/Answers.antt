@@ -8,7 +8,7 @@ use Rattle.rv_account.specs.Account.{entry}
 use Rattle.rv_state.specs.State.{OpenPlace}
 use Rattle.rv_machine.specs.declared.tables.Holdings.{Holdings}
 use Rattle.rv_machine.specs.Arriving.{Arrives, after_put}
-use Rattle.rv_open.specs.Indexed.{ParksPlace}
+use Rattle.rv_machine.specs.open_places.Indexed.{ParksPlace}
 use Rattle.rv_machine.specs.Machines.{IsWhole}
 use Rattle.rv_machine.proofs.StayedMachine.{put_awaits, stay_arrives, stay_ready}
 use Rattle.rv_machine.proofs.tables.Holdings.stay.Goals as goal

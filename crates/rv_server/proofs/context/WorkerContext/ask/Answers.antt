@@ -1,7 +1,7 @@
 -- Asked again and again: all but the last answer waited.
 use Rattle.std.proofs.Common.{◌≡◌, ap}
 use Rattle.std.proofs.KnownBytes.{Appends-nil, Appends-trans}
-use Rattle.rv_locked.specs.Stamps.{shown_stamps}
+use Rattle.rv_server.specs.locked.Stamps.{shown_stamps}
 use Rattle.rv_server.specs.declared.fault.WorkFault.TheVariants.{NoMemory, WriteFault}
 use Rattle.rv_server.proofs.Answering.{fault_gives}
 use Rattle.rv_server.proofs.Getting.{lacks_behind, none_waited, told_behind, unsent_behind, waiting_behind}

@@ -2,7 +2,7 @@
 use Rattle.std.proofs.Common.{[]}
 use Rattle.rv_frame.specs.Sink.{SinkTakes}
 use Rattle.rv_server.specs.Asking.{OnlyWaited}
-use Rattle.rv_locked.specs.Stamps.{shown_stamps}
+use Rattle.rv_server.specs.locked.Stamps.{shown_stamps}
 use Rattle.rv_server.proofs.context.WorkerContext.ask.Given as goal
 
 abbrev pub invariant-loop-paused : goal.invariant-loop-paused

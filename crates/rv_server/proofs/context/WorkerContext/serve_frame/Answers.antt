@@ -1,7 +1,7 @@
 -- One frame, answered.
 use Rattle.std.proofs.Common.{◌≡◌, ◌∙◌, ◌++◌, ◌∷◌, [], List, ap, refl}
 use Rattle.rv_server.specs.declared.fault.WorkFault.TheVariants.{NoMemory, WriteFault}
-use Rattle.rv_locked.specs.declared.item.Item.{Item}
+use Rattle.rv_server.specs.declared.locked.item.Item.{Item}
 use Rattle.rv_server.proofs.Answering.{answers_frame, breaks_frame, fault_gives, lacks_room, stopped_asking}
 use Rattle.rv_server.proofs.context.WorkerContext.serve_frame.Goals as goal
 

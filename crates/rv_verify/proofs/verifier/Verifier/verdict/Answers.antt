@@ -1,7 +1,7 @@
 -- The verdict is that on the lines that were read.
 use Rattle.std.proofs.Common.{rules}
 use Rattle.rv_verify.proofs.Telling.{verdict_told}
-use Rattle.rv_findings.specs.declared.verdict.AccountVerdict.TheVariants as verdict
+use Rattle.rv_replies.specs.declared.findings.verdict.AccountVerdict.TheVariants as verdict
 use Rattle.rv_verify.proofs.verifier.Verifier.verdict.Goals as goal
 
 pub returns-in-Some-Breaks-clause-told : goal.returns-in-Some-Breaks-clause-told

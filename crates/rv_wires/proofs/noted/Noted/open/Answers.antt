@@ -1,6 +1,6 @@
 -- The new connection is listed, or nothing changed.
 use Rattle.std.proofs.Common.{Some, arith, refl, subst}
-use Rattle.rv_connection.specs.Steps.{fresh_traffic}
+use Rattle.rv_wires.specs.connection.Steps.{fresh_traffic}
 use Rattle.rv_wires.specs.Connections.{ListsOne, SetsWire}
 use Rattle.rv_wires.specs.Fields.{slots_state}
 use Rattle.rv_wires.proofs.Tallying.{always_err, noted_same, notes_set, tally_same}

@@ -1,7 +1,7 @@
 -- A number is free again, and the bytes that were held count no longer.
 use Rattle.std.proofs.Common.{◌≡◌, ◌∙◌, None, Some, arith, refl, sym, ap}
 use Rattle.rv_wires.specs.Table.{get}
-use Rattle.rv_connection.specs.Traffic.{held_count}
+use Rattle.rv_wires.specs.connection.Traffic.{held_count}
 use Rattle.rv_wires.specs.Connections.{count_at}
 use Rattle.rv_wires.specs.Fields.{wire_of}
 use Rattle.rv_wires.proofs.Changing.{held_part}

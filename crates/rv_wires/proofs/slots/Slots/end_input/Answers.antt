@@ -1,6 +1,6 @@
 -- The answers of the connection stay.
 use Rattle.std.proofs.Common.{◌≡◌, ◌+◌, Some, arith, sym, ap}
-use Rattle.rv_connection.specs.Traffic.{Traffic, held_count}
+use Rattle.rv_wires.specs.connection.Traffic.{Traffic, held_count}
 use Rattle.rv_wires.specs.Table.{get}
 use Rattle.rv_wires.proofs.Sound.{kept_sound}
 use Rattle.rv_wires.proofs.slots.Slots.end_input.Goals as goal

@@ -2,7 +2,7 @@
 use Rattle.std.proofs.Common.{◌≡◌, ◌∙◌, Some, sym, ap, subst}
 use Rattle.std.proofs.lemmas.Bool.{false≢true}
 use Rattle.rv_wires.specs.Table.{TableState, get}
-use Rattle.rv_connection.specs.Traffic.{first_rests_on}
+use Rattle.rv_wires.specs.connection.Traffic.{first_rests_on}
 use Rattle.rv_wires.specs.Fields.{HasIndex, ReleasesOne}
 use Rattle.rv_wires.proofs.Changing.{unwritten}
 use Rattle.rv_wires.proofs.Released.{is_released, later_first, mark_differs, released_indexed, stays_released}

@@ -1,10 +1,10 @@
 -- The account of an epoch is the present one or that of an earlier book.
-use Rattle.rv_parts.proofs.Words.{◌≡◌, ◌≢◌, ◌<◌, ◌∙◌, ℕ, List, sym, ap, subst, Account, World, IsAccountOf}
-use Rattle.rv_parts.proofs.Words.{world_of}
+use Rattle.rv_world.proofs.OfParts.Words.{◌≡◌, ◌≢◌, ◌<◌, ◌∙◌, ℕ, List, sym, ap, subst, Account, World}
+use Rattle.rv_world.proofs.OfParts.Words.{IsAccountOf, world_of}
 use Rattle.std.specs.Prelude.{IfNone}
 use Rattle.std.proofs.lemmas.Option.{slice_get_within, get_or_from_slice_get}
-use Rattle.rv_parts.specs.Parts.{IsBookOf}
-use Rattle.rv_parts.proofs.ByEpoch.{earlier_of, none_of}
+use Rattle.rv_world.specs.parts.Parts.{IsBookOf}
+use Rattle.rv_world.proofs.OfParts.ByEpoch.{earlier_of, none_of}
 use Rattle.rv_world.proofs.world.World.account.Goals as goal
 
 pub returns-in_err-index-clause-none : goal.returns-in_err-index-clause-none

@@ -1,6 +1,6 @@
 -- What was sent keeps its limits.
-use Rattle.rv_parts.proofs.Words.{List, subst, sym, Contains}
-use Rattle.rv_parts.specs.declared.packet.Packet.{Packet}
+use Rattle.rv_world.proofs.OfParts.Words.{List, subst, sym, Contains}
+use Rattle.rv_world.specs.declared.parts.packet.Packet.{Packet}
 use Rattle.rv_world.proofs.world.World.answer_packet.Goals as goal
 
 pub returns-clause-fits : goal.returns-clause-fits

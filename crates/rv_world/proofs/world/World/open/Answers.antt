@@ -1,7 +1,7 @@
 -- A world that begins is sound.
-use Rattle.rv_parts.proofs.Words.{sym, subst, AllFits, IsSoundWorld}
-use Rattle.rv_parts.proofs.Fitting.{first_fits}
-use Rattle.rv_parts.proofs.Soundness.{first_sound}
+use Rattle.rv_world.proofs.OfParts.Words.{sym, subst, AllFits, IsSoundWorld}
+use Rattle.rv_world.proofs.OfParts.Fitting.{first_fits}
+use Rattle.rv_world.proofs.OfParts.Soundness.{first_sound}
 use Rattle.rv_world.proofs.world.World.open.Goals as goal
 
 pub invariant_of-result : goal.invariant_of-result

@@ -1,7 +1,7 @@
 -- A step keeps the headline.
-use Rattle.rv_parts.proofs.Words.{subst, World, OnlyGrows, world_of}
-use Rattle.rv_parts.proofs.Keeping.{comes_sound, comes_fits, comes_grows}
-use Rattle.rv_parts.proofs.TheHeadline.{sound_headline}
+use Rattle.rv_world.proofs.OfParts.Words.{subst, World, OnlyGrows, world_of}
+use Rattle.rv_world.proofs.OfParts.Keeping.{comes_sound, comes_fits, comes_grows}
+use Rattle.rv_world.proofs.OfParts.TheHeadline.{sound_headline}
 use Rattle.rv_world.proofs.world.World.step.Goals as goal
 
 pub invariant_of-self : goal.invariant_of-self

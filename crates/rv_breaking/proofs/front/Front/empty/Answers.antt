@@ -1,6 +1,0 @@
-use Rattle.rv_breaking.proofs.Passing.{none_passed}
-use Rattle.rv_breaking.proofs.front.Front.empty.Goals as goal
-
-pub returns-clause-front : goal.returns-clause-front
-returns-clause-front c = none_passed _ c.opened.ensures c.new.ensures.items c.empty.ensures.indexed
-    c.empty.ensures.none c.empty-2.ensures

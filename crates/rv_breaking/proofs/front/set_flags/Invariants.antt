@@ -1,5 +1,0 @@
-use Rattle.rv_breaking.proofs.Words.{SetsFlags, take}
-use Rattle.rv_breaking.proofs.front.set_flags.Given as goal
-
-abbrev pub invariant-loop-place : goal.invariant-loop-place
-invariant-loop-place l = SetsFlags l.initial.taken.items l.taken.items (take l.place-index l.places)

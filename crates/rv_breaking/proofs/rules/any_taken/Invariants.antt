@@ -1,5 +1,0 @@
-use Rattle.rv_breaking.proofs.Words.{IsNoFreePlace, NoneBefore, passed_account}
-use Rattle.rv_breaking.proofs.rules.any_taken.Given as goal
-
-abbrev pub invariant-loop-place : goal.invariant-loop-place
-invariant-loop-place l = NoneBefore (IsNoFreePlace (passed_account l.front).entries) l.places l.place-index

@@ -1,6 +1,0 @@
-use Rattle.rv_breaking.proofs.Words.{passed_account}
-use Rattle.rv_breaking.specs.Breaking.{KeepsBefore}
-use Rattle.rv_breaking.proofs.rules.first_broken.Given as goal
-
-abbrev pub invariant-loop-rule : goal.invariant-loop-rule
-invariant-loop-rule l = KeepsBefore l.rule-index (passed_account l.front) l.entry

@@ -1,9 +1,0 @@
--- The parts of the text are those of an entry's line.
-use Rattle.std.proofs.Common.{◌∙◌}
-use Rattle.std.proofs.lemmas.Result.{IfOk-weaker}
-use Rattle.rv_calls.proofs.RecordsSoFar.{entry_line}
-use Rattle.rv_calls.proofs.recording.entry_text.Goals as goal
-
-pub returns : goal.returns
-returns c = IfOk-weaker c.format.result _ _ (λ s same. same ∙ entry_line c.args.asked.now c.args.told.now)
-    c.format.ensures.ok

@@ -1,4 +1,0 @@
-//! The world in which a server crashes and goes on: definitions, and laws over them.
-#![tactic(auto)]
-
-pub mod laws;

@@ -1,6 +1,0 @@
--- It is so of what the account gives.
-use Rattle.rv_findings.proofs.KeptTold.{kept_is_told}
-use Rattle.rv_findings.proofs.laws.kept_is_told.Goals as goal
-
-pub returns : goal.returns
-returns c = kept_is_told

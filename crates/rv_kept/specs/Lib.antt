@@ -1,3 +1,0 @@
--- What a reader must agree with: all that the public contracts cite.
-pub mod Keeping
-pub mod Table

@@ -1,0 +1,13 @@
+pub mod Kept
+pub mod Parted
+pub mod Closing
+pub mod Limits
+pub mod DueFirst
+pub mod Indexing
+pub mod Fronts
+pub mod Firsts
+pub mod Meetings
+pub mod Laying
+pub mod Parking
+pub mod Reopened
+pub mod Fronting

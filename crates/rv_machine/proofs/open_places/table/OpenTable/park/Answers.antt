@@ -1,0 +1,67 @@
+-- One more is open, behind all others.
+use Rattle.std.proofs.Common.{◌∙◌, ◌+◌, ◌-◌, subst, sym, List}
+use Rattle.rv_text.specs.declared.call.Call.{Call}
+use Rattle.rv_text.specs.Calls.{side_of, wait_of}
+use Rattle.rv_session.specs.OwedDuty.{OwedDuty}
+use Rattle.rv_state.specs.State.{OpenPlace}
+use Rattle.rv_waiters.specs.Meeting.{ArrivedOn}
+use Rattle.rv_machine.specs.open_places.OpenMap.{StandBelow}
+use Rattle.rv_machine.specs.open_places.Indexed.{AreIndexed, MayPark}
+use Rattle.rv_machine.proofs.OfOpenPlaces.Meetings.{are_below}
+use Rattle.rv_machine.proofs.OfOpenPlaces.Parking.{counted_back, nobody_owed, own_back, parked_index}
+use Rattle.rv_machine.proofs.OfOpenPlaces.Parking.{same_index}
+use Rattle.rv_machine.proofs.open_places.table.OpenTable.park.Goals as goal
+
+pub arrive-requires-clause-above : goal.arrive-requires-clause-above
+arrive-requires-clause-above c =
+    let may = subst (λ (x : Call). MayPark c.self.inside.opens c.args.opened c.args.key.now x)
+    (sym c.requires.copy)
+    (subst (λ (all : List OpenPlace). MayPark all c.args.opened c.args.key.now c.args.call)
+    (sym c.self.view_is)
+    c.requires.may) in
+    let is = same_index c.self.inside.opens c.self.inside.waiters c.lay_for.new.waiters c.self.inside.waiting
+    c.self.inside.due c.self.invariant c.lay_for.ensures.makes.same in
+    are_below c.self.inside.opens c.lay_for.new.waiters c.self.inside.waiting c.begin-duty.result.0.place
+    c.self.inside.due is
+    (subst (λ (d : OwedDuty). StandBelow c.self.inside.opens d.place) (sym c.begin-duty.ensures.duty)
+    may.below)
+
+pub parked-own-requires : goal.parked-own-requires
+parked-own-requires c =
+    let may = subst (λ (x : Call). MayPark c.self.inside.opens c.args.opened c.args.key.now x)
+    (sym c.requires.copy)
+    (subst (λ (all : List OpenPlace). MayPark all c.args.opened c.args.key.now c.args.call)
+    (sym c.self.view_is)
+    c.requires.may) in
+    let is = same_index c.self.inside.opens c.self.inside.waiters c.lay_for.new.waiters c.self.inside.waiting
+    c.self.inside.due c.self.invariant c.lay_for.ensures.makes.same in
+    let arrived = subst (λ (d : OwedDuty). ArrivedOn c.lay_for.new.waiters c.arrive.new.self
+    (side_of c.args.copy.now)
+    (wait_of c.args.copy.now) d c.arrive.result) c.begin-duty.ensures.duty c.arrive.ensures in
+    nobody_owed c.self.inside.opens c.lay_for.new.waiters c.arrive.new.self c.self.inside.waiting
+    c.self.inside.due c.args.opened c.args.key.now c.args.copy.now c.arrive.result is may arrived
+
+pub invariant_of-self : goal.invariant_of-self
+invariant_of-self c =
+    let may = subst (λ (x : Call). MayPark c.self.inside.opens c.args.opened c.args.key.now x)
+    (sym c.requires.copy)
+    (subst (λ (all : List OpenPlace). MayPark all c.args.opened c.args.key.now c.args.call)
+    (sym c.self.view_is)
+    c.requires.may) in
+    let is = same_index c.self.inside.opens c.self.inside.waiters c.lay_for.new.waiters c.self.inside.waiting
+    c.self.inside.due c.self.invariant c.lay_for.ensures.makes.same in
+    let arrived = subst (λ (d : OwedDuty). ArrivedOn c.lay_for.new.waiters c.arrive.new.self
+    (side_of c.args.copy.now)
+    (wait_of c.args.copy.now) d c.arrive.result) c.begin-duty.ensures.duty c.arrive.ensures in
+    let own = c.parked-own.ensures ∙ own_back c.self.inside.opens c.lay_for.new.waiters c.arrive.new.self
+    c.self.inside.waiting c.self.inside.due c.args.opened c.args.key.now c.args.copy.now c.arrive.result is
+    may
+    arrived in
+    subst (λ (all : List OpenPlace). AreIndexed all c.arrive.new.self
+    (c.self.inside.waiting + (1 - c.owing.result)) c.lay_for.new.due) (sym c.in-Ok.ensures.opened)
+    (parked_index c.self.inside.opens c.lay_for.new.waiters c.arrive.new.self c.self.inside.waiting
+    c.self.inside.due c.args.opened c.args.key.now c.args.copy.now c.arrive.result is may arrived _
+    c.lay_for.new.due
+    (counted_back c.self.inside.opens c.lay_for.new.waiters c.arrive.new.self c.self.inside.waiting
+    c.self.inside.due c.args.opened c.args.key.now c.args.copy.now c.arrive.result is may c.parked-own.result
+    c.owing.result own c.owing.ensures) c.in-Ok.ensures.limit)

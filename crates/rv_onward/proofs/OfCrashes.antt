@@ -1,0 +1,8 @@
+pub mod Fronts
+pub mod Deeds
+pub mod Around
+pub mod Across
+pub mod AsToday
+pub mod Known
+pub mod Turns
+pub mod Remembered

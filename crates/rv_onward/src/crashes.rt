@@ -1,0 +1,3 @@
+//! The world in which a server crashes and goes on: definitions, and laws over them.
+
+pub mod laws;

@@ -1,6 +1,0 @@
--- What was copied, and behind it what is left, are all that is open.
-use Rattle.std.proofs.Common.{◌≡◌, ◌++◌}
-use Rattle.rv_open.proofs.opens.OpenMap.copies.Given as goal
-
-abbrev pub invariant-loop-opened : goal.invariant-loop-opened
-invariant-loop-opened l = l.places.items ++ l.opened-iterator ≡ l.fn.self

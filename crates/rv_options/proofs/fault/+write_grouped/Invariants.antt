@@ -1,5 +1,0 @@
--- The number falls.
-use Rattle.rv_options.proofs.fault.+write_grouped.Given as goal
-
-abbrev pub decreases-write_grouped : goal.decreases-write_grouped
-decreases-write_grouped g l = l.number

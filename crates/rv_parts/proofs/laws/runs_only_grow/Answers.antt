@@ -1,6 +1,0 @@
--- The law, which Growth proves.
-use Rattle.rv_parts.proofs.Growth.{runs_grow}
-use Rattle.rv_parts.proofs.laws.runs_only_grow.Goals as goal
-
-pub returns : goal.returns
-returns c = runs_grow

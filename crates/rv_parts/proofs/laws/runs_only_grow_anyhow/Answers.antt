@@ -1,6 +1,0 @@
--- The law, which Growth proves.
-use Rattle.rv_parts.proofs.Growth.{runs_grow_anyhow}
-use Rattle.rv_parts.proofs.laws.runs_only_grow_anyhow.Goals as goal
-
-pub returns : goal.returns
-returns c = runs_grow_anyhow

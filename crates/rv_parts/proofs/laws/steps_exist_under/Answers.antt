@@ -1,6 +1,0 @@
--- The law, which Existing proves.
-use Rattle.rv_parts.proofs.Existing.{steps_exist_under}
-use Rattle.rv_parts.proofs.laws.steps_exist_under.Goals as goal
-
-pub returns : goal.returns
-returns c = steps_exist_under

@@ -1,0 +1,37 @@
+-- For private clauses: what is said by what became of a request.
+use Rattle.std.specs.Prelude.{◌≡◌, ◌≢◌, ◌⊎◌}
+use Rattle.rv_text.specs.declared.answer.Reply.TheVariants.{Cancelled}
+use Rattle.rv_text.specs.declared.call.Call.{Call}
+use Rattle.rv_replies.specs.declared.findings.fate.Fate.{Fate}
+use Rattle.rv_replies.specs.declared.findings.fate.Fate.TheVariants.{CancelledUnseen, RepliedTo, Unnamed}
+use Rattle.rv_replies.specs.declared.findings.fate.Fate.TheVariants.{Waits}
+use Rattle.rv_replies.specs.declared.findings.Told.{Told}
+use Rattle.rv_replies.specs.declared.findings.Finding.{Finding}
+use Rattle.rv_replies.specs.declared.findings.Finding.TheVariants.{Kept, KeptUnseen, NoRequest}
+use Rattle.rv_replies.specs.declared.findings.Finding.TheVariants.{OtherCall, OtherReply, Waiting}
+
+-- it was told that, with that call, or cancelled before it came
+abbrev pub TellsSame : Told → Fate → Type 0
+TellsSame told Unnamed = ⊥
+TellsSame told (Waits call) = ⊥
+TellsSame told (RepliedTo call reply) = (call ≡ told.call) × (reply ≡ told.reply)
+TellsSame told CancelledUnseen = told.reply ≡ Cancelled
+
+-- the finding on a reply that is kept, by what became of its request
+abbrev pub kept_by : Fate → Finding
+kept_by Unnamed = Kept
+kept_by (Waits call) = Kept
+kept_by (RepliedTo call reply) = Kept
+kept_by CancelledUnseen = KeptUnseen
+
+-- the finding on what came with this call: this one where it is that of the reply
+abbrev pub IsByCall : Told → Call → Finding → Finding → Type 0
+IsByCall told call same finding =
+    ((call ≡ told.call) × (finding ≡ same)) ⊎ ((call ≢ told.call) × (finding ≡ OtherCall))
+
+-- the finding is said by what became of it, if it wasn't told that
+abbrev pub SaidInstead : Told → Fate → Finding → Type 0
+SaidInstead told Unnamed finding = finding ≡ NoRequest
+SaidInstead told (Waits call) finding = IsByCall told call Waiting finding
+SaidInstead told (RepliedTo call reply) finding = IsByCall told call OtherReply finding
+SaidInstead told CancelledUnseen finding = finding ≡ OtherReply

@@ -1,0 +1,22 @@
+-- The lines before the rest are settled, recorded and printed, and there is a number for each byte of the
+-- rest.
+use Rattle.std.proofs.Common.{◌≡◌, ◌≤◌, ◌+◌, ◌*◌, Some, length}
+use Rattle.rv_text.specs.declared.message.Key.{Key}
+use Rattle.rv_client.specs.Link.{link}
+use Rattle.rv_lines.specs.Lines.{lines}
+use Rattle.rv_run.specs.calls.Calling.{HasNumbers}
+use Rattle.rv_run.proofs.OfCalls.RecordsSoFar.{RecordedSoFar}
+use Rattle.rv_run.proofs.calls.recording.record_lines.Given as goal
+
+abbrev pub invariant-loop-line : goal.invariant-loop-line
+invariant-loop-line g l = record {
+  numbers : HasNumbers l.idle (length l.rest);
+  small : l.printed + 65727 * length l.rest ≤ 65727 * length l.input;
+  now : (key : Key) → l.initial.idle ≡ Some key
+      → RecordedSoFar g.O.Write.contents g.R.Read.remaining g.W.Write.contents g.F.Write.contents
+      l.caller.tries (lines l.input) key (link l.initial.from l.initial.to) (link l.from l.to) l.initial.out
+      l.out l.initial.file l.file l.idle l.rest l.printed;
+}
+
+abbrev pub decreases-loop-line : goal.decreases-loop-line
+decreases-loop-line g l = length l.rest

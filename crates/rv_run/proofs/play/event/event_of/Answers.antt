@@ -1,0 +1,15 @@
+-- Another word says no event.
+use Rattle.std.proofs.Common.{sym, ◌∙◌}
+use Rattle.std.proofs.lemmas.Bool.{false≢true}
+use Rattle.rv_run.proofs.OfPlay.Saying.{other_word}
+use Rattle.rv_run.proofs.play.event.event_of.Goals as goal
+
+pub returns-clause-none : goal.returns-clause-none
+returns-clause-none c none = other_word c.args.word.now c.args.fields.now
+    (λ same. false≢true (sym c.if-is_word.false ∙ c.is_word.ensures.1 same))
+    (λ same. false≢true (sym c.if-is_word-2.false ∙ c.is_word-2.ensures.1 same))
+    (λ same. false≢true (sym c.if-is_word-3.false ∙ c.is_word-3.ensures.1 same))
+    (λ same. false≢true (sym c.if-is_word-4.false ∙ c.is_word-4.ensures.1 same))
+    (λ same. false≢true (sym c.if-is_word-5.false ∙ c.is_word-5.ensures.1 same))
+    (λ same. false≢true (sym c.if-is_word-6.false ∙ c.is_word-6.ensures.1 same))
+    (λ same. false≢true (sym c.if-is_word-7.false ∙ c.is_word-7.ensures.1 same))

@@ -1,0 +1,54 @@
+//! An input whose lines are answered one after another: what was answered is let go.
+ghost use Rattle.std.specs.Prelude.{◌≡◌, ◌≤◌, ◌-◌, drop, length};
+
+// How many bytes were answered at least before they are let go.
+const LEAST: usize = 65_536;
+
+/// The bytes of an input, the first of which are answered. At most half of what it keeps is answered, or
+/// 65,535 bytes; in all, no more bytes are moved than the input has.
+#[derive(Drop)]
+pub(crate) struct Unanswered {
+    bytes: Vec<u8>,
+    answered: usize,
+    ghost within: { answered ≤ length bytes.items },
+}
+
+impl Unanswered {
+    ghost use Rattle.rv_run.specs.turns.Unanswered.{unanswered};
+
+    /// An input of which nothing is answered.
+    pub(crate) fn new(bytes: Vec<u8>) -> Unanswered
+        ensures { unanswered result ≡ bytes.items }
+    {
+        Unanswered { bytes, answered: 0 }
+    }
+
+    /// The bytes that aren't answered.
+    pub(crate) fn rest(&self) -> &[u8]
+        ensures { result.now ≡ unanswered self.now }
+    {
+        &self.bytes[self.answered..]
+    }
+
+    /// Keeps so many of the last bytes that aren't answered: those before are.
+    pub(crate) fn keep_last(&mut self, left: usize)
+        requires { left ≤ length (unanswered self.old) }
+        ensures { unanswered self.new ≡ drop (length (unanswered self.old) - left) (unanswered self.old) }
+    {
+        self.answered = self.bytes.len() - left;
+        if self.answered >= LEAST && self.answered >= left {
+            self.let_go();
+        }
+    }
+
+    // Lets go of the bytes that are answered, and gives their memory back.
+    fn let_go(&mut self)
+        ensures { unanswered self.new ≡ unanswered self.old }
+    {
+        let left = self.bytes.len() - self.answered;
+        self.bytes.copy_within(self.answered.., 0);
+        self.bytes.truncate(left);
+        self.bytes.shrink_to_fit();
+        self.answered = 0;
+    }
+}

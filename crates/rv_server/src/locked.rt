@@ -1,0 +1,14 @@
+//! A desk behind its lock: what is asked of it for one frame, and the frame that answers.
+
+mod asking;
+mod book;
+mod desk;
+mod item;
+mod shared;
+mod telling;
+
+pub use asking::{FrameAnswer, ask_once};
+pub use desk::{Clock, Desk, Gate};
+pub use item::Item;
+pub use shared::{Closing, ForeignSeat, Locked, MAX_WORKERS, Seat, Shared, finish, serve_message};
+pub use telling::write_told;

@@ -1,2 +1,0 @@
--- What a reader must agree with: all that the public contracts cite.
-pub mod Standing

@@ -1,2 +1,0 @@
--- The lemma that a proof of this crate cites.
-pub mod Told

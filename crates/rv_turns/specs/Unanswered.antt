@@ -1,6 +1,0 @@
--- The bytes of an input that aren't answered.
-use Rattle.std.specs.Prelude.{ℕ, List, drop}
-use Rattle.rv_turns.specs.declared.unanswered.Unanswered.{Unanswered}
-
-abbrev pub unanswered : Unanswered → List ℕ
-unanswered input = drop input.answered input.bytes.items

@@ -1,9 +1,0 @@
-//! A law of the lines of the book's input: the function is its contract, over the definitions alone.
-ghost use Rattle.rv_turns.specs.Laws.{OneReading};
-
-/// A line of the book's input is read as one moment and one message at most.
-pub fn one_reading()
-    ensures { OneReading }
-{
-    rv_text::laws::one_message();
-}

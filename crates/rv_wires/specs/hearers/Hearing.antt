@@ -1,0 +1,50 @@
+-- Of each connection, for which request it waits and up to which moment, if it waits.
+use Rattle.std.specs.Prelude.{ℕ, ◌≡◌, ◌≢◌, ◌<◌, ◌≤◌, ◌⊎◌, ◌↔◌, List, AllPairs, Contains, length, None}
+use Rattle.std.specs.Prelude.{Option, Some}
+use Rattle.rv_wires.specs.declared.hearers.tables.Hearing.{Hearing}
+
+abbrev pub WhoHears : Type 0
+WhoHears = ℕ → Option Hearing
+
+-- nobody waits
+abbrev pub nobody : WhoHears
+nobody connection = None
+
+-- one connection's waiting is this now, and all others are as they were
+pub record SetsHearing (old : WhoHears) (connection : ℕ) (hearing : Option Hearing) (new : WhoHears) : Type 0
+  where
+    pub own : new connection ≡ hearing
+    pub others : (other : ℕ) → other ≢ connection → new other ≡ old other
+
+-- the connection waits for a request of the client
+pub record HearsOf (who : WhoHears) (client connection : ℕ) : Type 0 where
+  pub hearing : Hearing
+  pub there : who connection ≡ Some hearing
+  pub same : hearing.key.client ≡ client
+
+-- it is the one of the lowest number that does
+pub record IsFirstHearer (who : WhoHears) (client connection : ℕ) : Type 0 where
+  pub hears : HearsOf who client connection
+  pub first : (other : ℕ) → HearsOf who client other → connection ≤ other
+
+-- some connection waits for a request of the client
+abbrev pub HasHearer : WhoHears → ℕ → Type 0
+HasHearer who client = (connection : ℕ) × HearsOf who client connection
+
+-- these are the clients for a request of whom some connection waits, each once
+pub record AreHeard (who : WhoHears) (clients : List ℕ) : Type 0 where
+  pub once : AllPairs (λ one other. one ≢ other) clients
+  pub each : (client : ℕ) → Contains clients client ↔ HasHearer who client
+
+-- so many clients are
+abbrev pub CountsHeard : WhoHears → ℕ → Type 0
+CountsHeard who count = (clients : List ℕ) × AreHeard who clients × (length clients ≡ count)
+
+-- the connection waits up to this moment, and none up to an earlier one; of those up to this moment it is the
+-- one of the lowest number
+pub record IsNextUntil (who : WhoHears) (moment connection : ℕ) : Type 0 where
+  pub hearing : Hearing
+  pub there : who connection ≡ Some hearing
+  pub same : hearing.until ≡ moment
+  pub first : (other : ℕ) (its : Hearing) → who other ≡ Some its
+      → (moment < its.until) ⊎ ((moment ≡ its.until) × (connection ≤ other))

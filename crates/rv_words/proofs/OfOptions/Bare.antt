@@ -1,0 +1,220 @@
+-- What clap makes of words that name nothing but an address.
+use Rattle.std.proofs.Common.{◌≡◌, ◌∙◌, [], ap, arith, Bool, Bor, codes, false, get_or, List, lit<, lit≤}
+use Rattle.std.proofs.Common.{None, Option}
+use Rattle.std.proofs.Common.{option_map, refl, Some, subst, sym, true, ℕ}
+use Rattle.std.proofs.lemmas.Option.{same_Some}
+use Rattle.std.specs.Option.{IsSomeAnd}
+use Rattle.std.specs.Str.Parse.{digits_value, without_leading_plus}
+use Rattle.clap.proofs.OnLiterals.{clap_on_literals}
+use Rattle.clap.specs.Words.{Row, Text, fault_of, first_of, matches_of}
+use Rattle.rv_words.specs.options.Laws.{AreBare, BareAlone, BareAreNamed, bare_words}
+use Rattle.rv_words.specs.options.Words.{host_app}
+use Rattle.rv_words.specs.options.Epochs.{SaysRule}
+use Rattle.rv_words.specs.options.Numbers.{GivesNumber, WritesWithin, given_for}
+use Rattle.rv_words.specs.options.Options.{NamesOptions, SaysOptions}
+use Rattle.rv_words.specs.declared.options.epoch.EpochRule.{EpochRule}
+use Rattle.rv_words.specs.declared.options.epoch.EpochRule.TheVariants.{Above, Clock, Exactly}
+use Rattle.rv_words.specs.declared.options.number.HostNumber.{HostNumber}
+use Rattle.rv_words.specs.declared.options.HostOptions.{HostOptions}
+use Rattle.rv_words.specs.declared.options.number.HostNumber.TheVariants as number
+
+abbrev rows : List Row
+rows = matches_of host_app bare_words
+
+taken : fault_of host_app bare_words ≡ []
+unfolding clap_on_literals
+taken = refl
+
+listen_row : first_of (codes "listen") rows ≡ Some (codes "127.0.0.1:7411")
+unfolding clap_on_literals
+listen_row = refl
+
+account_row : first_of (codes "account") rows ≡ None
+unfolding clap_on_literals
+account_row = refl
+
+status_row : first_of (codes "status") rows ≡ None
+unfolding clap_on_literals
+status_row = refl
+
+names_row : first_of (codes "status-name") rows ≡ None
+unfolding clap_on_literals
+names_row = refl
+
+epoch_row : given_for number.Epoch rows ≡ None
+unfolding clap_on_literals
+epoch_row = refl
+
+above_row : given_for number.EpochAbove rows ≡ None
+unfolding clap_on_literals
+above_row = refl
+
+clients_row : given_for number.Clients rows ≡ Some (codes "65536")
+unfolding clap_on_literals
+clients_row = refl
+
+open_row : given_for number.Open rows ≡ Some (codes "100000")
+unfolding clap_on_literals
+open_row = refl
+
+connections_row : given_for number.Connections rows ≡ Some (codes "10000")
+unfolding clap_on_literals
+connections_row = refl
+
+from_row : given_for number.ConnectionsFrom rows ≡ Some (codes "1000000")
+unfolding clap_on_literals
+from_row = refl
+
+memory_row : given_for number.Memory rows ≡ Some (codes "256")
+unfolding clap_on_literals
+memory_row = refl
+
+idle_row : given_for number.Idle rows ≡ Some (codes "3600")
+unfolding clap_on_literals
+idle_row = refl
+
+stall_row : given_for number.Stall rows ≡ Some (codes "30")
+unfolding clap_on_literals
+stall_row = refl
+
+quiet_row : first_of (codes "quiet") rows ≡ Some (codes "false")
+unfolding clap_on_literals
+quiet_row = refl
+
+clients_written : WritesWithin number.Clients (codes "65536") 65536
+clients_written = record {
+  digits = (lit< tt, (lit< tt, (lit< tt, (lit< tt, (lit< tt, (lit< tt, tt))))));
+  of_number = refl;
+  fits = (lit≤ tt, lit≤ tt);
+}
+
+open_written : WritesWithin number.Open (codes "100000") 100000
+open_written = record {
+  digits = (lit< tt, (lit< tt, (lit< tt, (lit< tt, (lit< tt, (lit< tt, (lit< tt, tt)))))));
+  of_number = refl;
+  fits = (lit≤ tt, lit≤ tt);
+}
+
+connections_written : WritesWithin number.Connections (codes "10000") 10000
+connections_written = record {
+  digits = (lit< tt, (lit< tt, (lit< tt, (lit< tt, (lit< tt, (lit< tt, tt))))));
+  of_number = refl;
+  fits = (lit≤ tt, lit≤ tt);
+}
+
+from_written : WritesWithin number.ConnectionsFrom (codes "1000000") 1000000
+from_written = record {
+  digits = (lit< tt, (lit< tt, (lit< tt, (lit< tt, (lit< tt, (lit< tt, (lit< tt, (lit< tt, tt))))))));
+  of_number = refl;
+  fits = (lit≤ tt, lit≤ tt);
+}
+
+memory_written : WritesWithin number.Memory (codes "256") 256
+memory_written = record {
+  digits = (lit< tt, (lit< tt, (lit< tt, (lit< tt, tt))));
+  of_number = refl;
+  fits = (lit≤ tt, lit≤ tt);
+}
+
+idle_written : WritesWithin number.Idle (codes "3600") 3600
+idle_written = record {
+  digits = (lit< tt, (lit< tt, (lit< tt, (lit< tt, (lit< tt, tt)))));
+  of_number = refl;
+  fits = (lit≤ tt, lit≤ tt);
+}
+
+stall_written : WritesWithin number.Stall (codes "30") 30
+stall_written = record {
+  digits = (lit< tt, (lit< tt, (lit< tt, tt)));
+  of_number = refl;
+  fits = (lit≤ tt, lit≤ tt);
+}
+
+-- a number that is written behind an option is what the option gives, and it gives no other
+given : (option : HostNumber) (r : List Row) (text : Text) (m n : ℕ) → given_for option r ≡ Some text
+    → WritesWithin option text m → n ≡ m → GivesNumber option r n
+given option r text m n is written same =
+    subst (λ (value : Option Text). IsSomeAnd value (λ t. WritesWithin option t n)) (sym is)
+    (subst (λ (k : ℕ). WritesWithin option text k) (sym same) written)
+
+given_alone : (option : HostNumber) (r : List Row) (text : Text) (n : ℕ) → given_for option r ≡ Some text
+    → GivesNumber option r n → n ≡ digits_value 10 (without_leading_plus text)
+given_alone option r text n is gives =
+    let written : WritesWithin option text n =
+    subst (λ (value : Option Text). IsSomeAnd value (λ t. WritesWithin option t n)) is gives in
+    sym written.of_number
+
+none_given : (option : HostNumber) (r : List Row) (n : ℕ) → given_for option r ≡ None → GivesNumber option r n
+    → ⊥
+none_given option r n is gives =
+    subst (λ (value : Option Text). IsSomeAnd value (λ t. WritesWithin option t n)) is gives
+
+-- the flag's value is `true` or it isn't
+abbrev first_byte : Option Text → ℕ
+first_byte None = 0
+first_byte (Some text) = get_or text 0 0
+
+no_flag : first_of (codes "quiet") rows ≡ Some (codes "true") → ⊥
+no_flag is = let bytes : 116 ≡ 102 = ap first_byte (sym is ∙ quiet_row) in absurd (omega (arith, bytes))
+
+true_flag : (flag : Bool) → (flag ≡ true → ⊥) → flag ≡ false
+true_flag true never = absurd (never refl)
+true_flag false never = refl
+
+false_flag : (flag : Bool) → flag ≡ false → flag ≡ true → ⊥
+false_flag flag is not_false = absurd (cc)
+
+no_text : (text : Option (Bor Text)) → None ≡ option_map (λ t. t.now) text → text ≡ None
+no_text None is = refl
+no_text (Some t) is = absurd (cc)
+
+by_clock : (rule : EpochRule) → SaysRule rows rule → rule ≡ Clock
+by_clock Clock says = refl
+by_clock (Exactly e) says = absurd (none_given number.Epoch rows e epoch_row says.0)
+by_clock (Above n) says = absurd (none_given number.EpochAbove rows n above_row says.1)
+
+pub bare_named : BareAreNamed
+bare_named options bare = record {
+  taken = taken;
+  said = record {
+    listens = listen_row ∙ ap Some (sym bare.listens);
+    keeps = account_row ∙ ap (option_map (λ (f : Bor Text). f.now)) (sym bare.keeps_none);
+    tells = status_row ∙ ap (option_map (λ (t : Bor Text). t.now)) (sym bare.tells_none);
+    tells_as = names_row ∙ ap (option_map (λ (t : Bor Text). t.now)) (sym bare.tells_as_none);
+    in_epoch = subst (λ (rule : EpochRule). SaysRule rows rule) (sym bare.by_clock) (epoch_row, above_row);
+    clients = given number.Clients rows (codes "65536") 65536 options.clients clients_row clients_written
+        bare.clients;
+    opens = given number.Open rows (codes "100000") 100000 options.open_places open_row open_written
+        bare.opens;
+    connects = given number.Connections rows (codes "10000") 10000 options.connections connections_row
+        connections_written bare.connects;
+    connects_from = given number.ConnectionsFrom rows (codes "1000000") 1000000 options.connections_from
+        from_row from_written bare.connects_from;
+    holds = given number.Memory rows (codes "256") 256 options.memory memory_row memory_written bare.holds;
+    idles = given number.Idle rows (codes "3600") 3600 options.idle idle_row idle_written bare.idles;
+    stalls = given number.Stall rows (codes "30") 30 options.stall stall_row stall_written bare.stalls;
+    is_quiet = (
+      λ set. absurd (false_flag options.quiet bare.speaks set),
+      λ flag. absurd (no_flag flag),
+    );
+  };
+}
+
+pub bare_alone : BareAlone
+bare_alone options named = record {
+  listens = same_Some _ _ (sym named.said.listens ∙ listen_row);
+  by_clock = by_clock options.epoch named.said.in_epoch;
+  keeps_none = no_text options.account (sym account_row ∙ named.said.keeps);
+  tells_none = no_text options.status (sym status_row ∙ named.said.tells);
+  tells_as_none = no_text options.status_names (sym names_row ∙ named.said.tells_as);
+  clients = given_alone number.Clients rows (codes "65536") options.clients clients_row named.said.clients;
+  opens = given_alone number.Open rows (codes "100000") options.open_places open_row named.said.opens;
+  connects = given_alone number.Connections rows (codes "10000") options.connections connections_row
+      named.said.connects;
+  connects_from = given_alone number.ConnectionsFrom rows (codes "1000000") options.connections_from from_row
+      named.said.connects_from;
+  holds = given_alone number.Memory rows (codes "256") options.memory memory_row named.said.holds;
+  idles = given_alone number.Idle rows (codes "3600") options.idle idle_row named.said.idles;
+  stalls = given_alone number.Stall rows (codes "30") options.stall stall_row named.said.stalls;
+  speaks = true_flag options.quiet (λ set. no_flag (named.said.is_quiet.0 set));
+}

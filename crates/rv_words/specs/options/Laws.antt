@@ -1,0 +1,34 @@
+-- What a server is told by the words that name nothing but its address.
+use Rattle.std.specs.Prelude.{codes, List, None, false, [], ◌∷◌, ◌≡◌}
+use Rattle.clap.specs.Words.{Text}
+use Rattle.rv_words.specs.options.Options.{NamesOptions}
+use Rattle.rv_words.specs.declared.options.epoch.EpochRule.TheVariants.{Clock}
+use Rattle.rv_words.specs.declared.options.HostOptions.{HostOptions}
+
+-- `host --listen 127.0.0.1:7411`
+abbrev pub bare_words : List Text
+bare_words = codes "host" ∷ codes "--listen" ∷ codes "127.0.0.1:7411" ∷ []
+
+-- the options listen there, and are all else by default
+pub record AreBare (options : HostOptions) : Type 0 where
+  pub listens : options.listen.now ≡ codes "127.0.0.1:7411"
+  pub by_clock : options.epoch ≡ Clock
+  pub keeps_none : options.account ≡ None
+  pub tells_none : options.status ≡ None
+  pub tells_as_none : options.status_names ≡ None
+  pub clients : options.clients ≡ 65536
+  pub opens : options.open_places ≡ 100000
+  pub connects : options.connections ≡ 10000
+  pub connects_from : options.connections_from ≡ 1000000
+  pub holds : options.memory ≡ 256
+  pub idles : options.idle ≡ 3600
+  pub stalls : options.stall ≡ 30
+  pub speaks : options.quiet ≡ false
+
+-- the words name such options
+abbrev pub BareAreNamed : Type 0
+BareAreNamed = (options : HostOptions) → AreBare options → NamesOptions bare_words options
+
+-- and no others
+abbrev pub BareAlone : Type 0
+BareAlone = (options : HostOptions) → NamesOptions bare_words options → AreBare options

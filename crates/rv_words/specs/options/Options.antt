@@ -1,0 +1,40 @@
+-- The options that words name.
+use Rattle.std.specs.Prelude.{codes, List, Option, Some, true, option_map, [], ◌≡◌, ◌↔◌}
+use Rattle.clap.specs.Words.{Row, Text, fault_of, first_of, matches_of}
+use Rattle.rv_words.specs.options.Words.{host_app}
+use Rattle.rv_words.specs.options.Numbers.{Fits, GivesNumber}
+use Rattle.rv_words.specs.options.Epochs.{FitsRule, SaysRule}
+use Rattle.rv_words.specs.declared.options.number.HostNumber.TheVariants as number
+use Rattle.rv_words.specs.declared.options.HostOptions.{HostOptions}
+
+-- the rows, a value or more of each option, say these options
+pub record SaysOptions (rows : List Row) (options : HostOptions) : Type 0 where
+  pub listens : first_of (codes "listen") rows ≡ Some options.listen.now
+  pub keeps : first_of (codes "account") rows ≡ option_map (λ file. file.now) options.account
+  pub tells : first_of (codes "status") rows ≡ option_map (λ address. address.now) options.status
+  pub tells_as : first_of (codes "status-name") rows ≡ option_map (λ names. names.now) options.status_names
+  pub in_epoch : SaysRule rows options.epoch
+  pub clients : GivesNumber number.Clients rows options.clients
+  pub opens : GivesNumber number.Open rows options.open_places
+  pub connects : GivesNumber number.Connections rows options.connections
+  pub connects_from : GivesNumber number.ConnectionsFrom rows options.connections_from
+  pub holds : GivesNumber number.Memory rows options.memory
+  pub idles : GivesNumber number.Idle rows options.idle
+  pub stalls : GivesNumber number.Stall rows options.stall
+  pub is_quiet : (options.quiet ≡ true) ↔ (first_of (codes "quiet") rows ≡ Some (codes "true"))
+
+-- clap finds no fault in the words, of which the first is the command's, and their options are these
+pub record NamesOptions (words : List Text) (options : HostOptions) : Type 0 where
+  pub taken : fault_of host_app words ≡ []
+  pub said : SaysOptions (matches_of host_app words) options
+
+-- each number of the options is within its option's limits, and there is an epoch by their rule
+pub record FitOptions (options : HostOptions) : Type 0 where
+  pub in_epoch : FitsRule options.epoch
+  pub clients : Fits number.Clients options.clients
+  pub opens : Fits number.Open options.open_places
+  pub connects : Fits number.Connections options.connections
+  pub connects_from : Fits number.ConnectionsFrom options.connections_from
+  pub holds : Fits number.Memory options.memory
+  pub idles : Fits number.Idle options.idle
+  pub stalls : Fits number.Stall options.stall

@@ -1,0 +1,154 @@
+//! The options of a server that stays, `rv host`: what its words name, or what is wrong with them.
+ghost use Rattle.std.specs.Prelude.{◌≡◌, ◌↔◌, [], codes, IfErr, IfOk, None, option_map, Some, true};
+ghost use Rattle.clap.specs.Walk.{texts};
+ghost use Rattle.clap.specs.Words.{IsAmong, fault_of, first_of, found_of, kind_of, matches_of, rows_of};
+ghost use Rattle.rv_words.specs.options.Epochs.{FitsRule, SaysRule};
+ghost use Rattle.rv_words.specs.options.Faults.{IsFault, IsFaultOf};
+ghost use Rattle.rv_words.specs.options.Numbers.{Fits, GivesNumber, given_for};
+ghost use Rattle.rv_words.specs.options.Options.{FitOptions, NamesOptions, SaysOptions};
+ghost use Rattle.rv_words.specs.options.Words.{host_app};
+
+mod epoch;
+mod fault;
+pub mod laws;
+mod number;
+mod version;
+mod words;
+
+use clap::ArgMatches;
+pub use epoch::EpochRule;
+pub use fault::HostFault;
+pub use number::HostNumber;
+use std::alloc::Global;
+pub use version::VERSION;
+pub use words::{ListedOption, host_words, with_options};
+
+/// The options of a server that stays.
+#[derive(Clone, Copy)]
+pub struct HostOptions<'a> {
+    /// The address to listen at, as it was written.
+    pub listen: &'a str,
+    /// How it chooses its epoch.
+    pub epoch: EpochRule,
+    /// The file to which its account is written, if there is one.
+    pub account: Option<&'a str>,
+    /// The HTTP address at which it tells how it is, as it was written, if there is one.
+    pub status: Option<&'a str>,
+    /// The names under which it tells that, beside `localhost` and each address, as they were written, with
+    /// commas between them, if there are any.
+    pub status_names: Option<&'a str>,
+    /// How many clients its book takes.
+    pub clients: u64,
+    /// How many items and requests are open in it at most.
+    pub open_places: u64,
+    /// How many connections are open at once.
+    pub connections: u64,
+    /// How many of them may come from one address.
+    pub connections_from: u64,
+    /// How many MiB the bytes of all connections take.
+    pub memory: u64,
+    /// The seconds of a connection that says nothing and waits for nothing.
+    pub idle: u64,
+    /// The seconds of one in the middle of a frame, or whose peer takes no answer.
+    pub stall: u64,
+    /// Whether it prints nothing but what ends it.
+    pub quiet: bool,
+}
+
+/// The options that the words of `rv host` name, the word `host` first, as `clap` reads them. A number is
+/// ASCII digits, behind a plus or none, read in decimal.
+pub fn read_host<'a>(alloc: Global, words: &'a [&'a str]) -> Result<HostOptions<'a>, HostFault<'a>>
+    ensures ok { IfOk result (NamesOptions (texts words.entry.now)) }
+    ensures fits { IfOk result FitOptions }
+    ensures fault { IfErr result (IsFault (texts words.entry.now)) }
+{
+    let matches = matches_of(alloc, words)?;
+    options_of(&matches)
+}
+
+// The words as clap reads them.
+fn matches_of<'a>(alloc: Global, words: &'a [&'a str]) -> Result<ArgMatches<'a>, HostFault<'a>>
+    ensures taken { IfOk result (λ _. fault_of host_app (texts words.entry.now) ≡ []) }
+    ensures found { IfOk result (λ m. rows_of (found_of m) ≡ matches_of host_app (texts words.entry.now)) }
+    ensures fault { IfErr result (IsFault (texts words.entry.now)) }
+{
+    let command = host_words(alloc)?;
+    Ok(command.try_get_matches_from(words)?)
+}
+
+// The options that the rows say.
+fn options_of<'a>(given: &ArgMatches<'a>) -> Result<HostOptions<'a>, HostFault<'a>>
+    ensures ok { IfOk result (SaysOptions (rows_of (found_of given.now))) }
+    ensures fits { IfOk result FitOptions }
+    ensures fault { IfErr result (IsFaultOf (rows_of (found_of given.now))) }
+{
+    let Some(listen) = text_of(given, "listen") else {
+        return Err(HostFault::Missing("listen"));
+    };
+    Ok(HostOptions {
+        listen,
+        epoch: epoch_of(given)?,
+        account: text_of(given, "account"),
+        status: text_of(given, "status"),
+        status_names: text_of(given, "status-name"),
+        clients: number_of(given, HostNumber::Clients)?,
+        open_places: number_of(given, HostNumber::Open)?,
+        connections: number_of(given, HostNumber::Connections)?,
+        connections_from: number_of(given, HostNumber::ConnectionsFrom)?,
+        memory: number_of(given, HostNumber::Memory)?,
+        idle: number_of(given, HostNumber::Idle)?,
+        stall: number_of(given, HostNumber::Stall)?,
+        quiet: is_true(given, "quiet"),
+    })
+}
+
+// The rule of the epoch that they say.
+fn epoch_of<'a>(given: &ArgMatches<'a>) -> Result<EpochRule, HostFault<'a>>
+    ensures ok { IfOk result (SaysRule (rows_of (found_of given.now))) }
+    ensures fits { IfOk result FitsRule }
+    ensures fault { IfErr result (IsFaultOf (rows_of (found_of given.now))) }
+{
+    let exact = text_of(given, HostNumber::Epoch.word()).is_some();
+    let above = text_of(given, HostNumber::EpochAbove.word()).is_some();
+    match (exact, above) {
+        (true, true) => Err(HostFault::TwoEpochs),
+        (true, false) => Ok(EpochRule::Exactly(number_of(given, HostNumber::Epoch)?)),
+        (false, true) => Ok(EpochRule::Above(number_of(given, HostNumber::EpochAbove)?)),
+        (false, false) => Ok(EpochRule::Clock),
+    }
+}
+
+// The number that an option's value writes.
+fn number_of<'a>(given: &ArgMatches<'a>, number: HostNumber) -> Result<u64, HostFault<'a>>
+    ensures ok { IfOk result (GivesNumber number (rows_of (found_of given.now))) }
+    ensures fits { IfOk result (Fits number) }
+    ensures fault { IfErr result (IsFaultOf (rows_of (found_of given.now))) }
+{
+    let Some(text) = text_of(given, number.word()) else {
+        return Err(HostFault::Missing(number.word()));
+    };
+    match number.read(text) {
+        Some(n) => Ok(n),
+        None => Err(HostFault::Outside {
+            number,
+            given: text,
+        }),
+    }
+}
+
+// Whether a flag is there.
+fn is_true(given: &ArgMatches, name: &str) -> bool
+    ensures { (result ≡ true) ↔ (first_of name.now (rows_of (found_of given.now)) ≡ Some (codes "true")) }
+{
+    match text_of(given, name) {
+        Some(text) => text == "true",
+        None => false,
+    }
+}
+
+// An option's value.
+fn text_of<'a>(given: &ArgMatches<'a>, name: &str) -> Option<&'a str>
+    ensures { option_map (λ v. v.now) result ≡ first_of name.now (rows_of (found_of given.now)) }
+{
+    given.get_str(name)
+}

@@ -1,0 +1,91 @@
+//! What is wrong with words that name no options.
+ghost use Rattle.std.specs.Prelude.{◌≡◌};
+ghost use Rattle.clap.specs.Words.{kind_of};
+ghost use Rattle.rv_words.specs.options.Faults.{status_of, fault_by};
+ghost use Rattle.rv_words.specs.declared.options.fault.HostFault.TheVariants as faults;
+
+use crate::options::number::HostNumber;
+use clap::error::ErrorKind;
+use std::alloc::AllocError;
+use std::fmt;
+
+/// Why words name no options. Its `Display` is the text for whoever wrote them.
+#[derive(Drop)]
+pub enum HostFault<'a> {
+    /// `clap` refuses the words, or they ask for help.
+    Refused(clap::Error),
+    /// The value of this option is no number within its limits.
+    Outside {
+        /// The option.
+        number: HostNumber,
+        /// Its value, as it was written.
+        given: &'a str,
+    },
+    /// An option of this word has no value. `clap` lets none through.
+    Missing(&'static str),
+    /// `--epoch` and `--epoch-above` are both there.
+    TwoEpochs,
+    /// A growth was refused.
+    NoMemory,
+}
+
+impl<'a> From<AllocError> for HostFault<'a> {
+    ghost from_gives = { λ _ fault. fault ≡ faults.NoMemory };
+
+    fn from(_error: AllocError) -> HostFault<'a> {
+        HostFault::NoMemory
+    }
+}
+
+impl<'a> From<clap::Error> for HostFault<'a> {
+    ghost from_gives = { λ error fault. fault ≡ fault_by (kind_of error) error };
+
+    fn from(error: clap::Error) -> HostFault<'a> {
+        match error.kind() {
+            ErrorKind::OutOfMemory => HostFault::NoMemory,
+            _ => HostFault::Refused(error),
+        }
+    }
+}
+
+impl HostFault<'_> {
+    /// The status of a program that ends by it: 0 where help was asked for, 1 without memory, else 2.
+    pub fn status(&self) -> u8
+        ensures { result ≡ status_of self.now }
+    {
+        match self {
+            HostFault::Refused(error) => match error.kind() {
+                ErrorKind::DisplayHelp => 0,
+                _ => 2,
+            },
+            HostFault::NoMemory => 1,
+            _ => 2,
+        }
+    }
+}
+
+impl fmt::Display for HostFault<'_> {
+    fn fmt<W: fmt::Write>(&self, f: &mut fmt::Formatter<W>) -> fmt::Result {
+        match self {
+            HostFault::Refused(error) => write!(f, "{error}"),
+            HostFault::Outside { number, given } => {
+                write!(f, "--{} {given}: ", number.word())?;
+                write_grouped(f, number.least())?;
+                f.write_str(" to ")?;
+                write_grouped(f, number.most())
+            }
+            HostFault::Missing(word) => write!(f, "--{word}: no value"),
+            HostFault::TwoEpochs => f.write_str("--epoch and --epoch-above: not both"),
+            HostFault::NoMemory => f.write_str("no memory"),
+        }
+    }
+}
+
+// Writes a number with a comma before each three digits.
+fn write_grouped<W: fmt::Write>(f: &mut fmt::Formatter<W>, number: u64) -> fmt::Result {
+    if number < 1000 {
+        return write!(f, "{number}");
+    }
+    write_grouped(f, number / 1000)?;
+    write!(f, ",{:03}", number % 1000)
+}

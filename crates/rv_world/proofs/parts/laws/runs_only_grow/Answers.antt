@@ -1,0 +1,6 @@
+-- The law, which Growth proves.
+use Rattle.rv_world.proofs.OfParts.Growth.{runs_grow}
+use Rattle.rv_world.proofs.parts.laws.runs_only_grow.Goals as goal
+
+pub returns : goal.returns
+returns c = runs_grow

@@ -1,2 +1,0 @@
--- The lemmas that the proofs of this crate share.
-pub mod Texts
