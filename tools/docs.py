@@ -56,7 +56,7 @@ TESTS = ("rv_tests", "rv_steps")
 BESIDE = re.compile(r"src/(?:\w+/)*(?:laws|testing)\.rt:")
 NO_WRONG_BODY = (r"\w+::swap::Swap\w*::new", r"\w+::waiters::Waiters\w*::empty", r"\w+::locked::(?:shared::)?Shared\w*::lock",
                  r"\w+::account::Account\w*::allocator", r"\w+::\w+::Verifier\w*::machine", r"\w+::records::Records\w*::new",
-                 r"\w+::desk::HubDesk\w*::machine", r"\w+::desk::HubDesk\w*::wires",
+                 r"\w+::dispatcher::Dispatcher\w*::machine", r"\w+::dispatcher::Dispatcher\w*::wires",
                  r"\w+::hub::Hub\w*::machine", r"\w+::engine::Engine\w*::hub",
                  r"\w+::traffic::Switchboard\w*::engine", r"\w+::traffic::Switchboard\w*::links",
                  # what cells hold, of which no clause can speak

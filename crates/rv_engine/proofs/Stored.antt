@@ -4,8 +4,8 @@ use Rattle.std.proofs.Common.{append-nil, append_assoc, arith, length, length-ap
 use Rattle.std.proofs.lemmas.List.Elements.{All-weaker}
 use Rattle.rv_account.specs.declared.entry.Entry.{Entry}
 use Rattle.rv_wires.specs.connection.Traffic.{AnswerByte, Traffic}
-use Rattle.rv_hub.specs.desk.View.{DeskState, DeskTerms}
-use Rattle.rv_hub.specs.HubRuns.{AddsEntries, TookEvent, made_in, run_deeds}
+use Rattle.rv_hub.specs.dispatcher.View.{DispatcherState, DispatcherTerms}
+use Rattle.rv_hub.specs.HubRuns.{AddsEntries, TookEvent, made_in, run_effects}
 use Rattle.rv_hub.specs.Pasts.{IsPast, Past}
 use Rattle.rv_hub.specs.Turns.{TakesEvent}
 use Rattle.rv_hub.proofs.Accounts.{events_lead}
@@ -14,7 +14,7 @@ use Rattle.rv_hub.proofs.OneRun.{hubs_are_runs}
 use Rattle.rv_engine.specs.declared.events.EngineFault.TheVariants as fault
 use Rattle.rv_engine.specs.Engines.{EngineState}
 use Rattle.rv_engine.specs.Handing.{GathersFront, entry_lines}
-use Rattle.rv_engine.specs.EngineRuns.{BeginsStored, EngineDeed, GatheredLines, HandedOn, LeavesStored}
+use Rattle.rv_engine.specs.EngineRuns.{BeginsStored, EngineEffect, GatheredLines, HandedOn, LeavesStored}
 use Rattle.rv_engine.specs.EngineRuns.{LeftIsStored, Looked, NotTaken, RunsEngine, StoredLines, ToldIsStored}
 use Rattle.rv_engine.specs.EngineRuns.{answers_in, bytes_written}
 use Rattle.rv_engine.proofs.Gathered.{gathers_all, gathers_behind, lines_append}
@@ -40,7 +40,8 @@ record GoesOnStored (s : EngineState) (gathered made : List Entry) (bytes : List
 regroup : (a b c d : List Entry) → a ++ ((b ++ c) ++ d) ≡ (a ++ b) ++ (c ++ d)
 regroup a b c d = ap (λ (l : List Entry). a ++ l) (append_assoc b c d) ∙ sym (append_assoc a b (c ++ d))
 
-one_longer : (terms : DeskTerms) (s t : DeskState) (handed : ℕ) (what : _) (made : List Entry) (given : ℕ)
+one_longer : (terms : DispatcherTerms) (s t : DispatcherState) (handed : ℕ) (what : _) (made : List Entry)
+    (given : ℕ)
     → TakesEvent true terms s handed what made given t → t.book.length ≡ s.book.length + length made
 one_longer terms s t handed what made given takes =
     longer terms (TookEvent handed what made given ∷ []) s t (t, takes, refl)
@@ -127,9 +128,9 @@ module _ (s mid : EngineState) (gathered : List Entry) (bytes : List ℕ)
 
 -- ---- a run
 
-goes_on : (terms : DeskTerms) (deeds : List EngineDeed) (s t : EngineState) (gathered : List Entry)
-    → RunsEngine true terms s deeds t → IsHalfway s gathered
-    → GoesOnStored s gathered (made_in (answers_in deeds)) (bytes_written deeds) t
+goes_on : (terms : DispatcherTerms) (effects : List EngineEffect) (s t : EngineState) (gathered : List Entry)
+    → RunsEngine true terms s effects t → IsHalfway s gathered
+    → GoesOnStored s gathered (made_in (answers_in effects)) (bytes_written effects) t
 goes_on terms [] s t gathered same half =
     let stored : t.stored ≡ s.stored = ap (λ (x : EngineState). x.stored) same in
     let written : t.hub.open_wires.written ≡ s.hub.open_wires.written =
@@ -142,7 +143,7 @@ goes_on terms [] s t gathered same half =
       count = omega (arith, stored);
       told = omega (arith, stored, written, half.told);
     }
-goes_on terms (HandedOn handed what made given ∷ deeds) s t gathered (mid, does, later) half =
+goes_on terms (HandedOn handed what made given ∷ effects) s t gathered (mid, does, later) half =
     let gathers = gathers_behind s.left made mid.left s.lines mid.lines does.gathers in
     let told = told_within terms s.hub handed what made given mid.hub s.stored does.takes does.tells half.told
     in
@@ -150,62 +151,62 @@ goes_on terms (HandedOn handed what made given ∷ deeds) s t gathered (mid, doe
     (one_longer terms s.hub mid.hub handed what made given does.takes)
     (subst (λ (n : ℕ). mid.hub.open_wires.written ≤ n) (sym does.stored) told) half in
     pass_on s mid gathered made (s.left ++ made) refl gathers does.stored _ _ t
-    (goes_on terms deeds mid t _ later now)
-goes_on terms (NotTaken what (fault.Refused why) ∷ deeds) s t gathered (mid, does, later) half =
+    (goes_on terms effects mid t _ later now)
+goes_on terms (NotTaken what (fault.Refused why) ∷ effects) s t gathered (mid, does, later) half =
     let gathers = gathers_all s.left mid.left s.lines mid.lines does.left does.lines in
     let book : mid.hub.book.length ≡ s.hub.book.length + 0 =
-    ap (λ (u : DeskState). u.book.length) does.hub ∙ omega arith in
+    ap (λ (u : DispatcherState). u.book.length) does.hub ∙ omega arith in
     let written : mid.hub.open_wires.written ≡ s.hub.open_wires.written =
-    ap (λ (u : DeskState). u.open_wires.written) does.hub in
+    ap (λ (u : DispatcherState). u.open_wires.written) does.hub in
     let now = half_on s mid gathered [] s.left (append-nil s.left) gathers does.stored book
     (omega (arith, written, half.told, does.stored)) half in
     pass_on s mid gathered [] s.left (append-nil s.left) gathers does.stored _ _ t
-    (goes_on terms deeds mid t _ later now)
-goes_on terms (NotTaken what fault.NoMemory ∷ deeds) s t gathered (mid, does, later) half =
+    (goes_on terms effects mid t _ later now)
+goes_on terms (NotTaken what fault.NoMemory ∷ effects) s t gathered (mid, does, later) half =
     let gathers = does.gathers.gathers in
     let stored = does.gathers.stored in
     let book : mid.hub.book.length ≡ s.hub.book.length + 0 =
-    ap (λ (u : DeskState). u.book.length) does.gathers.hub ∙ omega arith in
+    ap (λ (u : DispatcherState). u.book.length) does.gathers.hub ∙ omega arith in
     let written : mid.hub.open_wires.written ≡ s.hub.open_wires.written =
-    ap (λ (u : DeskState). u.open_wires.written) does.gathers.hub in
+    ap (λ (u : DispatcherState). u.open_wires.written) does.gathers.hub in
     let now = half_on s mid gathered [] s.left (append-nil s.left) gathers stored book
     (omega (arith, written, half.told, stored)) half in
     pass_on s mid gathered [] s.left (append-nil s.left) gathers stored _ _ t
-    (goes_on terms deeds mid t _ later now)
-goes_on terms (NotTaken what (fault.NotWritten why) ∷ deeds) s t gathered (mid, does, later) half =
+    (goes_on terms effects mid t _ later now)
+goes_on terms (NotTaken what (fault.NotWritten why) ∷ effects) s t gathered (mid, does, later) half =
     absurd does
-goes_on terms (GatheredLines ∷ deeds) s t gathered (mid, does, later) half =
+goes_on terms (GatheredLines ∷ effects) s t gathered (mid, does, later) half =
     let book : mid.hub.book.length ≡ s.hub.book.length + 0 =
-    ap (λ (u : DeskState). u.book.length) does.hub ∙ omega arith in
+    ap (λ (u : DispatcherState). u.book.length) does.hub ∙ omega arith in
     let written : mid.hub.open_wires.written ≡ s.hub.open_wires.written =
-    ap (λ (u : DeskState). u.open_wires.written) does.hub in
+    ap (λ (u : DispatcherState). u.open_wires.written) does.hub in
     let now = half_on s mid gathered [] s.left (append-nil s.left) does.gathers does.stored book
     (omega (arith, written, half.told, does.stored)) half in
     pass_on s mid gathered [] s.left (append-nil s.left) does.gathers does.stored _ _ t
-    (goes_on terms deeds mid t _ later now)
-goes_on terms (StoredLines bytes entries ∷ deeds) s t gathered (mid, does, later) half =
+    (goes_on terms effects mid t _ later now)
+goes_on terms (StoredLines bytes entries ∷ effects) s t gathered (mid, does, later) half =
     let book : mid.hub.book.length ≡ s.hub.book.length =
-    ap (λ (u : DeskState). u.book.length) does.writes.hub in
+    ap (λ (u : DispatcherState). u.book.length) does.writes.hub in
     let written : mid.hub.open_wires.written ≡ s.hub.open_wires.written =
-    ap (λ (u : DeskState). u.open_wires.written) does.writes.hub in
+    ap (λ (u : DispatcherState). u.open_wires.written) does.writes.hub in
     let count : mid.stored ≡ mid.hub.book.length - length mid.left = does.stored ∙ does.entries_are in
     let now = half_stored s mid gathered bytes does.writes.gathers does.gone book count half written in
     pass_stored s mid gathered bytes does.writes.gathers does.gone book count half _ _ t
-    (goes_on terms deeds mid t [] later now)
-goes_on terms (Looked ∷ deeds) s t gathered (mid, does, later) half =
+    (goes_on terms effects mid t [] later now)
+goes_on terms (Looked ∷ effects) s t gathered (mid, does, later) half =
     let gathers : GathersFront s.left s.lines mid.left mid.lines = record {
       front = [];
       parts = sym does.left;
       gathered = does.lines ∙ sym (append-nil s.lines);
     } in
     let book : mid.hub.book.length ≡ s.hub.book.length + 0 =
-    ap (λ (u : DeskState). u.book.length) does.hub ∙ omega arith in
+    ap (λ (u : DispatcherState). u.book.length) does.hub ∙ omega arith in
     let written : mid.hub.open_wires.written ≡ s.hub.open_wires.written =
-    ap (λ (u : DeskState). u.open_wires.written) does.hub in
+    ap (λ (u : DispatcherState). u.open_wires.written) does.hub in
     let now = half_on s mid gathered [] s.left (append-nil s.left) gathers does.stored book
     (omega (arith, written, half.told, does.stored)) half in
     pass_on s mid gathered [] s.left (append-nil s.left) gathers does.stored _ _ t
-    (goes_on terms deeds mid t _ later now)
+    (goes_on terms effects mid t _ later now)
 
 -- ---- the laws
 
@@ -219,12 +220,12 @@ begins_halfway s begins =
     }
 
 pub told_is_stored : ToldIsStored
-told_is_stored terms deeds s t runs begins =
-    let on = goes_on terms deeds s t [] runs (begins_halfway s begins) in
+told_is_stored terms effects s t runs begins =
+    let on = goes_on terms effects s t [] runs (begins_halfway s begins) in
     record {
       front = on.front;
       behind = on.behind;
-      parts = ap (λ (l : List Entry). l ++ made_in (answers_in deeds)) (sym begins.all.left) ∙ on.parts;
+      parts = ap (λ (l : List Entry). l ++ made_in (answers_in effects)) (sym begins.all.left) ∙ on.parts;
       lines = on.lines;
       count = on.count ∙ ap (λ (n : ℕ). n + length on.front) begins.stored;
       told = on.told;
@@ -243,11 +244,11 @@ left_stored written stored past wire told has = record {
 }
 
 pub left_is_stored : LeftIsStored
-left_is_stored terms deeds s t a limits runs begins moment is run n past has public =
-    let made = made_in (answers_in deeds) in
-    let events = run_deeds true terms (answers_in deeds) s.hub t.hub run in
-    let stored = told_is_stored terms deeds s t runs begins in
-    let hub = hubs_are_runs true terms (answers_in deeds) s.hub t.hub run in
+left_is_stored terms effects s t a limits runs begins moment is run n past has public =
+    let made = made_in (answers_in effects) in
+    let events = run_effects true terms (answers_in effects) s.hub t.hub run in
+    let stored = told_is_stored terms effects s t runs begins in
+    let hub = hubs_are_runs true terms (answers_in effects) s.hub t.hub run in
     let leads = events_lead terms events s.hub t.hub a limits hub.does moment is in
     record {
       after = leads.after;

@@ -6,7 +6,7 @@ use Rattle.std.proofs.lemmas.Bool.{false≢true}
 use Rattle.std.proofs.lemmas.Option.{none-some, same_Some}
 use Rattle.rv_wires.specs.connection.Traffic.{Traffic}
 use Rattle.rv_wires.specs.Connections.{HasWire}
-use Rattle.rv_hub.specs.desk.View.{DeskState}
+use Rattle.rv_hub.specs.dispatcher.View.{DispatcherState}
 use Rattle.rv_hub.specs.declared.events.EventRefusal.{EventRefusal}
 use Rattle.rv_hub.specs.declared.events.HubEvent.{HubEvent}
 use Rattle.rv_hub.specs.declared.events.HubEvent.TheVariants as event
@@ -16,20 +16,22 @@ use Rattle.rv_engine.specs.declared.events.EngineFault.TheVariants as fault
 use Rattle.rv_engine.specs.Engines.{EngineState}
 use Rattle.rv_engine.specs.Handing.{IsNoOpening, IsRefused}
 
-closed_not_open : (s : DeskState) (n : ℕ) (so : Traffic → Type 0) → HasWire s.open_wires n so → IsNotOpen s n
+closed_not_open : (s : DispatcherState) (n : ℕ) (so : Traffic → Type 0) → HasWire s.open_wires n so
+    → IsNotOpen s n
     → ⊥
 closed_not_open s n so has closed = none-some has.wire (sym closed ∙ has.there)
 
-one_wire : (s : DeskState) (n : ℕ) (so other : Traffic → Type 0) (has : HasWire s.open_wires n so)
+one_wire : (s : DispatcherState) (n : ℕ) (so other : Traffic → Type 0) (has : HasWire s.open_wires n so)
     → (is : HasWire s.open_wires n other) → has.wire ≡ is.wire
 one_wire s n so other has is = same_Some has.wire is.wire (sym has.there ∙ is.there)
 
-not_ended : (s : DeskState) (n : ℕ) → HasWire s.open_wires n (λ wire. wire.ended ≡ false)
+not_ended : (s : DispatcherState) (n : ℕ) → HasWire s.open_wires n (λ wire. wire.ended ≡ false)
     → HasWire s.open_wires n (λ wire. wire.ended ≡ true) → ⊥
 not_ended s n has is =
     false≢true (sym has.so ∙ ap (λ (w : Traffic). w.ended) (one_wire s n _ _ has is) ∙ is.so)
 
-can_be : (s : DeskState) (what : HubEvent) (why : EventRefusal) → EventCan s what → EventCannotBe s what why
+can_be : (s : DispatcherState) (what : HubEvent) (why : EventRefusal) → EventCan s what
+    → EventCannotBe s what why
     → ⊥
 can_be s event.Opened why can cannot = cannot
 can_be s (event.Came n piece) why can (inl closed) = closed_not_open s n _ can closed.0

@@ -4,8 +4,8 @@ use Rattle.std.proofs.Common.{length-append}
 use Rattle.std.proofs.Common.{drop, subst, sym}
 use Rattle.std.proofs.lemmas.List.{drop_all}
 use Rattle.rv_account.specs.declared.entry.Entry.{Entry}
-use Rattle.rv_hub.specs.desk.Runs.{ListsChanged}
-use Rattle.rv_hub.specs.desk.View.{DeskState, DeskTerms, begun}
+use Rattle.rv_hub.specs.dispatcher.Runs.{ListsChanged}
+use Rattle.rv_hub.specs.dispatcher.View.{DispatcherState, DispatcherTerms, begun}
 use Rattle.rv_hub.specs.declared.events.HubEvent.{HubEvent}
 use Rattle.rv_hub.specs.Turns.{EventRefused, TakesEvent}
 use Rattle.rv_engine.specs.declared.events.EngineFault.{EngineFault}
@@ -32,27 +32,28 @@ looks_through old mid new numbers same looks = record {
   room = looks.room ∙ same.room;
 }
 
-pub handed_through : (journal : Bool) (terms : DeskTerms) (old mid : EngineState) (handed : ℕ)
+pub handed_through : (journal : Bool) (terms : DispatcherTerms) (old mid : EngineState) (handed : ℕ)
     (what : HubEvent)
     (made : List Entry) (given : ℕ) (new : EngineState) → Gathers old mid
     → HandsOn journal terms mid handed what made given new
     → HandsOn journal terms old handed what made given new
 handed_through journal terms old mid handed what made given new gathers does = record {
   tells = subst (λ (n : ℕ). TellsStored what n) gathers.stored does.tells;
-  takes = subst (λ (h : DeskState). TakesEvent journal terms h handed what made given new.hub) gathers.hub
+  takes = subst (λ (h : DispatcherState). TakesEvent journal terms h handed what made given new.hub)
+      gathers.hub
       does.takes;
   stored = does.stored ∙ gathers.stored;
   gathers = subst (λ (l : List ℕ). GathersFront (entries_kept journal made) l new.left new.lines)
       (unwritten_same old mid gathers) does.gathers;
   piece = does.piece;
-  listed = subst (λ (h : DeskState). ListsChanged (begun h) new.hub) gathers.hub does.listed;
+  listed = subst (λ (h : DispatcherState). ListsChanged (begun h) new.hub) gathers.hub does.listed;
   looks = looks_through old mid new new.hub.changed gathers.looks does.looks;
 }
 
 pub refused_through : (old mid : EngineState) (what : HubEvent) (why : EngineFault) (new : EngineState)
     → Gathers old mid → mid.left ≡ [] → IsRefused mid what why new → IsRefused old what why new
 refused_through old mid what (fault.Refused why) new gathers none is = record {
-  refused = subst (λ (h : DeskState). EventRefused h what why) gathers.hub is.refused;
+  refused = subst (λ (h : DispatcherState). EventRefused h what why) gathers.hub is.refused;
   hub = is.hub ∙ ap begun gathers.hub;
   left = is.left;
   lines = is.lines ∙ unwritten_same old mid gathers;
@@ -70,11 +71,11 @@ refused_through old mid what fault.NoMemory new gathers none is =
 refused_through old mid what (fault.NotWritten why) new gathers none is = absurd is
 
 -- each field of a state that is written out
-pub state_is : (s : EngineState) (hub : DeskState) (stored room : ℕ) → s.hub ≡ hub → s.lines ≡ []
+pub state_is : (s : EngineState) (hub : DispatcherState) (stored room : ℕ) → s.hub ≡ hub → s.lines ≡ []
     → s.left ≡ [] → s.stored ≡ stored → s.looks ≡ [] → s.round ≡ [] → s.room ≡ room
     → s ≡ record { hub = hub; lines = []; left = []; stored = stored; looks = []; round = []; room = room }
 state_is s hub stored room at_hub lines left at_stored looks round at_room =
-    ap (λ (x : DeskState). record s { hub = x }) at_hub
+    ap (λ (x : DispatcherState). record s { hub = x }) at_hub
     ∙ ap (λ (x : List ℕ). record s { hub = hub; lines = x }) lines
     ∙ ap (λ (x : List Entry). record s { hub = hub; lines = []; left = x }) left
     ∙ ap (λ (x : ℕ). record s { hub = hub; lines = []; left = []; stored = x }) at_stored

@@ -3,7 +3,7 @@ use Rattle.std.proofs.Common.{◌≡◌, ◌∙◌, ◌-◌, ℕ, List, [], ap, 
 use Rattle.std.proofs.Common.{drop, sym}
 use Rattle.std.proofs.lemmas.List.{length-drop}
 use Rattle.rv_account.specs.declared.entry.Entry.{Entry}
-use Rattle.rv_hub.specs.desk.View.{DeskState}
+use Rattle.rv_hub.specs.dispatcher.View.{DispatcherState}
 use Rattle.rv_engine.specs.Engines.{EngineState}
 use Rattle.rv_engine.specs.Handing.{Gathers, GathersFront, StoresLines, all_gone, gathered_count, lines_gone}
 use Rattle.rv_engine.specs.Handing.{unwritten}
@@ -12,11 +12,12 @@ use Rattle.rv_engine.proofs.Gathered.{none_left}
 -- all lines were gathered, and are stored
 pub gone_is : (old mid : EngineState) → Gathers old mid → mid.left ≡ [] → lines_gone mid ≡ all_gone old
 gone_is old mid gathers none =
-    let at_hub : mid.hub.book.length ≡ old.hub.book.length = ap (λ (x : DeskState). x.book.length) gathers.hub
+    let at_hub : mid.hub.book.length ≡ old.hub.book.length = ap (λ (x : DispatcherState). x.book.length)
+    gathers.hub
     in
     let zero_left : length mid.left ≡ 0 = ap length none in
     let count : gathered_count mid ≡ old.hub.book.length = omega (arith, at_hub, zero_left) in
-    ap (λ (x : DeskState). record mid { hub = x; lines = []; stored = gathered_count mid }) gathers.hub
+    ap (λ (x : DispatcherState). record mid { hub = x; lines = []; stored = gathered_count mid }) gathers.hub
     ∙ ap (λ (x : ℕ). record mid { hub = old.hub; lines = []; stored = x }) count
     ∙ ap (λ (x : List Entry). record (all_gone old) {
       left = x;

@@ -10,12 +10,12 @@ use Rattle.rv_lines.specs.Lines.{printed_lines}
 use Rattle.rv_lines.specs.Written.{account_lines}
 use Rattle.rv_wires.specs.connection.History.{given_bytes}
 use Rattle.rv_wires.specs.connection.Traffic.{AnswerByte, Traffic, bytes_of}
-use Rattle.rv_hub.specs.desk.View.{DeskTerms}
+use Rattle.rv_hub.specs.dispatcher.View.{DispatcherTerms}
 use Rattle.rv_hub.specs.declared.events.HubEvent.{HubEvent}
-use Rattle.rv_hub.specs.EventDeeds.{all_deeds}
+use Rattle.rv_hub.specs.EventEffects.{all_effects}
 use Rattle.rv_hub.specs.HandedOut.{ArePublic}
 use Rattle.rv_hub.specs.HubRuns.{AddsEntries, HubAnswer, IsHubAccount, RefusedEvent, RunsHub, TookEvent}
-use Rattle.rv_hub.specs.HubRuns.{made_in, run_deeds}
+use Rattle.rv_hub.specs.HubRuns.{made_in, run_effects}
 use Rattle.rv_hub.specs.Pasts.{HasPast, Past, past_after}
 use Rattle.rv_engine.specs.declared.events.EngineFault.{EngineFault}
 use Rattle.rv_engine.specs.declared.events.EngineFault.TheVariants as fault
@@ -24,17 +24,17 @@ use Rattle.rv_engine.specs.Handing.{Gathers, GathersFront, HandsOn, IsRefused, S
 use Rattle.rv_engine.specs.Handing.{entry_lines, gathered_count, unwritten}
 
 -- what came of an event, or of lines
-pub data EngineDeed : Type 0 where
+pub data EngineEffect : Type 0 where
   -- the event was handed on at a moment and taken, made these entries and gave this
-  HandedOn : (handed : ℕ) (what : HubEvent) (made : List Entry) (given : ℕ) → EngineDeed
+  HandedOn : (handed : ℕ) (what : HubEvent) (made : List Entry) (given : ℕ) → EngineEffect
   -- it wasn't taken
-  NotTaken : (what : HubEvent) (why : EngineFault) → EngineDeed
+  NotTaken : (what : HubEvent) (why : EngineFault) → EngineEffect
   -- lines of entries were gathered
-  GatheredLines : EngineDeed
+  GatheredLines : EngineEffect
   -- the device took all lines that are gathered, which are these bytes, and so of so many entries in all
-  StoredLines : (bytes : List ℕ) (entries : ℕ) → EngineDeed
+  StoredLines : (bytes : List ℕ) (entries : ℕ) → EngineEffect
   -- others are to be looked at
-  Looked : EngineDeed
+  Looked : EngineEffect
 
 -- all but whom to look at is as it was
 pub record ChangesLooks (s t : EngineState) : Type 0 where
@@ -43,52 +43,55 @@ pub record ChangesLooks (s t : EngineState) : Type 0 where
   pub left : t.left ≡ s.left
   pub stored : t.stored ≡ s.stored
 
-abbrev pub DoesDeed : Bool → DeskTerms → EngineState → EngineDeed → EngineState → Type 0
-DoesDeed journal terms s (HandedOn handed what made given) t = HandsOn journal terms s handed what made given
+abbrev pub DoesEffect : Bool → DispatcherTerms → EngineState → EngineEffect → EngineState → Type 0
+DoesEffect journal terms s (HandedOn handed what made given) t = HandsOn journal terms s handed what made
+    given
     t
-DoesDeed journal terms s (NotTaken what why) t = IsRefused s what why t
-DoesDeed journal terms s GatheredLines t = Gathers s t
-DoesDeed journal terms s (StoredLines bytes entries) t = StoresLines s bytes entries t
-DoesDeed journal terms s Looked t = ChangesLooks s t
+DoesEffect journal terms s (NotTaken what why) t = IsRefused s what why t
+DoesEffect journal terms s GatheredLines t = Gathers s t
+DoesEffect journal terms s (StoredLines bytes entries) t = StoresLines s bytes entries t
+DoesEffect journal terms s Looked t = ChangesLooks s t
 
-abbrev pub RunsEngine : Bool → DeskTerms → EngineState → List EngineDeed → EngineState → Type 0
+abbrev pub RunsEngine : Bool → DispatcherTerms → EngineState → List EngineEffect → EngineState → Type 0
 RunsEngine journal terms s [] t = t ≡ s
-RunsEngine journal terms s (deed ∷ deeds) t =
-    (between : EngineState) × DoesDeed journal terms s deed between × RunsEngine journal terms between deeds t
+RunsEngine journal terms s (effect ∷ effects) t =
+    (between : EngineState) × DoesEffect journal terms s effect between × RunsEngine journal terms between
+    effects t
 
 -- what came of the events that were handed on
-abbrev pub answers_in : List EngineDeed → List HubAnswer
+abbrev pub answers_in : List EngineEffect → List HubAnswer
 answers_in [] = []
-answers_in (HandedOn handed what made given ∷ deeds) = TookEvent handed what made given ∷ answers_in deeds
-answers_in (NotTaken what (fault.Refused why) ∷ deeds) = RefusedEvent ∷ answers_in deeds
-answers_in (NotTaken what fault.NoMemory ∷ deeds) = answers_in deeds
-answers_in (NotTaken what (fault.NotWritten why) ∷ deeds) = answers_in deeds
-answers_in (GatheredLines ∷ deeds) = answers_in deeds
-answers_in (StoredLines bytes entries ∷ deeds) = answers_in deeds
-answers_in (Looked ∷ deeds) = answers_in deeds
+answers_in (HandedOn handed what made given ∷ effects) = TookEvent handed what made given ∷ answers_in effects
+answers_in (NotTaken what (fault.Refused why) ∷ effects) = RefusedEvent ∷ answers_in effects
+answers_in (NotTaken what fault.NoMemory ∷ effects) = answers_in effects
+answers_in (NotTaken what (fault.NotWritten why) ∷ effects) = answers_in effects
+answers_in (GatheredLines ∷ effects) = answers_in effects
+answers_in (StoredLines bytes entries ∷ effects) = answers_in effects
+answers_in (Looked ∷ effects) = answers_in effects
 
 -- all bytes of lines that the device took, in order
-abbrev pub bytes_written : List EngineDeed → List ℕ
+abbrev pub bytes_written : List EngineEffect → List ℕ
 bytes_written [] = []
-bytes_written (HandedOn handed what made given ∷ deeds) = bytes_written deeds
-bytes_written (NotTaken what why ∷ deeds) = bytes_written deeds
-bytes_written (GatheredLines ∷ deeds) = bytes_written deeds
-bytes_written (StoredLines bytes entries ∷ deeds) = bytes ++ bytes_written deeds
-bytes_written (Looked ∷ deeds) = bytes_written deeds
+bytes_written (HandedOn handed what made given ∷ effects) = bytes_written effects
+bytes_written (NotTaken what why ∷ effects) = bytes_written effects
+bytes_written (GatheredLines ∷ effects) = bytes_written effects
+bytes_written (StoredLines bytes entries ∷ effects) = bytes ++ bytes_written effects
+bytes_written (Looked ∷ effects) = bytes_written effects
 
 -- the hub behind a run is that of the events that were handed on, in order; and of the entries that were left
 -- before and those that these made, where an account is kept, a front has its lines written or gathered, in
 -- order, and the others are left
-pub record IsEngineRun (journal : Bool) (terms : DeskTerms) (s : EngineState) (deeds : List EngineDeed)
+pub record IsEngineRun (journal : Bool) (terms : DispatcherTerms) (s : EngineState) (effects :
+    List EngineEffect)
     (t : EngineState) : Type 0
   where
-    pub hub : RunsHub journal terms s.hub (answers_in deeds) t.hub
-    pub account : GathersFront (s.left ++ entries_kept journal (made_in (answers_in deeds))) s.lines t.left
-        (bytes_written deeds ++ t.lines)
+    pub hub : RunsHub journal terms s.hub (answers_in effects) t.hub
+    pub account : GathersFront (s.left ++ entries_kept journal (made_in (answers_in effects))) s.lines t.left
+        (bytes_written effects ++ t.lines)
 
 abbrev pub EnginesAreRuns : Type 0
-EnginesAreRuns = (journal : Bool) (terms : DeskTerms) (deeds : List EngineDeed) (s t : EngineState)
-    → RunsEngine journal terms s deeds t → IsEngineRun journal terms s deeds t
+EnginesAreRuns = (journal : Bool) (terms : DispatcherTerms) (effects : List EngineEffect) (s t : EngineState)
+    → RunsEngine journal terms s effects t → IsEngineRun journal terms s effects t
 
 -- ---- the account, where one is kept, from an engine on of which all is written
 
@@ -102,9 +105,9 @@ pub record AreCounted (s : EngineState) (made : List Entry) (bytes : List ℕ) (
   pub count : gathered_count t ≡ s.hub.book.length + length gathers.front
 
 abbrev pub WrittenAreCounted : Type 0
-WrittenAreCounted = (terms : DeskTerms) (deeds : List EngineDeed) (s t : EngineState)
-    → RunsEngine true terms s deeds t → IsAllWritten s
-    → AreCounted s (made_in (answers_in deeds)) (bytes_written deeds) t
+WrittenAreCounted = (terms : DispatcherTerms) (effects : List EngineEffect) (s t : EngineState)
+    → RunsEngine true terms s effects t → IsAllWritten s
+    → AreCounted s (made_in (answers_in effects)) (bytes_written effects) t
 
 -- behind the lines of a legal account, what is written and what isn't yet are those of a legal account, of
 -- which the hub has the state
@@ -115,10 +118,10 @@ pub record KeepsAccount (a : Account) (bytes : List ℕ) (t : EngineState) (made
   pub text : printed_lines (account_lines after) ≡ printed_lines (account_lines a) ++ (bytes ++ unwritten t)
 
 abbrev pub AccountsAreKept : Type 0
-AccountsAreKept = (terms : DeskTerms) (deeds : List EngineDeed) (s t : EngineState) (a : Account)
-    → AreStepLimits terms.limits → RunsEngine true terms s deeds t → IsAllWritten s
+AccountsAreKept = (terms : DispatcherTerms) (effects : List EngineEffect) (s t : EngineState) (a : Account)
+    → AreStepLimits terms.limits → RunsEngine true terms s effects t → IsAllWritten s
     → t.hub.now ≤ max_moment → IsHubAccount a s.hub
-    → KeepsAccount a (bytes_written deeds) t (made_in (answers_in deeds))
+    → KeepsAccount a (bytes_written effects) t (made_in (answers_in effects))
 
 -- ---- what is told as written was stored
 
@@ -139,9 +142,9 @@ pub record AreStored (s : EngineState) (made : List Entry) (bytes : List ℕ) (t
   pub told : t.hub.open_wires.written ≤ t.stored
 
 abbrev pub ToldIsStored : Type 0
-ToldIsStored = (terms : DeskTerms) (deeds : List EngineDeed) (s t : EngineState)
-    → RunsEngine true terms s deeds t → BeginsStored s
-    → AreStored s (made_in (answers_in deeds)) (bytes_written deeds) t
+ToldIsStored = (terms : DispatcherTerms) (effects : List EngineEffect) (s t : EngineState)
+    → RunsEngine true terms s effects t → BeginsStored s
+    → AreStored s (made_in (answers_in effects)) (bytes_written effects) t
 
 -- what left of a connection, and what may leave, are the first bytes of its answers, of those alone that rest
 -- on entries that are stored
@@ -162,13 +165,13 @@ pub record LeftIsPublic (a : Account) (made : List Entry) (past : Past) (n : ℕ
     pub leaves : (wire : Traffic) → t.hub.open_wires.wires n ≡ Some wire → LeavesStored t.stored past wire
 
 abbrev pub LeftIsStored : Type 0
-LeftIsStored = (terms : DeskTerms) (deeds : List EngineDeed) (s t : EngineState) (a : Account)
-    → AreStepLimits terms.limits → RunsEngine true terms s deeds t → BeginsStored s
+LeftIsStored = (terms : DispatcherTerms) (effects : List EngineEffect) (s t : EngineState) (a : Account)
+    → AreStepLimits terms.limits → RunsEngine true terms s effects t → BeginsStored s
     → t.hub.now ≤ max_moment → IsHubAccount a s.hub
-    → (run : RunsHub true terms s.hub (answers_in deeds) t.hub)
+    → (run : RunsHub true terms s.hub (answers_in effects) t.hub)
     → (n : ℕ) (past : Past) → HasPast s.hub n past → ArePublic a past
-    → LeftIsPublic a (made_in (answers_in deeds)) (past_after n past s.hub.book.length
-    (all_deeds (run_deeds true terms (answers_in deeds) s.hub t.hub run))) n t
+    → LeftIsPublic a (made_in (answers_in effects)) (past_after n past s.hub.book.length
+    (all_effects (run_effects true terms (answers_in effects) s.hub t.hub run))) n t
 
 -- ---- want of memory
 

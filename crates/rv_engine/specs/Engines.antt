@@ -2,14 +2,14 @@
 use Rattle.std.specs.Prelude.{ℕ, ◌≡◌, ◌≤◌, List, [], drop, false, length, string_bytes, vec_capacity}
 use Rattle.rv_account.specs.declared.entry.Entry.{Entry}
 use Rattle.rv_wires.specs.Flags.{AreListed}
-use Rattle.rv_hub.specs.desk.View.{DeskState}
+use Rattle.rv_hub.specs.dispatcher.View.{DispatcherState}
 use Rattle.rv_hub.specs.Hubs.{hub_state}
 use Rattle.rv_engine.specs.declared.looks.LookList.{LookList}
 use Rattle.rv_engine.specs.declared.parts.EngineParts.{EngineParts}
 
 -- what contracts see of an engine
 pub record EngineState : Type 0 where
-  pub hub : DeskState
+  pub hub : DispatcherState
   -- the lines that are gathered and not written
   pub lines : List ℕ
   -- the entries of the last event of which no line is gathered yet
@@ -27,7 +27,7 @@ abbrev pub engine_state : EngineParts → EngineState
 engine_state e = record {
   hub = hub_state e.hub;
   lines = string_bytes e.lines;
-  left = drop e.gathered e.hub.desk.entries.items;
+  left = drop e.gathered e.hub.dispatcher.entries.items;
   stored = e.stored;
   looks = e.looks.numbers.items;
   round = e.round.numbers.items;
@@ -41,7 +41,7 @@ IsLooks list = AreListed list.flags.items list.numbers.items (vec_capacity list.
 -- where no account is kept no line is gathered, and no entry is left
 pub record KeepsNothing (e : EngineParts) : Type 0 where
   pub lines : string_bytes e.lines ≡ []
-  pub left : drop e.gathered e.hub.desk.entries.items ≡ []
+  pub left : drop e.gathered e.hub.dispatcher.entries.items ≡ []
 
 -- what always holds
 pub record IsEngine (e : EngineParts) : Type 0 where
@@ -49,5 +49,5 @@ pub record IsEngine (e : EngineParts) : Type 0 where
   pub round : IsLooks e.round
   pub room : length e.round.flags.items ≡ length e.looks.flags.items
   pub account : e.hub.has_journal ≡ e.has_account
-  pub within : e.gathered ≤ length e.hub.desk.entries.items
+  pub within : e.gathered ≤ length e.hub.dispatcher.entries.items
   pub nothing : e.has_account ≡ false → KeepsNothing e

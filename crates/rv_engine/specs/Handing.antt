@@ -7,8 +7,8 @@ use Rattle.rv_frame.specs.declared.sink.Sink.{Sink}
 use Rattle.rv_frame.specs.Sink.{SinkTakes, sink_failed}
 use Rattle.rv_lines.specs.Lines.{printed_lines}
 use Rattle.rv_lines.specs.Written.{entry_text}
-use Rattle.rv_hub.specs.desk.View.{DeskTerms, begun}
-use Rattle.rv_hub.specs.desk.Runs.{ListsChanged}
+use Rattle.rv_hub.specs.dispatcher.View.{DispatcherTerms, begun}
+use Rattle.rv_hub.specs.dispatcher.Runs.{ListsChanged}
 use Rattle.rv_hub.specs.declared.events.EventRefusal.{EventRefusal}
 use Rattle.rv_hub.specs.declared.events.HubEvent.{HubEvent}
 use Rattle.rv_hub.specs.declared.events.HubEvent.TheVariants as event
@@ -105,7 +105,8 @@ pub record Gathers (old new : EngineState) : Type 0 where
 -- the event was handed on, once all lines of earlier entries were gathered, and the hub took it: that entries
 -- are written only of those that are stored. Of the entries that it made the lines are gathered too, or they
 -- are left; and each that changed is to be looked at
-pub record HandsOn (journal : Bool) (terms : DeskTerms) (old : EngineState) (handed : ℕ) (what : HubEvent)
+pub record HandsOn (journal : Bool) (terms : DispatcherTerms) (old : EngineState) (handed : ℕ) (what :
+    HubEvent)
     (made : List Entry) (given : ℕ) (new : EngineState) : Type 0
   where
     pub tells : TellsStored what old.stored
@@ -165,7 +166,8 @@ abbrev pub written_event : EngineState → HubEvent
 written_event s = event.Written s.hub.book.length
 
 -- the hub is told that all its entries are written, and gives this, where it knows of fewer
-abbrev pub TellsWritten : Bool → DeskTerms → EngineState → ℕ → List Entry → Option ℕ → EngineState → Type 0
+abbrev pub TellsWritten : Bool → DispatcherTerms → EngineState → ℕ → List Entry → Option ℕ → EngineState
+    → Type 0
 TellsWritten journal terms old now made None new =
     (old.hub.book.length ≤ old.hub.open_wires.written) × (new ≡ old)
 TellsWritten journal terms old now made (Some given) new =

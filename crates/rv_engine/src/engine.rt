@@ -11,7 +11,7 @@ use rv_hub::Hub;
 use rv_machine::Machine;
 use rv_rules::Limits;
 use rv_text::NoMemory;
-use rv_wires::hearers::ConnectionNumber;
+use rv_wires::subscribers::ConnectionNumber;
 use std::alloc::Global;
 use std::io::Write;
 use std::marker::Model;
@@ -46,7 +46,7 @@ impl Engine {
     ghost use Rattle.rv_machine.specs.Machines.{state_in};
     ghost use Rattle.rv_state.specs.resume.Resuming.{CanResume};
     ghost use Rattle.rv_rules.specs.StepLimits.{AreStepLimits};
-    ghost use Rattle.rv_wires.specs.hearers.Hearing.{nobody};
+    ghost use Rattle.rv_wires.specs.subscribers.Subscription.{nobody};
     ghost use Rattle.rv_wires.specs.Connections.{none_open};
     ghost use Rattle.rv_hub.specs.Hubs.{hub_terms};
     ghost use Rattle.rv_engine.specs.Engines.{engine_state};
@@ -113,13 +113,13 @@ impl Engine {
     /// taken, else 0.
     pub fn tell(&mut self, now: u64, event: LinkEvent<'_>) -> Result<usize, EngineFault>
         ensures takes { IfOk result (λ given. HandsOn self.old.hub.has_journal (hub_terms self.old.hub)
-            (engine_state self.old) now (told_hub event.entry) self.new.hub.desk.entries.items given
+            (engine_state self.old) now (told_hub event.entry) self.new.hub.dispatcher.entries.items given
             (engine_state self.new)) }
         ensures refused { IfErr result (λ why. IsRefused (engine_state self.old) (told_hub event.entry) why
             (engine_state self.new)) }
         ensures terms { hub_terms self.new.hub ≡ hub_terms self.old.hub }
         ensures journal { self.new.hub.has_journal ≡ self.old.hub.has_journal }
-        ensures calls { IfOk result (λ _. CountsMore self.old.calls self.new.hub.desk.entries.items
+        ensures calls { IfOk result (λ _. CountsMore self.old.calls self.new.hub.dispatcher.entries.items
             self.new.calls) }
         ensures no_calls { OnErr result (self.new.calls ≡ self.old.calls) }
     {
@@ -133,10 +133,10 @@ impl Engine {
         requires can { EventCan (engine_state self.old).hub (told_hub event) }
         requires no_opening { IsNoOpening (told_hub event) }
         ensures takes { HandsOn self.old.hub.has_journal (hub_terms self.old.hub) (engine_state self.old) now
-            (told_hub event.entry) self.new.hub.desk.entries.items result (engine_state self.new) }
+            (told_hub event.entry) self.new.hub.dispatcher.entries.items result (engine_state self.new) }
         ensures terms { hub_terms self.new.hub ≡ hub_terms self.old.hub }
         ensures journal { self.new.hub.has_journal ≡ self.old.hub.has_journal }
-        ensures calls { CountsMore self.old.calls self.new.hub.desk.entries.items self.new.calls }
+        ensures calls { CountsMore self.old.calls self.new.hub.dispatcher.entries.items self.new.calls }
     {
         handing::hand_sure(&mut self.parts, now, hub_event(event))
     }
@@ -154,14 +154,14 @@ impl Engine {
             (unwritten (engine_state self.old))) }
         ensures works { OnOk result (HasWorked file.old file.new) }
         ensures tells { IfOk result (λ told. TellsWritten self.old.hub.has_journal (hub_terms self.old.hub)
-            (all_gone (engine_state self.old)) now self.new.hub.desk.entries.items told
+            (all_gone (engine_state self.old)) now self.new.hub.dispatcher.entries.items told
             (engine_state self.new)) }
         ensures not_told { IfErr result (λ why. IsNotTold W.contents (engine_state self.old) file.old why
             (engine_state self.new) file.new) }
         ensures terms { hub_terms self.new.hub ≡ hub_terms self.old.hub }
         ensures journal { self.new.hub.has_journal ≡ self.old.hub.has_journal }
         ensures calls { IfOk result (λ told. CountsTold told self.old.calls
-            self.new.hub.desk.entries.items self.new.calls) }
+            self.new.hub.dispatcher.entries.items self.new.calls) }
         ensures no_calls { OnErr result (self.new.calls ≡ self.old.calls) }
     {
         writing::write_lines(&mut self.parts, now, file)

@@ -12,7 +12,7 @@ use crate::events::EngineFault;
 use crate::gathering::{gather, gather_kept};
 use crate::parts::EngineParts;
 use rv_hub::HubEvent;
-use rv_wires::hearers::ConnectionNumber;
+use rv_wires::subscribers::ConnectionNumber;
 
 /// Gathers the lines of the entries that are left, as far as memory allows.
 pub(crate) fn catch_up(parts: &mut EngineParts)
@@ -59,13 +59,13 @@ fn hand_over(parts: &mut EngineParts, now: u64, event: HubEvent<'_>) -> Result<u
     requires tells { TellsStored event (engine_state parts.old).stored }
     ensures sound { IsEngine parts.new }
     ensures takes { IfOk result (λ given. HandsOn parts.old.hub.has_journal (hub_terms parts.old.hub)
-        (engine_state parts.old) now event.entry parts.new.hub.desk.entries.items given
+        (engine_state parts.old) now event.entry parts.new.hub.dispatcher.entries.items given
         (engine_state parts.new)) }
     ensures refused { IfErr result (λ why. IsRefused (engine_state parts.old) event.entry why
         (engine_state parts.new)) }
     ensures terms { hub_terms parts.new.hub ≡ hub_terms parts.old.hub }
     ensures journal { parts.new.hub.has_journal ≡ parts.old.hub.has_journal }
-    ensures calls { IfOk result (λ _. CountsMore parts.old.calls parts.new.hub.desk.entries.items
+    ensures calls { IfOk result (λ _. CountsMore parts.old.calls parts.new.hub.dispatcher.entries.items
         parts.new.calls) }
     ensures no_calls { OnErr result (parts.new.calls ≡ parts.old.calls) }
 {
@@ -93,10 +93,10 @@ pub(crate) fn hand_sure(parts: &mut EngineParts, now: u64, event: HubEvent<'_>) 
     requires tells { TellsStored event (engine_state parts.old).stored }
     ensures sound { IsEngine parts.new }
     ensures takes { HandsOn parts.old.hub.has_journal (hub_terms parts.old.hub) (engine_state parts.old) now
-        event.entry parts.new.hub.desk.entries.items result (engine_state parts.new) }
+        event.entry parts.new.hub.dispatcher.entries.items result (engine_state parts.new) }
     ensures terms { hub_terms parts.new.hub ≡ hub_terms parts.old.hub }
     ensures journal { parts.new.hub.has_journal ≡ parts.old.hub.has_journal }
-    ensures calls { CountsMore parts.old.calls parts.new.hub.desk.entries.items parts.new.calls }
+    ensures calls { CountsMore parts.old.calls parts.new.hub.dispatcher.entries.items parts.new.calls }
 {
     match hand_over(parts, now, event) {
         Ok(given) => given,
@@ -114,13 +114,13 @@ pub(crate) fn hand_on(
     requires tells { TellsStored event (engine_state parts.old).stored }
     ensures sound { IsEngine parts.new }
     ensures takes { IfOk result (λ given. HandsOn parts.old.hub.has_journal (hub_terms parts.old.hub)
-        (engine_state parts.old) now event.entry parts.new.hub.desk.entries.items given
+        (engine_state parts.old) now event.entry parts.new.hub.dispatcher.entries.items given
         (engine_state parts.new)) }
     ensures refused { IfErr result (λ why. IsRefused (engine_state parts.old) event.entry why
         (engine_state parts.new)) }
     ensures terms { hub_terms parts.new.hub ≡ hub_terms parts.old.hub }
     ensures journal { parts.new.hub.has_journal ≡ parts.old.hub.has_journal }
-    ensures calls { IfOk result (λ _. CountsMore parts.old.calls parts.new.hub.desk.entries.items
+    ensures calls { IfOk result (λ _. CountsMore parts.old.calls parts.new.hub.dispatcher.entries.items
         parts.new.calls) }
     ensures no_calls { OnErr result (parts.new.calls ≡ parts.old.calls) }
 {

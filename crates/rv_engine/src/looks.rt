@@ -5,7 +5,7 @@ ghost use Rattle.rv_wires.specs.Connections.{ListsOne};
 ghost use Rattle.rv_engine.specs.Engines.{IsLooks};
 ghost use Rattle.rv_engine.specs.Handing.{AddsLooks};
 
-use rv_wires::hearers::ConnectionNumber;
+use rv_wires::subscribers::ConnectionNumber;
 use std::alloc::{AllocError, Global};
 
 /// The numbers that are listed, with room for all that have a flag.

@@ -63,10 +63,10 @@ fn tell_written(parts: &mut EngineParts, now: u64) -> Option<usize>
     requires stored { (engine_state parts.old).stored ≡ (engine_state parts.old).hub.book.length }
     ensures sound { IsEngine parts.new }
     ensures tells { TellsWritten parts.old.hub.has_journal (hub_terms parts.old.hub) (engine_state parts.old)
-        now parts.new.hub.desk.entries.items result (engine_state parts.new) }
+        now parts.new.hub.dispatcher.entries.items result (engine_state parts.new) }
     ensures terms { hub_terms parts.new.hub ≡ hub_terms parts.old.hub }
     ensures journal { parts.new.hub.has_journal ≡ parts.old.hub.has_journal }
-    ensures calls { CountsTold result parts.old.calls parts.new.hub.desk.entries.items parts.new.calls }
+    ensures calls { CountsTold result parts.old.calls parts.new.hub.dispatcher.entries.items parts.new.calls }
 {
     let entries = entry_count(parts);
     if parts.hub.written() >= entries as u64 {
@@ -87,13 +87,14 @@ pub(crate) fn write_lines<W: Write>(
         (unwritten (engine_state parts.old))) }
     ensures works { OnOk result (HasWorked file.old file.new) }
     ensures tells { IfOk result (λ told. TellsWritten parts.old.hub.has_journal (hub_terms parts.old.hub)
-        (all_gone (engine_state parts.old)) now parts.new.hub.desk.entries.items told
+        (all_gone (engine_state parts.old)) now parts.new.hub.dispatcher.entries.items told
         (engine_state parts.new)) }
     ensures not_told { IfErr result (λ why. IsNotTold W.contents (engine_state parts.old) file.old why
         (engine_state parts.new) file.new) }
     ensures terms { hub_terms parts.new.hub ≡ hub_terms parts.old.hub }
     ensures journal { parts.new.hub.has_journal ≡ parts.old.hub.has_journal }
-    ensures calls { IfOk result (λ told. CountsTold told parts.old.calls parts.new.hub.desk.entries.items
+    ensures calls { IfOk result (λ told. CountsTold told parts.old.calls
+        parts.new.hub.dispatcher.entries.items
         parts.new.calls) }
     ensures no_calls { OnErr result (parts.new.calls ≡ parts.old.calls) }
 {

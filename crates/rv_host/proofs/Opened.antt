@@ -3,7 +3,7 @@ use Rattle.std.proofs.Common.{[], ◌≡◌, ◌≤◌, ℕ, arith, refl, subst,
 use Rattle.rv_account.specs.Limits.{max_moment}
 use Rattle.rv_rules.specs.Steps.{capped_moment}
 use Rattle.rv_state.specs.State.{opening}
-use Rattle.rv_hub.specs.desk.View.{DeskState}
+use Rattle.rv_hub.specs.dispatcher.View.{DispatcherState}
 use Rattle.rv_engine.specs.Engines.{EngineState}
 use Rattle.rv_engine.specs.EngineRuns.{BeginsStored}
 use Rattle.rv_machine.specs.Machines.{state_in}
@@ -22,7 +22,7 @@ opened_resumes machine epoch fits is =
     subst CanResume (sym is) (openings_resume epoch (capped_moment 0) (fits.0, fits.1) (within 0))
 
 -- all of a new engine is written, and stored
-pub begins_new : (s : EngineState) (hub : DeskState) (stored room : ℕ)
+pub begins_new : (s : EngineState) (hub : DispatcherState) (stored room : ℕ)
     → s ≡ record { hub = hub; lines = []; left = []; stored = stored; looks = []; round = []; room = room }
     → stored ≡ hub.book.length → hub.open_wires.written ≤ hub.book.length → BeginsStored s
 begins_new s hub stored room is same told =

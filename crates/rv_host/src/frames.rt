@@ -4,7 +4,7 @@ ghost use Rattle.rv_host.specs.Times.{IsSeenSince};
 
 use crate::overdue::seen_since;
 use rv_wires::connection::Wire;
-use rv_wires::hearers::ConnectionNumber;
+use rv_wires::subscribers::ConnectionNumber;
 use std::alloc::{AllocError, Global};
 
 /// For each connection, by its number, the look since which it is in the middle of one frame, if it is.

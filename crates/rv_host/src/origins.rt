@@ -4,7 +4,7 @@ ghost use Rattle.rv_traffic.specs.links.Table.{link_at};
 ghost use Rattle.rv_host.specs.Origins.{MayCome, count_from, is_from};
 
 use rv_traffic::links::Links;
-use rv_wires::hearers::ConnectionNumber;
+use rv_wires::subscribers::ConnectionNumber;
 use std::alloc::{AllocError, Global};
 use std::net::{IpAddr, SocketAddr};
 

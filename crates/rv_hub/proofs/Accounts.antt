@@ -1,4 +1,4 @@
--- What deeds are of a legal account.
+-- What effects are of a legal account.
 use Rattle.std.proofs.Common.{inl, inr, ◌≡◌, ◌≢◌, ◌≤◌, ◌<◌, ◌∙◌, ◌++◌, ◌∷◌, ℕ, List, [], None}
 use Rattle.std.proofs.Common.{Some, refl, sym, ap, subst, arith}
 use Rattle.std.proofs.Common.{append_assoc}
@@ -30,15 +30,14 @@ use Rattle.rv_state.specs.State.{ClientState, State, client_at}
 use Rattle.rv_state.proofs.StateLaws.{moves_step_under, states_agree, ticks_step}
 use Rattle.rv_state.proofs.OfWaiting.OwnMoments.{none_due_now}
 use Rattle.rv_state.proofs.OfWaiting.WaitingLaws.{moves_last, ticks_last}
-use Rattle.rv_hub.specs.desk.View.{DeskState, DeskTerms, begun}
-use Rattle.rv_hub.specs.desk.Deeds.{AnswersOrWaits, Deed, Does, DoesAll, DoesElapse, MakesStep, Stepped}
-use Rattle.rv_hub.specs.desk.Deeds.{entries_of_deed}
-use Rattle.rv_hub.specs.desk.Deeds.{Asked, Closed, Elapsed, EndedInput, Lacked, Left, Lost, Opened}
-use Rattle.rv_hub.specs.desk.Deeds.{ReadNothing, Told, TookIn, Wrote}
-use Rattle.rv_hub.specs.desk.Runs.{Cause, Heard, RunsBook, Time}
-use Rattle.rv_hub.specs.desk.Telling.{IsToldAgain}
-use Rattle.rv_hub.proofs.OfDesk.OneBook.{one_run}
-use Rattle.rv_hub.specs.HubRuns.{AddsEntries, AnswersByRules, BeginsAccount, DeedsLeadOn, DoesEvents}
+use Rattle.rv_hub.specs.dispatcher.View.{DispatcherState, DispatcherTerms, begun}
+use Rattle.rv_hub.specs.dispatcher.Effects.{AnswersOrWaits, Effect, Does, DoesAll, DoesElapse, MakesStep}
+use Rattle.rv_hub.specs.dispatcher.Effects.{Stepped, entries_of_effect, Asked, Closed, Elapsed, EndedInput}
+use Rattle.rv_hub.specs.dispatcher.Effects.{Lacked, Left, Lost, Opened, ReadNothing, Told, TookIn, Wrote}
+use Rattle.rv_hub.specs.dispatcher.Runs.{Cause, Heard, RunsBook, Time}
+use Rattle.rv_hub.specs.dispatcher.Telling.{IsToldAgain}
+use Rattle.rv_hub.proofs.OfDispatcher.OneBook.{one_run}
+use Rattle.rv_hub.specs.HubRuns.{AddsEntries, AnswersByRules, BeginsAccount, EffectsLeadOn, DoesEvents}
 use Rattle.rv_hub.specs.HubRuns.{EventsLeadOn}
 use Rattle.rv_hub.specs.HubRuns.{IsHubAccount, LeadsToAccount, TellsPublicReply}
 use Rattle.rv_hub.specs.Turns.{made_by}
@@ -55,15 +54,16 @@ run_rises limits now later s t (Time moment ∷ causes) entries (rest, before, p
 run_rises limits now later s t (Heard message ∷ causes) entries (move, rest, moves, parts, run) =
     run_rises limits now later move.after t causes rest run
 
-pub deeds_rise : (terms : DeskTerms) (deeds : List Deed) (s t : DeskState) → DoesAll terms s deeds t
+pub effects_rise : (terms : DispatcherTerms) (effects : List Effect) (s t : DispatcherState)
+    → DoesAll terms s effects t
     → s.now ≤ t.now
-deeds_rise terms deeds s t does =
-    let run = one_run terms deeds s t does in
+effects_rise terms effects s t does =
+    let run = one_run terms effects s t does in
     run_rises terms.limits s.now t.now s.book t.book run.0 _ run.1
 
 -- ---- one account
 
-pub own_before : (a : Account) (s : DeskState) (moment : ℕ) → IsHubAccount a s → s.now ≤ moment
+pub own_before : (a : Account) (s : DispatcherState) (moment : ℕ) → IsHubAccount a s → s.now ≤ moment
     → own_moment a ≤ moment
 own_before a s moment is before =
     let agree = (states_agree a is.legal).moment in
@@ -82,7 +82,7 @@ adds_on a b c one two first second = record {
   entries = second.entries ∙ ap (λ l. l ++ two) first.entries ∙ append_assoc a.entries one two;
 }
 
-leads_on : (a : Account) (one two : List Entry) (m t : DeskState) (first : LeadsToAccount a one m)
+leads_on : (a : Account) (one two : List Entry) (m t : DispatcherState) (first : LeadsToAccount a one m)
     → LeadsToAccount first.after two t → LeadsToAccount a (one ++ two) t
 leads_on a one two m t first second = record {
   after = second.after;
@@ -100,7 +100,7 @@ begins a s legal same resumes now = record {
 }
 
 -- the account, where neither it nor the moment changes
-pub same_account : (a : Account) (s t : DeskState) → t.book ≡ s.book → t.now ≡ s.now → IsHubAccount a s
+pub same_account : (a : Account) (s t : DispatcherState) → t.book ≡ s.book → t.now ≡ s.now → IsHubAccount a s
     → IsHubAccount a t
 same_account a s t book now is = record {
   legal = is.legal;
@@ -111,17 +111,17 @@ same_account a s t book now is = record {
   none_due = ap (λ (x : State). due_at x t.now) book ∙ ap (λ n. due_at s.book n) now ∙ is.none_due;
 }
 
-stays : (a : Account) (s t : DeskState) → t.book ≡ s.book → t.now ≡ s.now → IsHubAccount a s
+stays : (a : Account) (s t : DispatcherState) → t.book ≡ s.book → t.now ≡ s.now → IsHubAccount a s
     → LeadsToAccount a [] t
 stays a s t book now is = record { after = a; adds = adds_none a; is = same_account a s t book now is }
 
 -- with the entries of time-outs
-elapsed_leads : (a : Account) (s t : DeskState) (moment : ℕ) (entries : List Entry) (settled : List Key)
+elapsed_leads : (a : Account) (s t : DispatcherState) (moment : ℕ) (entries : List Entry) (settled : List Key)
     → DoesElapse s moment entries settled t → t.now ≤ max_moment → IsHubAccount a s
     → LeadsToAccount a entries t
 elapsed_leads a s t moment entries settled does time is =
-    let now : t.now ≡ moment = ap (λ (u : DeskState). u.now) does.after in
-    let book : t.book ≡ (ticked_at s.book moment).after = ap (λ (u : DeskState). u.book) does.after in
+    let now : t.now ≡ moment = ap (λ (u : DispatcherState). u.now) does.after in
+    let book : t.book ≡ (ticked_at s.book moment).after = ap (λ (u : DispatcherState). u.book) does.after in
     let later = does.later in
     let before = is.later in
     let ticks = ticks_step a moment is.legal (own_before a s moment is later) in
@@ -176,14 +176,15 @@ next_here limits s now m move before time none moves =
       after = refl;
     }
 
-pub step_leads : (terms : DeskTerms) (a : Account) (s t : DeskState) (step : Stepped) (said : Answer)
+pub step_leads : (terms : DispatcherTerms) (a : Account) (s t : DispatcherState) (step : Stepped) (said :
+    Answer)
     → AreStepLimits terms.limits → FitsMessage step.message → MakesStep terms s step said t
     → s.now ≤ max_moment
     → IsHubAccount a s → LeadsToAccount a step.entries t
 step_leads terms a s t step said limits fits makes time is =
     let move = makes.move in
-    let book : t.book ≡ move.after = ap (λ (u : DeskState). u.book) makes.after in
-    let now : t.now ≡ s.now = ap (λ (u : DeskState). u.now) makes.after in
+    let book : t.book ≡ move.after = ap (λ (u : DispatcherState). u.book) makes.after in
+    let now : t.now ≡ s.now = ap (λ (u : DispatcherState). u.now) makes.after in
     let next = next_here terms.limits s.book s.now step.message move is.later time is.none_due makes.moves in
     let own = subst (λ (x : State). StateNextUnder terms.limits x s.now step.message move) (sym is.state) next
     in
@@ -226,25 +227,27 @@ by_rules terms s t a connection body step said time is does =
       },
     )
 
--- ---- each deed
+-- ---- each effect
 
-answered_account : (terms : DeskTerms) (a : Account) (s t : DeskState) (connection : ℕ) (body : List ℕ)
+answered_account : (terms : DispatcherTerms) (a : Account) (s t : DispatcherState) (connection : ℕ) (body :
+    List ℕ)
     (said : Answer)
     → AnswersOrWaits terms s connection body said t → IsHubAccount a s → IsHubAccount a t
 answered_account terms a s t connection body (answer.Waiting key) does is =
-    same_account a s t (ap (λ (u : DeskState). u.book) does.rest) (ap (λ (u : DeskState). u.now) does.rest) is
+    same_account a s t (ap (λ (u : DispatcherState). u.book) does.rest) (ap (λ (u : DispatcherState). u.now)
+    does.rest) is
 answered_account terms a s t connection body (answer.Replied key reply) does is =
-    same_account a s t (ap (λ (u : DeskState). u.book) does.answers.rest)
-    (ap (λ (u : DeskState). u.now) does.answers.rest) is
+    same_account a s t (ap (λ (u : DispatcherState). u.book) does.answers.rest)
+    (ap (λ (u : DispatcherState). u.now) does.answers.rest) is
 answered_account terms a s t connection body (answer.Welcome epoch client incarnation version) does is =
-    same_account a s t (ap (λ (u : DeskState). u.book) does.answers.rest)
-    (ap (λ (u : DeskState). u.now) does.answers.rest) is
+    same_account a s t (ap (λ (u : DispatcherState). u.book) does.answers.rest)
+    (ap (λ (u : DispatcherState). u.now) does.answers.rest) is
 answered_account terms a s t connection body (answer.Refused refusal) does is =
-    same_account a s t (ap (λ (u : DeskState). u.book) does.answers.rest)
-    (ap (λ (u : DeskState). u.now) does.answers.rest) is
+    same_account a s t (ap (λ (u : DispatcherState). u.book) does.answers.rest)
+    (ap (λ (u : DispatcherState). u.now) does.answers.rest) is
 
 -- the account is as it was behind the step
-behind : (a : Account) (made : List Entry) (m t : DeskState) → LeadsToAccount a made m
+behind : (a : Account) (made : List Entry) (m t : DispatcherState) → LeadsToAccount a made m
     → ((b : Account) → IsHubAccount b m → IsHubAccount b t) → LeadsToAccount a made t
 behind a made m t leads goes = record {
   after = leads.after;
@@ -252,77 +255,88 @@ behind a made m t leads goes = record {
   is = goes leads.after leads.is;
 }
 
-pub deed_leads : (terms : DeskTerms) (deed : Deed) (s t : DeskState) (a : Account)
+pub effect_leads : (terms : DispatcherTerms) (effect : Effect) (s t : DispatcherState) (a : Account)
     → AreStepLimits terms.limits
-    → Does terms s deed t → s.now ≤ max_moment → t.now ≤ max_moment → IsHubAccount a s
-    → LeadsToAccount a (entries_of_deed deed) t
-deed_leads terms (Elapsed moment entries settled) s t a limits does before time is =
+    → Does terms s effect t → s.now ≤ max_moment → t.now ≤ max_moment → IsHubAccount a s
+    → LeadsToAccount a (entries_of_effect effect) t
+effect_leads terms (Elapsed moment entries settled) s t a limits does before time is =
     elapsed_leads a s t moment entries settled does time is
-deed_leads terms (Opened connection) s t a limits does before time is =
-    stays a s t (ap (λ (u : DeskState). u.book) does.rest) (ap (λ (u : DeskState). u.now) does.rest) is
-deed_leads terms (TookIn connection bytes) s t a limits does before time is =
-    stays a s t (ap (λ (u : DeskState). u.book) does.rest) (ap (λ (u : DeskState). u.now) does.rest) is
-deed_leads terms (EndedInput connection) s t a limits does before time is =
-    stays a s t (ap (λ (u : DeskState). u.book) does.rest) (ap (λ (u : DeskState). u.now) does.rest) is
-deed_leads terms (Left connection count) s t a limits does before time is =
-    stays a s t (ap (λ (u : DeskState). u.book) does.rest) (ap (λ (u : DeskState). u.now) does.rest) is
-deed_leads terms (Wrote entries) s t a limits does before time is =
-    stays a s t (ap (λ (u : DeskState). u.book) does.rest) (ap (λ (u : DeskState). u.now) does.rest) is
-deed_leads terms (Asked connection body step said) s t a limits does before time is =
+effect_leads terms (Opened connection) s t a limits does before time is =
+    stays a s t (ap (λ (u : DispatcherState). u.book) does.rest) (ap (λ (u : DispatcherState). u.now)
+    does.rest) is
+effect_leads terms (TookIn connection bytes) s t a limits does before time is =
+    stays a s t (ap (λ (u : DispatcherState). u.book) does.rest) (ap (λ (u : DispatcherState). u.now)
+    does.rest) is
+effect_leads terms (EndedInput connection) s t a limits does before time is =
+    stays a s t (ap (λ (u : DispatcherState). u.book) does.rest) (ap (λ (u : DispatcherState). u.now)
+    does.rest) is
+effect_leads terms (Left connection count) s t a limits does before time is =
+    stays a s t (ap (λ (u : DispatcherState). u.book) does.rest) (ap (λ (u : DispatcherState). u.now)
+    does.rest) is
+effect_leads terms (Wrote entries) s t a limits does before time is =
+    stays a s t (ap (λ (u : DispatcherState). u.book) does.rest) (ap (λ (u : DispatcherState). u.now)
+    does.rest) is
+effect_leads terms (Asked connection body step said) s t a limits does before time is =
     behind a step.entries does.between t
     (step_leads terms a s does.between step said limits does.is.2 does.steps before is)
     (λ b. answered_account terms b does.between t connection body said does.rest)
-deed_leads terms (ReadNothing connection body) s t a limits does before time is =
-    stays a s t (ap (λ (u : DeskState). u.book) does.answers.answers.rest)
-    (ap (λ (u : DeskState). u.now) does.answers.answers.rest) is
-deed_leads terms (Lacked connection body None) s t a limits does before time is =
-    stays a s t (ap (λ (u : DeskState). u.book) does.answers.answers.rest ∙ ap (λ (u : DeskState). u.book)
+effect_leads terms (ReadNothing connection body) s t a limits does before time is =
+    stays a s t (ap (λ (u : DispatcherState). u.book) does.answers.answers.rest)
+    (ap (λ (u : DispatcherState). u.now) does.answers.answers.rest) is
+effect_leads terms (Lacked connection body None) s t a limits does before time is =
+    stays a s t (ap (λ (u : DispatcherState). u.book) does.answers.answers.rest
+    ∙ ap (λ (u : DispatcherState). u.book)
     does.stepped)
-    (ap (λ (u : DeskState). u.now) does.answers.answers.rest ∙ ap (λ (u : DeskState). u.now) does.stepped) is
-deed_leads terms (Lacked connection body (Some step)) s t a limits does before time is =
+    (ap (λ (u : DispatcherState). u.now) does.answers.answers.rest ∙ ap (λ (u : DispatcherState). u.now)
+    does.stepped) is
+effect_leads terms (Lacked connection body (Some step)) s t a limits does before time is =
     behind a step.entries does.between t
     (step_leads terms a s does.between step does.stepped.said limits does.stepped.is.2 does.stepped.steps
     before is)
-    (λ b. same_account b does.between t (ap (λ (u : DeskState). u.book) does.answers.answers.rest)
-    (ap (λ (u : DeskState). u.now) does.answers.answers.rest))
-deed_leads terms (Lost connection body step) s t a limits does before time is =
+    (λ b. same_account b does.between t (ap (λ (u : DispatcherState). u.book) does.answers.answers.rest)
+    (ap (λ (u : DispatcherState). u.now) does.answers.answers.rest))
+effect_leads terms (Lost connection body step) s t a limits does before time is =
     behind a step.entries does.between t
     (step_leads terms a s does.between step does.stepped.said limits does.stepped.is.2 does.stepped.steps
     before is)
-    (λ b. same_account b does.between t (ap (λ (u : DeskState). u.book) does.closes.rest)
-    (ap (λ (u : DeskState). u.now) does.closes.rest))
-deed_leads terms (Told connection key said) s t a limits does before time is =
-    stays a s t (ap (λ (u : DeskState). u.book) does.rest) (ap (λ (u : DeskState). u.now) does.rest) is
-deed_leads terms (Closed connection) s t a limits does before time is =
-    stays a s t (ap (λ (u : DeskState). u.book) does.rest) (ap (λ (u : DeskState). u.now) does.rest) is
+    (λ b. same_account b does.between t (ap (λ (u : DispatcherState). u.book) does.closes.rest)
+    (ap (λ (u : DispatcherState). u.now) does.closes.rest))
+effect_leads terms (Told connection key said) s t a limits does before time is =
+    stays a s t (ap (λ (u : DispatcherState). u.book) does.rest) (ap (λ (u : DispatcherState). u.now)
+    does.rest) is
+effect_leads terms (Closed connection) s t a limits does before time is =
+    stays a s t (ap (λ (u : DispatcherState). u.book) does.rest) (ap (λ (u : DispatcherState). u.now)
+    does.rest) is
 
-pub deeds_lead : DeedsLeadOn
-deeds_lead terms [] s t a limits same time is =
-    stays a s t (ap (λ (u : DeskState). u.book) same) (ap (λ (u : DeskState). u.now) same) is
-deeds_lead terms (deed ∷ deeds) s t a limits (mid, does, more) time is =
-    let later = deeds_rise terms deeds mid t more in
-    let one = deeds_rise terms (deed ∷ []) s mid (mid, does, refl) in
-    let first = deed_leads terms deed s mid a limits does (omega arith) (omega arith) is in
-    leads_on a (entries_of_deed deed) (flat_map entries_of_deed deeds) mid t first
-    (deeds_lead terms deeds mid t first.after limits more time first.is)
+pub effects_lead : EffectsLeadOn
+effects_lead terms [] s t a limits same time is =
+    stays a s t (ap (λ (u : DispatcherState). u.book) same) (ap (λ (u : DispatcherState). u.now) same) is
+effects_lead terms (effect ∷ effects) s t a limits (mid, does, more) time is =
+    let later = effects_rise terms effects mid t more in
+    let one = effects_rise terms (effect ∷ []) s mid (mid, does, refl) in
+    let first = effect_leads terms effect s mid a limits does (omega arith) (omega arith) is in
+    leads_on a (entries_of_effect effect) (flat_map entries_of_effect effects) mid t first
+    (effects_lead terms effects mid t first.after limits more time first.is)
 
-pub events_rise : (terms : DeskTerms) (events : List (List Deed)) (s t : DeskState)
+pub events_rise : (terms : DispatcherTerms) (events : List (List Effect)) (s t : DispatcherState)
     → DoesEvents terms s events t
     → s.now ≤ t.now
-events_rise terms [] s t same = let e : t.now ≡ s.now = ap (λ (u : DeskState). u.now) same in omega arith
-events_rise terms (deeds ∷ events) s t (mid, does, more) =
-    let first = deeds_rise terms deeds (begun s) mid does in
+events_rise terms [] s t same = let e : t.now ≡ s.now = ap (λ (u : DispatcherState). u.now) same in
+    omega arith
+events_rise terms (effects ∷ events) s t (mid, does, more) =
+    let first = effects_rise terms effects (begun s) mid does in
     let rest = events_rise terms events mid t more in
     omega arith
 
 pub events_lead : EventsLeadOn
 events_lead terms [] s t a limits same time is =
-    stays a s t (ap (λ (u : DeskState). u.book) same) (ap (λ (u : DeskState). u.now) same) is
-events_lead terms (deeds ∷ events) s t a limits (mid, does, more) time is =
+    stays a s t (ap (λ (u : DispatcherState). u.book) same) (ap (λ (u : DispatcherState). u.now) same) is
+events_lead terms (effects ∷ events) s t a limits (mid, does, more) time is =
     let rest = events_rise terms events mid t more in
-    let first = deeds_lead terms deeds (begun s) mid a limits does (omega arith) (same_account a s (begun s)
+    let first = effects_lead terms effects (begun s) mid a limits does (omega arith)
+    (same_account a s (begun s)
     refl refl is) in
-    leads_on a (flat_map entries_of_deed deeds) (made_by events) mid t first
+    leads_on a (flat_map entries_of_effect effects) (made_by events) mid t first
     (events_lead terms events mid t first.after limits more time first.is)
 
 -- ---- what is told
@@ -361,7 +375,7 @@ client_there a s client session legal same there =
     ((states_agree a legal).clients client)
 
 -- what became of the request of whoever is told
-pub told_became : (a : Account) (s : DeskState) (key : Key) (said : Answer) → IsHubAccount a s
+pub told_became : (a : Account) (s : DispatcherState) (key : Key) (said : Answer) → IsHubAccount a s
     → (told : IsToldAgain s.book key said) → told.session.incarnation ≡ key.incarnation
     → told.session.last ≡ key.number → BecameOf a.entries key told.session.request
 told_became a s key said is told incarnation last =
@@ -375,7 +389,7 @@ told_became a s key said is told incarnation last =
 pub fitting_number : (key : Key) → FitsKey key → key.number ≢ 0
 fitting_number key fits zero = let one = fits.3.0 in absurd (let no : ⊥ = omega (arith, one, zero) in no)
 
-told_public : (a : Account) (s : DeskState) (key : Key) (said : Answer) → IsHubAccount a s
+told_public : (a : Account) (s : DispatcherState) (key : Key) (said : Answer) → IsHubAccount a s
     → (told : IsToldAgain s.book key said) → (told.session.incarnation ≡ key.incarnation)
     × (told.session.last ≡ key.number) × (said ≡ answer_told key (told_again told.session.request))
     → Answers a key said
@@ -385,7 +399,7 @@ told_public a s key said is told (incarnation, last, same) =
     incarnation last))
 
 -- whoever's session has a greater incarnation
-old_refused : (a : Account) (s : DeskState) (key : Key) (said : Answer) → IsHubAccount a s
+old_refused : (a : Account) (s : DispatcherState) (key : Key) (said : Answer) → IsHubAccount a s
     → (told : IsToldAgain s.book key said) → (key.incarnation < told.session.incarnation)
     × (said ≡ answer.Refused (OldIncarnation told.session.incarnation))
     → (refusal : Refusal) × OldIncarnationDue a key.client key.incarnation refusal

@@ -3,9 +3,9 @@ use Rattle.std.proofs.Common.{◌≡◌, ◌<◌, ◌⊎◌, [], ℕ, arith, ref
 use Rattle.std.proofs.Common.{Bool, Err, IfErr, Ok, OnOk, Result, length}
 use Rattle.std.proofs.lemmas.Option.{none-some}
 use Rattle.rv_state.specs.State.{State}
-use Rattle.rv_wires.specs.hearers.Hearing.{nobody}
+use Rattle.rv_wires.specs.subscribers.Subscription.{nobody}
 use Rattle.rv_wires.specs.Connections.{HasWire, none_open}
-use Rattle.rv_hub.specs.desk.View.{DeskState}
+use Rattle.rv_hub.specs.dispatcher.View.{DispatcherState}
 use Rattle.rv_hub.specs.declared.events.EventRefusal.{EventRefusal}
 use Rattle.rv_hub.specs.declared.events.EventRefusal.TheVariants as refused
 use Rattle.rv_hub.specs.declared.events.HubEvent.{HubEvent}
@@ -18,7 +18,7 @@ pub ok_can : {T : Type 0} → (P Q : Type 0) (r : Result T EventRefusal) → (P 
 ok_can P Q (Ok x) goes holds = goes holds
 ok_can P Q (Err why) goes holds = tt
 
-pub took_cannot : {T : Type 0} → (s : DeskState) (what : HubEvent) (connection count : ℕ)
+pub took_cannot : {T : Type 0} → (s : DispatcherState) (what : HubEvent) (connection count : ℕ)
     (r : Result T EventRefusal)
     → what ≡ event.Took connection count
     → IfErr r (λ why. (IsNotOpen s connection × (why ≡ refused.NotOpen))
@@ -30,7 +30,7 @@ took_cannot s what connection count (Err why) is cannot =
 
 -- ---- a new hub
 
-pub new_rest : (journal : Bool) (s : DeskState) (book : State) → s ≡ record {
+pub new_rest : (journal : Bool) (s : DispatcherState) (book : State) → s ≡ record {
   book = book;
   now = book.moment;
   open_wires = none_open book.length;
@@ -40,10 +40,10 @@ pub new_rest : (journal : Bool) (s : DeskState) (book : State) → s ≡ record 
 new_rest journal s book same =
     subst (IsAtRest journal) (sym same) (record {
       stopped = λ connection. stops_closed;
-      hearers_owe = λ connection hearing there. absurd (none-some hearing there);
+      subscribers_owe = λ connection subscription there. absurd (none-some subscription there);
       owers_hear = λ connection wire there owes. absurd (none-some wire there);
-      waits = λ connection hearing there. absurd (none-some hearing there);
-      in_time = λ connection hearing there. absurd (none-some hearing there);
+      waits = λ connection subscription there. absurd (none-some subscription there);
+      in_time = λ connection subscription there. absurd (none-some subscription there);
       written = omega arith;
       all_written = λ none. refl;
     })

@@ -1,4 +1,4 @@
--- Each answer that deeds give is public.
+-- Each answer that effects give is public.
 use Rattle.std.proofs.Common.{inl, inr, ◌≡◌, ◌≤◌, ◌+◌, ◌∙◌, ◌++◌, ◌∷◌, ℕ, List, []}
 use Rattle.std.proofs.Common.{refl, sym, ap, subst, arith}
 use Rattle.std.proofs.Common.{All, Bool, append_assoc, cond, false, length, take, true}
@@ -29,20 +29,20 @@ use Rattle.rv_state.proofs.StateLaws.{states_agree}
 use Rattle.rv_state.specs.resume.Resuming.{CanResume}
 use Rattle.rv_state.proofs.OfWaiting.WaitingLaws.{moves_answer, old_fits, told_fits}
 use Rattle.rv_wires.specs.connection.History.{Given}
-use Rattle.rv_hub.specs.desk.View.{DeskState, DeskTerms, begun}
-use Rattle.rv_hub.specs.desk.Deeds.{Deed, Does, DoesAll, Stepped, entries_of_deed, rests_on}
-use Rattle.rv_hub.specs.desk.Deeds.{Asked, Closed, Elapsed, EndedInput, Lacked, Left, Lost, Opened}
-use Rattle.rv_hub.specs.desk.Deeds.{ReadNothing, Told, TookIn, Wrote}
-use Rattle.rv_hub.specs.desk.Telling.{IsToldAgain}
-use Rattle.rv_hub.specs.EventDeeds.{all_deeds}
-use Rattle.rv_hub.specs.HandedOut.{ArePublic, DeedsTellPublicly, HandedOutIsPublic, IsPublic}
+use Rattle.rv_hub.specs.dispatcher.View.{DispatcherState, DispatcherTerms, begun}
+use Rattle.rv_hub.specs.dispatcher.Effects.{Effect, Does, DoesAll, Stepped, entries_of_effect, rests_on}
+use Rattle.rv_hub.specs.dispatcher.Effects.{Asked, Closed, Elapsed, EndedInput, Lacked, Left, Lost, Opened}
+use Rattle.rv_hub.specs.dispatcher.Effects.{ReadNothing, Told, TookIn, Wrote}
+use Rattle.rv_hub.specs.dispatcher.Telling.{IsToldAgain}
+use Rattle.rv_hub.specs.EventEffects.{all_effects}
+use Rattle.rv_hub.specs.HandedOut.{ArePublic, EffectsTellPublicly, HandedOutIsPublic, IsPublic}
 use Rattle.rv_hub.specs.HubRuns.{DoesEvents, IsHubAccount}
-use Rattle.rv_hub.specs.Pasts.{Past, is_deed_of, past_after, past_by, with_said}
+use Rattle.rv_hub.specs.Pasts.{Past, is_effect_of, past_after, past_by, with_said}
 use Rattle.rv_hub.specs.Turns.{made_by}
-use Rattle.rv_hub.proofs.Accounts.{by_rules, deed_leads, deeds_lead, deeds_rise, events_rise, same_account}
-use Rattle.rv_hub.proofs.Accounts.{told_became}
+use Rattle.rv_hub.proofs.Accounts.{by_rules, effect_leads, effects_lead, effects_rise, events_rise}
+use Rattle.rv_hub.proofs.Accounts.{same_account, told_became}
 use Rattle.rv_hub.proofs.Histories.{past_on}
-use Rattle.rv_hub.proofs.Longer.{deed_counts, deeds_count}
+use Rattle.rv_hub.proofs.Longer.{effect_counts, effects_count}
 use Rattle.rv_hub.proofs.StepReplies.{TellsReply, next_tells, refused_differs, replies_tell, waiting_differs}
 
 -- ---- one answer
@@ -121,7 +121,7 @@ became_tells a key CancelledUnseen became other told =
     replies_tell a other key told (answer.Replied key Cancelled)
     (record { reply = Cancelled; has = inr (became, refl); is = refl })
 
-told_tells : (a : Account) (s : DeskState) (key : Key) (said : Answer) → IsHubAccount a s
+told_tells : (a : Account) (s : DispatcherState) (key : Key) (said : Answer) → IsHubAccount a s
     → IsToldAgain s.book key said → (other : Key) (reply : Reply) → TellsReply a other reply said
 told_tells a s key said is told other reply =
     elim told.told [
@@ -146,7 +146,8 @@ told_answers s key said resumes told =
     ]
 
 -- so is the answer to a step
-asked_answers : (terms : DeskTerms) (s t : DeskState) (a : Account) (n : ℕ) (body : List ℕ) (step : Stepped)
+asked_answers : (terms : DispatcherTerms) (s t : DispatcherState) (a : Account) (n : ℕ) (body : List ℕ)
+    (step : Stepped)
     (said : Answer) → AreStepLimits terms.limits → s.now ≤ max_moment → IsHubAccount a s
     → Does terms s (Asked n body step said) t → FitsAnswer said
 asked_answers terms s t a n body step said limits time is does =
@@ -155,17 +156,18 @@ asked_answers terms s t a n body step said limits time is does =
     is.later
     time does.is.2 does.steps.moves).fits
 
--- ---- each deed
+-- ---- each effect
 
--- the answers behind a deed, if it is of this connection
-Behind : Account → Past → ℕ → Deed → Type 0
-Behind a past count deed =
-    All (IsPublic (a.entries ++ entries_of_deed deed)) (past_by past count deed).answers
+-- the answers behind an effect, if it is of this connection
+Behind : Account → Past → ℕ → Effect → Type 0
+Behind a past count effect =
+    All (IsPublic (a.entries ++ entries_of_effect effect)) (past_by past count effect).answers
 
-own_public : (terms : DeskTerms) (deed : Deed) (s t : DeskState) (a : Account) (past : Past) (count : ℕ)
-    → AreStepLimits terms.limits → Does terms s deed t → s.now ≤ max_moment → IsHubAccount a s
-    → count ≡ length (a.entries ++ entries_of_deed deed)
-    → All (IsPublic (a.entries ++ entries_of_deed deed)) past.answers → Behind a past count deed
+own_public : (terms : DispatcherTerms) (effect : Effect) (s t : DispatcherState) (a : Account) (past : Past)
+    (count : ℕ)
+    → AreStepLimits terms.limits → Does terms s effect t → s.now ≤ max_moment → IsHubAccount a s
+    → count ≡ length (a.entries ++ entries_of_effect effect)
+    → All (IsPublic (a.entries ++ entries_of_effect effect)) past.answers → Behind a past count effect
 unfolding Behind
 own_public terms (Elapsed moment entries settled) s t a past count limits does time is same all = all
 own_public terms (Opened connection) s t a past count limits does time is same all =
@@ -184,7 +186,7 @@ own_public terms (ReadNothing connection body) s t a past count limits does time
     All-push (IsPublic (a.entries ++ [])) past.answers _ all
     (public_refused (a.entries ++ []) 0 BadText tt (omega arith))
 own_public terms (Lacked connection body step) s t a past count limits does time is same all =
-    let entries = entries_of_deed (Lacked connection body step) in
+    let entries = entries_of_effect (Lacked connection body step) in
     All-push (IsPublic (a.entries ++ entries)) past.answers _ all
     (public_refused (a.entries ++ entries) 0 NoMemory tt (omega arith))
 own_public terms (Lost connection body step) s t a past count limits does time is same all = all
@@ -201,7 +203,7 @@ either_public entries true now past one other = one
 either_public entries false now past one other = other
 
 -- the state's length is the account's
-pub entries_counted : (a : Account) (s : DeskState) (made : List Entry) → IsHubAccount a s
+pub entries_counted : (a : Account) (s : DispatcherState) (made : List Entry) → IsHubAccount a s
     → s.book.length + length made ≡ length (a.entries ++ made)
 entries_counted a s made is =
     let agree = (states_agree a is.legal).length in
@@ -209,82 +211,86 @@ entries_counted a s made is =
     let long = length-append a.entries made in
     omega arith
 
-deed_public : (terms : DeskTerms) (deed : Deed) (s t : DeskState) (a : Account) (n : ℕ) (past : Past)
-    → AreStepLimits terms.limits → Does terms s deed t → s.now ≤ max_moment → IsHubAccount a s
+effect_public : (terms : DispatcherTerms) (effect : Effect) (s t : DispatcherState) (a : Account) (n : ℕ)
+    (past : Past)
+    → AreStepLimits terms.limits → Does terms s effect t → s.now ≤ max_moment → IsHubAccount a s
     → ArePublic a past
-    → All (IsPublic (a.entries ++ entries_of_deed deed))
-    (cond (is_deed_of n deed) (past_by past (s.book.length + length (entries_of_deed deed)) deed)
+    → All (IsPublic (a.entries ++ entries_of_effect effect))
+    (cond (is_effect_of n effect) (past_by past (s.book.length + length (entries_of_effect effect)) effect)
     past).answers
 unfolding Behind
-deed_public terms deed s t a n past limits does time is all =
-    let made = entries_of_deed deed in
+effect_public terms effect s t a n past limits does time is all =
+    let made = entries_of_effect effect in
     let count = s.book.length + length made in
     let older = all_on a.entries made past.answers all in
-    either_public (a.entries ++ made) (is_deed_of n deed) (past_by past count deed) past
-    (own_public terms deed s t a past count limits does time is (entries_counted a s made is) older) older
+    either_public (a.entries ++ made) (is_effect_of n effect) (past_by past count effect) past
+    (own_public terms effect s t a past count limits does time is (entries_counted a s made is) older) older
 
--- ---- deeds, one after another
+-- ---- effects, one after another
 
 -- the account has these entries
-deeds_tell : (terms : DeskTerms) (deeds : List Deed) (s t : DeskState) (a : Account)
-    → AreStepLimits terms.limits → DoesAll terms s deeds t → t.now ≤ max_moment → IsHubAccount a s
+effects_tell : (terms : DispatcherTerms) (effects : List Effect) (s t : DispatcherState) (a : Account)
+    → AreStepLimits terms.limits → DoesAll terms s effects t → t.now ≤ max_moment → IsHubAccount a s
     → (n : ℕ) (past : Past) → ArePublic a past
-    → All (IsPublic (a.entries ++ flat_map entries_of_deed deeds))
-    (past_after n past s.book.length deeds).answers
-deeds_tell terms [] s t a limits same time is n past all = all_on a.entries [] past.answers all
-deeds_tell terms (deed ∷ deeds) s t a limits (mid, does, more) time is n past all =
-    let made = entries_of_deed deed in
-    let rest = flat_map entries_of_deed deeds in
-    let later = deeds_rise terms deeds mid t more in
-    let rises = deeds_rise terms (deed ∷ []) s mid (mid, does, refl) in
-    let first = deed_leads terms deed s mid a limits does (omega arith) (omega arith) is in
-    let now = cond (is_deed_of n deed) (past_by past (s.book.length + length made) deed) past in
+    → All (IsPublic (a.entries ++ flat_map entries_of_effect effects))
+    (past_after n past s.book.length effects).answers
+effects_tell terms [] s t a limits same time is n past all = all_on a.entries [] past.answers all
+effects_tell terms (effect ∷ effects) s t a limits (mid, does, more) time is n past all =
+    let made = entries_of_effect effect in
+    let rest = flat_map entries_of_effect effects in
+    let later = effects_rise terms effects mid t more in
+    let rises = effects_rise terms (effect ∷ []) s mid (mid, does, refl) in
+    let first = effect_leads terms effect s mid a limits does (omega arith) (omega arith) is in
+    let now = cond (is_effect_of n effect) (past_by past (s.book.length + length made) effect) past in
     let one : ArePublic first.after now =
     subst (λ es. All (IsPublic es) now.answers) (sym first.adds.entries)
-    (deed_public terms deed s mid a n past limits does (omega arith) is all) in
-    let whole = deeds_tell terms deeds mid t first.after limits more time first.is n now one in
+    (effect_public terms effect s mid a n past limits does (omega arith) is all) in
+    let whole = effects_tell terms effects mid t first.after limits more time first.is n now one in
     let entries : first.after.entries ++ rest ≡ a.entries ++ (made ++ rest) =
     ap (λ es. es ++ rest) first.adds.entries ∙ append_assoc a.entries made rest in
-    let counted : mid.book.length ≡ s.book.length + length made = deed_counts terms deed s mid does in
-    subst (λ k. All (IsPublic (a.entries ++ (made ++ rest))) (past_after n now k deeds).answers) counted
-    (subst (λ es. All (IsPublic es) (past_after n now mid.book.length deeds).answers) entries whole)
+    let counted : mid.book.length ≡ s.book.length + length made = effect_counts terms effect s mid does in
+    subst (λ k. All (IsPublic (a.entries ++ (made ++ rest))) (past_after n now k effects).answers) counted
+    (subst (λ es. All (IsPublic es) (past_after n now mid.book.length effects).answers) entries whole)
 
-pub deeds_public : DeedsTellPublicly
-deeds_public terms deeds s t a b limits does time is adds n past all =
-    subst (λ es. All (IsPublic es) (past_after n past s.book.length deeds).answers) (sym adds.entries)
-    (deeds_tell terms deeds s t a limits does time is n past all)
+pub effects_public : EffectsTellPublicly
+effects_public terms effects s t a b limits does time is adds n past all =
+    subst (λ es. All (IsPublic es) (past_after n past s.book.length effects).answers) (sym adds.entries)
+    (effects_tell terms effects s t a limits does time is n past all)
 
 -- ---- events
 
-events_tell : (terms : DeskTerms) (events : List (List Deed)) (s t : DeskState) (a : Account)
+events_tell : (terms : DispatcherTerms) (events : List (List Effect)) (s t : DispatcherState) (a : Account)
     → AreStepLimits terms.limits → DoesEvents terms s events t → t.now ≤ max_moment → IsHubAccount a s
     → (n : ℕ) (past : Past) → ArePublic a past
     → All (IsPublic (a.entries ++ made_by events))
-    (past_after n past s.book.length (all_deeds events)).answers
+    (past_after n past s.book.length (all_effects events)).answers
 events_tell terms [] s t a limits same time is n past all = all_on a.entries [] past.answers all
-events_tell terms (deeds ∷ events) s t a limits (mid, does, more) time is n past all =
-    let made = flat_map entries_of_deed deeds in
+events_tell terms (effects ∷ events) s t a limits (mid, does, more) time is n past all =
+    let made = flat_map entries_of_effect effects in
     let rest = made_by events in
     let count = s.book.length in
     let later = events_rise terms events mid t more in
     let is_begun = same_account a s (begun s) refl refl is in
-    let first = deeds_lead terms deeds (begun s) mid a limits does (omega arith) is_begun in
-    let now = past_after n past count deeds in
+    let first = effects_lead terms effects (begun s) mid a limits does (omega arith) is_begun in
+    let now = past_after n past count effects in
     let one : ArePublic first.after now =
-    deeds_public terms deeds (begun s) mid a first.after limits does (omega arith) is_begun first.adds n past
+    effects_public terms effects (begun s) mid a first.after limits does (omega arith) is_begun first.adds n
+    past
     all in
     let whole = events_tell terms events mid t first.after limits more time first.is n now one in
     let entries : first.after.entries ++ rest ≡ a.entries ++ (made ++ rest) =
     ap (λ es. es ++ rest) first.adds.entries ∙ append_assoc a.entries made rest in
-    let counted : mid.book.length ≡ count + length made = deeds_count terms deeds (begun s) mid does in
-    let there = subst (λ es. All (IsPublic es) (past_after n now mid.book.length (all_deeds events)).answers)
+    let counted : mid.book.length ≡ count + length made = effects_count terms effects (begun s) mid does in
+    let there = subst (λ es. All (IsPublic es) (past_after n now mid.book.length
+    (all_effects events)).answers)
     entries whole in
     subst (λ (p : Past). All (IsPublic (a.entries ++ (made ++ rest))) p.answers)
-    (sym (past_on n past count deeds (all_deeds events)))
-    (subst (λ k. All (IsPublic (a.entries ++ (made ++ rest))) (past_after n now k (all_deeds events)).answers)
+    (sym (past_on n past count effects (all_effects events)))
+    (subst (λ k. All (IsPublic (a.entries ++ (made ++ rest)))
+    (past_after n now k (all_effects events)).answers)
     counted there)
 
 pub handed_out : HandedOutIsPublic
 handed_out terms events s t a b limits does time is adds n past all =
-    subst (λ es. All (IsPublic es) (past_after n past s.book.length (all_deeds events)).answers)
+    subst (λ es. All (IsPublic es) (past_after n past s.book.length (all_effects events)).answers)
     (sym adds.entries) (events_tell terms events s t a limits does time is n past all)

@@ -5,19 +5,19 @@ use Rattle.std.proofs.Common.{Bool, Err, IfErr, OnErr, Ok, Result, option_to_lis
 use Rattle.std.specs.Prelude.{IsErrAnd}
 use Rattle.std.specs.Option.{unwrap_or}
 use Rattle.rv_account.specs.declared.entry.Entry.{Entry}
-use Rattle.rv_hub.specs.declared.desk.HubDesk.{HubDesk}
-use Rattle.rv_hub.specs.desk.View.{DeskState, DeskTerms, begun}
-use Rattle.rv_hub.specs.desk.Deeds.{DoesAll}
-use Rattle.rv_hub.specs.desk.Rest.{HasComeToStop}
-use Rattle.rv_hub.specs.desk.Runs.{ListsChanged}
-use Rattle.rv_hub.specs.desk.Fields.{desk_state, desk_terms}
-use Rattle.rv_hub.proofs.OfDesk.Listing.{deeds_are_listed}
+use Rattle.rv_hub.specs.declared.dispatcher.Dispatcher.{Dispatcher}
+use Rattle.rv_hub.specs.dispatcher.View.{DispatcherState, DispatcherTerms, begun}
+use Rattle.rv_hub.specs.dispatcher.Effects.{DoesAll}
+use Rattle.rv_hub.specs.dispatcher.Rest.{HasComeToStop}
+use Rattle.rv_hub.specs.dispatcher.Runs.{ListsChanged}
+use Rattle.rv_hub.specs.dispatcher.Fields.{dispatcher_state, dispatcher_terms}
+use Rattle.rv_hub.proofs.OfDispatcher.Listing.{effects_are_listed}
 use Rattle.rv_hub.specs.declared.events.EventRefusal.{EventRefusal}
 use Rattle.rv_hub.specs.declared.events.HubEvent.{HubEvent}
 use Rattle.rv_hub.specs.Events.{EventCan, EventCannotBe}
-use Rattle.rv_hub.specs.EventDeeds.{event_deeds}
-use Rattle.rv_hub.specs.Turns.{EventRefused, EventGoesOn, IsAtRest, TakesEvent, goes_on_first, last_deeds}
-use Rattle.rv_hub.specs.Turns.{offer_in, own_deeds}
+use Rattle.rv_hub.specs.EventEffects.{event_effects}
+use Rattle.rv_hub.specs.Turns.{EventRefused, EventGoesOn, IsAtRest, TakesEvent, goes_on_first, last_effects}
+use Rattle.rv_hub.specs.Turns.{offer_in, own_effects}
 use Rattle.rv_hub.specs.Steps.{ActsOwn, IsGoing, RunsOn}
 use Rattle.rv_hub.proofs.Longer.{IsWithin}
 use Rattle.rv_hub.proofs.Owning.{own_going}
@@ -26,10 +26,10 @@ use Rattle.rv_hub.proofs.Whole.{event_does}
 
 -- ---- where no connection has changed yet
 
-rest_begun : (journal : Bool) (s : DeskState) → IsAtRest journal s → IsAtRest journal (begun s)
+rest_begun : (journal : Bool) (s : DispatcherState) → IsAtRest journal s → IsAtRest journal (begun s)
 rest_begun journal s rest = record {
   stopped = rest.stopped;
-  hearers_owe = rest.hearers_owe;
+  subscribers_owe = rest.subscribers_owe;
   owers_hear = rest.owers_hear;
   waits = rest.waits;
   in_time = rest.in_time;
@@ -38,78 +38,90 @@ rest_begun journal s rest = record {
 }
 
 -- behind an event that is refused
-pub rest_same : (journal : Bool) (s t : DeskState) → t ≡ begun s → IsAtRest journal s → IsAtRest journal t
+pub rest_same : (journal : Bool) (s t : DispatcherState) → t ≡ begun s → IsAtRest journal s
+    → IsAtRest journal t
 rest_same journal s t same rest = subst (IsAtRest journal) (sym same) (rest_begun journal s rest)
 
-pub refused_check : (s t : DeskState) (what : HubEvent) (why : EventRefusal) → t ≡ begun s
+pub refused_check : (s t : DispatcherState) (what : HubEvent) (why : EventRefusal) → t ≡ begun s
     → EventCannotBe t what why
     → EventRefused s what why
 refused_check s t what why same cannot =
-    inl (cannot_begun s what why (subst (λ (u : DeskState). EventCannotBe u what why) same cannot))
+    inl (cannot_begun s what why (subst (λ (u : DispatcherState). EventCannotBe u what why) same cannot))
 
 -- ---- an event that is taken
 
-pub going_on : (journal : Bool) (s : DeskState) (begins acts : HubDesk) (what : HubEvent) (opened : Option ℕ)
-    → IsAtRest journal s → desk_state begins ≡ begun s → ActsOwn begins what opened acts
-    → IsGoing (desk_state acts) (option_to_list (goes_on_first what))
-going_on journal s begins acts what opened rest same own =
-    own_going (desk_terms begins) (desk_state begins) (desk_state acts) what own.number
-    (λ c. subst (λ (t : DeskState). HasComeToStop t c) (sym same) (rest.stopped c)) own.does
-
-pub within_on : (journal : Bool) (s : DeskState) (begins acts runs : HubDesk) (what : HubEvent) (opened :
+pub going_on : (journal : Bool) (s : DispatcherState) (begins acts : Dispatcher) (what : HubEvent) (opened :
     Option ℕ)
-    (handed taken : ℕ) → IsAtRest journal s → desk_state begins ≡ begun s → ActsOwn begins what opened acts
-    → RunsOn acts handed what (offer_in what) taken runs → IsWithin (desk_state runs)
+    → IsAtRest journal s → dispatcher_state begins ≡ begun s → ActsOwn begins what opened acts
+    → IsGoing (dispatcher_state acts) (option_to_list (goes_on_first what))
+going_on journal s begins acts what opened rest same own =
+    own_going (dispatcher_terms begins) (dispatcher_state begins) (dispatcher_state acts) what own.number
+    (λ c. subst (λ (t : DispatcherState). HasComeToStop t c) (sym same) (rest.stopped c)) own.does
+
+pub within_on : (journal : Bool) (s : DispatcherState) (begins acts runs : Dispatcher) (what : HubEvent)
+    (opened :
+    Option ℕ)
+    (handed taken : ℕ) → IsAtRest journal s → dispatcher_state begins ≡ begun s
+    → ActsOwn begins what opened acts
+    → RunsOn acts handed what (offer_in what) taken runs → IsWithin (dispatcher_state runs)
 within_on journal s begins acts runs what opened handed taken rest same own goes =
     within_behind begins acts runs what opened handed taken (subst IsWithin (sym same) rest.written) own goes
 
-pub takes_it : (journal : Bool) (before begins acts runs writes : HubDesk) (handed : ℕ) (what : HubEvent)
-    (opened : Option ℕ) (taken result : ℕ) → desk_state begins ≡ begun (desk_state before)
-    → desk_terms begins ≡ desk_terms before → EventCan (desk_state begins) what
+pub takes_it : (journal : Bool) (before begins acts runs writes : Dispatcher) (handed : ℕ) (what : HubEvent)
+    (opened : Option ℕ) (taken result : ℕ) → dispatcher_state begins ≡ begun (dispatcher_state before)
+    → dispatcher_terms begins ≡ dispatcher_terms before → EventCan (dispatcher_state begins) what
     → ActsOwn begins what opened acts
-    → desk_terms acts ≡ desk_terms begins → RunsOn acts handed what (offer_in what) taken runs
-    → DoesAll (desk_terms runs) (desk_state runs) (last_deeds journal (desk_state runs)) (desk_state writes)
+    → dispatcher_terms acts ≡ dispatcher_terms begins → RunsOn acts handed what (offer_in what) taken runs
+    → DoesAll (dispatcher_terms runs) (dispatcher_state runs) (last_effects journal (dispatcher_state runs))
+    (dispatcher_state writes)
     → writes.entries.items ≡ runs.entries.items → result ≡ unwrap_or opened taken
-    → TakesEvent journal (desk_terms before) (desk_state before) handed what writes.entries.items result
-    (desk_state writes)
+    → TakesEvent journal (dispatcher_terms before) (dispatcher_state before) handed what writes.entries.items
+    result
+    (dispatcher_state writes)
 takes_it journal before begins acts runs writes handed what opened taken result same terms can own kept goes
     last
     entries is =
-    let at_acts : desk_terms acts ≡ desk_terms before = kept ∙ terms in
-    let at_runs : desk_terms runs ≡ desk_terms before = goes.terms ∙ at_acts in
+    let at_acts : dispatcher_terms acts ≡ dispatcher_terms before = kept ∙ terms in
+    let at_runs : dispatcher_terms runs ≡ dispatcher_terms before = goes.terms ∙ at_acts in
     record {
-      can = can_begun (desk_state before) what (subst (λ (s : DeskState). EventCan s what) same can);
+      can = can_begun (dispatcher_state before) what (subst (λ (s : DispatcherState). EventCan s what) same
+          can);
       number = own.number;
-      after_own = desk_state acts;
-      own = subst (λ (t : DeskTerms). DoesAll t (begun (desk_state before)) (own_deeds what own.number)
-          (desk_state acts)) terms
-          (subst (λ (s : DeskState). DoesAll (desk_terms begins) s (own_deeds what own.number)
-          (desk_state acts)) same
+      after_own = dispatcher_state acts;
+      own = subst (λ (t : DispatcherTerms). DoesAll t (begun (dispatcher_state before))
+          (own_effects what own.number)
+          (dispatcher_state acts)) terms
+          (subst (λ (s : DispatcherState). DoesAll (dispatcher_terms begins) s (own_effects what own.number)
+          (dispatcher_state acts)) same
           own.does);
       taken = taken;
-      after_turns = desk_state runs;
-      goes_on = subst (λ (t : DeskTerms). EventGoesOn t (desk_state acts) handed what writes.entries.items
+      after_turns = dispatcher_state runs;
+      goes_on = subst (λ (t : DispatcherTerms). EventGoesOn t (dispatcher_state acts) handed what
+          writes.entries.items
           taken
-          (desk_state runs)) at_acts
-          (subst (λ es. EventGoesOn (desk_terms acts) (desk_state acts) handed what es taken
-          (desk_state runs)) (sym entries)
+          (dispatcher_state runs)) at_acts
+          (subst (λ es. EventGoesOn (dispatcher_terms acts) (dispatcher_state acts) handed what es taken
+          (dispatcher_state runs)) (sym entries)
           goes.goes);
-      last = subst (λ (t : DeskTerms). DoesAll t (desk_state runs) (last_deeds journal (desk_state runs))
-          (desk_state writes)) at_runs last;
+      last = subst (λ (t : DispatcherTerms). DoesAll t (dispatcher_state runs) (last_effects journal
+          (dispatcher_state runs))
+          (dispatcher_state writes)) at_runs last;
       gives = gives_it what own.number taken result opened own.opened_is is;
     }
 
 -- whoever isn't listed has the bytes that it had
-pub listed_it : (journal : Bool) (terms : DeskTerms) (s : DeskState) (handed : ℕ) (what : HubEvent)
-    (made : List Entry) (result : ℕ) (t : DeskState) → TakesEvent journal terms s handed what made result t
+pub listed_it : (journal : Bool) (terms : DispatcherTerms) (s : DispatcherState) (handed : ℕ) (what :
+    HubEvent)
+    (made : List Entry) (result : ℕ) (t : DispatcherState)
+    → TakesEvent journal terms s handed what made result t
     → ListsChanged (begun s) t
 listed_it journal terms s handed what made result t takes =
-    deeds_are_listed terms (event_deeds journal terms s handed what made result t takes) (begun s) t
+    effects_are_listed terms (event_effects journal terms s handed what made result t takes) (begun s) t
     (event_does journal terms s handed what made result t takes).does
 
 -- ---- the ways out where it is refused
 
-pub refused_by : (s : DeskState) (what : HubEvent) (r : Result ℕ EventRefusal) (why : EventRefusal)
+pub refused_by : (s : DispatcherState) (what : HubEvent) (r : Result ℕ EventRefusal) (why : EventRefusal)
     → EventRefused s what why → IsErrAnd r (λ e. e ≡ why) → IfErr r (EventRefused s what)
 refused_by s what (Ok n) why refused is = absurd is
 refused_by s what (Err e) why refused is = subst (λ (x : EventRefusal). EventRefused s what x) (sym is)

@@ -1,4 +1,4 @@
--- Each deed keeps the past of each connection.
+-- Each effect keeps the past of each connection.
 use Rattle.std.proofs.Common.{inl, inr, ◌≡◌, ◌≢◌, ◌≤◌, ◌+◌, ◌∙◌, ◌++◌, ◌∷◌, ℕ, List, [], None}
 use Rattle.std.proofs.Common.{Option, Some, refl, sym, ap, subst, arith}
 use Rattle.std.proofs.Common.{cond, false, length, nat_eq, take, true}
@@ -17,28 +17,28 @@ use Rattle.rv_wires.specs.connection.History.{IsHistory}
 use Rattle.rv_wires.proofs.OfConnection.Kept.{keeps_answer, keeps_end, keeps_frame, keeps_leaving}
 use Rattle.rv_wires.proofs.OfConnection.Kept.{keeps_piece, keeps_release, opens}
 use Rattle.rv_wires.specs.Connections.{ChangesWire, HasWire, ReleasesOpen, SetsWire}
-use Rattle.rv_hub.specs.desk.View.{DeskState, DeskTerms}
-use Rattle.rv_hub.specs.desk.Deeds.{AnswersNow, AnswersOrWaits, Deed, Does, IsDueWith}
-use Rattle.rv_hub.specs.desk.Deeds.{entries_of_deed, rests_on}
-use Rattle.rv_hub.specs.desk.Deeds.{Asked, Closed, Elapsed, EndedInput, Lacked, Left, Lost, Opened}
-use Rattle.rv_hub.specs.desk.Deeds.{ReadNothing, Told, TookIn, Wrote}
-use Rattle.rv_hub.proofs.OfDesk.Answering.{some_is}
-use Rattle.rv_hub.specs.Pasts.{DeedsKeepPasts, HasPast, IsPast, Past, history_of, is_deed_of, no_past}
+use Rattle.rv_hub.specs.dispatcher.View.{DispatcherState, DispatcherTerms}
+use Rattle.rv_hub.specs.dispatcher.Effects.{AnswersNow, AnswersOrWaits, Effect, Does, IsDueWith}
+use Rattle.rv_hub.specs.dispatcher.Effects.{entries_of_effect, rests_on}
+use Rattle.rv_hub.specs.dispatcher.Effects.{Asked, Closed, Elapsed, EndedInput, Lacked, Left, Lost, Opened}
+use Rattle.rv_hub.specs.dispatcher.Effects.{ReadNothing, Told, TookIn, Wrote}
+use Rattle.rv_hub.proofs.OfDispatcher.Answering.{some_is}
+use Rattle.rv_hub.specs.Pasts.{EffectsKeepPasts, HasPast, IsPast, Past, history_of, is_effect_of, no_past}
 use Rattle.rv_hub.specs.Pasts.{past_after, past_by, with_answer}
 use Rattle.rv_hub.specs.Pasts.{with_frame, with_said}
-use Rattle.rv_hub.proofs.Longer.{deed_counts}
+use Rattle.rv_hub.proofs.Longer.{effect_counts}
 
 -- ---- a connection whose bytes stay, and one that is closed
 
-past_same : (s t : DeskState) (n : ℕ) (past : Past) → t.open_wires.wires n ≡ s.open_wires.wires n
+past_same : (s t : DispatcherState) (n : ℕ) (past : Past) → t.open_wires.wires n ≡ s.open_wires.wires n
     → t.open_wires.written ≡ s.open_wires.written → HasPast s n past → HasPast t n past
 past_same s t n past same written has wire there =
     subst (λ w. IsPast w past wire) (sym written) (has wire (sym same ∙ there))
 
-past_closed : (t : DeskState) (n : ℕ) (past : Past) → t.open_wires.wires n ≡ None → HasPast t n past
+past_closed : (t : DispatcherState) (n : ℕ) (past : Past) → t.open_wires.wires n ≡ None → HasPast t n past
 past_closed t n past gone wire there = absurd (none-some wire (sym gone ∙ there))
 
--- by whether the deed is its own
+-- by whether the effect is its own
 pub by_own : (P : Past → Type 0) (n m : ℕ) (own other : Past) → (n ≡ m → P own) → (n ≢ m → P other)
     → P (cond (nat_eq n m) own other)
 by_own P n m own other is isnt =
@@ -51,7 +51,7 @@ by_own P n m own other is isnt =
           subst (λ b. P (cond b own other)) (sym test) (isnt apart))
     ]
 
-own_or_not : (t : DeskState) (n m : ℕ) (own other : Past) → (n ≡ m → HasPast t n own)
+own_or_not : (t : DispatcherState) (n m : ℕ) (own other : Past) → (n ≡ m → HasPast t n own)
     → (n ≢ m → HasPast t n other)
     → HasPast t n (cond (nat_eq n m) own other)
 own_or_not t n m own other is isnt = by_own (HasPast t n) n m own other is isnt
@@ -63,7 +63,7 @@ abbrev Keeps : ℕ → ℕ → (Traffic → Traffic → Type 0) → Past → Pas
 Keeps before written so past now = (wire after : Traffic) → so wire after → IsPast before past wire
     → IsPast written now after
 
-changed_past : (s t : DeskState) (n m : ℕ) (so : Traffic → Traffic → Type 0) (past now : Past)
+changed_past : (s t : DispatcherState) (n m : ℕ) (so : Traffic → Traffic → Type 0) (past now : Past)
     → ChangesWire s.open_wires m so t.open_wires → n ≡ m
     → Keeps s.open_wires.written s.open_wires.written so past now → HasPast s n past → HasPast t n now
 changed_past s t n m so past now changes same keeps has wire there =
@@ -74,12 +74,12 @@ changed_past s t n m so past now changes same keeps has wire there =
     (subst (λ w. IsPast w now changes.after) (sym changes.sets.written)
     (keeps changes.wire changes.after changes.changes before))
 
-others_past : (s t : DeskState) (n m : ℕ) (so : Traffic → Traffic → Type 0) (past : Past)
+others_past : (s t : DispatcherState) (n m : ℕ) (so : Traffic → Traffic → Type 0) (past : Past)
     → ChangesWire s.open_wires m so t.open_wires → n ≢ m → HasPast s n past → HasPast t n past
 others_past s t n m so past changes apart has =
     past_same s t n past (changes.sets.others n apart) changes.sets.written has
 
-changes_past : (s t : DeskState) (n m : ℕ) (so : Traffic → Traffic → Type 0) (past now : Past)
+changes_past : (s t : DispatcherState) (n m : ℕ) (so : Traffic → Traffic → Type 0) (past now : Past)
     → ChangesWire s.open_wires m so t.open_wires
     → Keeps s.open_wires.written s.open_wires.written so past now → HasPast s n past
     → HasPast t n (cond (nat_eq n m) now past)
@@ -146,13 +146,13 @@ answer_keeps written entries said past wire after owes answers has = record {
 
 -- ---- a frame
 
-at_due : (s : DeskState) (m : ℕ) (body : List ℕ) (wire : Traffic)
+at_due : (s : DispatcherState) (m : ℕ) (body : List ℕ) (wire : Traffic)
     → HasWire s.open_wires m (λ wire. IsDueWith wire body) → s.open_wires.wires m ≡ Some wire
     → IsDueWith wire body
 at_due s m body wire frame there =
     subst (λ (w : Traffic). IsDueWith w body) (some_is frame.wire wire (sym frame.there ∙ there)) frame.so
 
-now_past : (s t : DeskState) (n m : ℕ) (body : List ℕ) (entries : ℕ) (said : Answer) (past : Past)
+now_past : (s t : DispatcherState) (n m : ℕ) (body : List ℕ) (entries : ℕ) (said : Answer) (past : Past)
     → AnswersNow s m body entries (answer_text said) t → HasPast s n past
     → HasPast t n (cond (nat_eq n m) (with_answer (with_frame past body) entries said) past)
 now_past s t n m body entries said past now has =
@@ -174,7 +174,7 @@ now_past s t n m body entries said past now has =
     due) before))
     has
 
-waits_past : (s t : DeskState) (n m : ℕ) (body : List ℕ) (past : Past)
+waits_past : (s t : DispatcherState) (n m : ℕ) (body : List ℕ) (past : Past)
     → HasWire s.open_wires m (λ wire. IsDueWith wire body)
     → ChangesWire s.open_wires m (λ wire after. after ≡ taken wire) t.open_wires → HasPast s n past
     → HasPast t n (cond (nat_eq n m) (with_frame past body) past)
@@ -195,7 +195,8 @@ waits_past s t n m body past frame changes has =
     due) before))
     has
 
-said_past : (terms : DeskTerms) (s t : DeskState) (n m : ℕ) (body : List ℕ) (said : Answer) (past : Past)
+said_past : (terms : DispatcherTerms) (s t : DispatcherState) (n m : ℕ) (body : List ℕ) (said : Answer)
+    (past : Past)
     → AnswersOrWaits terms s m body said t → HasPast s n past
     → HasPast t n (cond (nat_eq n m) (with_said (with_frame past body) s.book.length said) past)
 said_past terms s t n m body (answer.Waiting key) past does has = waits_past s t n m body past does.frame
@@ -210,7 +211,7 @@ said_past terms s t n m body (answer.Refused refusal) past does has =
 
 -- ---- one is opened, or closed
 
-opened_past : (s t : DeskState) (n m : ℕ) (past : Past)
+opened_past : (s t : DispatcherState) (n m : ℕ) (past : Past)
     → SetsWire s.open_wires m (Some fresh_traffic) t.open_wires
     → HasPast s n past → HasPast t n (cond (nat_eq n m) no_past past)
 opened_past s t n m past sets has =
@@ -222,7 +223,7 @@ opened_past s t n m past sets has =
     (record { left = []; sent = refl; history = opens t.open_wires.written }))
     (λ apart. past_same s t n past (sets.others n apart) sets.written has)
 
-shut_past : (s t : DeskState) (n m : ℕ) (past : Past) → SetsWire s.open_wires m None t.open_wires
+shut_past : (s t : DispatcherState) (n m : ℕ) (past : Past) → SetsWire s.open_wires m None t.open_wires
     → HasPast s n past
     → HasPast t n (cond (nat_eq n m) past past)
 shut_past s t n m past sets has =
@@ -246,73 +247,77 @@ released_past before written past (Some old) (Some after) rises releases has wir
       history = keeps_release before written (history_of past was.left) old after rises was.history releases;
     })
 
--- ---- each deed
+-- ---- each effect
 
--- the past behind a deed, where the account has so many entries
-abbrev Behind : DeskState → ℕ → Past → ℕ → Deed → Type 0
-Behind t n past entries deed = HasPast t n (cond (is_deed_of n deed) (past_by past entries deed) past)
+-- the past behind an effect, where the account has so many entries
+abbrev Behind : DispatcherState → ℕ → Past → ℕ → Effect → Type 0
+Behind t n past entries effect = HasPast t n (cond (is_effect_of n effect) (past_by past entries effect) past)
 
-at_length : (t : DeskState) (n : ℕ) (past : Past) (deed : Deed) (a b : ℕ) → a ≡ b → Behind t n past a deed
-    → Behind t n past b deed
-at_length t n past deed a b same behind = subst (λ k. Behind t n past k deed) same behind
+at_length : (t : DispatcherState) (n : ℕ) (past : Past) (effect : Effect) (a b : ℕ) → a ≡ b
+    → Behind t n past an effect
+    → Behind t n past b effect
+at_length t n past effect a b same behind = subst (λ k. Behind t n past k effect) same behind
 
-stepped_same : (s m : DeskState) (n : ℕ) (past : Past) → m.open_wires ≡ s.open_wires → HasPast s n past
+stepped_same : (s m : DispatcherState) (n : ℕ) (past : Past) → m.open_wires ≡ s.open_wires → HasPast s n past
     → HasPast m n past
 stepped_same s m n past same has =
     past_same s m n past (ap (λ w. w.wires n) same) (ap (λ w. w.written) same) has
 
-said_book : (terms : DeskTerms) (s t : DeskState) (m : ℕ) (body : List ℕ) (said : Answer)
+said_book : (terms : DispatcherTerms) (s t : DispatcherState) (m : ℕ) (body : List ℕ) (said : Answer)
     → AnswersOrWaits terms s m body said t → t.book.length ≡ s.book.length
-said_book terms s t m body (answer.Waiting key) does = ap (λ (u : DeskState). u.book.length) does.rest
+said_book terms s t m body (answer.Waiting key) does = ap (λ (u : DispatcherState). u.book.length) does.rest
 said_book terms s t m body (answer.Replied key reply) does =
-    ap (λ (u : DeskState). u.book.length) does.answers.rest
+    ap (λ (u : DispatcherState). u.book.length) does.answers.rest
 said_book terms s t m body (answer.Welcome epoch client incarnation version) does =
-    ap (λ (u : DeskState). u.book.length) does.answers.rest
-said_book terms s t m body (answer.Refused refusal) does = ap (λ (u : DeskState). u.book.length)
+    ap (λ (u : DispatcherState). u.book.length) does.answers.rest
+said_book terms s t m body (answer.Refused refusal) does = ap (λ (u : DispatcherState). u.book.length)
     does.answers.rest
 
-deed_past : (terms : DeskTerms) (deed : Deed) (s t : DeskState) → Does terms s deed t → (n : ℕ) (past : Past)
-    → HasPast s n past → Behind t n past t.book.length deed
-deed_past terms (Elapsed moment entries settled) s t does n past has =
-    stepped_same s t n past (ap (λ (u : DeskState). u.open_wires) does.after) has
-deed_past terms (Opened m) s t does n past has = opened_past s t n m past does.opens.sets has
-deed_past terms (TookIn m bytes) s t does n past has =
+effect_past : (terms : DispatcherTerms) (effect : Effect) (s t : DispatcherState) → Does terms s effect t
+    → (n : ℕ) (past : Past)
+    → HasPast s n past → Behind t n past t.book.length effect
+effect_past terms (Elapsed moment entries settled) s t does n past has =
+    stepped_same s t n past (ap (λ (u : DispatcherState). u.open_wires) does.after) has
+effect_past terms (Opened m) s t does n past has = opened_past s t n m past does.opens.sets has
+effect_past terms (TookIn m bytes) s t does n past has =
     changes_past s t n m _ past (record past { came = past.came ++ bytes }) does.changes
     (piece_keeps s.open_wires.written bytes past) has
-deed_past terms (EndedInput m) s t does n past has =
+effect_past terms (EndedInput m) s t does n past has =
     changes_past s t n m _ past past does.changes (end_keeps s.open_wires.written past) has
-deed_past terms (Left m count) s t does n past has =
+effect_past terms (Left m count) s t does n past has =
     changes_past s t n m _ past (record past { sent = past.sent + count }) does.changes
     (leaving_keeps s.open_wires.written count past) has
-deed_past terms (Wrote entries) s t does n past has =
+effect_past terms (Wrote entries) s t does n past has =
     λ wire there. subst (λ w. IsPast w past wire) (sym does.releases.written_is)
     (released_past s.open_wires.written entries past (s.open_wires.wires n) (t.open_wires.wires n) does.rises
     (does.releases.each n) has wire there)
-deed_past terms (Asked m body step said) s t does n past has =
+effect_past terms (Asked m body step said) s t does n past has =
     let mid = does.between in
     let same : mid.book.length ≡ t.book.length = sym (said_book terms mid t m body said does.rest) in
     at_length t n past (Asked m body step said) mid.book.length t.book.length same
     (said_past terms mid t n m body said past does.rest
-    (stepped_same s mid n past (ap (λ (u : DeskState). u.open_wires) does.steps.after) has))
-deed_past terms (ReadNothing m body) s t does n past has =
+    (stepped_same s mid n past (ap (λ (u : DispatcherState). u.open_wires) does.steps.after) has))
+effect_past terms (ReadNothing m body) s t does n past has =
     now_past s t n m body 0 (answer.Refused BadText) past does.answers has
-deed_past terms (Lacked m body None) s t does n past has =
+effect_past terms (Lacked m body None) s t does n past has =
     now_past does.between t n m body 0 (answer.Refused NoMemory) past does.answers
-    (stepped_same s does.between n past (ap (λ (u : DeskState). u.open_wires) does.stepped) has)
-deed_past terms (Lacked m body (Some step)) s t does n past has =
+    (stepped_same s does.between n past (ap (λ (u : DispatcherState). u.open_wires) does.stepped) has)
+effect_past terms (Lacked m body (Some step)) s t does n past has =
     now_past does.between t n m body 0 (answer.Refused NoMemory) past does.answers
-    (stepped_same s does.between n past (ap (λ (u : DeskState). u.open_wires) does.stepped.steps.after) has)
-deed_past terms (Lost m body step) s t does n past has =
+    (stepped_same s does.between n past (ap (λ (u : DispatcherState). u.open_wires) does.stepped.steps.after)
+    has)
+effect_past terms (Lost m body step) s t does n past has =
     shut_past does.between t n m past does.closes.sets
-    (stepped_same s does.between n past (ap (λ (u : DeskState). u.open_wires) does.stepped.steps.after) has)
-deed_past terms (Told m key said) s t does n past has =
+    (stepped_same s does.between n past (ap (λ (u : DispatcherState). u.open_wires) does.stepped.steps.after)
+    has)
+effect_past terms (Told m key said) s t does n past has =
     let changes = does.answers in
     let owes = ap (λ (w : Traffic). w.owes) (some_is changes.wire does.owed.wire (sym changes.there
     ∙ does.owed.there))
     ∙ does.owed.so in
     let so : Traffic → Traffic → Type 0 = λ wire after. (wire.owes ≡ true)
     × AnswersBy s.open_wires.written wire s.book.length (answer_text said) after in
-    let same : s.book.length ≡ t.book.length = sym (ap (λ (u : DeskState). u.book.length) does.rest) in
+    let same : s.book.length ≡ t.book.length = sym (ap (λ (u : DispatcherState). u.book.length) does.rest) in
     at_length t n past (Told m key said) s.book.length t.book.length same
     (changes_past s t n m so past (with_answer past s.book.length said)
     (record {
@@ -324,34 +329,35 @@ deed_past terms (Told m key said) s t does n past has =
     })
     (λ wire after both before.
     answer_keeps s.open_wires.written s.book.length said past wire after both.0 both.1 before) has)
-deed_past terms (Closed m) s t does n past has = shut_past s t n m past does.sets has
+effect_past terms (Closed m) s t does n past has = shut_past s t n m past does.sets has
 
-pub pasts_kept : DeedsKeepPasts
-pasts_kept terms [] s t same n past has = subst (λ (u : DeskState). HasPast u n past) (sym same) has
-pasts_kept terms (deed ∷ deeds) s t (mid, does, more) n past has =
-    let counted : mid.book.length ≡ s.book.length + length (entries_of_deed deed) = deed_counts terms deed s
+pub pasts_kept : EffectsKeepPasts
+pasts_kept terms [] s t same n past has = subst (λ (u : DispatcherState). HasPast u n past) (sym same) has
+pasts_kept terms (effect ∷ effects) s t (mid, does, more) n past has =
+    let counted : mid.book.length ≡ s.book.length + length (entries_of_effect effect) = effect_counts terms
+    effect s
     mid does in
-    let entries = s.book.length + length (entries_of_deed deed) in
-    let one = deed_past terms deed s mid does n past has in
-    let there_now : HasPast mid n (cond (is_deed_of n deed) (past_by past entries deed) past) =
-    subst (λ k. Behind mid n past k deed) counted one in
-    subst (λ k. HasPast t n (past_after n (cond (is_deed_of n deed) (past_by past entries deed) past) k
-    deeds)) counted
-    (pasts_kept terms deeds mid t more n (cond (is_deed_of n deed) (past_by past entries deed) past)
+    let entries = s.book.length + length (entries_of_effect effect) in
+    let one = effect_past terms effect s mid does n past has in
+    let there_now : HasPast mid n (cond (is_effect_of n effect) (past_by past entries effect) past) =
+    subst (λ k. Behind mid n past k effect) counted one in
+    subst (λ k. HasPast t n (past_after n (cond (is_effect_of n effect) (past_by past entries effect) past) k
+    effects)) counted
+    (pasts_kept terms effects mid t more n (cond (is_effect_of n effect) (past_by past entries effect) past)
     there_now)
 
--- a past through two lists of deeds, one behind the other
-pub past_on : (n : ℕ) (past : Past) (entries : ℕ) (xs ys : List Deed)
+-- a past through two lists of effects, one behind the other
+pub past_on : (n : ℕ) (past : Past) (entries : ℕ) (xs ys : List Effect)
     → past_after n past entries (xs ++ ys)
-    ≡ past_after n (past_after n past entries xs) (entries + length (flat_map entries_of_deed xs)) ys
+    ≡ past_after n (past_after n past entries xs) (entries + length (flat_map entries_of_effect xs)) ys
 past_on n past entries [] ys =
     let same : entries ≡ entries + 0 = omega arith in
     ap (λ k. past_after n past k ys) same
-past_on n past entries (deed ∷ xs) ys =
-    let here = entries + length (entries_of_deed deed) in
-    let now = cond (is_deed_of n deed) (past_by past here deed) past in
-    let long = length-append (entries_of_deed deed) (flat_map entries_of_deed xs) in
-    let same : here + length (flat_map entries_of_deed xs) ≡ entries + length (flat_map entries_of_deed
-    (deed ∷ xs)) =
+past_on n past entries (effect ∷ xs) ys =
+    let here = entries + length (entries_of_effect effect) in
+    let now = cond (is_effect_of n effect) (past_by past here effect) past in
+    let long = length-append (entries_of_effect effect) (flat_map entries_of_effect xs) in
+    let same : here + length (flat_map entries_of_effect xs) ≡ entries + length (flat_map entries_of_effect
+    (effect ∷ xs)) =
     omega arith in
     past_on n now here xs ys ∙ ap (λ k. past_after n (past_after n now here xs) k ys) same

@@ -19,4 +19,4 @@ pub mod HandedOver
 pub mod ComesOf
 pub mod Paired
 pub mod Checked
-pub mod OfDesk
+pub mod OfDispatcher

@@ -1,4 +1,4 @@
--- No deed makes the account shorter, and no more is written than it has entries.
+-- No effect makes the account shorter, and no more is written than it has entries.
 use Rattle.std.proofs.Common.{inl, inr, ◌≡◌, ◌≤◌, ◌+◌, ◌∙◌, ◌∷◌, ◌⊎◌, ℕ, List, [], None, Some}
 use Rattle.std.proofs.Common.{refl, sym, ap, subst, arith}
 use Rattle.std.proofs.Common.{length}
@@ -17,12 +17,12 @@ use Rattle.rv_state.specs.State.{OpenPlace, State}
 use Rattle.rv_state.proofs.Resumed.Counts.{length_acted}
 use Rattle.rv_machine.specs.Needing.{act_of}
 use Rattle.rv_machine.proofs.RoomTaken.{StaysOrEnters, move_kinds}
-use Rattle.rv_hub.specs.desk.View.{DeskState, DeskTerms}
-use Rattle.rv_hub.specs.desk.Deeds.{AnswersOrWaits, Deed, Does, DoesAll, entries_of_deed}
-use Rattle.rv_hub.specs.desk.Runs.{Cause, Heard, RunsBook, Time}
-use Rattle.rv_hub.proofs.OfDesk.OneBook.{one_run}
-use Rattle.rv_hub.specs.desk.Deeds.{Asked, Closed, Elapsed, EndedInput, Lacked, Left, Lost, Opened}
-use Rattle.rv_hub.specs.desk.Deeds.{ReadNothing, Told, TookIn, Wrote}
+use Rattle.rv_hub.specs.dispatcher.View.{DispatcherState, DispatcherTerms}
+use Rattle.rv_hub.specs.dispatcher.Effects.{AnswersOrWaits, Effect, Does, DoesAll, entries_of_effect}
+use Rattle.rv_hub.specs.dispatcher.Runs.{Cause, Heard, RunsBook, Time}
+use Rattle.rv_hub.proofs.OfDispatcher.OneBook.{one_run}
+use Rattle.rv_hub.specs.dispatcher.Effects.{Asked, Closed, Elapsed, EndedInput, Lacked, Left, Lost, Opened}
+use Rattle.rv_hub.specs.dispatcher.Effects.{ReadNothing, Told, TookIn, Wrote}
 
 -- ---- the account
 
@@ -69,25 +69,28 @@ counted_run limits now later s t (Heard message ∷ causes) entries (move, rest,
     let sum = ap length parts ∙ length-append move.entries rest in
     omega arith
 
--- what deeds add to the account are their entries
-pub deeds_count : (terms : DeskTerms) (deeds : List Deed) (s t : DeskState) → DoesAll terms s deeds t
-    → t.book.length ≡ s.book.length + length (flat_map entries_of_deed deeds)
-deeds_count terms deeds s t does =
-    let run = one_run terms deeds s t does in
-    counted_run terms.limits s.now t.now s.book t.book run.0 (flat_map entries_of_deed deeds) run.1
+-- what effects add to the account are their entries
+pub effects_count : (terms : DispatcherTerms) (effects : List Effect) (s t : DispatcherState)
+    → DoesAll terms s effects t
+    → t.book.length ≡ s.book.length + length (flat_map entries_of_effect effects)
+effects_count terms effects s t does =
+    let run = one_run terms effects s t does in
+    counted_run terms.limits s.now t.now s.book t.book run.0 (flat_map entries_of_effect effects) run.1
 
-pub deed_counts : (terms : DeskTerms) (deed : Deed) (s t : DeskState) → Does terms s deed t
-    → t.book.length ≡ s.book.length + length (entries_of_deed deed)
-deed_counts terms deed s t does =
-    deeds_count terms (deed ∷ []) s t (t, does, refl)
-    ∙ ap (λ l. s.book.length + length l) (append-nil (entries_of_deed deed))
+pub effect_counts : (terms : DispatcherTerms) (effect : Effect) (s t : DispatcherState)
+    → Does terms s effect t
+    → t.book.length ≡ s.book.length + length (entries_of_effect effect)
+effect_counts terms effect s t does =
+    effects_count terms (effect ∷ []) s t (t, does, refl)
+    ∙ ap (λ l. s.book.length + length l) (append-nil (entries_of_effect effect))
 
 -- ---- what is written
 
-abbrev pub IsWithin : DeskState → Type 0
+abbrev pub IsWithin : DispatcherState → Type 0
 IsWithin s = s.open_wires.written ≤ s.book.length
 
-pub answers_written : (terms : DeskTerms) (s t : DeskState) (connection : ℕ) (body : List ℕ) (said : Answer)
+pub answers_written : (terms : DispatcherTerms) (s t : DispatcherState) (connection : ℕ) (body : List ℕ)
+    (said : Answer)
     → AnswersOrWaits terms s connection body said t → t.open_wires.written ≡ s.open_wires.written
 answers_written terms s t connection body (answer.Waiting key) does = does.takes.sets.written
 answers_written terms s t connection body (answer.Replied key reply) does = does.answers.changes.sets.written
@@ -96,46 +99,50 @@ answers_written terms s t connection body (answer.Welcome epoch client incarnati
 answers_written terms s t connection body (answer.Refused refusal) does = does.answers.changes.sets.written
 
 -- what is written stays, or is within the account
-pub deed_written : (terms : DeskTerms) (deed : Deed) (s t : DeskState) → Does terms s deed t
+pub effect_written : (terms : DispatcherTerms) (effect : Effect) (s t : DispatcherState)
+    → Does terms s effect t
     → (t.open_wires.written ≡ s.open_wires.written) ⊎ IsWithin t
-deed_written terms (Elapsed moment entries settled) s t does =
-    inl (ap (λ (u : DeskState). u.open_wires.written) does.after)
-deed_written terms (Opened connection) s t does = inl does.opens.sets.written
-deed_written terms (TookIn connection bytes) s t does = inl does.changes.sets.written
-deed_written terms (EndedInput connection) s t does = inl does.changes.sets.written
-deed_written terms (Left connection count) s t does = inl does.changes.sets.written
-deed_written terms (Wrote entries) s t does =
+effect_written terms (Elapsed moment entries settled) s t does =
+    inl (ap (λ (u : DispatcherState). u.open_wires.written) does.after)
+effect_written terms (Opened connection) s t does = inl does.opens.sets.written
+effect_written terms (TookIn connection bytes) s t does = inl does.changes.sets.written
+effect_written terms (EndedInput connection) s t does = inl does.changes.sets.written
+effect_written terms (Left connection count) s t does = inl does.changes.sets.written
+effect_written terms (Wrote entries) s t does =
     let written = does.releases.written_is in
     let most = does.within in
-    let same : t.book.length ≡ s.book.length = ap (λ (u : DeskState). u.book.length) does.rest in
+    let same : t.book.length ≡ s.book.length = ap (λ (u : DispatcherState). u.book.length) does.rest in
     inr (let w = written in omega arith)
-deed_written terms (Asked connection body step said) s t does =
+effect_written terms (Asked connection body step said) s t does =
     inl (answers_written terms does.between t connection body said does.rest
-    ∙ ap (λ (u : DeskState). u.open_wires.written) does.steps.after)
-deed_written terms (ReadNothing connection body) s t does = inl does.answers.answers.changes.sets.written
-deed_written terms (Lacked connection body None) s t does =
-    inl (does.answers.answers.changes.sets.written ∙ ap (λ (u : DeskState). u.open_wires.written)
+    ∙ ap (λ (u : DispatcherState). u.open_wires.written) does.steps.after)
+effect_written terms (ReadNothing connection body) s t does = inl does.answers.answers.changes.sets.written
+effect_written terms (Lacked connection body None) s t does =
+    inl (does.answers.answers.changes.sets.written ∙ ap (λ (u : DispatcherState). u.open_wires.written)
     does.stepped)
-deed_written terms (Lacked connection body (Some step)) s t does =
+effect_written terms (Lacked connection body (Some step)) s t does =
     inl (does.answers.answers.changes.sets.written
-    ∙ ap (λ (u : DeskState). u.open_wires.written) does.stepped.steps.after)
-deed_written terms (Lost connection body step) s t does =
-    inl (does.closes.sets.written ∙ ap (λ (u : DeskState). u.open_wires.written) does.stepped.steps.after)
-deed_written terms (Told connection key said) s t does = inl does.answers.sets.written
-deed_written terms (Closed connection) s t does = inl does.sets.written
+    ∙ ap (λ (u : DispatcherState). u.open_wires.written) does.stepped.steps.after)
+effect_written terms (Lost connection body step) s t does =
+    inl (does.closes.sets.written ∙ ap (λ (u : DispatcherState). u.open_wires.written)
+    does.stepped.steps.after)
+effect_written terms (Told connection key said) s t does = inl does.answers.sets.written
+effect_written terms (Closed connection) s t does = inl does.sets.written
 
-within_deed : (terms : DeskTerms) (deed : Deed) (s t : DeskState) → Does terms s deed t → IsWithin s
+within_effect : (terms : DispatcherTerms) (effect : Effect) (s t : DispatcherState) → Does terms s effect t
+    → IsWithin s
     → IsWithin t
-within_deed terms deed s t does within =
-    let counted = deed_counts terms deed s t does in
-    elim (deed_written terms deed s t does) [
+within_effect terms effect s t does within =
+    let counted = effect_counts terms effect s t does in
+    elim (effect_written terms effect s t does) [
       | inl same ↦ (let w = same in omega arith)
       | inr own ↦ own
     ]
 
-pub within_all : (terms : DeskTerms) (deeds : List Deed) (s t : DeskState) → DoesAll terms s deeds t
+pub within_all : (terms : DispatcherTerms) (effects : List Effect) (s t : DispatcherState)
+    → DoesAll terms s effects t
     → IsWithin s
     → IsWithin t
 within_all terms [] s t same within = subst IsWithin (sym same) within
-within_all terms (deed ∷ deeds) s t (mid, does, more) within =
-    within_all terms deeds mid t more (within_deed terms deed s mid does within)
+within_all terms (effect ∷ effects) s t (mid, does, more) within =
+    within_all terms effects mid t more (within_effect terms effect s mid does within)

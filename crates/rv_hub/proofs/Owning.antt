@@ -1,4 +1,4 @@
--- Behind an event's own deed each connection has stopped, but for the one that goes on.
+-- Behind an event's own effect each connection has stopped, but for the one that goes on.
 use Rattle.std.proofs.Common.{inl, inr, ◌≡◌, ◌≢◌, ◌≤◌, ◌+◌, ◌∙◌, ◌∷◌, ◌⊎◌, ℕ, [], None}
 use Rattle.std.proofs.Common.{Option, Some, refl, sym, ap, subst, arith}
 use Rattle.std.proofs.Common.{false, true, length, option_to_list}
@@ -9,15 +9,15 @@ use Rattle.rv_wires.specs.connection.Traffic.{AnswerByte, IsBad, IsDue, IsFinish
 use Rattle.rv_wires.specs.connection.Traffic.{bytes_of, held_count, most_held}
 use Rattle.rv_wires.specs.connection.Steps.{Releases, fresh_traffic}
 use Rattle.rv_wires.specs.Connections.{ReleasesOpen}
-use Rattle.rv_hub.specs.desk.View.{DeskState, DeskTerms}
-use Rattle.rv_hub.specs.desk.Deeds.{Deed, Does, DoesAll}
-use Rattle.rv_hub.specs.desk.Deeds.{Closed, EndedInput, Left, Opened, Wrote}
-use Rattle.rv_hub.specs.desk.Rest.{HasComeToStop}
-use Rattle.rv_hub.proofs.OfDesk.Answering.{due_length, some_is}
-use Rattle.rv_hub.proofs.OfDesk.Rows.{there_first}
+use Rattle.rv_hub.specs.dispatcher.View.{DispatcherState, DispatcherTerms}
+use Rattle.rv_hub.specs.dispatcher.Effects.{Effect, Does, DoesAll}
+use Rattle.rv_hub.specs.dispatcher.Effects.{Closed, EndedInput, Left, Opened, Wrote}
+use Rattle.rv_hub.specs.dispatcher.Rest.{HasComeToStop}
+use Rattle.rv_hub.proofs.OfDispatcher.Answering.{due_length, some_is}
+use Rattle.rv_hub.proofs.OfDispatcher.Rows.{there_first}
 use Rattle.rv_hub.specs.declared.events.HubEvent.{HubEvent}
 use Rattle.rv_hub.specs.declared.events.HubEvent.TheVariants as event
-use Rattle.rv_hub.specs.Turns.{goes_on_first, own_deeds}
+use Rattle.rv_hub.specs.Turns.{goes_on_first, own_effects}
 use Rattle.rv_hub.specs.Steps.{IsGoing}
 use Rattle.rv_hub.proofs.Staying.{Stops, stops_closed}
 
@@ -85,15 +85,16 @@ released_stops written (Some wire) (Some after) releases stops =
     subst (λ (w : Traffic). (¬ IsDue w) × (¬ IsFinished w)) (some_is after now there)
     (same_stops wire after (released_same written wire after releases) (stops wire refl))
 
-pub written_stopped : (s t : DeskState) (terms : DeskTerms) (entries : ℕ) → Does terms s (Wrote entries) t
+pub written_stopped : (s t : DispatcherState) (terms : DispatcherTerms) (entries : ℕ)
+    → Does terms s (Wrote entries) t
     → (n : ℕ)
     → HasComeToStop s n → HasComeToStop t n
 written_stopped s t terms entries does n stopped =
     released_stops entries (s.open_wires.wires n) (t.open_wires.wires n) (does.releases.each n) stopped
 
--- ---- an event's own deed
+-- ---- an event's own effect
 
-others_stopped : (s t : DeskState) (connection n : ℕ) → ((c : ℕ) → HasComeToStop s c)
+others_stopped : (s t : DispatcherState) (connection n : ℕ) → ((c : ℕ) → HasComeToStop s c)
     → (n ≢ connection → t.open_wires.wires n ≡ s.open_wires.wires n)
     → HasComeToStop t n ⊎ Contains (connection ∷ []) n
 others_stopped s t connection n stopped same =
@@ -102,7 +103,8 @@ others_stopped s t connection n stopped same =
       | inr apart ↦ inl (subst Stops (sym (same apart)) (stopped n))
     ]
 
-own_stopped : (s t : DeskState) (connection n : ℕ) (after : Option Traffic) → ((c : ℕ) → HasComeToStop s c)
+own_stopped : (s t : DispatcherState) (connection n : ℕ) (after : Option Traffic)
+    → ((c : ℕ) → HasComeToStop s c)
     → Stops after → t.open_wires.wires connection ≡ after
     → (n ≢ connection → t.open_wires.wires n ≡ s.open_wires.wires n) → HasComeToStop t n
 own_stopped s t connection n after stopped stops own same =
@@ -111,19 +113,21 @@ own_stopped s t connection n after stopped stops own same =
       | inr apart ↦ subst Stops (sym (same apart)) (stopped n)
     ]
 
-pub at_last : (terms : DeskTerms) (s t : DeskState) (deed : Deed) → DoesAll terms s (deed ∷ []) t
-    → Does terms s deed t
-at_last terms s t deed (between, does, same) = subst (λ (u : DeskState). Does terms s deed u) (sym same) does
+pub at_last : (terms : DispatcherTerms) (s t : DispatcherState) (effect : Effect)
+    → DoesAll terms s (effect ∷ []) t
+    → Does terms s effect t
+at_last terms s t effect (between, does, same) = subst (λ (u : DispatcherState). Does terms s effect u)
+    (sym same) does
 
-pub own_going : (terms : DeskTerms) (s t : DeskState) (what : HubEvent) (number : ℕ)
+pub own_going : (terms : DispatcherTerms) (s t : DispatcherState) (what : HubEvent) (number : ℕ)
     → ((c : ℕ) → HasComeToStop s c)
-    → DoesAll terms s (own_deeds what number) t → IsGoing t (option_to_list (goes_on_first what))
+    → DoesAll terms s (own_effects what number) t → IsGoing t (option_to_list (goes_on_first what))
 own_going terms s t event.Opened number stopped all n =
     let does = at_last terms s t (Opened number) all in
     inl (own_stopped s t number n (Some fresh_traffic) stopped fresh_stops does.opens.sets.own
     (λ apart. does.opens.sets.others n apart))
 own_going terms s t (event.Came connection piece) number stopped same n =
-    inl (subst (λ (u : DeskState). HasComeToStop u n) (sym same) (stopped n))
+    inl (subst (λ (u : DispatcherState). HasComeToStop u n) (sym same) (stopped n))
 own_going terms s t (event.Ended connection) number stopped all n =
     let does = at_last terms s t (EndedInput connection) all in
     others_stopped s t connection n stopped (λ apart. does.changes.sets.others n apart)
@@ -137,4 +141,4 @@ own_going terms s t (event.Took connection count) number stopped all n =
 own_going terms s t (event.Written entries) number stopped all n =
     inl (written_stopped s t terms entries (at_last terms s t (Wrote entries) all) n (stopped n))
 own_going terms s t event.Passed number stopped same n =
-    inl (subst (λ (u : DeskState). HasComeToStop u n) (sym same) (stopped n))
+    inl (subst (λ (u : DispatcherState). HasComeToStop u n) (sym same) (stopped n))

@@ -1,4 +1,4 @@
--- Deeds keep the answers of each connection beside its frames.
+-- Effects keep the answers of each connection beside its frames.
 use Rattle.std.proofs.Common.{inl, inr, ◌≡◌, ◌≢◌, ◌≤◌, ◌+◌, ◌∙◌, ◌++◌, ◌∷◌, ℕ, List, [], None, Option}
 use Rattle.std.proofs.Common.{Some, refl, sym, ap, subst, arith, append_assoc, cond, length, nat_eq}
 use Rattle.std.proofs.Common.{slice_get}
@@ -24,27 +24,27 @@ use Rattle.rv_rules.proofs.Growing.{act_read, reads_on}
 use Rattle.rv_rules.proofs.Places.{get-append_cases, get-append_end, within}
 use Rattle.rv_wires.specs.connection.Traffic.{Traffic}
 use Rattle.rv_wires.specs.connection.History.{Given, owed_count}
-use Rattle.rv_wires.specs.declared.hearers.tables.Hearing.{Hearing}
-use Rattle.rv_wires.specs.hearers.Hearing.{SetsHearing, WhoHears}
+use Rattle.rv_wires.specs.declared.subscribers.tables.Subscription.{Subscription}
+use Rattle.rv_wires.specs.subscribers.Subscription.{SetsSubscription, WhoHears}
 use Rattle.rv_wires.specs.Connections.{ChangesWire, HasWire, ReleasesOpen, SetsWire, WiresState}
-use Rattle.rv_hub.specs.desk.View.{DeskState, DeskTerms, begun}
-use Rattle.rv_hub.specs.desk.Deeds.{AnswersNow, AnswersOrWaits, Deed, Does, DoesAll, IsDueWith, WaitsNow}
-use Rattle.rv_hub.specs.desk.Deeds.{entries_of_deed, rests_on}
-use Rattle.rv_hub.specs.desk.Deeds.{Asked, Closed, Elapsed, EndedInput, Lacked, Left, Lost, Opened}
-use Rattle.rv_hub.specs.desk.Deeds.{ReadNothing, Stepped, Told, TookIn, Wrote}
-use Rattle.rv_hub.specs.EventDeeds.{all_deeds}
+use Rattle.rv_hub.specs.dispatcher.View.{DispatcherState, DispatcherTerms, begun}
+use Rattle.rv_hub.specs.dispatcher.Effects.{AnswersNow, AnswersOrWaits, Effect, Does, DoesAll, IsDueWith}
+use Rattle.rv_hub.specs.dispatcher.Effects.{WaitsNow, entries_of_effect, rests_on, Asked, Closed, Elapsed}
+use Rattle.rv_hub.specs.dispatcher.Effects.{EndedInput, Lacked, Left, Lost, Opened, ReadNothing, Stepped}
+use Rattle.rv_hub.specs.dispatcher.Effects.{Told, TookIn, Wrote}
+use Rattle.rv_hub.specs.EventEffects.{all_effects}
 use Rattle.rv_hub.specs.HubRuns.{AddsEntries, IsHubAccount}
 use Rattle.rv_hub.specs.Pairing.{ArePaired, BeginsPairs, FramesAreAnswered, HasPairs, InPairs, IsAnswerTo}
 use Rattle.rv_hub.specs.Pairing.{WaitsFor}
-use Rattle.rv_hub.specs.Pasts.{HasPast, Past, is_deed_of, no_past, past_after, past_by, with_answer}
+use Rattle.rv_hub.specs.Pasts.{HasPast, Past, is_effect_of, no_past, past_after, past_by, with_answer}
 use Rattle.rv_hub.specs.Pasts.{with_frame, with_said}
 use Rattle.rv_hub.specs.Turns.{made_by}
-use Rattle.rv_hub.proofs.Accounts.{adds_none, adds_on, by_rules, deed_leads, deeds_lead, deeds_rise}
+use Rattle.rv_hub.proofs.Accounts.{adds_none, adds_on, by_rules, effect_leads, effects_lead, effects_rise}
 use Rattle.rv_hub.proofs.Accounts.{events_rise, own_before, same_account}
 use Rattle.rv_hub.proofs.ComesOf.{next_comes}
 use Rattle.rv_hub.proofs.HandedOver.{entries_counted}
 use Rattle.rv_hub.proofs.Histories.{by_own, past_on, pasts_kept}
-use Rattle.rv_hub.proofs.Longer.{deed_counts, deeds_count}
+use Rattle.rv_hub.proofs.Longer.{effect_counts, effects_count}
 use Rattle.rv_hub.proofs.Repeating.{account_is, as_a_repeat}
 
 -- ---- lists of frames and answers
@@ -135,13 +135,14 @@ adds_rest a m b made rest first whole = record {
 
 -- ---- who is open
 
-abbrev IsOpen : DeskState → ℕ → Type 0
+abbrev IsOpen : DispatcherState → ℕ → Type 0
 IsOpen s n = HasWire s.open_wires n (λ wire. Unit {0})
 
-open_same : (s t : DeskState) (n : ℕ) → t.open_wires.wires n ≡ s.open_wires.wires n → IsOpen s n → IsOpen t n
+open_same : (s t : DispatcherState) (n : ℕ) → t.open_wires.wires n ≡ s.open_wires.wires n → IsOpen s n
+    → IsOpen t n
 open_same s t n same is = record { wire = is.wire; there = same ∙ is.there; so = tt }
 
-changed_open : (s t : DeskState) (n m : ℕ) (so : Traffic → Traffic → Type 0)
+changed_open : (s t : DispatcherState) (n m : ℕ) (so : Traffic → Traffic → Type 0)
     → ChangesWire s.open_wires m so t.open_wires → n ≡ m → IsOpen t n
 changed_open s t n m so changes same =
     record { wire = changes.after; there = ap t.open_wires.wires same ∙ changes.sets.own; so = tt }
@@ -152,10 +153,10 @@ released_open written None after wire releases is = absurd (none-some wire is)
 released_open written (Some old) None wire releases is = absurd releases
 released_open written (Some old) (Some w) wire releases is = (w, refl)
 
--- ---- one connection behind a deed
+-- ---- one connection behind an effect
 
 module _ (limits : StepLimits) (a b : Account) (made : List Entry) (adds : AddsEntries a made b)
-    (s t : DeskState) (n : ℕ) (past : Past) (is : InPairs limits a s n past.frames past.answers)
+    (s t : DispatcherState) (n : ℕ) (past : Past) (is : InPairs limits a s n past.frames past.answers)
     (rises : s.now ≤ t.now) where
   paired_on : ArePaired limits b t.now past.frames past.answers
   paired_on i body given there answered =
@@ -166,9 +167,9 @@ module _ (limits : StepLimits) (a b : Account) (made : List Entry) (adds : AddsE
       → InPairs limits b t n past.frames past.answers
   unchanged hears opens = record {
     paired = paired_on;
-    waits = λ hearing there.
-        let waits = is.waits hearing (sym hears ∙ there) in
-        (opens waits.0, waits_on a b made past.frames past.answers hearing.key adds waits.1);
+    waits = λ subscription there.
+        let waits = is.waits subscription (sym hears ∙ there) in
+        (opens waits.0, waits_on a b made past.frames past.answers subscription.key adds waits.1);
   }
 
   kept_own : (m : ℕ) (so : Traffic → Traffic → Type 0) → t.hears n ≡ s.hears n
@@ -180,20 +181,21 @@ module _ (limits : StepLimits) (a b : Account) (made : List Entry) (adds : AddsE
   kept_other m so hears changes apart = unchanged hears (open_same s t n (changes.sets.others n apart))
 
   -- it is closed
-  kept_closed : (mid : DeskState) (m : ℕ) → mid.open_wires ≡ s.open_wires → mid.hears ≡ s.hears
-      → SetsWire mid.open_wires m None t.open_wires → SetsHearing mid.hears m None t.hears
+  kept_closed : (mid : DispatcherState) (m : ℕ) → mid.open_wires ≡ s.open_wires → mid.hears ≡ s.hears
+      → SetsWire mid.open_wires m None t.open_wires → SetsSubscription mid.hears m None t.hears
       → InPairs limits b t n (cond (nat_eq n m) past past).frames (cond (nat_eq n m) past past).answers
   kept_closed mid m wires heard sets hears =
       by_own (λ p. InPairs limits b t n p.frames p.answers) n m past past
       (λ same. record {
         paired = paired_on;
-        waits = λ hearing there. absurd (none-some hearing (sym hears.own ∙ ap t.hears (sym same) ∙ there));
+        waits = λ subscription there. absurd (none-some subscription (sym hears.own ∙ ap t.hears (sym same)
+            ∙ there));
       })
       (λ apart. unchanged (hears.others n apart ∙ ap (λ (h : WhoHears). h n) heard)
       (open_same s t n (sets.others n apart ∙ ap (λ (w : WiresState). w.wires n) wires)))
 
 -- each frame of a connection of which one is due has an answer
-pub same_length : (s : DeskState) (n m : ℕ) (body : List ℕ) (past : Past) → HasPast s n past
+pub same_length : (s : DispatcherState) (n m : ℕ) (body : List ℕ) (past : Past) → HasPast s n past
     → HasWire s.open_wires m (λ wire. IsDueWith wire body) → n ≡ m
     → length past.frames ≡ length past.answers
 same_length s n m body past has frame same =
@@ -204,7 +206,8 @@ same_length s n m body past has frame same =
     omega (arith, answered, none)
 
 module _ (limits : StepLimits) (a b : Account) (made : List Entry) (adds : AddsEntries a made b)
-    (s mid t : DeskState) (wires : mid.open_wires ≡ s.open_wires) (heard : mid.hears ≡ s.hears) (n m : ℕ)
+    (s mid t : DispatcherState) (wires : mid.open_wires ≡ s.open_wires) (heard : mid.hears ≡ s.hears)
+    (n m : ℕ)
     (body : List ℕ) (past : Past) (has : HasPast s n past)
     (is : InPairs limits a s n past.frames past.answers) (rises : s.now ≤ t.now) where
   due_here : HasWire mid.open_wires m (λ wire. IsDueWith wire body) → n ≡ m
@@ -221,16 +224,16 @@ module _ (limits : StepLimits) (a b : Account) (made : List Entry) (adds : AddsE
       (cond (nat_eq n m) (with_answer (with_frame past body) entries said) past).answers
   now_pairs rests entries text said now answers =
       let hears : t.hears n ≡ s.hears n =
-      ap (λ (u : DeskState). u.hears n) now.answers.rest ∙ ap (λ (h : WhoHears). h n) heard in
+      ap (λ (u : DispatcherState). u.hears n) now.answers.rest ∙ ap (λ (h : WhoHears). h n) heard in
       by_own (λ p. InPairs limits b t n p.frames p.answers) n m
       (with_answer (with_frame past body) entries said) past
       (λ same. record {
         paired = pair_both limits b t.now past.frames past.answers body
             (record { body = answer_text said; rests_on = entries })
             (paired_on limits a b made adds s t n past is rises) (due_here now.frame same) answers;
-        waits = λ hearing there.
-            absurd (none_waits a past.frames past.answers hearing.key (due_here now.frame same)
-            (is.waits hearing (sym hears ∙ there)).1);
+        waits = λ subscription there.
+            absurd (none_waits a past.frames past.answers subscription.key (due_here now.frame same)
+            (is.waits subscription (sym hears ∙ there)).1);
       })
       (λ apart. unchanged limits a b made adds s t n past is rises hears
       (open_same s t n (now.answers.changes.sets.others n apart
@@ -246,9 +249,9 @@ module _ (limits : StepLimits) (a b : Account) (made : List Entry) (adds : AddsE
       (λ same. record {
         paired = pair_frame limits b t.now past.frames past.answers
             (paired_on limits a b made adds s t n past is rises) body (due_here waits.frame same);
-        waits = λ hearing there.
-            let one = ap (λ (h : Hearing). h.key)
-            (same_Some _ hearing (sym waits.hears.own ∙ ap t.hears (sym same) ∙ there)) in (
+        waits = λ subscription there.
+            let one = ap (λ (h : Subscription). h.key)
+            (same_Some _ subscription (sym waits.hears.own ∙ ap t.hears (sym same) ∙ there)) in (
               changed_open mid t n m _ waits.takes same,
               subst (WaitsFor b (past.frames ++ body ∷ []) past.answers) one (record {
                 body = body;
@@ -302,8 +305,9 @@ refused_answer NoMemory limits a b made now time message count body is adds late
 refused_answer _ limits a b made now time message count body is adds later rises next same =
     of_step limits a b made now time message _ count body is adds later rises next same
 
-module _ (terms : DeskTerms) (a b : Account) (step : Stepped) (adds : AddsEntries a step.entries b)
-    (s mid t : DeskState) (wires : mid.open_wires ≡ s.open_wires) (heard : mid.hears ≡ s.hears) (n m : ℕ)
+module _ (terms : DispatcherTerms) (a b : Account) (step : Stepped) (adds : AddsEntries a step.entries b)
+    (s mid t : DispatcherState) (wires : mid.open_wires ≡ s.open_wires) (heard : mid.hears ≡ s.hears)
+    (n m : ℕ)
     (body : List ℕ) (past : Past) (has : HasPast s n past)
     (is : InPairs terms.limits a s n past.frames past.answers) (rises : s.now ≤ t.now)
     (later : own_moment a ≤ s.now) (message : IsMessageBody body step.message) (count : ℕ)
@@ -336,7 +340,8 @@ module _ (terms : DeskTerms) (a b : Account) (step : Stepped) (adds : AddsEntrie
 
 -- ---- whoever waited is told
 
-told_pairs : (terms : DeskTerms) (s t : DeskState) (a b : Account) (n m : ℕ) (key : Key) (said : Answer)
+told_pairs : (terms : DispatcherTerms) (s t : DispatcherState) (a b : Account) (n m : ℕ) (key : Key) (said :
+    Answer)
     (past : Past) (count : ℕ) → (does : Does terms s (Told m key said) t) → s.now ≤ max_moment
     → s.now ≤ t.now → IsHubAccount a s → AddsEntries a [] b → count ≡ length a.entries
     → InPairs terms.limits a s n past.frames past.answers
@@ -346,7 +351,7 @@ told_pairs terms s t a b n m key said past count does time rises is adds counted
     by_own (λ p. InPairs terms.limits b t n p.frames p.answers) n m (with_answer past count said) past
     (λ same.
     let waits = subst (WaitsFor a past.frames past.answers) does.key_is
-    (pairs.waits does.hearing (ap s.hears same ∙ does.waited)).1 in
+    (pairs.waits does.subscription (ap s.hears same ∙ does.waited)).1 in
     let next = as_a_repeat terms s t a m key said waits.call waits.place time is does waits.arrived in
     record {
       paired = pair_answer terms.limits b t.now past.frames past.answers
@@ -368,129 +373,133 @@ told_pairs terms s t a b n m key said past count does time rises is adds counted
               front = ([], adds);
             },
           )));
-      waits = λ hearing there.
-          absurd (none-some hearing (sym does.hears.own ∙ ap t.hears (sym same) ∙ there));
+      waits = λ subscription there.
+          absurd (none-some subscription (sym does.hears.own ∙ ap t.hears (sym same) ∙ there));
     })
     (λ apart. unchanged terms.limits a b [] adds s t n past pairs rises (does.hears.others n apart)
     (open_same s t n (does.answers.sets.others n apart)))
 
--- ---- each deed
+-- ---- each effect
 
-abbrev Behind : StepLimits → Account → DeskState → ℕ → Past → ℕ → Deed → Type 0
-Behind limits b t n past count deed =
-    InPairs limits b t n (cond (is_deed_of n deed) (past_by past count deed) past).frames
-    (cond (is_deed_of n deed) (past_by past count deed) past).answers
+abbrev Behind : StepLimits → Account → DispatcherState → ℕ → Past → ℕ → Effect → Type 0
+Behind limits b t n past count effect =
+    InPairs limits b t n (cond (is_effect_of n effect) (past_by past count effect) past).frames
+    (cond (is_effect_of n effect) (past_by past count effect) past).answers
 
-deed_pairs : (terms : DeskTerms) (deed : Deed) (s t : DeskState) (a b : Account) (n : ℕ) (past : Past)
-    → Does terms s deed t → s.now ≤ max_moment → s.now ≤ t.now → IsHubAccount a s
-    → AddsEntries a (entries_of_deed deed) b
+effect_pairs : (terms : DispatcherTerms) (effect : Effect) (s t : DispatcherState) (a b : Account) (n : ℕ)
+    (past : Past)
+    → Does terms s effect t → s.now ≤ max_moment → s.now ≤ t.now → IsHubAccount a s
+    → AddsEntries a (entries_of_effect effect) b
     → HasPast s n past → InPairs terms.limits a s n past.frames past.answers
-    → Behind terms.limits b t n past (s.book.length + length (entries_of_deed deed)) deed
-deed_pairs terms (Elapsed moment entries settled) s t a b n past does time rises is adds has pairs =
-    unchanged terms.limits a b entries adds s t n past pairs rises (ap (λ (u : DeskState). u.hears n)
+    → Behind terms.limits b t n past (s.book.length + length (entries_of_effect effect)) effect
+effect_pairs terms (Elapsed moment entries settled) s t a b n past does time rises is adds has pairs =
+    unchanged terms.limits a b entries adds s t n past pairs rises (ap (λ (u : DispatcherState). u.hears n)
     does.after)
-    (open_same s t n (ap (λ (u : DeskState). u.open_wires.wires n) does.after))
-deed_pairs terms (Opened m) s t a b n past does time rises is adds has pairs =
-    let hears : t.hears n ≡ s.hears n = ap (λ (u : DeskState). u.hears n) does.rest in
+    (open_same s t n (ap (λ (u : DispatcherState). u.open_wires.wires n) does.after))
+effect_pairs terms (Opened m) s t a b n past does time rises is adds has pairs =
+    let hears : t.hears n ≡ s.hears n = ap (λ (u : DispatcherState). u.hears n) does.rest in
     by_own (λ p. InPairs terms.limits b t n p.frames p.answers) n m no_past past
     (λ same. record {
       paired = λ i body given there answered. absurd (none-some body there);
-      waits = λ hearing there.
-          let was = (pairs.waits hearing (sym hears ∙ there)).0 in
+      waits = λ subscription there.
+          let was = (pairs.waits subscription (sym hears ∙ there)).0 in
           absurd (none-some was.wire (sym does.opens.free ∙ ap s.open_wires.wires (sym same) ∙ was.there));
     })
     (λ apart. unchanged terms.limits a b [] adds s t n past pairs rises hears
     (open_same s t n (does.opens.sets.others n apart)))
-deed_pairs terms (TookIn m bytes) s t a b n past does time rises is adds has pairs =
-    let hears : t.hears n ≡ s.hears n = ap (λ (u : DeskState). u.hears n) does.rest in
+effect_pairs terms (TookIn m bytes) s t a b n past does time rises is adds has pairs =
+    let hears : t.hears n ≡ s.hears n = ap (λ (u : DispatcherState). u.hears n) does.rest in
     by_own (λ p. InPairs terms.limits b t n p.frames p.answers) n m
     (record past { came = past.came ++ bytes }) past
     (kept_own terms.limits a b [] adds s t n past pairs rises m _ hears does.changes)
     (kept_other terms.limits a b [] adds s t n past pairs rises m _ hears does.changes)
-deed_pairs terms (EndedInput m) s t a b n past does time rises is adds has pairs =
-    let hears : t.hears n ≡ s.hears n = ap (λ (u : DeskState). u.hears n) does.rest in
+effect_pairs terms (EndedInput m) s t a b n past does time rises is adds has pairs =
+    let hears : t.hears n ≡ s.hears n = ap (λ (u : DispatcherState). u.hears n) does.rest in
     by_own (λ p. InPairs terms.limits b t n p.frames p.answers) n m past past
     (kept_own terms.limits a b [] adds s t n past pairs rises m _ hears does.changes)
     (kept_other terms.limits a b [] adds s t n past pairs rises m _ hears does.changes)
-deed_pairs terms (Left m count) s t a b n past does time rises is adds has pairs =
-    let hears : t.hears n ≡ s.hears n = ap (λ (u : DeskState). u.hears n) does.rest in
+effect_pairs terms (Left m count) s t a b n past does time rises is adds has pairs =
+    let hears : t.hears n ≡ s.hears n = ap (λ (u : DispatcherState). u.hears n) does.rest in
     by_own (λ p. InPairs terms.limits b t n p.frames p.answers) n m
     (record past { sent = past.sent + count }) past
     (kept_own terms.limits a b [] adds s t n past pairs rises m _ hears does.changes)
     (kept_other terms.limits a b [] adds s t n past pairs rises m _ hears does.changes)
-deed_pairs terms (Wrote entries) s t a b n past does time rises is adds has pairs =
-    unchanged terms.limits a b [] adds s t n past pairs rises (ap (λ (u : DeskState). u.hears n) does.rest)
+effect_pairs terms (Wrote entries) s t a b n past does time rises is adds has pairs =
+    unchanged terms.limits a b [] adds s t n past pairs rises (ap (λ (u : DispatcherState). u.hears n)
+    does.rest)
     (λ was. let still = released_open entries (s.open_wires.wires n) (t.open_wires.wires n) was.wire
     (does.releases.each n) was.there in record { wire = still.0; there = still.1; so = tt })
-deed_pairs terms (Asked m body step said) s t a b n past does time rises is adds has pairs =
+effect_pairs terms (Asked m body step said) s t a b n past does time rises is adds has pairs =
     let rules = by_rules terms s t a m body step said time is does in
     let one : rules.0 ≡ b =
     account_is b rules.0 (rules.2.epoch ∙ sym adds.epoch) (rules.2.opened ∙ sym adds.opened)
     (rules.2.entries ∙ sym adds.entries) in
     said_pairs terms a b step adds s does.between t
-    (ap (λ (u : DeskState). u.open_wires) does.steps.after)
-    (ap (λ (u : DeskState). u.hears) does.steps.after) n m body past has pairs rises (own_before a s s.now is
+    (ap (λ (u : DispatcherState). u.open_wires) does.steps.after)
+    (ap (λ (u : DispatcherState). u.hears) does.steps.after) n m body past has pairs rises
+    (own_before a s s.now is
     (omega arith)) does.is
     (s.book.length + length step.entries)
     (entries_counted a s step.entries is ∙ ap length (sym adds.entries)) said
     (subst (λ (c : Account). NextUnder terms.limits a s.now step.message c said) one rules.1) does.rest
-deed_pairs terms (ReadNothing m body) s t a b n past does time rises is adds has pairs =
+effect_pairs terms (ReadNothing m body) s t a b n past does time rises is adds has pairs =
     now_pairs terms.limits a b [] adds s s t refl refl n m body past has pairs rises 0 0 _
     (answer.Refused BadText)
     does.answers (inl (does.none, refl))
-deed_pairs terms (Lacked m body None) s t a b n past does time rises is adds has pairs =
+effect_pairs terms (Lacked m body None) s t a b n past does time rises is adds has pairs =
     now_pairs terms.limits a b [] adds s does.between t
-    (ap (λ (u : DeskState). u.open_wires) does.stepped) (ap (λ (u : DeskState). u.hears) does.stepped) n m
+    (ap (λ (u : DispatcherState). u.open_wires) does.stepped) (ap (λ (u : DispatcherState). u.hears)
+    does.stepped) n m
     body past has pairs rises 0 0 _ (answer.Refused NoMemory) does.answers (inr (inl refl))
-deed_pairs terms (Lacked m body (Some step)) s t a b n past does time rises is adds has pairs =
+effect_pairs terms (Lacked m body (Some step)) s t a b n past does time rises is adds has pairs =
     now_pairs terms.limits a b step.entries adds s does.between t
-    (ap (λ (u : DeskState). u.open_wires) does.stepped.steps.after)
-    (ap (λ (u : DeskState). u.hears) does.stepped.steps.after) n m body past has pairs rises 0 0 _
+    (ap (λ (u : DispatcherState). u.open_wires) does.stepped.steps.after)
+    (ap (λ (u : DispatcherState). u.hears) does.stepped.steps.after) n m body past has pairs rises 0 0 _
     (answer.Refused NoMemory) does.answers (inr (inl refl))
-deed_pairs terms (Lost m body step) s t a b n past does time rises is adds has pairs =
+effect_pairs terms (Lost m body step) s t a b n past does time rises is adds has pairs =
     kept_closed terms.limits a b step.entries adds s t n past pairs rises does.between m
-    (ap (λ (u : DeskState). u.open_wires) does.stepped.steps.after)
-    (ap (λ (u : DeskState). u.hears) does.stepped.steps.after) does.closes.sets does.closes.hears
-deed_pairs terms (Told m key said) s t a b n past does time rises is adds has pairs =
+    (ap (λ (u : DispatcherState). u.open_wires) does.stepped.steps.after)
+    (ap (λ (u : DispatcherState). u.hears) does.stepped.steps.after) does.closes.sets does.closes.hears
+effect_pairs terms (Told m key said) s t a b n past does time rises is adds has pairs =
     told_pairs terms s t a b n m key said past (s.book.length + 0) does time rises is adds
     (entries_counted a s [] is ∙ ap length (append-nil a.entries)) pairs
-deed_pairs terms (Closed m) s t a b n past does time rises is adds has pairs =
+effect_pairs terms (Closed m) s t a b n past does time rises is adds has pairs =
     kept_closed terms.limits a b [] adds s t n past pairs rises s m refl refl does.sets does.hears
 
--- ---- deeds, one after another
+-- ---- effects, one after another
 
-pub deeds_pairs : (terms : DeskTerms) (deeds : List Deed) (s t : DeskState) (a b : Account)
-    → AreStepLimits terms.limits → DoesAll terms s deeds t → t.now ≤ max_moment → IsHubAccount a s
-    → AddsEntries a (flat_map entries_of_deed deeds) b → (n : ℕ) (past : Past)
+pub effects_pairs : (terms : DispatcherTerms) (effects : List Effect) (s t : DispatcherState) (a b : Account)
+    → AreStepLimits terms.limits → DoesAll terms s effects t → t.now ≤ max_moment → IsHubAccount a s
+    → AddsEntries a (flat_map entries_of_effect effects) b → (n : ℕ) (past : Past)
     → HasPairs terms.limits a s n past
-    → HasPairs terms.limits b t n (past_after n past s.book.length deeds)
-deeds_pairs terms [] s t a b limits same time is adds n past pairs = record {
-  has = subst (λ (u : DeskState). HasPast u n past) (sym same) pairs.has;
+    → HasPairs terms.limits b t n (past_after n past s.book.length effects)
+effects_pairs terms [] s t a b limits same time is adds n past pairs = record {
+  has = subst (λ (u : DispatcherState). HasPast u n past) (sym same) pairs.has;
   pairs = unchanged terms.limits a b [] adds s t n past pairs.pairs
-      (let m : t.now ≡ s.now = ap (λ (u : DeskState). u.now) same in omega arith)
-      (ap (λ (u : DeskState). u.hears n) same)
-      (open_same s t n (ap (λ (u : DeskState). u.open_wires.wires n) same));
+      (let m : t.now ≡ s.now = ap (λ (u : DispatcherState). u.now) same in omega arith)
+      (ap (λ (u : DispatcherState). u.hears n) same)
+      (open_same s t n (ap (λ (u : DispatcherState). u.open_wires.wires n) same));
 }
-deeds_pairs terms (deed ∷ deeds) s t a b limits (mid, does, more) time is adds n past pairs =
-    let made = entries_of_deed deed in
-    let later = deeds_rise terms deeds mid t more in
-    let rises = deeds_rise terms (deed ∷ []) s mid (mid, does, refl) in
-    let first = deed_leads terms deed s mid a limits does (omega arith) (omega arith) is in
-    let now = cond (is_deed_of n deed) (past_by past (s.book.length + length made) deed) past in
+effects_pairs terms (effect ∷ effects) s t a b limits (mid, does, more) time is adds n past pairs =
+    let made = entries_of_effect effect in
+    let later = effects_rise terms effects mid t more in
+    let rises = effects_rise terms (effect ∷ []) s mid (mid, does, refl) in
+    let first = effect_leads terms effect s mid a limits does (omega arith) (omega arith) is in
+    let now = cond (is_effect_of n effect) (past_by past (s.book.length + length made) effect) past in
     let one : HasPairs terms.limits first.after mid n now = record {
-      has = pasts_kept terms (deed ∷ []) s mid (mid, does, refl) n past pairs.has;
-      pairs = deed_pairs terms deed s mid a first.after n past does (omega arith) rises is first.adds
+      has = pasts_kept terms (effect ∷ []) s mid (mid, does, refl) n past pairs.has;
+      pairs = effect_pairs terms effect s mid a first.after n past does (omega arith) rises is first.adds
           pairs.has
           pairs.pairs;
     } in
-    let counted : mid.book.length ≡ s.book.length + length made = deed_counts terms deed s mid does in
-    subst (λ k. HasPairs terms.limits b t n (past_after n now k deeds)) counted
-    (deeds_pairs terms deeds mid t first.after b limits more time first.is
-    (adds_rest a first.after b made (flat_map entries_of_deed deeds) first.adds adds) n now one)
+    let counted : mid.book.length ≡ s.book.length + length made = effect_counts terms effect s mid does in
+    subst (λ k. HasPairs terms.limits b t n (past_after n now k effects)) counted
+    (effects_pairs terms effects mid t first.after b limits more time first.is
+    (adds_rest a first.after b made (flat_map entries_of_effect effects) first.adds adds) n now one)
 
 -- ---- events
 
-begun_pairs : (limits : StepLimits) (a : Account) (s : DeskState) (n : ℕ) (past : Past)
+begun_pairs : (limits : StepLimits) (a : Account) (s : DispatcherState) (n : ℕ) (past : Past)
     → HasPairs limits a s n past → HasPairs limits a (begun s) n past
 begun_pairs limits a s n past is = record {
   has = is.has;
@@ -499,19 +508,20 @@ begun_pairs limits a s n past is = record {
 
 pub frames_answered : FramesAreAnswered
 frames_answered terms [] s t a b limits same time is adds n past pairs =
-    deeds_pairs terms [] s t a b limits same time is adds n past pairs
-frames_answered terms (deeds ∷ events) s t a b limits (mid, does, more) time is adds n past pairs =
-    let made = flat_map entries_of_deed deeds in
+    effects_pairs terms [] s t a b limits same time is adds n past pairs
+frames_answered terms (effects ∷ events) s t a b limits (mid, does, more) time is adds n past pairs =
+    let made = flat_map entries_of_effect effects in
     let count = s.book.length in
     let later = events_rise terms events mid t more in
     let is_begun = same_account a s (begun s) refl refl is in
-    let first = deeds_lead terms deeds (begun s) mid a limits does (omega arith) is_begun in
-    let now = past_after n past count deeds in
-    let one = deeds_pairs terms deeds (begun s) mid a first.after limits does (omega arith) is_begun
+    let first = effects_lead terms effects (begun s) mid a limits does (omega arith) is_begun in
+    let now = past_after n past count effects in
+    let one = effects_pairs terms effects (begun s) mid a first.after limits does (omega arith) is_begun
     first.adds n past (begun_pairs terms.limits a s n past pairs) in
-    let counted : mid.book.length ≡ count + length made = deeds_count terms deeds (begun s) mid does in
-    subst (λ (p : Past). HasPairs terms.limits b t n p) (sym (past_on n past count deeds (all_deeds events)))
-    (subst (λ k. HasPairs terms.limits b t n (past_after n now k (all_deeds events))) counted
+    let counted : mid.book.length ≡ count + length made = effects_count terms effects (begun s) mid does in
+    subst (λ (p : Past). HasPairs terms.limits b t n p)
+    (sym (past_on n past count effects (all_effects events)))
+    (subst (λ k. HasPairs terms.limits b t n (past_after n now k (all_effects events))) counted
     (frames_answered terms events mid t first.after b limits more time first.is
     (adds_rest a first.after b made (made_by events) first.adds adds) n now one))
 
@@ -522,6 +532,6 @@ pairs_begin limits a s n nobody closed = record {
   has = λ wire there. absurd (closed (record { wire = wire; there = there; so = tt }));
   pairs = record {
     paired = λ i body given there answered. absurd (none-some body there);
-    waits = λ hearing there. absurd (nobody hearing there);
+    waits = λ subscription there. absurd (nobody subscription there);
   };
 }

@@ -25,8 +25,8 @@ use Rattle.rv_state.specs.Moves.{SessionLacks, StateNextAtUnder, answer_told, ca
 use Rattle.rv_state.specs.State.{ClientState, State, client_at}
 use Rattle.rv_state.proofs.StateLaws.{moves_step_under}
 use Rattle.rv_state.specs.Moves.{StateNextUnder}
-use Rattle.rv_hub.specs.desk.View.{DeskState}
-use Rattle.rv_hub.specs.desk.Telling.{IsToldAgain}
+use Rattle.rv_hub.specs.dispatcher.View.{DispatcherState}
+use Rattle.rv_hub.specs.dispatcher.Telling.{IsToldAgain}
 use Rattle.rv_hub.specs.HubRuns.{IsHubAccount, TellsAsARepeat}
 use Rattle.rv_hub.proofs.Accounts.{fitting_number, next_here, told_became}
 
@@ -138,7 +138,8 @@ module _ (s : State) (key : Key) (session : ClientState) (there : client_at s ke
 
 -- ---- a step of the account
 
-repeats_move : (limits : StepLimits) (a : Account) (s : DeskState) (key : Key) (said : Answer) (call : Call)
+repeats_move : (limits : StepLimits) (a : Account) (s : DispatcherState) (key : Key) (said : Answer) (call :
+    Call)
     (place : ℕ) → IsHubAccount a s → IsToldAgain s.book key said
     → act_at a.entries place ≡ Some (Arrive key call)
     → StateNextAtUnder limits s.book s.now (Request key call) (staying s.book said)

@@ -6,28 +6,28 @@ use Rattle.std.specs.Option.{unwrap_or}
 use Rattle.std.proofs.lemmas.Bool.{cases_lt}
 use Rattle.rv_wires.specs.connection.Traffic.{IsBad, IsDue, IsWholeFrame, Traffic, held_count, most_held}
 use Rattle.rv_wires.specs.Connections.{ReleasesOpen}
-use Rattle.rv_hub.specs.declared.desk.HubDesk.{HubDesk}
-use Rattle.rv_hub.specs.desk.View.{DeskState, DeskTerms, begun}
-use Rattle.rv_hub.specs.desk.Deeds.{DoesAll, Wrote}
-use Rattle.rv_hub.specs.desk.Rest.{HasComeToStop, HearersInTime, TakesNoMore}
-use Rattle.rv_hub.specs.desk.Fields.{IsDeskReady, IsSteady, desk_state, desk_terms}
+use Rattle.rv_hub.specs.declared.dispatcher.Dispatcher.{Dispatcher}
+use Rattle.rv_hub.specs.dispatcher.View.{DispatcherState, DispatcherTerms, begun}
+use Rattle.rv_hub.specs.dispatcher.Effects.{DoesAll, Wrote}
+use Rattle.rv_hub.specs.dispatcher.Rest.{HasComeToStop, SubscribersInTime, TakesNoMore}
+use Rattle.rv_hub.specs.dispatcher.Fields.{IsDispatcherReady, IsSteady, dispatcher_state, dispatcher_terms}
 use Rattle.rv_hub.specs.declared.events.EventRefusal.{EventRefusal}
 use Rattle.rv_hub.specs.declared.events.HubEvent.{HubEvent}
 use Rattle.rv_hub.specs.declared.events.HubEvent.TheVariants as event
 use Rattle.rv_hub.specs.Events.{EventCan, EventCannotBe}
-use Rattle.rv_hub.specs.EventDeeds.{goes_deeds}
-use Rattle.rv_hub.specs.Turns.{EventGives, IsAtRest, CanTakeNone, TakesPiece, last_deeds}
-use Rattle.rv_hub.specs.Turns.{offer_in, own_deeds}
+use Rattle.rv_hub.specs.EventEffects.{goes_effects}
+use Rattle.rv_hub.specs.Turns.{EventGives, IsAtRest, CanTakeNone, TakesPiece, last_effects}
+use Rattle.rv_hub.specs.Turns.{offer_in, own_effects}
 use Rattle.rv_hub.specs.Steps.{ActsOwn, RunsOn, opened_number}
 use Rattle.rv_hub.proofs.Longer.{IsWithin, within_all}
 use Rattle.rv_hub.proofs.Owning.{at_last, written_stopped}
 use Rattle.rv_hub.proofs.Staying.{TakesNone, none_closed}
 use Rattle.rv_hub.proofs.Whole.{goes_do}
-use Rattle.rv_hub.proofs.OfDesk.Answering.{some_is}
+use Rattle.rv_hub.proofs.OfDispatcher.Answering.{some_is}
 
 -- ---- what can be, can be where no connection has changed yet
 
-pub can_begun : (s : DeskState) (what : HubEvent) → EventCan (begun s) what → EventCan s what
+pub can_begun : (s : DispatcherState) (what : HubEvent) → EventCan (begun s) what → EventCan s what
 can_begun s event.Opened can = tt
 can_begun s (event.Came connection piece) can = can
 can_begun s (event.Ended connection) can = can
@@ -36,7 +36,8 @@ can_begun s (event.Took connection count) can = can
 can_begun s (event.Written entries) can = can
 can_begun s event.Passed can = tt
 
-pub cannot_begun : (s : DeskState) (what : HubEvent) (why : EventRefusal) → EventCannotBe (begun s) what why
+pub cannot_begun : (s : DispatcherState) (what : HubEvent) (why : EventRefusal)
+    → EventCannotBe (begun s) what why
     → EventCannotBe s what why
 cannot_begun s event.Opened why cannot = absurd cannot
 cannot_begun s (event.Came connection piece) why cannot = cannot
@@ -48,7 +49,7 @@ cannot_begun s event.Passed why cannot = absurd cannot
 
 -- ---- behind time and turns
 
-pub ready_behind : (d : HubDesk) → IsSteady d → d.freed.items ≡ [] → IsDeskReady d
+pub ready_behind : (d : Dispatcher) → IsSteady d → d.freed.items ≡ [] → IsDispatcherReady d
 ready_behind d steady none = record {
   sound = steady.sound;
   waits = steady.waits;
@@ -56,25 +57,29 @@ ready_behind d steady none = record {
   none_freed = none;
 }
 
-pub within_behind : (old mid new : HubDesk) (what : HubEvent) (opened : Option ℕ) (handed taken : ℕ)
-    → IsWithin (desk_state old) → ActsOwn old what opened mid
+pub within_behind : (old mid new : Dispatcher) (what : HubEvent) (opened : Option ℕ) (handed taken : ℕ)
+    → IsWithin (dispatcher_state old) → ActsOwn old what opened mid
     → RunsOn mid handed what (offer_in what) taken new
-    → IsWithin (desk_state new)
+    → IsWithin (dispatcher_state new)
 within_behind old mid new what opened handed taken within acts runs =
-    let goes = goes_do (desk_terms mid) (desk_state mid) handed what new.entries.items taken (desk_state new)
+    let goes = goes_do (dispatcher_terms mid) (dispatcher_state mid) handed what new.entries.items taken
+    (dispatcher_state new)
     runs.goes in
-    within_all (desk_terms mid) (goes_deeds (desk_terms mid) (desk_state mid) handed what new.entries.items
+    within_all (dispatcher_terms mid) (goes_effects (dispatcher_terms mid) (dispatcher_state mid) handed what
+    new.entries.items
     taken
-    (desk_state new) runs.goes) (desk_state mid) (desk_state new) goes.does
-    (within_all (desk_terms old) (own_deeds what acts.number) (desk_state old) (desk_state mid) acts.does
+    (dispatcher_state new) runs.goes) (dispatcher_state mid) (dispatcher_state new) goes.does
+    (within_all (dispatcher_terms old) (own_effects what acts.number) (dispatcher_state old)
+    (dispatcher_state mid) acts.does
     within)
 
 -- ---- where all is written
 
-last_stopped : (terms : DeskTerms) (journal : Bool) (s t : DeskState)
-    → DoesAll terms s (last_deeds journal s) t
+last_stopped : (terms : DispatcherTerms) (journal : Bool) (s t : DispatcherState)
+    → DoesAll terms s (last_effects journal s) t
     → (n : ℕ) → HasComeToStop s n → HasComeToStop t n
-last_stopped terms true s t same n stopped = subst (λ (u : DeskState). HasComeToStop u n) (sym same) stopped
+last_stopped terms true s t same n stopped = subst (λ (u : DispatcherState). HasComeToStop u n) (sym same)
+    stopped
 last_stopped terms false s t all n stopped = written_stopped s t terms s.book.length
     (at_last terms s t (Wrote s.book.length) all) n stopped
 
@@ -88,48 +93,54 @@ released_none written (Some wire) (Some after) releases takes =
     (subst (λ l. IsWholeFrame l ⊎ IsBad l) (sym (ap (λ (w : Traffic). w.unread) releases.goes))
     (takes wire refl))
 
-last_takes : (terms : DeskTerms) (journal : Bool) (s t : DeskState) → DoesAll terms s (last_deeds journal s) t
+last_takes : (terms : DispatcherTerms) (journal : Bool) (s t : DispatcherState)
+    → DoesAll terms s (last_effects journal s) t
     → (n : ℕ) → TakesNoMore s n → TakesNoMore t n
-last_takes terms true s t same n takes = subst (λ (u : DeskState). TakesNoMore u n) (sym same) takes
+last_takes terms true s t same n takes = subst (λ (u : DispatcherState). TakesNoMore u n) (sym same) takes
 last_takes terms false s t all n takes =
     let does = at_last terms s t (Wrote s.book.length) all in
     released_none s.book.length (s.open_wires.wires n) (t.open_wires.wires n) (does.releases.each n) takes
 
-last_in_time : (terms : DeskTerms) (journal : Bool) (s t : DeskState)
-    → DoesAll terms s (last_deeds journal s) t
-    → HearersInTime s → HearersInTime t
-last_in_time terms true s t same in_time = subst HearersInTime (sym same) in_time
+last_in_time : (terms : DispatcherTerms) (journal : Bool) (s t : DispatcherState)
+    → DoesAll terms s (last_effects journal s) t
+    → SubscribersInTime s → SubscribersInTime t
+last_in_time terms true s t same in_time = subst SubscribersInTime (sym same) in_time
 last_in_time terms false s t all in_time =
-    λ connection hearing there.
+    λ connection subscription there.
     let does = at_last terms s t (Wrote s.book.length) all in
-    let hears = ap (λ (u : DeskState). u.hears connection) does.rest in
-    let now : t.now ≡ s.now = ap (λ (u : DeskState). u.now) does.rest in
-    let before = in_time connection hearing (sym hears ∙ there) in
+    let hears = ap (λ (u : DispatcherState). u.hears connection) does.rest in
+    let now : t.now ≡ s.now = ap (λ (u : DispatcherState). u.now) does.rest in
+    let before = in_time connection subscription (sym hears ∙ there) in
     omega arith
 
-last_written : (terms : DeskTerms) (journal : Bool) (s t : DeskState)
-    → DoesAll terms s (last_deeds journal s) t
+last_written : (terms : DispatcherTerms) (journal : Bool) (s t : DispatcherState)
+    → DoesAll terms s (last_effects journal s) t
     → journal ≡ false → t.open_wires.written ≡ t.book.length
 last_written terms true s t same unkept = absurd (let odd : true ≡ false = unkept in cc)
 last_written terms false s t all unkept =
     let does = at_last terms s t (Wrote s.book.length) all in
-    does.releases.written_is ∙ sym (ap (λ (u : DeskState). u.book.length) does.rest)
+    does.releases.written_is ∙ sym (ap (λ (u : DispatcherState). u.book.length) does.rest)
 
-pub at_rest : (old new : HubDesk) (journal : Bool) → IsSteady old
-    → ((connection : ℕ) → HasComeToStop (desk_state old) connection)
-    → IsWithin (desk_state old) → IsDeskReady new
-    → DoesAll (desk_terms old) (desk_state old) (last_deeds journal (desk_state old)) (desk_state new)
-    → IsAtRest journal (desk_state new)
+pub at_rest : (old new : Dispatcher) (journal : Bool) → IsSteady old
+    → ((connection : ℕ) → HasComeToStop (dispatcher_state old) connection)
+    → IsWithin (dispatcher_state old) → IsDispatcherReady new
+    → DoesAll (dispatcher_terms old) (dispatcher_state old) (last_effects journal (dispatcher_state old))
+    (dispatcher_state new)
+    → IsAtRest journal (dispatcher_state new)
 at_rest old new journal steady stopped within ready last = record {
-  stopped = λ n. last_stopped (desk_terms old) journal (desk_state old) (desk_state new) last n (stopped n);
-  hearers_owe = ready.sound.hearers_owe;
+  stopped = λ n. last_stopped (dispatcher_terms old) journal (dispatcher_state old) (dispatcher_state new)
+      last n (stopped n);
+  subscribers_owe = ready.sound.subscribers_owe;
   owers_hear = ready.sound.owers_hear;
   waits = ready.waits;
-  in_time = last_in_time (desk_terms old) journal (desk_state old) (desk_state new) last steady.in_time;
-  written = within_all (desk_terms old) (last_deeds journal (desk_state old)) (desk_state old)
-      (desk_state new) last
+  in_time = last_in_time (dispatcher_terms old) journal (dispatcher_state old) (dispatcher_state new) last
+      steady.in_time;
+  written = within_all (dispatcher_terms old) (last_effects journal (dispatcher_state old))
+      (dispatcher_state old)
+      (dispatcher_state new) last
       within;
-  all_written = last_written (desk_terms old) journal (desk_state old) (desk_state new) last;
+  all_written = last_written (dispatcher_terms old) journal (dispatcher_state old) (dispatcher_state new)
+      last;
 }
 
 -- ---- what is left of a piece
@@ -148,8 +159,8 @@ is_stopped : (wire : Traffic) → IsWholeFrame wire.unread ⊎ IsBad wire.unread
 is_stopped wire (inl whole) not_due = inl (whole, owes_or_full wire wire.owes refl whole not_due)
 is_stopped wire (inr bad) not_due = inr bad
 
-pub takes_piece : (terms : DeskTerms) (journal : Bool) (s t : DeskState) (what : HubEvent)
-    (number taken result : ℕ) → DoesAll terms s (last_deeds journal s) t
+pub takes_piece : (terms : DispatcherTerms) (journal : Bool) (s t : DispatcherState) (what : HubEvent)
+    (number taken result : ℕ) → DoesAll terms s (last_effects journal s) t
     → ((connection : ℕ) → HasComeToStop s connection)
     → (taken < length (offer_in what).piece → TakesNoMore s (offer_in what).connection)
     → EventGives what number taken result → TakesPiece what result t

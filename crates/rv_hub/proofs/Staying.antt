@@ -10,12 +10,12 @@ use Rattle.std.proofs.lemmas.List.Elements.{Contains-append_cases, Contains-appe
 use Rattle.std.proofs.lemmas.List.Elements.{Contains-append_right, Contains-push_cases}
 use Rattle.std.proofs.lemmas.Option.{none-some}
 use Rattle.rv_wires.specs.connection.Traffic.{IsBad, IsDue, IsFinished, IsWholeFrame, Traffic}
-use Rattle.rv_hub.specs.desk.View.{DeskState, DeskTerms}
-use Rattle.rv_hub.specs.desk.Deeds.{Deed, told_in_deeds}
-use Rattle.rv_hub.specs.desk.Order.{IsTurn}
-use Rattle.rv_hub.specs.desk.Rest.{HasComeToStop, TakesNoMore}
-use Rattle.rv_hub.specs.desk.Runs.{StaysOrTold}
-use Rattle.rv_hub.proofs.OfDesk.Others.{others_stay}
+use Rattle.rv_hub.specs.dispatcher.View.{DispatcherState, DispatcherTerms}
+use Rattle.rv_hub.specs.dispatcher.Effects.{Effect, told_in_effects}
+use Rattle.rv_hub.specs.dispatcher.Order.{IsTurn}
+use Rattle.rv_hub.specs.dispatcher.Rest.{HasComeToStop, TakesNoMore}
+use Rattle.rv_hub.specs.dispatcher.Runs.{StaysOrTold}
+use Rattle.rv_hub.proofs.OfDispatcher.Others.{others_stay}
 use Rattle.rv_hub.specs.Turns.{Offered, offered_to}
 use Rattle.rv_hub.specs.Steps.{IsGoing, IsOffering, less_by}
 
@@ -33,7 +33,7 @@ stops_closed wire there = absurd (none-some wire there)
 pub none_closed : TakesNone None
 none_closed wire there = absurd (none-some wire there)
 
-pub kept_or : (P : Option Traffic → Type 0) → P None → (s t : DeskState) (told row : List ℕ) (n : ℕ)
+pub kept_or : (P : Option Traffic → Type 0) → P None → (s t : DispatcherState) (told row : List ℕ) (n : ℕ)
     → StaysOrTold s told n t → P (s.open_wires.wires n) ⊎ Contains row n
     → P (t.open_wires.wires n) ⊎ Contains (row ++ told) n
 kept_or P none s t told row n kept (inr there) = inr (Contains-append_left row told n there)
@@ -87,28 +87,29 @@ offered_within offer connection =
 
 -- ---- a turn
 
-going_tail : (s : DeskState) (connection : ℕ) (row : List ℕ) (n : ℕ) → n ≢ connection
+going_tail : (s : DispatcherState) (connection : ℕ) (row : List ℕ) (n : ℕ) → n ≢ connection
     → HasComeToStop s n ⊎ Contains (connection ∷ row) n → HasComeToStop s n ⊎ Contains row n
 going_tail s connection row n apart (inl stopped) = inl stopped
 going_tail s connection row n apart (inr there) = inr (row_tail connection row n apart there)
 
-offering_tail : (s : DeskState) (connection : ℕ) (row : List ℕ) (n : ℕ) → n ≢ connection
+offering_tail : (s : DispatcherState) (connection : ℕ) (row : List ℕ) (n : ℕ) → n ≢ connection
     → TakesNoMore s n ⊎ Contains (connection ∷ row) n → TakesNoMore s n ⊎ Contains row n
 offering_tail s connection row n apart (inl takes) = inl takes
 offering_tail s connection row n apart (inr there) = inr (row_tail connection row n apart there)
 
-pub turn_going : (terms : DeskTerms) (s t : DeskState) (connection : ℕ) (piece : List ℕ) (deeds : List Deed)
-    (count : ℕ) (row : List ℕ) → IsTurn terms s connection piece deeds count t → HasComeToStop t connection
-    → IsGoing s (connection ∷ row) → IsGoing t (row ++ told_in_deeds deeds)
-turn_going terms s t connection piece deeds count row turn stopped going n =
+pub turn_going : (terms : DispatcherTerms) (s t : DispatcherState) (connection : ℕ) (piece : List ℕ)
+    (effects : List Effect)
+    (count : ℕ) (row : List ℕ) → IsTurn terms s connection piece effects count t → HasComeToStop t connection
+    → IsGoing s (connection ∷ row) → IsGoing t (row ++ told_in_effects effects)
+turn_going terms s t connection piece effects count row turn stopped going n =
     elim (cases_eq n connection) [
       | inl same ↦ inl (subst (λ (m : ℕ). HasComeToStop t m) (sym same) stopped)
-      | inr apart ↦ kept_or Stops stops_closed s t (told_in_deeds deeds) row n
-          (others_stay terms s t connection piece deeds count turn n apart) (going_tail s connection row n
+      | inr apart ↦ kept_or Stops stops_closed s t (told_in_effects effects) row n
+          (others_stay terms s t connection piece effects count turn n apart) (going_tail s connection row n
           apart (going n))
     ]
 
-offering_own : (t : DeskState) (offer : Offered) (connection count : ℕ) → offer.connection ≡ connection
+offering_own : (t : DispatcherState) (offer : Offered) (connection count : ℕ) → offer.connection ≡ connection
     → (count < length (offered_to offer connection) → TakesNoMore t connection)
     → 0 < length (drop count offer.piece) → TakesNoMore t offer.connection
 offering_own t offer connection count same stops left =
@@ -116,12 +117,14 @@ offering_own t offer connection count same stops left =
     let long = length-drop count offer.piece in
     subst (λ (m : ℕ). TakesNoMore t m) (sym same) (stops (omega arith))
 
-pub turn_offering : (terms : DeskTerms) (s t : DeskState) (connection : ℕ) (offer : Offered) (deeds :
-    List Deed)
-    (count : ℕ) (row : List ℕ) → IsTurn terms s connection (offered_to offer connection) deeds count t
+pub turn_offering : (terms : DispatcherTerms) (s t : DispatcherState) (connection : ℕ) (offer : Offered)
+    (effects :
+    List Effect)
+    (count : ℕ) (row : List ℕ) → IsTurn terms s connection (offered_to offer connection) effects count t
     → (count < length (offered_to offer connection) → TakesNoMore t connection)
-    → IsOffering s (connection ∷ row) offer → IsOffering t (row ++ told_in_deeds deeds) (less_by offer count)
-turn_offering terms s t connection offer deeds count row turn stops offering left =
+    → IsOffering s (connection ∷ row) offer
+    → IsOffering t (row ++ told_in_effects effects) (less_by offer count)
+turn_offering terms s t connection offer effects count row turn stops offering left =
     elim (cases_eq offer.connection connection) [
       | inl same ↦ inl (offering_own t offer connection count same stops left)
       | inr apart ↦
@@ -129,8 +132,8 @@ turn_offering terms s t connection offer deeds count row turn stops offering lef
           let within = turn.within in
           let long = length-drop count offer.piece in
           let some : 0 < length offer.piece = omega arith in
-          kept_or TakesNone none_closed s t (told_in_deeds deeds) row offer.connection
-          (others_stay terms s t connection (offered_to offer connection) deeds count turn offer.connection
+          kept_or TakesNone none_closed s t (told_in_effects effects) row offer.connection
+          (others_stay terms s t connection (offered_to offer connection) effects count turn offer.connection
           apart)
           (offering_tail s connection row offer.connection apart (offering some)))
     ]

@@ -1,18 +1,18 @@
 -- What happens to a hub, and which of it can't be.
 use Rattle.std.specs.Prelude.{ℕ, ◌≡◌, ◌<◌, ◌≤◌, ◌⊎◌, None, false, length, true}
 use Rattle.rv_wires.specs.Connections.{HasWire}
-use Rattle.rv_hub.specs.desk.View.{DeskState}
+use Rattle.rv_hub.specs.dispatcher.View.{DispatcherState}
 use Rattle.rv_hub.specs.declared.events.EventRefusal.{EventRefusal}
 use Rattle.rv_hub.specs.declared.events.EventRefusal.TheVariants as refused
 use Rattle.rv_hub.specs.declared.events.HubEvent.{HubEvent}
 use Rattle.rv_hub.specs.declared.events.HubEvent.TheVariants as event
 
 -- the connection isn't open
-abbrev pub IsNotOpen : DeskState → ℕ → Type 0
+abbrev pub IsNotOpen : DispatcherState → ℕ → Type 0
 IsNotOpen s connection = s.open_wires.wires connection ≡ None
 
 -- why an event can't be; for want of memory is another cause
-abbrev pub EventCannotBe : DeskState → HubEvent → EventRefusal → Type 0
+abbrev pub EventCannotBe : DispatcherState → HubEvent → EventRefusal → Type 0
 EventCannotBe s event.Opened why = ⊥
 EventCannotBe s (event.Came connection piece) why =
     (IsNotOpen s connection × (why ≡ refused.NotOpen))
@@ -30,7 +30,7 @@ EventCannotBe s (event.Written entries) why =
 EventCannotBe s event.Passed why = ⊥
 
 -- what an event that can be rests on
-abbrev pub EventCan : DeskState → HubEvent → Type 0
+abbrev pub EventCan : DispatcherState → HubEvent → Type 0
 EventCan s event.Opened = Unit {0}
 EventCan s (event.Came connection piece) = HasWire s.open_wires connection (λ wire. wire.ended ≡ false)
 EventCan s (event.Ended connection) = HasWire s.open_wires connection (λ wire. wire.ended ≡ false)

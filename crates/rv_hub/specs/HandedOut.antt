@@ -12,9 +12,9 @@ use Rattle.rv_account.specs.Limits.{max_moment}
 use Rattle.rv_rules.specs.Replies.{HasReply}
 use Rattle.rv_rules.specs.StepLimits.{AreStepLimits}
 use Rattle.rv_wires.specs.connection.History.{Given}
-use Rattle.rv_hub.specs.desk.View.{DeskState, DeskTerms}
-use Rattle.rv_hub.specs.desk.Deeds.{Deed, DoesAll, entries_of_deed}
-use Rattle.rv_hub.specs.EventDeeds.{all_deeds}
+use Rattle.rv_hub.specs.dispatcher.View.{DispatcherState, DispatcherTerms}
+use Rattle.rv_hub.specs.dispatcher.Effects.{Effect, DoesAll, entries_of_effect}
+use Rattle.rv_hub.specs.EventEffects.{all_effects}
 use Rattle.rv_hub.specs.HubRuns.{AddsEntries, DoesEvents, IsHubAccount}
 use Rattle.rv_hub.specs.Pasts.{Past, past_after}
 use Rattle.rv_hub.specs.Turns.{made_by}
@@ -33,18 +33,20 @@ pub record IsPublic (entries : List Entry) (given : Given) : Type 0 where
 abbrev pub ArePublic : Account → Past → Type 0
 ArePublic a past = All (IsPublic a.entries) past.answers
 
--- deeds keep that, where the account after them has their entries
-abbrev pub DeedsTellPublicly : Type 0
-DeedsTellPublicly = (terms : DeskTerms) (deeds : List Deed) (s t : DeskState) (a b : Account)
+-- effects keep that, where the account after them has their entries
+abbrev pub EffectsTellPublicly : Type 0
+EffectsTellPublicly = (terms : DispatcherTerms) (effects : List Effect) (s t : DispatcherState)
+    (a b : Account)
     → AreStepLimits terms.limits
-    → DoesAll terms s deeds t → t.now ≤ max_moment → IsHubAccount a s
-    → AddsEntries a (flat_map entries_of_deed deeds) b → (n : ℕ) (past : Past) → ArePublic a past
-    → ArePublic b (past_after n past s.book.length deeds)
+    → DoesAll terms s effects t → t.now ≤ max_moment → IsHubAccount a s
+    → AddsEntries a (flat_map entries_of_effect effects) b → (n : ℕ) (past : Past) → ArePublic a past
+    → ArePublic b (past_after n past s.book.length effects)
 
 -- so do the events of a hub
 abbrev pub HandedOutIsPublic : Type 0
-HandedOutIsPublic = (terms : DeskTerms) (events : List (List Deed)) (s t : DeskState) (a b : Account)
+HandedOutIsPublic = (terms : DispatcherTerms) (events : List (List Effect)) (s t : DispatcherState)
+    (a b : Account)
     → AreStepLimits terms.limits
     → DoesEvents terms s events t → t.now ≤ max_moment → IsHubAccount a s
     → AddsEntries a (made_by events) b → (n : ℕ) (past : Past) → ArePublic a past
-    → ArePublic b (past_after n past s.book.length (all_deeds events))
+    → ArePublic b (past_after n past s.book.length (all_effects events))

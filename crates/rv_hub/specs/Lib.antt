@@ -1,7 +1,7 @@
 -- What a reader must agree with: all that the public contracts and the laws cite.
 pub mod Events
 pub mod Turns
-pub mod EventDeeds
+pub mod EventEffects
 pub mod Pasts
 pub mod HubRuns
 pub mod HandedOut
@@ -10,4 +10,4 @@ pub mod Pairing
 pub mod Hubs
 -- What private clauses and proofs cite.
 pub mod Steps
-pub mod desk
+pub mod dispatcher

@@ -16,11 +16,11 @@ use Rattle.rv_account.specs.Limits.{max_moment}
 use Rattle.rv_rules.specs.StepLimits.{AreStepLimits, StepLimits}
 use Rattle.rv_rules.specs.Steps.{NextUnder}
 use Rattle.rv_wires.specs.connection.History.{Given}
-use Rattle.rv_wires.specs.declared.hearers.tables.Hearing.{Hearing}
+use Rattle.rv_wires.specs.declared.subscribers.tables.Subscription.{Subscription}
 use Rattle.rv_wires.specs.Connections.{HasWire}
-use Rattle.rv_hub.specs.desk.View.{DeskState, DeskTerms}
-use Rattle.rv_hub.specs.desk.Deeds.{Deed}
-use Rattle.rv_hub.specs.EventDeeds.{all_deeds}
+use Rattle.rv_hub.specs.dispatcher.View.{DispatcherState, DispatcherTerms}
+use Rattle.rv_hub.specs.dispatcher.Effects.{Effect}
+use Rattle.rv_hub.specs.EventEffects.{all_effects}
 use Rattle.rv_hub.specs.HubRuns.{AddsEntries, DoesEvents, IsHubAccount}
 use Rattle.rv_hub.specs.Pasts.{HasPast, Past, no_past, past_after}
 use Rattle.rv_hub.specs.Turns.{made_by}
@@ -73,27 +73,30 @@ pub record WaitsFor (a : Account) (frames : List (List ℕ)) (answers : List Giv
   pub arrived : act_at a.entries place ≡ Some (Arrive key call)
 
 -- that holds of a connection, and where it waits, it is open and does so for that frame
-pub record InPairs (limits : StepLimits) (a : Account) (s : DeskState) (n : ℕ) (frames : List (List ℕ))
+pub record InPairs (limits : StepLimits) (a : Account) (s : DispatcherState) (n : ℕ) (frames : List (List ℕ))
     (answers : List Given) : Type 0 where
   pub paired : ArePaired limits a s.now frames answers
-  pub waits : (hearing : Hearing) → s.hears n ≡ Some hearing
-      → HasWire s.open_wires n (λ wire. Unit {0}) × WaitsFor a frames answers hearing.key
+  pub waits : (subscription : Subscription) → s.hears n ≡ Some subscription
+      → HasWire s.open_wires n (λ wire. Unit {0}) × WaitsFor a frames answers subscription.key
 
 -- a past of a connection, with its answers beside its frames
-pub record HasPairs (limits : StepLimits) (a : Account) (s : DeskState) (n : ℕ) (past : Past) : Type 0 where
+pub record HasPairs (limits : StepLimits) (a : Account) (s : DispatcherState) (n : ℕ) (past : Past) :
+    Type 0 where
   pub has : HasPast s n past
   pub pairs : InPairs limits a s n past.frames past.answers
 
 -- where a number is free, and nobody waits under it, it has the past of none
 abbrev pub BeginsPairs : Type 0
-BeginsPairs = (limits : StepLimits) (a : Account) (s : DeskState) (n : ℕ)
-    → ((hearing : Hearing) → ¬ (s.hears n ≡ Some hearing)) → ¬ HasWire s.open_wires n (λ wire. Unit {0})
+BeginsPairs = (limits : StepLimits) (a : Account) (s : DispatcherState) (n : ℕ)
+    → ((subscription : Subscription) → ¬ (s.hears n ≡ Some subscription))
+    → ¬ HasWire s.open_wires n (λ wire. Unit {0})
     → HasPairs limits a s n no_past
 
 -- the events of a hub keep it, in the account with their entries
 abbrev pub FramesAreAnswered : Type 0
-FramesAreAnswered = (terms : DeskTerms) (events : List (List Deed)) (s t : DeskState) (a b : Account)
+FramesAreAnswered = (terms : DispatcherTerms) (events : List (List Effect)) (s t : DispatcherState)
+    (a b : Account)
     → AreStepLimits terms.limits
     → DoesEvents terms s events t → t.now ≤ max_moment → IsHubAccount a s
     → AddsEntries a (made_by events) b → (n : ℕ) (past : Past) → HasPairs terms.limits a s n past
-    → HasPairs terms.limits b t n (past_after n past s.book.length (all_deeds events))
+    → HasPairs terms.limits b t n (past_after n past s.book.length (all_effects events))

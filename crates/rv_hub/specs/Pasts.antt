@@ -1,4 +1,4 @@
--- What the deeds of a run were of one connection, from its opening on.
+-- What the effects of a run were of one connection, from its opening on.
 use Rattle.std.specs.Prelude.{ℕ, ◌≡◌, ◌+◌, List, [], ◌∷◌, ◌++◌, Some, cond, false, length, nat_eq}
 use Rattle.std.specs.Prelude.{Bool}
 use Rattle.rv_text.specs.declared.answer.Answer.{Answer}
@@ -7,10 +7,10 @@ use Rattle.rv_text.specs.declared.answer.Refusal.TheVariants.{BadText, NoMemory}
 use Rattle.rv_text.specs.Bodies.{answer_text}
 use Rattle.rv_wires.specs.connection.Traffic.{Traffic}
 use Rattle.rv_wires.specs.connection.History.{Given, History, IsHistory}
-use Rattle.rv_hub.specs.desk.View.{DeskState, DeskTerms}
-use Rattle.rv_hub.specs.desk.Deeds.{Deed, DoesAll, entries_of_deed, rests_on}
-use Rattle.rv_hub.specs.desk.Deeds.{Asked, Closed, Elapsed, EndedInput, Lacked, Left, Lost, Opened}
-use Rattle.rv_hub.specs.desk.Deeds.{ReadNothing, Told, TookIn, Wrote}
+use Rattle.rv_hub.specs.dispatcher.View.{DispatcherState, DispatcherTerms}
+use Rattle.rv_hub.specs.dispatcher.Effects.{Effect, DoesAll, entries_of_effect, rests_on}
+use Rattle.rv_hub.specs.dispatcher.Effects.{Asked, Closed, Elapsed, EndedInput, Lacked, Left, Lost, Opened}
+use Rattle.rv_hub.specs.dispatcher.Effects.{ReadNothing, Told, TookIn, Wrote}
 
 pub record Past : Type 0 where
   -- all bytes that were taken of its input
@@ -43,23 +43,23 @@ with_said past entries (answer.Welcome epoch client incarnation version) =
 with_said past entries (answer.Refused refusal) =
     with_answer past (rests_on (answer.Refused refusal) entries) (answer.Refused refusal)
 
--- whether a deed is one of a connection's own
-abbrev pub is_deed_of : ℕ → Deed → Bool
-is_deed_of n (Elapsed moment entries settled) = false
-is_deed_of n (Opened connection) = nat_eq n connection
-is_deed_of n (TookIn connection bytes) = nat_eq n connection
-is_deed_of n (EndedInput connection) = nat_eq n connection
-is_deed_of n (Left connection count) = nat_eq n connection
-is_deed_of n (Wrote entries) = false
-is_deed_of n (Asked connection body step said) = nat_eq n connection
-is_deed_of n (ReadNothing connection body) = nat_eq n connection
-is_deed_of n (Lacked connection body step) = nat_eq n connection
-is_deed_of n (Lost connection body step) = nat_eq n connection
-is_deed_of n (Told connection key said) = nat_eq n connection
-is_deed_of n (Closed connection) = nat_eq n connection
+-- whether an effect is one of a connection's own
+abbrev pub is_effect_of : ℕ → Effect → Bool
+is_effect_of n (Elapsed moment entries settled) = false
+is_effect_of n (Opened connection) = nat_eq n connection
+is_effect_of n (TookIn connection bytes) = nat_eq n connection
+is_effect_of n (EndedInput connection) = nat_eq n connection
+is_effect_of n (Left connection count) = nat_eq n connection
+is_effect_of n (Wrote entries) = false
+is_effect_of n (Asked connection body step said) = nat_eq n connection
+is_effect_of n (ReadNothing connection body) = nat_eq n connection
+is_effect_of n (Lacked connection body step) = nat_eq n connection
+is_effect_of n (Lost connection body step) = nat_eq n connection
+is_effect_of n (Told connection key said) = nat_eq n connection
+is_effect_of n (Closed connection) = nat_eq n connection
 
--- what such a deed adds; the account has so many entries behind it
-abbrev pub past_by : Past → ℕ → Deed → Past
+-- what such an effect adds; the account has so many entries behind it
+abbrev pub past_by : Past → ℕ → Effect → Past
 past_by past entries (Elapsed moment made settled) = past
 past_by past entries (Opened connection) = no_past
 past_by past entries (TookIn connection bytes) = record past { came = past.came ++ bytes }
@@ -75,13 +75,13 @@ past_by past entries (Lost connection body step) = past
 past_by past entries (Told connection key said) = with_answer past entries said
 past_by past entries (Closed connection) = past
 
--- all deeds, from an account of so many entries on
-abbrev pub past_after : ℕ → Past → ℕ → List Deed → Past
+-- all effects, from an account of so many entries on
+abbrev pub past_after : ℕ → Past → ℕ → List Effect → Past
 past_after n past entries [] = past
-past_after n past entries (deed ∷ deeds) =
+past_after n past entries (effect ∷ effects) =
     past_after n
-    (cond (is_deed_of n deed) (past_by past (entries + length (entries_of_deed deed)) deed) past)
-    (entries + length (entries_of_deed deed)) deeds
+    (cond (is_effect_of n effect) (past_by past (entries + length (entries_of_effect effect)) effect) past)
+    (entries + length (entries_of_effect effect)) effects
 
 -- the history of a past, of which these bytes left
 abbrev pub history_of : Past → List ℕ → History
@@ -96,10 +96,11 @@ pub record IsPast (written : ℕ) (past : Past) (wire : Traffic) : Type 0 where
   pub history : IsHistory written (history_of past left) wire
 
 -- that holds of it, if it is open
-abbrev pub HasPast : DeskState → ℕ → Past → Type 0
+abbrev pub HasPast : DispatcherState → ℕ → Past → Type 0
 HasPast s n past = (wire : Traffic) → s.open_wires.wires n ≡ Some wire → IsPast s.open_wires.written past wire
 
--- deeds that do this of each connection keep its past
-abbrev pub DeedsKeepPasts : Type 0
-DeedsKeepPasts = (terms : DeskTerms) (deeds : List Deed) (s t : DeskState) → DoesAll terms s deeds t
-    → (n : ℕ) (past : Past) → HasPast s n past → HasPast t n (past_after n past s.book.length deeds)
+-- effects that do this of each connection keep its past
+abbrev pub EffectsKeepPasts : Type 0
+EffectsKeepPasts = (terms : DispatcherTerms) (effects : List Effect) (s t : DispatcherState)
+    → DoesAll terms s effects t
+    → (n : ℕ) (past : Past) → HasPast s n past → HasPast t n (past_after n past s.book.length effects)

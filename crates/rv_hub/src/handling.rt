@@ -1,22 +1,23 @@
 //! Events, one at a time.
 ghost use Rattle.std.specs.Prelude.{◌≡◌, ◌≤◌, ◌++◌, [], option_to_list};
 ghost use Rattle.std.specs.Prelude.{IfErr, IfOk, OnErr, OnOk};
-ghost use Rattle.rv_hub.specs.desk.View.{begun};
-ghost use Rattle.rv_hub.specs.desk.Deeds.{DoesAll};
-ghost use Rattle.rv_hub.specs.desk.Runs.{ListsChanged};
-ghost use Rattle.rv_hub.specs.desk.Fields.{IsDeskReady, IsSteady, desk_state, desk_terms};
+ghost use Rattle.rv_hub.specs.dispatcher.View.{begun};
+ghost use Rattle.rv_hub.specs.dispatcher.Effects.{DoesAll};
+ghost use Rattle.rv_hub.specs.dispatcher.Runs.{ListsChanged};
+ghost use Rattle.rv_hub.specs.dispatcher.Fields.{IsDispatcherReady, IsSteady, dispatcher_state};
+ghost use Rattle.rv_hub.specs.dispatcher.Fields.{dispatcher_terms};
 ghost use Rattle.rv_hub.specs.declared.events.HubEvent.TheVariants as what;
 ghost use Rattle.rv_hub.specs.declared.events.EventRefusal.TheVariants as refused;
 ghost use Rattle.rv_hub.specs.Events.{EventCan};
 ghost use Rattle.rv_hub.specs.Turns.{EventRefused, IsAtRest, TakesEvent, TakesPiece, goes_on_first};
-ghost use Rattle.rv_hub.specs.Turns.{last_deeds, offer_in};
+ghost use Rattle.rv_hub.specs.Turns.{last_effects, offer_in};
 ghost use Rattle.rv_hub.specs.Steps.{ActsOwn, IsGoing, RunsOn, offer_from};
 
 use crate::checks::check;
-use crate::desk::HubDesk;
+use crate::dispatcher::Dispatcher;
 use crate::events::{EventRefusal, HubEvent};
 use crate::progress::turn_all;
-use rv_wires::hearers::ConnectionNumber;
+use rv_wires::subscribers::ConnectionNumber;
 
 // The connection that goes on behind time, before those that were freed.
 fn first_of(event: &HubEvent<'_>) -> Option<ConnectionNumber>
@@ -48,38 +49,41 @@ fn piece_of<'a>(event: &HubEvent<'a>) -> (ConnectionNumber, &'a [u8])
     }
 }
 
-// Does the event's own deed, before time goes on. It gives the number of a connection that it opens. If
+// Does the event's own effect, before time goes on. It gives the number of a connection that it opens. If
 // memory for that is refused nothing changes.
-fn act(desk: &mut HubDesk, event: &HubEvent<'_>) -> Result<Option<ConnectionNumber>, EventRefusal>
-    requires ready { IsDeskReady desk.old }
-    requires can { EventCan (desk_state desk.old) event.now }
-    ensures ready { IsDeskReady desk.new }
-    ensures acts { IfOk result (λ opened. ActsOwn desk.old event.now opened desk.new) }
+fn act(
+    dispatcher: &mut Dispatcher,
+    event: &HubEvent<'_>,
+) -> Result<Option<ConnectionNumber>, EventRefusal>
+    requires ready { IsDispatcherReady dispatcher.old }
+    requires can { EventCan (dispatcher_state dispatcher.old) event.now }
+    ensures ready { IsDispatcherReady dispatcher.new }
+    ensures acts { IfOk result (λ opened. ActsOwn dispatcher.old event.now opened dispatcher.new) }
     ensures refused { IfErr result (λ why. (event.now ≡ what.Opened) × (why ≡ refused.NoMemory)) }
-    ensures same { OnErr result (desk_state desk.new ≡ desk_state desk.old) }
-    ensures entries { desk.new.entries.items ≡ desk.old.entries.items }
-    ensures terms { desk_terms desk.new ≡ desk_terms desk.old }
+    ensures same { OnErr result (dispatcher_state dispatcher.new ≡ dispatcher_state dispatcher.old) }
+    ensures entries { dispatcher.new.entries.items ≡ dispatcher.old.entries.items }
+    ensures terms { dispatcher_terms dispatcher.new ≡ dispatcher_terms dispatcher.old }
 {
     match event {
-        HubEvent::Opened => match desk.open() {
+        HubEvent::Opened => match dispatcher.open() {
             Ok(connection) => Ok(Some(connection)),
             Err(_) => Err(EventRefusal::NoMemory),
         },
         HubEvent::Came(_, _) => Ok(None),
         HubEvent::Ended(connection) => {
-            desk.end_input(*connection);
+            dispatcher.end_input(*connection);
             Ok(None)
         }
         HubEvent::Gone(connection) => {
-            desk.close(*connection);
+            dispatcher.close(*connection);
             Ok(None)
         }
         HubEvent::Took(connection, count) => {
-            desk.took(*connection, *count);
+            dispatcher.took(*connection, *count);
             Ok(None)
         }
         HubEvent::Written(entries) => {
-            desk.write(*entries as u64);
+            dispatcher.write(*entries as u64);
             Ok(None)
         }
         HubEvent::Passed => Ok(None),
@@ -87,58 +91,61 @@ fn act(desk: &mut HubDesk, event: &HubEvent<'_>) -> Result<Option<ConnectionNumb
 }
 
 // Time goes on, and then connections do until they stop. It gives how many bytes of a piece were taken.
-fn run(desk: &mut HubDesk, now: u64, event: &HubEvent<'_>) -> usize
-    requires ready { IsDeskReady desk.old }
-    requires begun { desk.old.entries.items ≡ [] }
-    requires going { IsGoing (desk_state desk.old) (option_to_list (goes_on_first event.now)) }
-    ensures steady { IsSteady desk.new }
-    ensures runs { RunsOn desk.old now event.now (offer_in event.now) result desk.new }
+fn run(dispatcher: &mut Dispatcher, now: u64, event: &HubEvent<'_>) -> usize
+    requires ready { IsDispatcherReady dispatcher.old }
+    requires begun { dispatcher.old.entries.items ≡ [] }
+    requires going { IsGoing (dispatcher_state dispatcher.old) (option_to_list (goes_on_first event.now)) }
+    ensures steady { IsSteady dispatcher.new }
+    ensures runs { RunsOn dispatcher.old now event.now (offer_in event.now) result dispatcher.new }
 {
-    desk.pass(now);
+    dispatcher.pass(now);
     let (source, piece) = piece_of(event);
-    turn_all(desk, first_of(event), source, piece)
+    turn_all(dispatcher, first_of(event), source, piece)
 }
 
 // Without a journal all entries are written.
-fn write_all(desk: &mut HubDesk, has_journal: bool)
-    requires ready { IsDeskReady desk.old }
-    requires written { (desk_state desk.old).open_wires.written ≤ (desk_state desk.old).book.length }
-    ensures ready { IsDeskReady desk.new }
-    ensures writes { DoesAll (desk_terms desk.old) (desk_state desk.old)
-        (last_deeds has_journal (desk_state desk.old)) (desk_state desk.new) }
-    ensures entries { desk.new.entries.items ≡ desk.old.entries.items }
-    ensures terms { desk_terms desk.new ≡ desk_terms desk.old }
+fn write_all(dispatcher: &mut Dispatcher, has_journal: bool)
+    requires ready { IsDispatcherReady dispatcher.old }
+    requires written { (dispatcher_state dispatcher.old).open_wires.written ≤ (dispatcher_state
+        dispatcher.old).book.length }
+    ensures ready { IsDispatcherReady dispatcher.new }
+    ensures writes { DoesAll (dispatcher_terms dispatcher.old) (dispatcher_state dispatcher.old)
+        (last_effects has_journal (dispatcher_state dispatcher.old)) (dispatcher_state dispatcher.new) }
+    ensures entries { dispatcher.new.entries.items ≡ dispatcher.old.entries.items }
+    ensures terms { dispatcher_terms dispatcher.new ≡ dispatcher_terms dispatcher.old }
 {
     if !has_journal {
-        let entries = desk.machine().length() as u64;
-        desk.write(entries);
+        let entries = dispatcher.machine().length() as u64;
+        dispatcher.write(entries);
     }
 }
 
 // Takes an event that came at a moment. An event that can't be changes nothing.
 pub(crate) fn handle(
-    desk: &mut HubDesk,
+    dispatcher: &mut Dispatcher,
     has_journal: bool,
     now: u64,
     event: &HubEvent<'_>,
 ) -> Result<usize, EventRefusal>
-    requires ready { IsDeskReady desk.old }
-    requires rest { IsAtRest has_journal (desk_state desk.old) }
-    ensures ready { IsDeskReady desk.new }
-    ensures rest { IsAtRest has_journal (desk_state desk.new) }
-    ensures takes { IfOk result (λ given. TakesEvent has_journal (desk_terms desk.old) (desk_state desk.old)
-        now event.now desk.new.entries.items given (desk_state desk.new)) }
-    ensures piece { IfOk result (λ given. TakesPiece event.now given (desk_state desk.new)) }
-    ensures listed { OnOk result (ListsChanged (begun (desk_state desk.old)) (desk_state desk.new)) }
-    ensures refused { IfErr result (EventRefused (desk_state desk.old) event.now) }
-    ensures same { OnErr result (desk_state desk.new ≡ begun (desk_state desk.old)) }
-    ensures none_made { OnErr result (desk.new.entries.items ≡ []) }
-    ensures terms { desk_terms desk.new ≡ desk_terms desk.old }
+    requires ready { IsDispatcherReady dispatcher.old }
+    requires rest { IsAtRest has_journal (dispatcher_state dispatcher.old) }
+    ensures ready { IsDispatcherReady dispatcher.new }
+    ensures rest { IsAtRest has_journal (dispatcher_state dispatcher.new) }
+    ensures takes { IfOk result (λ given. TakesEvent has_journal (dispatcher_terms dispatcher.old)
+        (dispatcher_state dispatcher.old)
+        now event.now dispatcher.new.entries.items given (dispatcher_state dispatcher.new)) }
+    ensures piece { IfOk result (λ given. TakesPiece event.now given (dispatcher_state dispatcher.new)) }
+    ensures listed { OnOk result (ListsChanged (begun (dispatcher_state dispatcher.old)) (dispatcher_state
+        dispatcher.new)) }
+    ensures refused { IfErr result (EventRefused (dispatcher_state dispatcher.old) event.now) }
+    ensures same { OnErr result (dispatcher_state dispatcher.new ≡ begun (dispatcher_state dispatcher.old)) }
+    ensures none_made { OnErr result (dispatcher.new.entries.items ≡ []) }
+    ensures terms { dispatcher_terms dispatcher.new ≡ dispatcher_terms dispatcher.old }
 {
-    desk.begin();
-    check(desk, event)?;
-    let opened = act(desk, event)?;
-    let taken = run(desk, now, event);
-    write_all(desk, has_journal);
+    dispatcher.begin();
+    check(dispatcher, event)?;
+    let opened = act(dispatcher, event)?;
+    let taken = run(dispatcher, now, event);
+    write_all(dispatcher, has_journal);
     Ok(opened.unwrap_or(taken))
 }

@@ -1,7 +1,7 @@
 //! The hub: what is asked of it, and its events.
 ghost use Rattle.std.specs.Prelude.{◌≡◌};
 
-use crate::desk::HubDesk;
+use crate::dispatcher::Dispatcher;
 use crate::events::{EventRefusal, HubEvent};
 use crate::handling;
 use crate::parts::HubParts;
@@ -10,7 +10,7 @@ use rv_machine::Machine;
 use rv_rules::Limits;
 use rv_text::NoMemory;
 use rv_wires::connection::Wire;
-use rv_wires::hearers::ConnectionNumber;
+use rv_wires::subscribers::ConnectionNumber;
 use std::alloc::Global;
 use std::marker::Model;
 
@@ -46,12 +46,12 @@ impl Hub {
     ghost use Rattle.rv_machine.specs.Machines.{state_in};
     ghost use Rattle.rv_state.specs.resume.Resuming.{CanResume};
     ghost use Rattle.rv_rules.specs.StepLimits.{AreStepLimits};
-    ghost use Rattle.rv_wires.specs.hearers.Hearing.{nobody};
+    ghost use Rattle.rv_wires.specs.subscribers.Subscription.{nobody};
     ghost use Rattle.rv_wires.specs.Connections.{AllHeldBack, IsTotalHeld, IsTotalUnread, none_open};
-    ghost use Rattle.rv_hub.specs.desk.View.{begun};
-    ghost use Rattle.rv_hub.specs.desk.Telling.{CountsUnheard, IsUnheard};
-    ghost use Rattle.rv_hub.specs.desk.Rest.{IsNextMoment};
-    ghost use Rattle.rv_hub.specs.desk.Runs.{ListsChanged};
+    ghost use Rattle.rv_hub.specs.dispatcher.View.{begun};
+    ghost use Rattle.rv_hub.specs.dispatcher.Telling.{CountsUnheard, IsUnheard};
+    ghost use Rattle.rv_hub.specs.dispatcher.Rest.{IsNextMoment};
+    ghost use Rattle.rv_hub.specs.dispatcher.Runs.{ListsChanged};
     ghost use Rattle.rv_hub.specs.Hubs.{IsHub, hub_state, hub_terms};
     ghost use Rattle.rv_hub.specs.Turns.{EventRefused, TakesEvent, TakesPiece};
 
@@ -75,14 +75,17 @@ impl Hub {
           changed = [];
           hears = nobody;
         }) }
-        ensures none_made { IfOk result (λ h. h.desk.entries.items ≡ []) }
+        ensures none_made { IfOk result (λ h. h.dispatcher.entries.items ≡ []) }
         ensures terms { IfOk result (λ h. hub_terms h
             ≡ record { limits = limits; patience = max 1 patience }) }
         ensures journal { IfOk result (λ h. h.has_journal ≡ has_journal) }
     {
-        let desk = HubDesk::new(alloc, machine, limits, patience)?;
+        let dispatcher = Dispatcher::new(alloc, machine, limits, patience)?;
         Ok(Hub {
-            parts: HubParts { desk, has_journal },
+            parts: HubParts {
+                dispatcher,
+                has_journal,
+            },
         })
     }
 
@@ -93,23 +96,29 @@ impl Hub {
     pub fn handle(&mut self, now: u64, event: HubEvent<'_>) -> Result<usize, EventRefusal>
         ensures hub { IsHub self.new }
         ensures takes { IfOk result (λ given. TakesEvent self.old.has_journal (hub_terms self.old)
-            (hub_state self.old) now event.entry self.new.desk.entries.items given (hub_state self.new)) }
+            (hub_state self.old) now event.entry self.new.dispatcher.entries.items given
+            (hub_state self.new)) }
         ensures piece { IfOk result (λ given. TakesPiece event.entry given (hub_state self.new)) }
         ensures listed { OnOk result (ListsChanged (begun (hub_state self.old)) (hub_state self.new)) }
         ensures refused { IfErr result (EventRefused (hub_state self.old) event.entry) }
         ensures same { OnErr result (hub_state self.new ≡ begun (hub_state self.old)) }
-        ensures none_made { OnErr result (self.new.desk.entries.items ≡ []) }
+        ensures none_made { OnErr result (self.new.dispatcher.entries.items ≡ []) }
         ensures terms { hub_terms self.new ≡ hub_terms self.old }
         ensures journal { self.new.has_journal ≡ self.old.has_journal }
     {
-        handling::handle(&mut self.parts.desk, self.parts.has_journal, now, &event)
+        handling::handle(
+            &mut self.parts.dispatcher,
+            self.parts.has_journal,
+            now,
+            &event,
+        )
     }
 
     /// The entries that the last event made, in order; none where it was refused.
     pub fn entries(&self) -> &[Entry]
-        ensures { result.now ≡ self.now.desk.entries.items }
+        ensures { result.now ≡ self.now.dispatcher.entries.items }
     {
-        self.parts.desk.entries()
+        self.parts.dispatcher.entries()
     }
 
     /// The connections that the last event changed, each once: those that were opened or closed, that have an
@@ -118,7 +127,7 @@ impl Hub {
         ensures all { result.now ≡ (hub_state self.now).changed }
         ensures once { AllPairs (λ one other. one ≢ other) result.now }
     {
-        self.parts.desk.wires().changed()
+        self.parts.dispatcher.wires().changed()
     }
 
     /// The connection of a number, if it is open. It tells whether an answer is owed, so whether it waits;
@@ -128,56 +137,56 @@ impl Hub {
         ensures wire { option_copied result ≡ (hub_state self.now).open_wires.wires connection }
         ensures held_back { AllHeldBack (hub_state self.now).open_wires }
     {
-        self.parts.desk.wires().get(connection)
+        self.parts.dispatcher.wires().get(connection)
     }
 
     /// How many bytes of answers are held for all connections.
     pub fn held(&self) -> u128
         ensures { IsTotalHeld (hub_state self.now).open_wires.wires result }
     {
-        self.parts.desk.wires().held()
+        self.parts.dispatcher.wires().held()
     }
 
     /// How many bytes of all connections are unread.
     pub fn unread_count(&self) -> u128
         ensures { IsTotalUnread (hub_state self.now).open_wires.wires result }
     {
-        self.parts.desk.wires().unread_count()
+        self.parts.dispatcher.wires().unread_count()
     }
 
     /// How many entries are written.
     pub fn written(&self) -> u64
         ensures { result ≡ (hub_state self.now).open_wires.written }
     {
-        self.parts.desk.wires().written()
+        self.parts.dispatcher.wires().written()
     }
 
     /// The greatest moment so far.
     pub fn now(&self) -> u64
         ensures { result ≡ (hub_state self.now).now }
     {
-        self.parts.desk.now()
+        self.parts.dispatcher.now()
     }
 
     /// The machine, whose steps are the account.
     pub fn machine(&self) -> &Machine
-        ensures { result.now ≡ self.now.desk.machine }
+        ensures { result.now ≡ self.now.dispatcher.machine }
     {
-        self.parts.desk.machine()
+        self.parts.dispatcher.machine()
     }
 
     /// Whether a request of the client waits for which no connection does.
     pub fn is_unheard(&self, client: u64) -> bool
         ensures { IsTrue result ↔ IsUnheard (hub_state self.now).book (hub_state self.now).hears client }
     {
-        self.parts.desk.is_unheard(client)
+        self.parts.dispatcher.is_unheard(client)
     }
 
     /// How many requests wait for which no connection does.
     pub fn unheard(&self) -> usize
         ensures { CountsUnheard (hub_state self.now).book (hub_state self.now).hears result }
     {
-        self.parts.desk.unheard()
+        self.parts.dispatcher.unheard()
     }
 
     /// The next moment at which time has to go on, if there is one: the least of the machine's limits and
@@ -186,6 +195,6 @@ impl Hub {
         ensures some { IfSome result (IsNextMoment (hub_state self.now)) }
         ensures none { IfNone result ((moment : ℕ) → ¬ IsNextMoment (hub_state self.now) moment) }
     {
-        self.parts.desk.next_moment()
+        self.parts.dispatcher.next_moment()
     }
 }

@@ -1,30 +1,30 @@
 //! Laws of a hub's events: each contract is one, and no body does anything.
 ghost use Rattle.std.specs.Prelude.{◌≡◌};
 ghost use Rattle.rv_hub.specs.declared.hub.TheConstants.{DEFAULT_PATIENCE};
-ghost use Rattle.rv_hub.specs.HandedOut.{DeedsTellPublicly, HandedOutIsPublic};
-ghost use Rattle.rv_hub.specs.HubRuns.{AnswersByRules, BeginsAccount, DeedsLeadOn, EventsLeadOn};
+ghost use Rattle.rv_hub.specs.HandedOut.{EffectsTellPublicly, HandedOutIsPublic};
+ghost use Rattle.rv_hub.specs.HubRuns.{AnswersByRules, BeginsAccount, EffectsLeadOn, EventsLeadOn};
 ghost use Rattle.rv_hub.specs.HubRuns.{HubsAreRuns, TellsAsARepeat, TellsPublicReply};
 ghost use Rattle.rv_hub.specs.Pairing.{BeginsPairs, FramesAreAnswered};
-ghost use Rattle.rv_hub.specs.Pasts.{DeedsKeepPasts};
+ghost use Rattle.rv_hub.specs.Pasts.{EffectsKeepPasts};
 
 /// A request that waits is told so after ten seconds, where nobody wishes otherwise.
 pub fn default_patience()
     ensures { DEFAULT_PATIENCE ≡ 10000 }
 {}
 
-/// The events of a hub are deeds: of the account one run of messages and of time alone, which makes their
+/// The events of a hub are effects: of the account one run of messages and of time alone, which makes their
 /// entries in order; and of each connection its past, so that its frames have one answer each, in order.
-/// So keep any deeds, one after another, each past.
+/// So keep any effects, one after another, each past.
 pub fn hubs_are_runs()
     ensures events { HubsAreRuns }
-    ensures deeds { DeedsKeepPasts }
+    ensures effects { EffectsKeepPasts }
 {}
 
-/// A new hub has the account of its machine, if that is legal; and the deeds of events lead from a legal
+/// A new hub has the account of its machine, if that is legal; and the effects of events lead from a legal
 /// account to one with their entries more.
 pub fn events_lead_on()
     ensures begins { BeginsAccount }
-    ensures deeds { DeedsLeadOn }
+    ensures effects { EffectsLeadOn }
     ensures events { EventsLeadOn }
 {}
 
@@ -54,6 +54,6 @@ pub fn frames_are_answered()
 /// Each answer that a connection was given is public, and so is what was handed out: it is within its limits,
 /// and a reply is the one that its key has among the entries that it rests on.
 pub fn handed_out_is_public()
-    ensures deeds { DeedsTellPublicly }
+    ensures effects { EffectsTellPublicly }
     ensures events { HandedOutIsPublic }
 {}

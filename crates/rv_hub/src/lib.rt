@@ -3,7 +3,7 @@
 #![tactic(auto)]
 
 mod checks;
-mod desk;
+mod dispatcher;
 mod events;
 mod handling;
 mod hub;

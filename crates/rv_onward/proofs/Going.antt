@@ -19,7 +19,7 @@ use Rattle.rv_hub.proofs.Accounts.{begins}
 use Rattle.rv_hub.proofs.Paired.{pairs_begin}
 use Rattle.rv_world.specs.parts.World.{empty_account}
 use Rattle.rv_onward.specs.crashes.Crashes.{Crashed, Server, ServerDoes, Stored, made, server_in}
-use Rattle.rv_onward.specs.crashes.Laws.{DeedsKeepServers, IsServer, ServersBegin}
+use Rattle.rv_onward.specs.crashes.Laws.{EffectsKeepServers, IsServer, ServersBegin}
 use Rattle.rv_onward.specs.Laws.{BeginsHub, HubsBegin, HubsGoOn}
 use Rattle.rv_onward.specs.Room.{LetsGoOn}
 use Rattle.rv_onward.specs.Serving.{new_hub}
@@ -41,7 +41,7 @@ begins_hub messages server a can server_is is stored = record {
     stored_is = (let agree = (states_agree a can.legal).length in omega arith);
     answers = λ n place body given there answered. absurd (none-some body there);
   };
-  pairs = λ limits n. pairs_begin limits a (new_hub a) n (λ hearing there. none-some hearing there)
+  pairs = λ limits n. pairs_begin limits a (new_hub a) n (λ subscription there. none-some subscription there)
       (λ there. none-some there.wire there.there);
 }
 
@@ -85,7 +85,7 @@ left_front server a written left is stored =
     ∙ ap (λ n. take (n + left) (server.stored.entries ++ server.unstored)) stored)
     ∙ ap (λ (c : Account). before c (written + left)) is
 
-pub hubs_go_on : DeedsKeepServers → HubsGoOn
+pub hubs_go_on : EffectsKeepServers → HubsGoOn
 hubs_go_on keep messages server a s pasts left had is =
     let count : ℕ = s.open_wires.written + left in
     let b : Account = before a count in

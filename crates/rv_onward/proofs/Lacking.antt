@@ -8,12 +8,12 @@ use Rattle.rv_world.proofs.OfParts.Words.{Contains-push}
 use Rattle.rv_world.specs.declared.parts.packet.Packet.{Packet}
 use Rattle.rv_world.specs.parts.Events.{sender}
 use Rattle.rv_onward.specs.crashes.Crashes.{Lacked, Server}
-use Rattle.rv_onward.specs.crashes.Laws.{DeedsKeepServers, IsServer}
+use Rattle.rv_onward.specs.crashes.Laws.{EffectsKeepServers, IsServer}
 use Rattle.rv_onward.specs.Laws.{LacksMemory}
 use Rattle.rv_onward.proofs.Servers.{contains_more, server_more}
 use Rattle.rv_onward.proofs.Serving.{carried}
 
-pub lacks_memory : DeedsKeepServers → LacksMemory
+pub lacks_memory : EffectsKeepServers → LacksMemory
 lacks_memory keep messages message server a s pasts is =
     let came : List Message = messages ++ message ∷ [] in
     let own : Packet = record { client = sender message; answer = Refused NoMemory } in

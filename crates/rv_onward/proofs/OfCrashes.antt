@@ -1,5 +1,5 @@
 pub mod Fronts
-pub mod Deeds
+pub mod Effects
 pub mod Around
 pub mod Across
 pub mod AsToday

@@ -1,4 +1,4 @@
--- A deed makes one entry at most, within its limits; so there is room after each.
+-- An effect makes one entry at most, within its limits; so there is room after each.
 use Rattle.std.proofs.Common.{inl, inr, ◌≡◌, ◌≤◌, ◌⊎◌, ◌∙◌, ◌++◌, ◌∷◌, ℕ, List, [], Some, refl, sym, ap}
 use Rattle.std.proofs.Common.{None, Option, subst, arith, length, take, append_assoc, zero, suc, length-take}
 use Rattle.std.specs.Prelude.{flat_map}
@@ -22,16 +22,16 @@ use Rattle.rv_state.specs.resume.Resuming.{StaysInRoom}
 use Rattle.rv_state.proofs.Resumed.AccountLaws.{accounts_resume}
 use Rattle.rv_machine.specs.Needing.{act_of}
 use Rattle.rv_machine.proofs.RoomTaken.{StaysOrEnters, move_kinds}
-use Rattle.rv_hub.specs.desk.View.{DeskState, DeskTerms, begun}
-use Rattle.rv_hub.specs.desk.Deeds.{Deed, Does, MakesStep, Stepped, entries_of_deed}
-use Rattle.rv_hub.specs.desk.Deeds.{Asked, Closed, Elapsed, EndedInput, Lacked, Left, Lost, Opened}
-use Rattle.rv_hub.specs.desk.Deeds.{ReadNothing, Told, TookIn, Wrote}
+use Rattle.rv_hub.specs.dispatcher.View.{DispatcherState, DispatcherTerms, begun}
+use Rattle.rv_hub.specs.dispatcher.Effects.{Effect, Does, MakesStep, Stepped, entries_of_effect}
+use Rattle.rv_hub.specs.dispatcher.Effects.{Asked, Closed, Elapsed, EndedInput, Lacked, Left, Lost, Opened}
+use Rattle.rv_hub.specs.dispatcher.Effects.{ReadNothing, Told, TookIn, Wrote}
 use Rattle.rv_hub.specs.HubRuns.{AddsEntries, IsHubAccount}
 use Rattle.rv_hub.specs.Turns.{made_by}
-use Rattle.rv_hub.proofs.Accounts.{deed_leads, deeds_lead, deeds_rise, events_rise, same_account}
-use Rattle.rv_onward.specs.Room.{DeedsKeepRoom, EventsKeepRoom, FrontsGoOn}
+use Rattle.rv_hub.proofs.Accounts.{effect_leads, effects_lead, effects_rise, events_rise, same_account}
+use Rattle.rv_onward.specs.Room.{EffectsKeepRoom, EventsKeepRoom, FrontsGoOn}
 
--- ---- the entries of a deed
+-- ---- the entries of an effect
 
 -- none, or one within its limits
 abbrev MakesOneAtMost : List Entry → Type 0
@@ -56,25 +56,27 @@ step_one s moment m move time fits (inl stays) = inl (ap (λ (x : Move). x.entri
 step_one s moment m move time fits (inr enters) =
     inr (_, ap (λ (x : Move). x.entries) enters, (time, act_fits m fits))
 
-makes_one : (terms : DeskTerms) (s t : DeskState) (step : Stepped) (said : Answer) → s.now ≤ max_moment
+makes_one : (terms : DispatcherTerms) (s t : DispatcherState) (step : Stepped) (said : Answer)
+    → s.now ≤ max_moment
     → FitsMessage step.message → MakesStep terms s step said t → MakesOneAtMost step.entries
 makes_one terms s t step said time fits makes =
     made_same step.entries makes.move.entries makes.entries_are
     (step_one s.book s.now step.message makes.move time fits
     (move_kinds terms.limits s.book s.now step.message makes.move makes.moves))
 
-elapsed_one : (s t : DeskState) (moment : ℕ) (deed : Deed) (entries : List Entry)
+elapsed_one : (s t : DispatcherState) (moment : ℕ) (effect : Effect) (entries : List Entry)
     → entries ≡ (ticked_at s.book moment).entries → t.now ≡ moment → t.now ≤ max_moment
     → MakesOneAtMost entries
-elapsed_one s t moment deed entries same now time =
+elapsed_one s t moment effect entries same now time =
     made_same entries (ticked_at s.book moment).entries same
     (ticked_one s.book moment (due_at s.book moment) (omega arith))
 
-one_at_most : (terms : DeskTerms) (deed : Deed) (s t : DeskState) → s.now ≤ max_moment → t.now ≤ max_moment
-    → Does terms s deed t → MakesOneAtMost (entries_of_deed deed)
+one_at_most : (terms : DispatcherTerms) (effect : Effect) (s t : DispatcherState) → s.now ≤ max_moment
+    → t.now ≤ max_moment
+    → Does terms s effect t → MakesOneAtMost (entries_of_effect effect)
 one_at_most terms (Elapsed moment entries settled) s t before time does =
     elapsed_one s t moment (Elapsed moment entries settled) entries does.entries_are
-    (ap (λ (u : DeskState). u.now) does.after) time
+    (ap (λ (u : DispatcherState). u.now) does.after) time
 one_at_most terms (Opened connection) s t before time does = inl refl
 one_at_most terms (TookIn connection bytes) s t before time does = inl refl
 one_at_most terms (EndedInput connection) s t before time does = inl refl
@@ -137,9 +139,9 @@ room_by a b made adds (inr (e, one, fits)) room had =
     subst HadRoom same (had_more a e had fits (subst (λ (c : Account). StaysInRoom (state_of c)) (sym same)
     room))
 
--- ---- deeds, one after another, and events
+-- ---- effects, one after another, and events
 
-hub_room : (a : Account) (s : DeskState) → IsHubAccount a s → StaysInRoom (state_of a)
+hub_room : (a : Account) (s : DispatcherState) → IsHubAccount a s → StaysInRoom (state_of a)
 hub_room a s is = subst StaysInRoom (sym is.state) is.resumes.room
 
 pub adds_after : (a m b : Account) (made rest : List Entry) → AddsEntries a made m
@@ -151,31 +153,31 @@ adds_after a m b made rest first whole = record {
       (sym first.entries);
 }
 
-pub deeds_keep_room : DeedsKeepRoom
-deeds_keep_room terms [] s t a b limits same time is adds had =
+pub effects_keep_room : EffectsKeepRoom
+effects_keep_room terms [] s t a b limits same time is adds had =
     room_by a b [] adds (inl refl) (subst (λ (c : Account). StaysInRoom (state_of c))
     (ap (λ es. of_entries a es) (sym (append-nil a.entries)) ∙ added_is a b [] adds) (hub_room a s is)) had
-deeds_keep_room terms (deed ∷ deeds) s t a b limits (mid, does, more) time is adds had =
-    let made = entries_of_deed deed in
-    let later = deeds_rise terms deeds mid t more in
-    let rises = deeds_rise terms (deed ∷ []) s mid (mid, does, refl) in
-    let first = deed_leads terms deed s mid a limits does (omega arith) (omega arith) is in
-    let one = one_at_most terms deed s mid (omega arith) (omega arith) does in
-    deeds_keep_room terms deeds mid t first.after b limits more time first.is
-    (adds_after a first.after b made (flat_map entries_of_deed deeds) first.adds adds)
+effects_keep_room terms (effect ∷ effects) s t a b limits (mid, does, more) time is adds had =
+    let made = entries_of_effect effect in
+    let later = effects_rise terms effects mid t more in
+    let rises = effects_rise terms (effect ∷ []) s mid (mid, does, refl) in
+    let first = effect_leads terms effect s mid a limits does (omega arith) (omega arith) is in
+    let one = one_at_most terms effect s mid (omega arith) (omega arith) does in
+    effects_keep_room terms effects mid t first.after b limits more time first.is
+    (adds_after a first.after b made (flat_map entries_of_effect effects) first.adds adds)
     (room_by a first.after made first.adds one (hub_room first.after mid first.is) had)
 
 pub events_keep_room : EventsKeepRoom
 events_keep_room terms [] s t a b limits same time is adds had =
-    deeds_keep_room terms [] s t a b limits same time is adds had
-events_keep_room terms (deeds ∷ events) s t a b limits (mid, does, more) time is adds had =
-    let made = flat_map entries_of_deed deeds in
+    effects_keep_room terms [] s t a b limits same time is adds had
+events_keep_room terms (effects ∷ events) s t a b limits (mid, does, more) time is adds had =
+    let made = flat_map entries_of_effect effects in
     let later = events_rise terms events mid t more in
     let is_begun = same_account a s (begun s) refl refl is in
-    let first = deeds_lead terms deeds (begun s) mid a limits does (omega arith) is_begun in
+    let first = effects_lead terms effects (begun s) mid a limits does (omega arith) is_begun in
     events_keep_room terms events mid t first.after b limits more time first.is
     (adds_after a first.after b made (made_by events) first.adds adds)
-    (deeds_keep_room terms deeds (begun s) mid a first.after limits does (omega arith) is_begun first.adds
+    (effects_keep_room terms effects (begun s) mid a first.after limits does (omega arith) is_begun first.adds
     had)
 
 -- ---- fronts

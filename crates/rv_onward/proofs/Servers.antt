@@ -1,4 +1,4 @@
--- A server's deeds, one after another; and the deeds that a step, time alone and writing are.
+-- A server's effects, one after another; and the effects that a step, time alone and writing are.
 use Rattle.std.proofs.Common.{inl, inr, ◌≡◌, ◌≤◌, ◌∙◌, ◌++◌, ◌∷◌, ℕ, List, [], refl, sym, ap}
 use Rattle.std.proofs.Common.{subst}
 use Rattle.std.proofs.Common.{append_assoc, arith, drop, length}
@@ -18,9 +18,9 @@ use Rattle.rv_rules.specs.Steps.{NextUnder, Ticks}
 use Rattle.rv_hub.specs.HubRuns.{AddsEntries}
 use Rattle.rv_world.specs.declared.parts.packet.Packet.{Packet}
 use Rattle.rv_world.specs.parts.Events.{sender}
-use Rattle.rv_onward.specs.crashes.Crashes.{Crashed, IsOfMessages, Lacked, Passed, Server, ServerDeed}
+use Rattle.rv_onward.specs.crashes.Crashes.{Crashed, IsOfMessages, Lacked, Passed, Server, ServerEffect}
 use Rattle.rv_onward.specs.crashes.Crashes.{ServerDoes, Stepped, Stored, made, withholds}
-use Rattle.rv_onward.specs.crashes.Laws.{DeedsKeepServers, IsHeldRightly, IsServer}
+use Rattle.rv_onward.specs.crashes.Laws.{EffectsKeepServers, IsHeldRightly, IsServer}
 use Rattle.rv_onward.specs.Serving.{IsOfHub, RunsServer}
 
 -- ---- more messages
@@ -28,27 +28,28 @@ use Rattle.rv_onward.specs.Serving.{IsOfHub, RunsServer}
 pub contains_more : {X : Type 0} (xs ys : List X) (x : X) → Contains xs x → Contains (xs ++ ys) x
 contains_more xs ys x there = Contains-append_left xs ys x there
 
-of_more : (messages more : List Message) (deed : ServerDeed) → IsOfMessages messages deed
-    → IsOfMessages (messages ++ more) deed
+of_more : (messages more : List Message) (effect : ServerEffect) → IsOfMessages messages effect
+    → IsOfMessages (messages ++ more) effect
 of_more messages more (Stepped limits moment message) there = contains_more messages more message there
 of_more messages more (Passed moment) there = tt
 of_more messages more (Lacked message) there = contains_more messages more message there
 of_more messages more (Stored count) there = tt
 of_more messages more (Crashed left) there = tt
 
-pub runs_more : (messages more : List Message) (s : Server) (deeds : List ServerDeed) (t : Server)
-    → RunsServer messages s deeds t → RunsServer (messages ++ more) s deeds t
+pub runs_more : (messages more : List Message) (s : Server) (effects : List ServerEffect) (t : Server)
+    → RunsServer messages s effects t → RunsServer (messages ++ more) s effects t
 runs_more messages more s [] t same = same
-runs_more messages more s (deed ∷ deeds) t (sent, mid, does, rest) =
-    (of_more messages more deed sent, mid, does, runs_more messages more mid deeds t rest)
+runs_more messages more s (effect ∷ effects) t (sent, mid, does, rest) =
+    (of_more messages more effect sent, mid, does, runs_more messages more mid effects t rest)
 
-pub runs_on : (messages : List Message) (s : Server) (deeds : List ServerDeed) (m : Server)
-    (further : List ServerDeed) (t : Server) → RunsServer messages s deeds m → RunsServer messages m further t
-    → RunsServer messages s (deeds ++ further) t
+pub runs_on : (messages : List Message) (s : Server) (effects : List ServerEffect) (m : Server)
+    (further : List ServerEffect) (t : Server) → RunsServer messages s effects m
+    → RunsServer messages m further t
+    → RunsServer messages s (effects ++ further) t
 runs_on messages s [] m further t same more = subst (λ (u : Server). RunsServer messages u further t) same
     more
-runs_on messages s (deed ∷ deeds) m further t (sent, mid, does, rest) more =
-    (sent, mid, does, runs_on messages mid deeds m further t rest more)
+runs_on messages s (effect ∷ effects) m further t (sent, mid, does, rest) more =
+    (sent, mid, does, runs_on messages mid effects m further t rest more)
 
 rightly_more : (messages more : List Message) (a : Account) (packet : Packet) (count : ℕ)
     → IsHeldRightly messages a packet count → IsHeldRightly (messages ++ more) a packet count
@@ -80,17 +81,17 @@ server_more messages more s server = record {
       there);
 }
 
--- ---- where a server's deeds lead
+-- ---- where a server's effects lead
 
--- a hub's deeds lead to a server that made this account, stored so many of its entries, and holds back what
+-- a hub's effects lead to a server that made this account, stored so many of its entries, and holds back what
 -- was held
 -- back
 pub record Moves (limits : StepLimits) (messages : List Message) (s : Server) (b : Account) (written : ℕ)
     : Type 0 where
-  pub deeds : List ServerDeed
-  pub are : All (IsOfHub limits) deeds
+  pub effects : List ServerEffect
+  pub are : All (IsOfHub limits) effects
   pub later : Server
-  pub runs : RunsServer messages s deeds later
+  pub runs : RunsServer messages s effects later
   pub server_is : IsServer messages later
   pub made_is : made later ≡ b
   pub stored_is : length later.stored.entries ≡ written
@@ -104,9 +105,10 @@ pub record MovesTelling (limits : StepLimits) (messages : List Message) (s : Ser
   pub held : Contains moves.later.withheld
       (record { client = sender message; answer = said }, rests_on said (length b.entries))
 
--- one deed alone
-only : (limits : StepLimits) (deed : ServerDeed) → IsOfHub limits deed → All (IsOfHub limits) (deed ∷ [])
-only limits deed is = All-cons (IsOfHub limits) deed [] is (All-nil (IsOfHub limits))
+-- one effect alone
+only : (limits : StepLimits) (effect : ServerEffect) → IsOfHub limits effect
+    → All (IsOfHub limits) (effect ∷ [])
+only limits effect is = All-cons (IsOfHub limits) effect [] is (All-nil (IsOfHub limits))
 
 -- the account is what its fields are
 same_account : (a b : Account) (made : List Entry) → AddsEntries a made b
@@ -134,7 +136,7 @@ pub stays : (limits : StepLimits) (messages : List Message) (s : Server) (a b : 
     → IsServer messages s → made s ≡ a → length s.stored.entries ≡ written → a ≡ b
     → Moves limits messages s b written
 stays limits messages s a b written server is stored same = record {
-  deeds = [];
+  effects = [];
   are = All-nil (IsOfHub limits);
   later = s;
   runs = refl;
@@ -144,7 +146,8 @@ stays limits messages s a b written server is stored same = record {
   still = λ packet count there. there;
 }
 
-module _ (keep : DeedsKeepServers) (messages : List Message) (s : Server) (a b : Account) (more : List Entry)
+module _ (keep : EffectsKeepServers) (messages : List Message) (s : Server) (a b : Account) (more :
+    List Entry)
     (written : ℕ) (server : IsServer messages s) (is : made s ≡ a) (stored : length s.stored.entries ≡
     written)
     (adds : AddsEntries a more b) where
@@ -166,7 +169,7 @@ module _ (keep : DeedsKeepServers) (messages : List Message) (s : Server) (a b :
       } in
       record {
         moves = record {
-          deeds = Stepped limits now message ∷ [];
+          effects = Stepped limits now message ∷ [];
           are = only limits (Stepped limits now message) refl;
           later = t;
           runs = (sent, t, does, refl);
@@ -202,7 +205,7 @@ module _ (keep : DeedsKeepServers) (messages : List Message) (s : Server) (a b :
         refl,
       ) in
       record {
-        deeds = Passed moment ∷ [];
+        effects = Passed moment ∷ [];
         are = only limits (Passed moment) tt;
         later = t;
         runs = (tt, t, does, refl);
@@ -213,7 +216,7 @@ module _ (keep : DeedsKeepServers) (messages : List Message) (s : Server) (a b :
       }
 
 -- so many entries are stored
-pub stores : (keep : DeedsKeepServers) (limits : StepLimits) (messages : List Message) (s : Server)
+pub stores : (keep : EffectsKeepServers) (limits : StepLimits) (messages : List Message) (s : Server)
     (b : Account) (written count : ℕ) → IsServer messages s → made s ≡ b → length s.stored.entries ≡ written
     → written ≤ count → count ≤ length b.entries → Moves limits messages s b count
 stores keep limits messages s b written count server is stored rises within =
@@ -229,7 +232,7 @@ stores keep limits messages s b written count server is stored rises within =
     ap (λ es. record { epoch = s.stored.epoch; opened = s.stored.opened; entries = es })
     (take-append-drop count (made s).entries) in
     record {
-      deeds = Stored count ∷ [];
+      effects = Stored count ∷ [];
       are = only limits (Stored count) tt;
       later = t;
       runs = (tt, t, does, refl);

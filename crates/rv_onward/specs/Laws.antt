@@ -10,9 +10,9 @@ use Rattle.rv_rules.specs.StepLimits.{AreStepLimits, StepLimits}
 use Rattle.rv_state.specs.resume.Laws.{HadRoom}
 use Rattle.rv_wires.specs.connection.Traffic.{Traffic}
 use Rattle.rv_wires.specs.connection.History.{Given, given_bytes}
-use Rattle.rv_hub.specs.desk.View.{DeskState, DeskTerms}
-use Rattle.rv_hub.specs.desk.Deeds.{Deed}
-use Rattle.rv_hub.specs.EventDeeds.{all_deeds}
+use Rattle.rv_hub.specs.dispatcher.View.{DispatcherState, DispatcherTerms}
+use Rattle.rv_hub.specs.dispatcher.Effects.{Effect}
+use Rattle.rv_hub.specs.EventEffects.{all_effects}
 use Rattle.rv_hub.specs.HubRuns.{AddsEntries, DoesEvents, IsHubAccount}
 use Rattle.rv_hub.specs.Pairing.{HasPairs, on_nothing}
 use Rattle.rv_hub.specs.Pasts.{HasPast, Past, no_past, past_after}
@@ -23,19 +23,21 @@ use Rattle.rv_onward.specs.Room.{LetsGoOn}
 use Rattle.rv_onward.specs.Serving.{IsHeldFor, IsHubServer, LeadsServer, MayLeave, RunsServer}
 use Rattle.rv_onward.specs.Serving.{messages_in, new_hub}
 
--- the events of a hub are deeds of such a server: of messages that came before, and of those of its steps
+-- the events of a hub are effects of such a server: of messages that came before, and of those of its steps
 abbrev pub HubsAreServers : Type 0
-HubsAreServers = (terms : DeskTerms) (events : List (List Deed)) (s t : DeskState) (a b : Account)
+HubsAreServers = (terms : DispatcherTerms) (events : List (List Effect)) (s t : DispatcherState)
+    (a b : Account)
     (messages : List Message) (server : Server) (pasts : ℕ → Past)
     → AreStepLimits terms.limits
     → DoesEvents terms s events t → t.now ≤ max_moment → IsHubAccount a s → AddsEntries a (made_by events) b
     → ((n : ℕ) → HasPairs terms.limits a s n (pasts n)) → IsHubServer messages server a s pasts
     → LeadsServer terms.limits (messages ++ messages_in events) server b t
-    (λ n. past_after n (pasts n) s.book.length (all_deeds events))
+    (λ n. past_after n (pasts n) s.book.length (all_effects events))
 
 -- want of memory may be held back for any message that came
 abbrev pub LacksMemory : Type 0
-LacksMemory = (messages : List Message) (message : Message) (server : Server) (a : Account) (s : DeskState)
+LacksMemory = (messages : List Message) (message : Message) (server : Server) (a : Account)
+    (s : DispatcherState)
     (pasts : ℕ → Past)
     → IsHubServer messages server a s pasts
     → let came : List Message = messages ++ message ∷ [] in (later : Server)
@@ -45,7 +47,8 @@ LacksMemory = (messages : List Message) (message : Message) (server : Server) (a
 -- of an answer no byte leaves before the server may send it: of an open connection's answers, each of which a
 -- byte left or may leave, since those before it are fewer bytes than these
 abbrev pub SentMayLeave : Type 0
-SentMayLeave = (messages : List Message) (server : Server) (a : Account) (s : DeskState) (pasts : ℕ → Past)
+SentMayLeave = (messages : List Message) (server : Server) (a : Account) (s : DispatcherState) (pasts : ℕ
+    → Past)
     (n place : ℕ) (wire : Traffic) (body : List ℕ) (given : Given)
     → IsHubServer messages server a s pasts → HasPast s n (pasts n) → s.open_wires.wires n ≡ Some wire
     → slice_get (pasts n).frames place ≡ Some body → slice_get (pasts n).answers place ≡ Some given
@@ -66,7 +69,7 @@ HubsBegin = (messages : List Message) (epoch : ℕ) → FitsIdentifier epoch
 
 -- and one that goes on from what a crash leaves of what was not written, once that is stored
 abbrev pub HubsGoOn : Type 0
-HubsGoOn = (messages : List Message) (server : Server) (a : Account) (s : DeskState) (pasts : ℕ → Past)
+HubsGoOn = (messages : List Message) (server : Server) (a : Account) (s : DispatcherState) (pasts : ℕ → Past)
     (left : ℕ) → HadRoom a → IsHubServer messages server a s pasts
     → let b : Account = before a (s.open_wires.written + left) in (later : Server)
     × RunsServer messages server (Crashed left ∷ Stored (length b.entries) ∷ []) later

@@ -7,21 +7,22 @@ use Rattle.rv_rules.specs.StepLimits.{AreStepLimits}
 use Rattle.rv_state.specs.After.{state_of}
 use Rattle.rv_state.specs.resume.Laws.{HadRoom}
 use Rattle.rv_state.specs.resume.Resuming.{CanResume}
-use Rattle.rv_hub.specs.desk.View.{DeskState, DeskTerms}
-use Rattle.rv_hub.specs.desk.Deeds.{Deed, DoesAll, entries_of_deed}
+use Rattle.rv_hub.specs.dispatcher.View.{DispatcherState, DispatcherTerms}
+use Rattle.rv_hub.specs.dispatcher.Effects.{Effect, DoesAll, entries_of_effect}
 use Rattle.rv_hub.specs.HubRuns.{AddsEntries, DoesEvents, IsHubAccount}
 use Rattle.rv_hub.specs.Turns.{made_by}
 
--- the deeds of a hub keep that there was room after each entry of its account
-abbrev pub DeedsKeepRoom : Type 0
-DeedsKeepRoom = (terms : DeskTerms) (deeds : List Deed) (s t : DeskState) (a b : Account)
+-- the effects of a hub keep that there was room after each entry of its account
+abbrev pub EffectsKeepRoom : Type 0
+EffectsKeepRoom = (terms : DispatcherTerms) (effects : List Effect) (s t : DispatcherState) (a b : Account)
     → AreStepLimits terms.limits
-    → DoesAll terms s deeds t → t.now ≤ max_moment → IsHubAccount a s
-    → AddsEntries a (flat_map entries_of_deed deeds) b → HadRoom a → HadRoom b
+    → DoesAll terms s effects t → t.now ≤ max_moment → IsHubAccount a s
+    → AddsEntries a (flat_map entries_of_effect effects) b → HadRoom a → HadRoom b
 
 -- so do its events
 abbrev pub EventsKeepRoom : Type 0
-EventsKeepRoom = (terms : DeskTerms) (events : List (List Deed)) (s t : DeskState) (a b : Account)
+EventsKeepRoom = (terms : DispatcherTerms) (events : List (List Effect)) (s t : DispatcherState)
+    (a b : Account)
     → AreStepLimits terms.limits → DoesEvents terms s events t → t.now ≤ max_moment → IsHubAccount a s
     → AddsEntries a (made_by events) b → HadRoom a → HadRoom b
 

@@ -9,37 +9,37 @@ use Rattle.rv_account.specs.Account.{Account}
 use Rattle.rv_rules.specs.StepLimits.{StepLimits}
 use Rattle.rv_state.specs.After.{state_of}
 use Rattle.rv_wires.specs.connection.History.{Given}
-use Rattle.rv_wires.specs.hearers.Hearing.{nobody}
+use Rattle.rv_wires.specs.subscribers.Subscription.{nobody}
 use Rattle.rv_wires.specs.Connections.{none_open}
-use Rattle.rv_hub.specs.desk.View.{DeskState}
-use Rattle.rv_hub.specs.desk.Deeds.{Deed, step_of}
-use Rattle.rv_hub.specs.EventDeeds.{all_deeds}
+use Rattle.rv_hub.specs.dispatcher.View.{DispatcherState}
+use Rattle.rv_hub.specs.dispatcher.Effects.{Effect, step_of}
+use Rattle.rv_hub.specs.EventEffects.{all_effects}
 use Rattle.rv_hub.specs.Pairing.{on_nothing}
 use Rattle.rv_hub.specs.Pasts.{Past}
 use Rattle.rv_world.specs.declared.parts.packet.Packet.{Packet}
 use Rattle.rv_world.specs.parts.Events.{sender}
-use Rattle.rv_onward.specs.crashes.Crashes.{Crashed, IsOfMessages, Lacked, MaySend, Server, ServerDeed}
+use Rattle.rv_onward.specs.crashes.Crashes.{Crashed, IsOfMessages, Lacked, MaySend, Server, ServerEffect}
 use Rattle.rv_onward.specs.crashes.Crashes.{ServerDoes, Stepped, made}
 use Rattle.rv_onward.specs.crashes.Laws.{IsServer}
 
--- ---- the deeds
+-- ---- the effects
 
--- the message of the frame with which a deed made a step, if it made one
-abbrev pub messages_of : Deed → List Message
-messages_of deed = map (λ step. step.message) (option_to_list (step_of deed))
+-- the message of the frame with which an effect made a step, if it made one
+abbrev pub messages_of : Effect → List Message
+messages_of effect = map (λ step. step.message) (option_to_list (step_of effect))
 
--- those of deeds, and of events, in order
-abbrev pub messages_by : List Deed → List Message
-messages_by deeds = flat_map messages_of deeds
+-- those of effects, and of events, in order
+abbrev pub messages_by : List Effect → List Message
+messages_by effects = flat_map messages_of effects
 
-abbrev pub messages_in : List (List Deed) → List Message
-messages_in events = messages_by (all_deeds events)
+abbrev pub messages_in : List (List Effect) → List Message
+messages_in events = messages_by (all_effects events)
 
--- deeds of a server lead from the one to the other, each of these messages
-abbrev pub RunsServer : List Message → Server → List ServerDeed → Server → Type 0
+-- effects of a server lead from the one to the other, each of these messages
+abbrev pub RunsServer : List Message → Server → List ServerEffect → Server → Type 0
 RunsServer messages s [] t = t ≡ s
-RunsServer messages s (deed ∷ deeds) t = IsOfMessages messages deed × (between : Server)
-    × ServerDoes s deed between × RunsServer messages between deeds t
+RunsServer messages s (effect ∷ effects) t = IsOfMessages messages effect × (between : Server)
+    × ServerDoes s effect between × RunsServer messages between effects t
 
 -- ---- what the server holds back
 
@@ -68,7 +68,7 @@ AreHeldAtServer server frames answers = (place : ℕ) (body : List ℕ) (given :
 -- the hub with this account and these pasts of its connections is this server: what the server made is the
 -- account; it stored as many entries as the hub has written; and each answer that a connection was given is
 -- one that it holds back
-pub record IsHubServer (messages : List Message) (server : Server) (a : Account) (s : DeskState)
+pub record IsHubServer (messages : List Message) (server : Server) (a : Account) (s : DispatcherState)
     (pasts : ℕ → Past) : Type 0 where
   pub server_is : IsServer messages server
   pub made_is : made server ≡ a
@@ -76,19 +76,19 @@ pub record IsHubServer (messages : List Message) (server : Server) (a : Account)
   pub answers : (n : ℕ) → AreHeldAtServer server (pasts n).frames (pasts n).answers
 
 -- a step under these limits, time alone, or entries that are stored: no crash, and no want of memory
-abbrev pub IsOfHub : StepLimits → ServerDeed → Type 0
+abbrev pub IsOfHub : StepLimits → ServerEffect → Type 0
 IsOfHub limits (Stepped own moment message) = own ≡ limits
 IsOfHub limits (Lacked message) = ⊥
 IsOfHub limits (Crashed left) = ⊥
-IsOfHub limits deed = Unit {0}
+IsOfHub limits effect = Unit {0}
 
--- such deeds, each of these messages, lead from this server to one that the hub is
+-- such effects, each of these messages, lead from this server to one that the hub is
 pub record LeadsServer (limits : StepLimits) (messages : List Message) (server : Server) (b : Account)
-    (t : DeskState) (pasts : ℕ → Past) : Type 0 where
-  pub deeds : List ServerDeed
-  pub are : All (IsOfHub limits) deeds
+    (t : DispatcherState) (pasts : ℕ → Past) : Type 0 where
+  pub effects : List ServerEffect
+  pub are : All (IsOfHub limits) effects
   pub later : Server
-  pub runs : RunsServer messages server deeds later
+  pub runs : RunsServer messages server effects later
   pub is : IsHubServer messages later b t pasts
 
 -- ---- what may leave
@@ -110,7 +110,7 @@ MayLeave server body given =
 -- ---- a new hub
 
 -- a hub over a machine with this account's state: all that there is counts as written, no connection is open
-abbrev pub new_hub : Account → DeskState
+abbrev pub new_hub : Account → DispatcherState
 new_hub a = record {
   book = state_of a;
   now = (state_of a).moment;

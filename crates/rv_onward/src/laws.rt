@@ -1,24 +1,24 @@
 //! Laws of a hub that is a server that crashes and goes on: each function is its contract, over the
 //! definitions alone.
 ghost use Rattle.rv_onward.specs.Laws.{HubsAreServers, HubsBegin, HubsGoOn, LacksMemory, SentMayLeave};
-ghost use Rattle.rv_onward.specs.Room.{DeedsKeepRoom, EventsKeepRoom, FrontsGoOn};
+ghost use Rattle.rv_onward.specs.Room.{EffectsKeepRoom, EventsKeepRoom, FrontsGoOn};
 
-/// A hub's account had room after each of its entries, and so has it after what its deeds add. So whatever a
-/// crash leaves of it, a machine can be made of that.
+/// A hub's account had room after each of its entries, and so has it after what its effects add. So whatever
+/// a crash leaves of it, a machine can be made of that.
 pub fn accounts_go_on()
-    ensures deeds { DeedsKeepRoom }
+    ensures effects { EffectsKeepRoom }
     ensures events { EventsKeepRoom }
     ensures fronts { FrontsGoOn }
 {}
 
-/// The events of a hub are deeds of a server that crashes and goes on: steps under its limits, time alone,
+/// The events of a hub are effects of a server that crashes and goes on: steps under its limits, time alone,
 /// and entries that are stored. Each answer that a connection was given is held back for the sender of its
 /// frame's message, with the number of entries that it rests on. So may want of memory be, for any message.
 pub fn hubs_are_servers()
     ensures events { HubsAreServers }
     ensures lacks { LacksMemory }
 {
-    crate::crashes::laws::deeds_keep_servers();
+    crate::crashes::laws::effects_keep_servers();
 }
 
 /// Of an answer no byte leaves before the server may send it.
@@ -33,5 +33,5 @@ pub fn hubs_go_on()
     ensures goes_on { HubsGoOn }
 {
     crate::crashes::laws::servers_begin();
-    crate::crashes::laws::deeds_keep_servers();
+    crate::crashes::laws::effects_keep_servers();
 }

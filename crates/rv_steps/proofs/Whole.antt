@@ -1,4 +1,4 @@
--- A tick and a hearing after it make a whole step, whose answer is the only one that is said.
+-- A tick and a subscription after it make a whole step, whose answer is the only one that is said.
 use Rattle.std.proofs.Common.{◌≡◌, ◌∙◌, ◌++◌, ℕ, refl, sym, subst, ap}
 use Rattle.std.proofs.lemmas.Option.{same_Some}
 use Rattle.rv_text.specs.declared.answer.Answer.{Answer}

@@ -13,7 +13,7 @@ use rv_hub::{EventRefusal, Hub};
 use rv_lines::entry_line;
 use rv_text::NoMemory;
 use rv_wires::connection::Wire;
-use rv_wires::hearers::ConnectionNumber;
+use rv_wires::subscribers::ConnectionNumber;
 use std::alloc::Global;
 
 // More bytes to hand out are told by their sum.

@@ -2,7 +2,7 @@
 ghost use Rattle.std.specs.Prelude.{◌≡◌, None};
 ghost use Rattle.rv_session.specs.Clients.{place_waiting};
 ghost use Rattle.rv_machine.specs.Machines.{state_in};
-ghost use Rattle.rv_hub.specs.desk.Telling.{IsUnheard};
+ghost use Rattle.rv_hub.specs.dispatcher.Telling.{IsUnheard};
 ghost use Rattle.rv_hub.specs.Hubs.{hub_state};
 ghost use Rattle.rv_survey.specs.Rows.{call_on_side, row_in, row_of};
 

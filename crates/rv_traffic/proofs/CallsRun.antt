@@ -2,10 +2,10 @@
 use Rattle.std.proofs.Common.{ℕ, ◌≡◌, ◌∷◌, ◌++◌, ◌∙◌, Bool, List, [], None, Option, Some, ap, append-nil}
 use Rattle.std.proofs.Common.{append_assoc, arith, false, inl}
 use Rattle.std.proofs.Common.{inr, refl, subst, sym, true}
-use Rattle.rv_hub.specs.desk.View.{DeskTerms}
+use Rattle.rv_hub.specs.dispatcher.View.{DispatcherTerms}
 use Rattle.rv_hub.specs.declared.events.HubEvent.{HubEvent}
 use Rattle.rv_engine.specs.Engines.{EngineState, engine_state}
-use Rattle.rv_engine.specs.EngineRuns.{EngineDeed, GatheredLines, HandedOn, Looked, NotTaken}
+use Rattle.rv_engine.specs.EngineRuns.{EngineEffect, GatheredLines, HandedOn, Looked, NotTaken}
 use Rattle.rv_engine.specs.EngineRuns.{RunsEngine, StoredLines, bytes_written}
 use Rattle.rv_engine.specs.Handing.{TellsWritten, all_gone, unwritten}
 use Rattle.rv_traffic.specs.declared.outcomes.Reading.{Reading}
@@ -26,58 +26,61 @@ use Rattle.rv_traffic.specs.Views.{TrafficState}
 
 -- ---- one call
 
-hands_run : (journal : Bool) (terms : DeskTerms) (s : EngineState) (now : ℕ) (what : HubEvent) (given : ℕ)
+hands_run : (journal : Bool) (terms : DispatcherTerms) (s : EngineState) (now : ℕ) (what : HubEvent) (given :
+    ℕ)
     (t : EngineState) → Hands journal terms s now what given t → RunsBehind journal terms s [] t
 hands_run journal terms s now what given t is = record {
-  deeds = HandedOn now what is.made given ∷ [];
+  effects = HandedOn now what is.made given ∷ [];
   runs = (t, is.hands, refl);
   bytes_are = refl;
 }
 
 pub events_run : EventsAreRuns
 events_run journal terms s t now what made given is = record {
-  deeds = HandedOn now what made given ∷ [];
+  effects = HandedOn now what made given ∷ [];
   runs = (t, is, refl);
   bytes_are = refl;
 }
 
 pub refusals_run : RefusalsAreRuns
 refusals_run journal terms s t what why is = record {
-  deeds = NotTaken what why ∷ [];
+  effects = NotTaken what why ∷ [];
   runs = (t, is, refl);
   bytes_are = refl;
 }
 
 pub looks_run : LooksAreRuns
-looks_run journal terms s t is = record { deeds = Looked ∷ []; runs = (t, is, refl); bytes_are = refl }
+looks_run journal terms s t is = record { effects = Looked ∷ []; runs = (t, is, refl); bytes_are = refl }
 
 pub gatherings_run : GatheringsAreRuns
 gatherings_run journal terms s t is = record {
-  deeds = GatheredLines ∷ [];
+  effects = GatheredLines ∷ [];
   runs = (t, is, refl);
   bytes_are = refl;
 }
 
-same_but_looks : (journal : Bool) (terms : DeskTerms) (s : EngineState) (looks round : List ℕ)
+same_but_looks : (journal : Bool) (terms : DispatcherTerms) (s : EngineState) (looks round : List ℕ)
     → RunsBehind journal terms s [] (record s { looks = looks; round = round })
 same_but_looks journal terms s looks round =
     looks_run journal terms s (record s { looks = looks; round = round })
     (record { hub = refl; lines = refl; left = refl; stored = refl })
 
-none_run : (journal : Bool) (terms : DeskTerms) (s t : EngineState) → t ≡ s → RunsBehind journal terms s [] t
-none_run journal terms s t same = record { deeds = []; runs = same; bytes_are = refl }
+none_run : (journal : Bool) (terms : DispatcherTerms) (s t : EngineState) → t ≡ s
+    → RunsBehind journal terms s [] t
+none_run journal terms s t same = record { effects = []; runs = same; bytes_are = refl }
 
 -- ---- one behind another
 
-runs_then : (journal : Bool) (terms : DeskTerms) (first second : List EngineDeed) (s t u : EngineState)
+runs_then : (journal : Bool) (terms : DispatcherTerms) (first second : List EngineEffect) (s t u :
+    EngineState)
     → RunsEngine journal terms s first t → RunsEngine journal terms t second u
     → RunsEngine journal terms s (first ++ second) u
 runs_then journal terms [] second s t u same later =
     subst (λ (e : EngineState). RunsEngine journal terms e second u) same later
-runs_then journal terms (deed ∷ first) second s t u (between, does, more) later =
+runs_then journal terms (effect ∷ first) second s t u (between, does, more) later =
     (between, does, runs_then journal terms first second between t u more later)
 
-written_then : (first second : List EngineDeed)
+written_then : (first second : List EngineEffect)
     → bytes_written (first ++ second) ≡ bytes_written first ++ bytes_written second
 written_then [] second = refl
 written_then (HandedOn handed what made given ∷ first) second = written_then first second
@@ -90,15 +93,15 @@ written_then (Looked ∷ first) second = written_then first second
 
 pub runs_join : RunsAreJoined
 runs_join journal terms s t u one other first second = record {
-  deeds = first.deeds ++ second.deeds;
-  runs = runs_then journal terms first.deeds second.deeds s t u first.runs second.runs;
-  bytes_are = written_then first.deeds second.deeds
-      ∙ ap (λ (l : List ℕ). l ++ bytes_written second.deeds) first.bytes_are
+  effects = first.effects ++ second.effects;
+  runs = runs_then journal terms first.effects second.effects s t u first.runs second.runs;
+  bytes_are = written_then first.effects second.effects
+      ∙ ap (λ (l : List ℕ). l ++ bytes_written second.effects) first.bytes_are
       ∙ ap (λ (l : List ℕ). one ++ l) second.bytes_are;
 }
 
 -- where no line was written
-runs_on : (journal : Bool) (terms : DeskTerms) (s t u : EngineState) → RunsBehind journal terms s [] t
+runs_on : (journal : Bool) (terms : DispatcherTerms) (s t u : EngineState) → RunsBehind journal terms s [] t
     → RunsBehind journal terms t [] u → RunsBehind journal terms s [] u
 runs_on journal terms s t u first second = runs_join journal terms s t u [] [] first second
 
@@ -116,10 +119,10 @@ gone_run journal terms s t now n (inr later) =
 -- ---- lines of the account
 
 -- all lines are written where none was left before
-all_written : (journal : Bool) (terms : DeskTerms) (s : EngineState)
+all_written : (journal : Bool) (terms : DispatcherTerms) (s : EngineState)
     → RunsBehind journal terms s (unwritten s) (all_gone s)
 all_written journal terms s = record {
-  deeds = StoredLines (unwritten s) s.hub.book.length ∷ [];
+  effects = StoredLines (unwritten s) s.hub.book.length ∷ [];
   runs = (
     all_gone s,
     record {
@@ -154,7 +157,7 @@ written_lines_run journal terms s t now made told is =
 
 -- ---- a turn
 
-module _ {S : Type 0} (journal : Bool) (terms : DeskTerms) where
+module _ {S : Type 0} (journal : Bool) (terms : DispatcherTerms) where
   loses_run : (now n : ℕ) (bytes : List ℕ) (old new : TrafficState S)
       → LosesBytes journal terms now n bytes old new → RunsBehind journal terms old.engine [] new.engine
   loses_run now n bytes old new (inl rest) =
@@ -322,7 +325,7 @@ write_rounds_run contents journal terms now old new broken is =
 
 -- ---- sockets
 
-pub attach_run : {S : Type 0} (journal : Bool) (terms : DeskTerms) (now n : ℕ) (stream : S)
+pub attach_run : {S : Type 0} (journal : Bool) (terms : DispatcherTerms) (now n : ℕ) (stream : S)
     (old : TrafficState S) (result : Bool) (new : TrafficState S)
     → Attaches journal terms now n stream old result new → RunsBehind journal terms old.engine [] new.engine
 attach_run journal terms now n stream old true new is =
@@ -349,6 +352,7 @@ calls_join one between other first second = record {
       (engine_state between.engine) (engine_state other.engine) first.runs
       (subst (λ (b : Bool). RunsBehind b (hub_terms one.engine.hub) (engine_state between.engine) []
       (engine_state other.engine)) first.terms.journal
-      (subst (λ (d : DeskTerms). RunsBehind between.engine.hub.has_journal d (engine_state between.engine) []
+      (subst (λ (d : DispatcherTerms). RunsBehind between.engine.hub.has_journal d
+      (engine_state between.engine) []
       (engine_state other.engine)) first.terms.terms second.runs));
 }

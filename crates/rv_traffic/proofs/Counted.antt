@@ -2,7 +2,7 @@
 use Rattle.std.proofs.Common.{◌≡◌, ◌<◌, ◌+◌, ◌∙◌, ◌∷◌, ℕ, Bool, List, Option, ap, arith, cond, length}
 use Rattle.std.proofs.Common.{subst, sym}
 use Rattle.std.proofs.lemmas.List.Sums.{count_by-le-length, sum_by-cons}
-use Rattle.rv_hub.specs.desk.View.{DeskTerms}
+use Rattle.rv_hub.specs.dispatcher.View.{DispatcherTerms}
 use Rattle.rv_traffic.specs.declared.outcomes.ReadFaults.{ReadFaults}
 use Rattle.rv_traffic.specs.declared.outcomes.Reading.{Reading}
 use Rattle.rv_traffic.specs.declared.outcomes.Writing.{Writing}
@@ -12,21 +12,22 @@ use Rattle.rv_traffic.specs.Views.{TrafficState}
 
 module _ {S : Type 0} where
   pub read_turn_at : (remaining : S → Option (List ℕ)) (room : ℕ) (journal same : Bool) (terms as_before :
-      DeskTerms)
+      DispatcherTerms)
       (now : ℕ) (old : TrafficState S) (turn : Turn Reading) (new : TrafficState S) → same ≡ journal
       → as_before ≡ terms → ReadsTurn remaining room same as_before now old turn new
       → ReadsTurn remaining room journal terms now old turn new
   read_turn_at remaining room journal same terms as_before now old turn new keeps terms_keep is =
       subst (λ (b : Bool). ReadsTurn remaining room b terms now old turn new) keeps
-      (subst (λ (t : DeskTerms). ReadsTurn remaining room same t now old turn new) terms_keep is)
+      (subst (λ (t : DispatcherTerms). ReadsTurn remaining room same t now old turn new) terms_keep is)
 
-  pub write_turn_at : (contents : S → Option (List ℕ)) (journal same : Bool) (terms as_before : DeskTerms)
+  pub write_turn_at : (contents : S → Option (List ℕ)) (journal same : Bool) (terms as_before :
+      DispatcherTerms)
       (now : ℕ) (old : TrafficState S) (turn : Turn Writing) (new : TrafficState S) → same ≡ journal
       → as_before ≡ terms → WritesTurn contents same as_before now old turn new
       → WritesTurn contents journal terms now old turn new
   write_turn_at contents journal same terms as_before now old turn new keeps terms_keep is =
       subst (λ (b : Bool). WritesTurn contents b terms now old turn new) keeps
-      (subst (λ (t : DeskTerms). WritesTurn contents same t now old turn new) terms_keep is)
+      (subst (λ (t : DispatcherTerms). WritesTurn contents same t now old turn new) terms_keep is)
 
 pub read_counted : (turn : Turn Reading) (before after : ReadFaults)
     → after.broken ≡ cond (is_read_broken turn.came) 1 0 + before.broken

@@ -7,7 +7,7 @@ use Rattle.std.proofs.lemmas.List.{take-append-drop}
 use Rattle.std.specs.Io.KnownBytes.{Appends}
 use Rattle.std.specs.Prelude.{Err, IfErr, IfOk, Ok, OnOk, Result}
 use Rattle.rv_account.specs.declared.entry.Entry.{Entry}
-use Rattle.rv_hub.specs.desk.View.{DeskTerms}
+use Rattle.rv_hub.specs.dispatcher.View.{DispatcherTerms}
 use Rattle.rv_frame.specs.declared.sink.Sink.{Sink}
 use Rattle.rv_frame.specs.Sink.{SinkTakes, sink_contents, sink_failed}
 use Rattle.rv_engine.specs.declared.events.EngineFault.{EngineFault}
@@ -37,15 +37,16 @@ either true = inl refl
 either false = inr refl
 
 -- where no line was written, what wasn't is the front of what isn't
-unwritten_grows : (journal : Bool) (terms : DeskTerms) (s t : EngineState) → RunsBehind journal terms s [] t
+unwritten_grows : (journal : Bool) (terms : DispatcherTerms) (s t : EngineState)
+    → RunsBehind journal terms s [] t
     → (more : List ℕ) × (unwritten t ≡ unwritten s ++ more)
 unwritten_grows journal terms s t run =
-    (entry_lines made, front_lines (engines_are_runs journal terms run.deeds s t run.runs).account)
+    (entry_lines made, front_lines (engines_are_runs journal terms run.effects s t run.runs).account)
   where
     made : List Entry
-    made = entries_kept journal (made_in (answers_in run.deeds))
+    made = entries_kept journal (made_in (answers_in run.effects))
 
-    front_lines : GathersFront (s.left ++ made) s.lines t.left (bytes_written run.deeds ++ t.lines)
+    front_lines : GathersFront (s.left ++ made) s.lines t.left (bytes_written run.effects ++ t.lines)
         → unwritten t ≡ unwritten s ++ entry_lines made
     front_lines gathers =
         ap (λ (l : List ℕ). (l ++ t.lines) ++ entry_lines t.left) (sym run.bytes_are)
@@ -71,7 +72,7 @@ module _ {W : Type 0} (contents : W → Option (List ℕ)) where
 
   -- ---- joined
 
-  module _ (journal : Bool) (terms : DeskTerms) (s t u : EngineState) (before between after : Sink W)
+  module _ (journal : Bool) (terms : DispatcherTerms) (s t u : EngineState) (before between after : Sink W)
       (first : RunsOver contents journal terms s before t between)
       (second : RunsOver contents journal terms t between u after) where
     both_take : SinkTakes contents before after ((first.bytes ++ first.torn) ++ (second.bytes ++ second.torn))
@@ -171,7 +172,7 @@ module _ {W : Type 0} (contents : W → Option (List ℕ)) where
   unwritten_over journal terms s t before after fault.NoMemory is = record {
     bytes = is.bytes;
     runs = record {
-      deeds = StoredLines is.bytes _ ∷ [];
+      effects = StoredLines is.bytes _ ∷ [];
       runs = (t, is.stores, refl);
       bytes_are = append-nil is.bytes;
     };
@@ -185,7 +186,8 @@ module _ {W : Type 0} (contents : W → Option (List ℕ)) where
   unwritten_over journal terms s t before after (fault.Refused why) is = absurd is
 
   -- whichever it is
-  pub write_over : (journal : Bool) (terms : DeskTerms) (s t : EngineState) (before after : Sink W) (now : ℕ)
+  pub write_over : (journal : Bool) (terms : DispatcherTerms) (s t : EngineState) (before after : Sink W)
+      (now : ℕ)
       (made : List Entry) (result : Result (Option ℕ) EngineFault)
       → OnOk result (SinkTakes contents before after (unwritten s)) → OnOk result (HasWorked before after)
       → IfOk result (λ told. TellsWritten journal terms (all_gone s) now made told t)
@@ -225,7 +227,7 @@ module _ {W : Type 0} (contents : W → Option (List ℕ)) where
         (subst (λ (b : Bool). RunsOver contents b (hub_terms one.engine.hub) (engine_state between.engine)
         sink
         (engine_state other.engine) after) first.terms.journal
-        (subst (λ (d : DeskTerms). RunsOver contents between.engine.hub.has_journal d
+        (subst (λ (d : DispatcherTerms). RunsOver contents between.engine.hub.has_journal d
         (engine_state between.engine) sink (engine_state other.engine) after) first.terms.terms
         second.over));
   }

@@ -2,7 +2,7 @@
 use Rattle.std.proofs.Common.{◌≡◌, ◌≢◌, ◌≤◌, ◌∙◌, ◌++◌, ◌+◌, ℕ, Bool, List, [], ◌∷◌, ◌⊎◌, ap, append-nil}
 use Rattle.std.proofs.Common.{append_assoc, arith, inr, length, map, refl, subst, sym}
 use Rattle.std.specs.Prelude.{AllPairs}
-use Rattle.rv_hub.specs.desk.View.{DeskTerms}
+use Rattle.rv_hub.specs.dispatcher.View.{DispatcherTerms}
 use Rattle.rv_traffic.specs.declared.traffic.TheConstants.{SHARES}
 use Rattle.rv_traffic.specs.Calls.{IsOverfull, OffersOne}
 use Rattle.rv_traffic.specs.Rounds.{SharesNext, SharesNone, SharesOut, SharesTurn, TakesShares, Turn}
@@ -10,7 +10,7 @@ use Rattle.rv_traffic.specs.Views.{TrafficState, WaitLists}
 use Rattle.rv_traffic.specs.Waiting.{shares_begun}
 use Rattle.rv_traffic.proofs.Staying.{taken_due}
 
-pub record SharedSoFar {S : Type 0} (journal : Bool) (terms : DeskTerms) (now : ℕ)
+pub record SharedSoFar {S : Type 0} (journal : Bool) (terms : DispatcherTerms) (now : ℕ)
     (old s : TrafficState S) (count : ℕ) : Type 0
   where
     pub turns : List (Turn Bool)
@@ -25,12 +25,12 @@ pub none_popped : (old new : WaitLists) → old.due ≡ [] → new.due ≡ [] �
 none_popped old new none over rest =
     rest ∙ ap (λ (l : List ℕ). record old { due = l }) (over ∙ sym none)
 
-module _ {S : Type 0} (journal : Bool) (terms : DeskTerms) (now : ℕ) where
-  pub next_at : (same : Bool) (as_before : DeskTerms) (old new : TrafficState S) → same ≡ journal
+module _ {S : Type 0} (journal : Bool) (terms : DispatcherTerms) (now : ℕ) where
+  pub next_at : (same : Bool) (as_before : DispatcherTerms) (old new : TrafficState S) → same ≡ journal
       → as_before ≡ terms → SharesNext same as_before now old new → SharesNext journal terms now old new
   next_at same as_before old new keeps terms_keep is =
       subst (λ (b : Bool). SharesNext b terms now old new) keeps
-      (subst (λ (t : DeskTerms). SharesNext same t now old new) terms_keep is)
+      (subst (λ (t : DispatcherTerms). SharesNext same t now old new) terms_keep is)
 
   -- one that was listed last has its share
   pub due_taken : (old : TrafficState S) (waits : WaitLists) (turn : Turn Bool) (new : TrafficState S)

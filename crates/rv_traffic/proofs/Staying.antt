@@ -2,7 +2,7 @@
 use Rattle.std.proofs.Common.{◌≡◌, ◌∙◌, ℕ, Bool, List, None, Option, Some, ap, inl, inr, slice_set}
 use Rattle.std.proofs.Common.{false, subst, sym, true}
 use Rattle.std.proofs.lemmas.List.{set-get_or}
-use Rattle.rv_hub.specs.desk.View.{DeskTerms}
+use Rattle.rv_hub.specs.dispatcher.View.{DispatcherTerms}
 use Rattle.rv_engine.specs.Engines.{EngineState}
 use Rattle.rv_traffic.specs.declared.links.link.Socket.{Socket}
 use Rattle.rv_traffic.specs.links.Table.{ChangesOne, link_at}
@@ -17,7 +17,7 @@ use Rattle.rv_traffic.specs.Rounds.{ComesToRest, MakesTurn, WaitsForMore, Writes
 use Rattle.rv_traffic.specs.Views.{TrafficState, WaitLists}
 use Rattle.rv_traffic.proofs.Tables.{one_then}
 
-gone_keeps : (journal : Bool) (terms : DeskTerms) (s : EngineState) (now n : ℕ) (t : EngineState)
+gone_keeps : (journal : Bool) (terms : DispatcherTerms) (s : EngineState) (now n : ℕ) (t : EngineState)
     → TellsGone journal terms s now n t → t.round ≡ s.round
 gone_keeps journal terms s now n t (inl told) = told.1.hands.looks.round
 gone_keeps journal terms s now n t (inr later) = later.looks.round ∙ later.gathers.looks.round
@@ -54,7 +54,8 @@ module _ {S : Type 0} where
         | inr none ↦ none_keeps remaining n old.table new.table none.2
       ]
 
-  loses_keeps : (journal : Bool) (terms : DeskTerms) (now n : ℕ) (bytes : List ℕ) (old new : TrafficState S)
+  loses_keeps : (journal : Bool) (terms : DispatcherTerms) (now n : ℕ) (bytes : List ℕ) (old new :
+      TrafficState S)
       → LosesBytes journal terms now n bytes old new → StaysBut old n new
   loses_keeps journal terms now n bytes old new (inl rest) = record {
     round = gone_keeps journal terms rest.between.engine now n new.engine rest.gives_up.told
@@ -66,7 +67,7 @@ module _ {S : Type 0} where
     others = whole.gives_up.link.others;
   }
 
-  pub reads_keep : (remaining : S → Option (List ℕ)) (room : ℕ) (journal : Bool) (terms : DeskTerms)
+  pub reads_keep : (remaining : S → Option (List ℕ)) (room : ℕ) (journal : Bool) (terms : DispatcherTerms)
       (now n : ℕ) (old : TrafficState S) (came : Reading) (new : TrafficState S)
       → ReadsOne remaining room journal terms now n old came new → StaysBut old n new
   reads_keep remaining room journal terms now n old reading.Nothing new is = record {
@@ -98,7 +99,8 @@ module _ {S : Type 0} where
 
   -- ---- a share
 
-  pub offers_keep : (journal : Bool) (terms : DeskTerms) (now n : ℕ) (old : TrafficState S) (came : Bool)
+  pub offers_keep : (journal : Bool) (terms : DispatcherTerms) (now n : ℕ) (old : TrafficState S) (came :
+      Bool)
       (new : TrafficState S) → OffersOne journal terms now n old came new → StaysBut old n new
   offers_keep journal terms now n old true new is = record {
     round = is.hands.hands.looks.round;
@@ -119,7 +121,7 @@ module _ {S : Type 0} where
         | inr changes ↦ changes.so.others
       ]
 
-  pub writes_keep : (contents : S → Option (List ℕ)) (journal : Bool) (terms : DeskTerms) (now n : ℕ)
+  pub writes_keep : (contents : S → Option (List ℕ)) (journal : Bool) (terms : DispatcherTerms) (now n : ℕ)
       (old : TrafficState S) (what : Writing) (new : TrafficState S)
       → WritesOne contents journal terms now n old what new → StaysBut old n new
   writes_keep contents journal terms now n old writing.Nothing new is = record {
@@ -205,14 +207,15 @@ module _ {S : Type 0} where
       (ready_keeps (does turn.number) turn.number (keeps turn.number) old turn.came is.after is.made)
       (settles_keep is.after turn.number new is.settles)
 
-  pub read_turn_keeps : (remaining : S → Option (List ℕ)) (room : ℕ) (journal : Bool) (terms : DeskTerms)
+  pub read_turn_keeps : (remaining : S → Option (List ℕ)) (room : ℕ) (journal : Bool) (terms :
+      DispatcherTerms)
       (now : ℕ) (old : TrafficState S) (turn : Turn Reading) (new : TrafficState S)
       → ReadsTurn remaining room journal terms now old turn new → StaysBut old turn.number new
   read_turn_keeps remaining room journal terms now old turn new is =
       takes_keep (λ (n : ℕ). ReadsOne remaining room journal terms now n)
       (λ n. reads_keep remaining room journal terms now n) old turn new is
 
-  pub write_turn_keeps : (contents : S → Option (List ℕ)) (journal : Bool) (terms : DeskTerms) (now : ℕ)
+  pub write_turn_keeps : (contents : S → Option (List ℕ)) (journal : Bool) (terms : DispatcherTerms) (now : ℕ)
       (old : TrafficState S) (turn : Turn Writing) (new : TrafficState S)
       → WritesTurn contents journal terms now old turn new → StaysBut old turn.number new
   write_turn_keeps contents journal terms now old turn new is =

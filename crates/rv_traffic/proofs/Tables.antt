@@ -5,7 +5,7 @@ use Rattle.std.proofs.Common.{IsSome, slice_set, subst}
 use Rattle.std.proofs.lemmas.List.{set-get_or, set-set}
 use Rattle.std.specs.Io.KnownBytes.{Consumes, Keeps}
 use Rattle.rv_wires.specs.Connections.{HasWire}
-use Rattle.rv_hub.specs.desk.View.{DeskState, DeskTerms}
+use Rattle.rv_hub.specs.dispatcher.View.{DispatcherState, DispatcherTerms}
 use Rattle.rv_account.specs.declared.entry.Entry.{Entry}
 use Rattle.rv_hub.specs.declared.events.HubEvent.{HubEvent}
 use Rattle.rv_hub.specs.declared.parts.HubParts.{HubParts}
@@ -39,7 +39,8 @@ hands_through first hub old mid now what made given new gathers same does = reco
 }
 
 -- a connection that may be offered more has not ended its input
-pub may_end : (s : DeskState) (n : ℕ) → MayBeOffered s n → HasWire s.open_wires n (λ wire. wire.ended ≡ false)
+pub may_end : (s : DispatcherState) (n : ℕ) → MayBeOffered s n
+    → HasWire s.open_wires n (λ wire. wire.ended ≡ false)
 may_end s n may = record { wire = may.wire; there = may.there; so = may.so.open_input }
 
 module _ {S : Type 0} where
@@ -57,7 +58,7 @@ module _ {S : Type 0} where
       changes ∙ ap (λ (o : Option (Socket S)). slice_set old n o) same ∙ set-get_or old n None
 
   -- a connection is given up behind another call of its number
-  pub gives_up_then : (journal : Bool) (terms : DeskTerms) (now n : ℕ) (old mid new : TrafficState S)
+  pub gives_up_then : (journal : Bool) (terms : DispatcherTerms) (now n : ℕ) (old mid new : TrafficState S)
       → mid.engine ≡ old.engine → ChangesOne old.table n mid.table → GivesUp journal terms now n mid new
       → GivesUp journal terms now n old new
   gives_up_then journal terms now n old mid new same changes gives = record {
@@ -69,12 +70,13 @@ module _ {S : Type 0} where
   }
 
   -- the same terms
-  pub gives_up_at : (journal same : Bool) (terms as_before : DeskTerms) (now n : ℕ) (old new : TrafficState S)
+  pub gives_up_at : (journal same : Bool) (terms as_before : DispatcherTerms) (now n : ℕ) (old new :
+      TrafficState S)
       → same ≡ journal → as_before ≡ terms → GivesUp same as_before now n old new
       → GivesUp journal terms now n old new
   gives_up_at journal same terms as_before now n old new keeps terms_keep gives =
       subst (λ (b : Bool). GivesUp b terms now n old new) keeps
-      (subst (λ (t : DeskTerms). GivesUp same t now n old new) terms_keep gives)
+      (subst (λ (t : DispatcherTerms). GivesUp same t now n old new) terms_keep gives)
 
   pub none_there : (o : Option (Socket S)) → (IsSome o → ⊥) → o ≡ None
   none_there None not = refl

@@ -6,7 +6,7 @@ use Rattle.std.proofs.lemmas.List.{drop-append-le, drop_all, length-drop, set-ge
 use Rattle.std.proofs.lemmas.Bool.{false≢true}
 use Rattle.std.proofs.lemmas.Option.{same_Some}
 use Rattle.std.specs.Io.KnownBytes.{Consumes}
-use Rattle.rv_hub.specs.desk.View.{DeskTerms}
+use Rattle.rv_hub.specs.dispatcher.View.{DispatcherTerms}
 use Rattle.rv_hub.specs.declared.events.HubEvent.{HubEvent}
 use Rattle.rv_engine.specs.Engines.{EngineState}
 use Rattle.rv_engine.specs.Handing.{HandsOn}
@@ -253,7 +253,7 @@ module _ {S : Type 0} where
   broken_readable remaining now (Some link) bytes new (after, read, is) = read.gives.1
 
   -- what came of a piece is what came of the read
-  pub piece_read : (remaining : S → Option (List ℕ)) (journal : Bool) (terms : DeskTerms) (now n : ℕ)
+  pub piece_read : (remaining : S → Option (List ℕ)) (journal : Bool) (terms : DispatcherTerms) (now n : ℕ)
       (old mid : TrafficState S) (bytes : List ℕ) (result : Reading) (new : TrafficState S)
       → MayBeOffered old.engine.hub n → mid.engine ≡ old.engine → pending_of (link_at old.table n) ≡ []
       → ReadsSlot remaining now (link_at old.table n) input.Piece bytes (link_at mid.table n)
@@ -323,7 +323,7 @@ module _ {S : Type 0} where
       })
 
   -- what came of a read is what came of a turn, where there was room
-  pub reads_within : (remaining : S → Option (List ℕ)) (room : ℕ) (journal : Bool) (terms : DeskTerms)
+  pub reads_within : (remaining : S → Option (List ℕ)) (room : ℕ) (journal : Bool) (terms : DispatcherTerms)
       (now n : ℕ) (old : TrafficState S) (came : Reading) (new : TrafficState S) → HasRoomLeft old room
       → pending_of (link_at old.table n) ≡ [] → ReadsNew remaining journal terms now n old came new
       → ReadsOne remaining room journal terms now n old came new
@@ -382,7 +382,7 @@ module _ {S : Type 0} where
       }
 
   -- a piece was offered, and the rest is pending
-  pub keeps_made : (journal : Bool) (terms : DeskTerms) (now n : ℕ) (bytes : List ℕ)
+  pub keeps_made : (journal : Bool) (terms : DispatcherTerms) (now n : ℕ) (bytes : List ℕ)
       (old new : TrafficState S) (what : HubEvent) (made : List Entry) (given count : ℕ)
       → HandsOn journal terms old.engine now what made given new.engine → IsSome (link_at old.table n)
       → pending_of (link_at old.table n) ≡ [] → IsPieceOf what n bytes
@@ -432,7 +432,8 @@ module _ {S : Type 0} where
   )
 
   -- all of it was taken
-  pub kept_whole : (journal : Bool) (terms : DeskTerms) (now n : ℕ) (bytes : List ℕ) (old : TrafficState S)
+  pub kept_whole : (journal : Bool) (terms : DispatcherTerms) (now n : ℕ) (bytes : List ℕ)
+      (old : TrafficState S)
       (engine : EngineState) (what : HubEvent) (made : List Entry) (given count : ℕ)
       → HandsOn journal terms old.engine now what made given engine → IsSome (link_at old.table n)
       → pending_of (link_at old.table n) ≡ [] → IsPieceOf what n bytes
@@ -446,7 +447,7 @@ module _ {S : Type 0} where
       (pends_none (link_at old.table n))) (sym (set-get_or old.table n None)) small
 
   -- or the connection is given up
-  pub loses_made : (journal : Bool) (terms : DeskTerms) (now n : ℕ) (bytes : List ℕ)
+  pub loses_made : (journal : Bool) (terms : DispatcherTerms) (now n : ℕ) (bytes : List ℕ)
       (old between new : TrafficState S) (what : HubEvent) (made : List Entry) (given : ℕ)
       → given < length bytes → length bytes ≤ SMALL
       → HandsOn journal terms old.engine now what made given between.engine → IsPieceOf what n bytes

@@ -2,14 +2,14 @@
 -- and of a hub's, hold of a whole turn of a server.
 use Rattle.std.specs.Prelude.{ℕ, ◌≡◌, ◌++◌, Bool, List, [], None, Option, Some, false, true}
 use Rattle.rv_account.specs.declared.entry.Entry.{Entry}
-use Rattle.rv_hub.specs.desk.View.{DeskTerms}
+use Rattle.rv_hub.specs.dispatcher.View.{DispatcherTerms}
 use Rattle.rv_frame.specs.declared.sink.Sink.{Sink}
 use Rattle.rv_frame.specs.Sink.{SinkTakes, sink_failed}
 use Rattle.rv_hub.specs.declared.events.HubEvent.{HubEvent}
 use Rattle.rv_engine.specs.declared.events.EngineFault.{EngineFault}
 use Rattle.rv_hub.specs.Hubs.{hub_terms}
 use Rattle.rv_engine.specs.Engines.{EngineState, engine_state}
-use Rattle.rv_engine.specs.EngineRuns.{ChangesLooks, EngineDeed, RunsEngine, bytes_written}
+use Rattle.rv_engine.specs.EngineRuns.{ChangesLooks, EngineEffect, RunsEngine, bytes_written}
 use Rattle.rv_engine.specs.Handing.{Gathers, HandsOn, HasWorked, IsNotTold, IsRefused, TellsWritten}
 use Rattle.rv_engine.specs.Handing.{all_gone, unwritten}
 use Rattle.rv_traffic.specs.declared.outcomes.ReadFaults.{ReadFaults}
@@ -18,13 +18,13 @@ use Rattle.rv_traffic.specs.Rounds.{ReadsRound, SharesOut, WritesRound}
 use Rattle.rv_traffic.specs.declared.traffic.Switchboard.{Switchboard}
 use Rattle.rv_traffic.specs.Views.{SameTerms, TrafficState}
 
--- one engine is behind some deeds of the other, in which the device took these lines
-pub record RunsBehind (journal : Bool) (terms : DeskTerms) (s : EngineState) (bytes : List ℕ)
+-- one engine is behind some effects of the other, in which the device took these lines
+pub record RunsBehind (journal : Bool) (terms : DispatcherTerms) (s : EngineState) (bytes : List ℕ)
     (t : EngineState) : Type 0
   where
-    pub deeds : List EngineDeed
-    pub runs : RunsEngine journal terms s deeds t
-    pub bytes_are : bytes_written deeds ≡ bytes
+    pub effects : List EngineEffect
+    pub runs : RunsEngine journal terms s effects t
+    pub bytes_are : bytes_written effects ≡ bytes
 
 -- so is the engine behind sockets, where the device took nothing
 pub record OnlyCalls {S : Type 0} (old new : Switchboard S) : Type 0 where
@@ -34,50 +34,52 @@ pub record OnlyCalls {S : Type 0} (old new : Switchboard S) : Type 0 where
 
 -- calls one behind another are one run
 abbrev pub RunsAreJoined : Type 0
-RunsAreJoined = (journal : Bool) (terms : DeskTerms) (s t u : EngineState) (first second : List ℕ)
+RunsAreJoined = (journal : Bool) (terms : DispatcherTerms) (s t u : EngineState) (first second : List ℕ)
     → RunsBehind journal terms s first t → RunsBehind journal terms t second u
     → RunsBehind journal terms s (first ++ second) u
 
 abbrev pub EventsAreRuns : Type 0
-EventsAreRuns = (journal : Bool) (terms : DeskTerms) (s t : EngineState) (now : ℕ) (what : HubEvent)
+EventsAreRuns = (journal : Bool) (terms : DispatcherTerms) (s t : EngineState) (now : ℕ) (what : HubEvent)
     (made : List Entry) (given : ℕ) → HandsOn journal terms s now what made given t
     → RunsBehind journal terms s [] t
 
 abbrev pub RefusalsAreRuns : Type 0
-RefusalsAreRuns = (journal : Bool) (terms : DeskTerms) (s t : EngineState) (what : HubEvent)
+RefusalsAreRuns = (journal : Bool) (terms : DispatcherTerms) (s t : EngineState) (what : HubEvent)
     (why : EngineFault) → IsRefused s what why t → RunsBehind journal terms s [] t
 
 abbrev pub LooksAreRuns : Type 0
-LooksAreRuns = (journal : Bool) (terms : DeskTerms) (s t : EngineState) → ChangesLooks s t
+LooksAreRuns = (journal : Bool) (terms : DispatcherTerms) (s t : EngineState) → ChangesLooks s t
     → RunsBehind journal terms s [] t
 
 abbrev pub GatheringsAreRuns : Type 0
-GatheringsAreRuns = (journal : Bool) (terms : DeskTerms) (s t : EngineState) → Gathers s t
+GatheringsAreRuns = (journal : Bool) (terms : DispatcherTerms) (s t : EngineState) → Gathers s t
     → RunsBehind journal terms s [] t
 
 -- a connection is given up
 abbrev pub EndsAreRuns : Type 0
-EndsAreRuns = (journal : Bool) (terms : DeskTerms) (s t : EngineState) (now number : ℕ)
+EndsAreRuns = (journal : Bool) (terms : DispatcherTerms) (s t : EngineState) (now number : ℕ)
     → TellsGone journal terms s now number t → RunsBehind journal terms s [] t
 
 abbrev pub ReadRoundsAreRuns : {S : Type 0} → (S → Option (List ℕ)) → Type 0
-ReadRoundsAreRuns {S} remaining = (journal : Bool) (terms : DeskTerms) (room now : ℕ)
+ReadRoundsAreRuns {S} remaining = (journal : Bool) (terms : DispatcherTerms) (room now : ℕ)
     (old new : TrafficState S) (faults : ReadFaults)
     → ReadsRound remaining room journal terms now old faults new
     → RunsBehind journal terms old.engine [] new.engine
 
 abbrev pub SharesAreRuns : Type 0 → Type 0
-SharesAreRuns S = (journal : Bool) (terms : DeskTerms) (room now : ℕ) (old new : TrafficState S)
+SharesAreRuns S = (journal : Bool) (terms : DispatcherTerms) (room now : ℕ) (old new : TrafficState S)
     → SharesOut room journal terms now old new → RunsBehind journal terms old.engine [] new.engine
 
 abbrev pub WriteRoundsAreRuns : {S : Type 0} → (S → Option (List ℕ)) → Type 0
-WriteRoundsAreRuns {S} contents = (journal : Bool) (terms : DeskTerms) (now : ℕ) (old new : TrafficState S)
+WriteRoundsAreRuns {S} contents = (journal : Bool) (terms : DispatcherTerms) (now : ℕ) (old new :
+    TrafficState S)
     (broken : ℕ) → WritesRound contents journal terms now old broken new
     → RunsBehind journal terms old.engine [] new.engine
 
 -- all lines of the account are written, and the hub is told so where it knew of fewer
 abbrev pub WrittenLinesAreRuns : Type 0
-WrittenLinesAreRuns = (journal : Bool) (terms : DeskTerms) (s t : EngineState) (now : ℕ) (made : List Entry)
+WrittenLinesAreRuns = (journal : Bool) (terms : DispatcherTerms) (s t : EngineState) (now : ℕ) (made :
+    List Entry)
     (told : Option ℕ) → TellsWritten journal terms (all_gone s) now made told t
     → RunsBehind journal terms s (unwritten s) t
 
@@ -85,7 +87,7 @@ WrittenLinesAreRuns = (journal : Bool) (terms : DeskTerms) (s t : EngineState) (
 
 -- a run in which the device took the lines, and then these bytes, with which it failed: first ones of the
 -- lines that aren't written. One that hasn't failed took each line whole, and one that had takes none
-pub record RunsOver {W : Type 0} (contents : W → Option (List ℕ)) (journal : Bool) (terms : DeskTerms)
+pub record RunsOver {W : Type 0} (contents : W → Option (List ℕ)) (journal : Bool) (terms : DispatcherTerms)
     (s : EngineState) (before : Sink W) (t : EngineState) (after : Sink W) : Type 0
   where
     pub bytes : List ℕ
@@ -99,19 +101,19 @@ pub record RunsOver {W : Type 0} (contents : W → Option (List ℕ)) (journal :
 
 -- a run in which the device took nothing leaves it as it was
 abbrev pub OthersAreOver : {W : Type 0} → (W → Option (List ℕ)) → Type 0
-OthersAreOver {W} contents = (journal : Bool) (terms : DeskTerms) (s t : EngineState) (sink : Sink W)
+OthersAreOver {W} contents = (journal : Bool) (terms : DispatcherTerms) (s t : EngineState) (sink : Sink W)
     → RunsBehind journal terms s [] t → RunsOver contents journal terms s sink t sink
 
 -- runs over one device, one behind another, are one
 abbrev pub OversAreJoined : {W : Type 0} → (W → Option (List ℕ)) → Type 0
-OversAreJoined {W} contents = (journal : Bool) (terms : DeskTerms) (s t u : EngineState)
+OversAreJoined {W} contents = (journal : Bool) (terms : DispatcherTerms) (s t u : EngineState)
     (before between after : Sink W)
     → RunsOver contents journal terms s before t between → RunsOver contents journal terms t between u after
     → RunsOver contents journal terms s before u after
 
 -- the lines of the account are written to it
 abbrev pub WrittenLinesAreOver : {W : Type 0} → (W → Option (List ℕ)) → Type 0
-WrittenLinesAreOver {W} contents = (journal : Bool) (terms : DeskTerms) (s t : EngineState)
+WrittenLinesAreOver {W} contents = (journal : Bool) (terms : DispatcherTerms) (s t : EngineState)
     (before after : Sink W) (now : ℕ) (made : List Entry) (told : Option ℕ)
     → SinkTakes contents before after (unwritten s) → HasWorked before after
     → TellsWritten journal terms (all_gone s) now made told t
@@ -119,7 +121,7 @@ WrittenLinesAreOver {W} contents = (journal : Bool) (terms : DeskTerms) (s t : E
 
 -- or they aren't all written
 abbrev pub UnwrittenLinesAreOver : {W : Type 0} → (W → Option (List ℕ)) → Type 0
-UnwrittenLinesAreOver {W} contents = (journal : Bool) (terms : DeskTerms) (s t : EngineState)
+UnwrittenLinesAreOver {W} contents = (journal : Bool) (terms : DispatcherTerms) (s t : EngineState)
     (before after : Sink W) (why : EngineFault) → IsNotTold contents s before why t after
     → RunsOver contents journal terms s before t after
 

@@ -6,7 +6,7 @@ use Rattle.std.specs.Io.KnownBytes.{Appends, Consumes, IsAtEnd, Keeps}
 use Rattle.rv_account.specs.declared.entry.Entry.{Entry}
 use Rattle.rv_wires.specs.connection.Traffic.{MayOffer, Traffic}
 use Rattle.rv_wires.specs.Connections.{HasWire, IsTotalHeld, IsTotalUnread}
-use Rattle.rv_hub.specs.desk.View.{DeskState, DeskTerms}
+use Rattle.rv_hub.specs.dispatcher.View.{DispatcherState, DispatcherTerms}
 use Rattle.rv_hub.specs.declared.events.HubEvent.{HubEvent}
 use Rattle.rv_hub.specs.declared.events.HubEvent.TheVariants as event
 use Rattle.rv_engine.specs.Engines.{EngineState}
@@ -25,11 +25,11 @@ use Rattle.rv_traffic.specs.declared.outcomes.Writing.TheVariants as writing
 use Rattle.rv_traffic.specs.Views.{IsPieceOf, TrafficState}
 
 -- more of a connection's input may be offered
-abbrev pub MayBeOffered : DeskState → ℕ → Type 0
+abbrev pub MayBeOffered : DispatcherState → ℕ → Type 0
 MayBeOffered s number = HasWire s.open_wires number MayOffer
 
 -- it is open
-abbrev pub IsConnected : DeskState → ℕ → Type 0
+abbrev pub IsConnected : DispatcherState → ℕ → Type 0
 IsConnected s number = HasWire s.open_wires number (λ wire. Unit {0})
 
 -- its socket may be read
@@ -83,7 +83,7 @@ HasRoomLeft s most = (total : ℕ) × HoldsInAll s total × (total ≤ most)
 -- ---- an event
 
 -- an event was handed on: it made these entries and gave this
-pub record Hands (journal : Bool) (terms : DeskTerms) (old : EngineState) (now : ℕ) (what : HubEvent)
+pub record Hands (journal : Bool) (terms : DispatcherTerms) (old : EngineState) (now : ℕ) (what : HubEvent)
     (given : ℕ) (new : EngineState) : Type 0
   where
     pub made : List Entry
@@ -91,7 +91,7 @@ pub record Hands (journal : Bool) (terms : DeskTerms) (old : EngineState) (now :
 
 -- a small piece came of a connection that may be offered more, of which nothing was pending, and is offered;
 -- the hub takes some of it, and the others are pending
-pub record Offers {S : Type 0} (remaining : S → Option (List ℕ)) (journal : Bool) (terms : DeskTerms)
+pub record Offers {S : Type 0} (remaining : S → Option (List ℕ)) (journal : Bool) (terms : DispatcherTerms)
     (now number : ℕ) (old new : TrafficState S) : Type 0
   where
     pub may : MayBeOffered old.engine.hub number
@@ -117,12 +117,12 @@ pub record LooksLater (old : EngineState) (number : ℕ) (new : EngineState) : T
   pub stored : new.stored ≡ mid.stored
 
 -- the hub is told that a connection is gone, or that is done later
-abbrev pub TellsGone : Bool → DeskTerms → EngineState → ℕ → ℕ → EngineState → Type 0
+abbrev pub TellsGone : Bool → DispatcherTerms → EngineState → ℕ → ℕ → EngineState → Type 0
 TellsGone journal terms old now number new =
     ((given : ℕ) × Hands journal terms old now (event.Gone number) given new) ⊎ LooksLater old number new
 
 -- a connection is given up: its socket is let go, and the hub is told that it is gone, or will be
-pub record GivesUp {S : Type 0} (journal : Bool) (terms : DeskTerms) (now number : ℕ)
+pub record GivesUp {S : Type 0} (journal : Bool) (terms : DispatcherTerms) (now number : ℕ)
     (old new : TrafficState S) : Type 0
   where
     pub link : LetsGo old.table number new.table
@@ -138,13 +138,14 @@ pub record PutsUnder {S : Type 0} (now number : ℕ) (stream : S) (old new : Tra
   pub engine : new.engine ≡ old.engine
 
 -- or the number has no room: then the connection is given up
-pub record HasNoRoom {S : Type 0} (journal : Bool) (terms : DeskTerms) (now number : ℕ)
+pub record HasNoRoom {S : Type 0} (journal : Bool) (terms : DispatcherTerms) (now number : ℕ)
     (old new : TrafficState S) : Type 0
   where
     pub room : length old.table ≤ number
     pub gives_up : GivesUp journal terms now number old new
 
-abbrev pub Attaches : {S : Type 0} → Bool → DeskTerms → ℕ → ℕ → S → TrafficState S → Bool → TrafficState S
+abbrev pub Attaches : {S : Type 0} → Bool → DispatcherTerms → ℕ → ℕ → S → TrafficState S → Bool
+    → TrafficState S
     → Type 0
 Attaches journal terms now number stream old true new = PutsUnder now number stream old new
 Attaches journal terms now number stream old false new = HasNoRoom journal terms now number old new
@@ -200,7 +201,7 @@ pub record LaysPieceBy {S : Type 0} (remaining : S → Option (List ℕ)) (numbe
         (remaining after.stream) bytes × (after.pending.items ≡ bytes) × SameFlags link after) new.table
 
 -- its input ended, of which nothing was pending, and the hub is told so
-pub record EndsInput {S : Type 0} (remaining : S → Option (List ℕ)) (journal : Bool) (terms : DeskTerms)
+pub record EndsInput {S : Type 0} (remaining : S → Option (List ℕ)) (journal : Bool) (terms : DispatcherTerms)
     (now number : ℕ) (old new : TrafficState S) : Type 0
   where
     pub may : MayBeOffered old.engine.hub number
@@ -210,7 +211,8 @@ pub record EndsInput {S : Type 0} (remaining : S → Option (List ℕ)) (journal
     pub link : ChangesLink old.table number (GaveEnd remaining) new.table
 
 -- a small piece was offered, of which the hub takes some: the others are pending
-pub record KeepsUntaken {S : Type 0} (journal : Bool) (terms : DeskTerms) (now number : ℕ) (bytes : List ℕ)
+pub record KeepsUntaken {S : Type 0} (journal : Bool) (terms : DispatcherTerms) (now number : ℕ) (bytes :
+    List ℕ)
     (old new : TrafficState S) : Type 0
   where
     pub small : length bytes ≤ SMALL
@@ -229,7 +231,7 @@ pub record KeepsWhole {S : Type 0} (number : ℕ) (bytes : List ℕ) (old new : 
       × (after.pending.items ≡ bytes) × SameFlags link after) new.table
 
 -- or memory was refused to the others, of which there are some: the connection is given up
-pub record LosesRest {S : Type 0} (journal : Bool) (terms : DeskTerms) (now number : ℕ) (bytes : List ℕ)
+pub record LosesRest {S : Type 0} (journal : Bool) (terms : DispatcherTerms) (now number : ℕ) (bytes : List ℕ)
     (old new : TrafficState S) : Type 0
   where
     pub small : length bytes ≤ SMALL
@@ -243,20 +245,23 @@ pub record LosesRest {S : Type 0} (journal : Bool) (terms : DeskTerms) (now numb
     pub gives_up : GivesUp journal terms now number between new
 
 -- or to a piece that isn't small, which was not offered
-pub record LosesWhole {S : Type 0} (journal : Bool) (terms : DeskTerms) (now number : ℕ) (bytes : List ℕ)
+pub record LosesWhole {S : Type 0} (journal : Bool) (terms : DispatcherTerms) (now number : ℕ) (bytes :
+    List ℕ)
     (old new : TrafficState S) : Type 0
   where
     pub many : SMALL < length bytes
     pub gives_up : GivesUp journal terms now number old new
 
-abbrev pub LosesBytes : {S : Type 0} → Bool → DeskTerms → ℕ → ℕ → List ℕ → TrafficState S → TrafficState S
+abbrev pub LosesBytes : {S : Type 0} → Bool → DispatcherTerms → ℕ → ℕ → List ℕ → TrafficState S
+    → TrafficState S
     → Type 0
 LosesBytes journal terms now number bytes old new = LosesRest journal terms now number bytes old new
     ⊎ LosesWhole journal terms now number bytes old new
 
 -- a piece came of its socket, of which nothing was pending, but memory was refused to it, or to what the hub
 -- didn't take of it
-pub record LosesPiece {S : Type 0} (remaining : S → Option (List ℕ)) (journal : Bool) (terms : DeskTerms)
+pub record LosesPiece {S : Type 0} (remaining : S → Option (List ℕ)) (journal : Bool) (terms :
+    DispatcherTerms)
     (now number : ℕ) (old new : TrafficState S) : Type 0
   where
     pub may : MayBeOffered old.engine.hub number
@@ -268,7 +273,7 @@ pub record LosesPiece {S : Type 0} (remaining : S → Option (List ℕ)) (journa
     pub loses : LosesBytes journal terms now number bytes (record old { table = read }) new
 
 -- a read of its socket failed, of which nothing was pending: the connection is given up
-pub record FailsToRead {S : Type 0} (journal : Bool) (terms : DeskTerms) (now number : ℕ)
+pub record FailsToRead {S : Type 0} (journal : Bool) (terms : DispatcherTerms) (now number : ℕ)
     (old new : TrafficState S) : Type 0
   where
     pub may : MayBeOffered old.engine.hub number
@@ -277,7 +282,7 @@ pub record FailsToRead {S : Type 0} (journal : Bool) (terms : DeskTerms) (now nu
     pub gives_up : GivesUp journal terms now number old new
 
 -- what comes of one connection of which nothing is pending, and which may be offered more
-abbrev pub ReadsNew : {S : Type 0} → (S → Option (List ℕ)) → Bool → DeskTerms → ℕ → ℕ → TrafficState S
+abbrev pub ReadsNew : {S : Type 0} → (S → Option (List ℕ)) → Bool → DispatcherTerms → ℕ → ℕ → TrafficState S
     → Reading → TrafficState S → Type 0
 ReadsNew remaining journal terms now number old reading.Nothing new =
     (new.engine ≡ old.engine) × NoneCame remaining number old.table new.table
@@ -293,7 +298,8 @@ ReadsNew remaining journal terms now number old reading.NoMemory new =
 
 -- what comes of one connection's turn to be read, where there is room for so many bytes in all: if something
 -- came, no more were held
-abbrev pub ReadsOne : {S : Type 0} → (S → Option (List ℕ)) → ℕ → Bool → DeskTerms → ℕ → ℕ → TrafficState S
+abbrev pub ReadsOne : {S : Type 0} → (S → Option (List ℕ)) → ℕ → Bool → DispatcherTerms → ℕ → ℕ
+    → TrafficState S
     → Reading → TrafficState S → Type 0
 ReadsOne remaining room journal terms now number old reading.Nothing new =
     ReadsNothing remaining room number old new
@@ -309,7 +315,7 @@ ReadsOne remaining room journal terms now number old reading.NoMemory new =
     HasRoomLeft old room × LosesPiece remaining journal terms now number old new
 
 -- what comes of a piece that was read of a connection of which nothing was pending
-abbrev pub OffersPiece : {S : Type 0} → Bool → DeskTerms → ℕ → ℕ → List ℕ → TrafficState S → Reading
+abbrev pub OffersPiece : {S : Type 0} → Bool → DispatcherTerms → ℕ → ℕ → List ℕ → TrafficState S → Reading
     → TrafficState S → Type 0
 OffersPiece journal terms now number bytes old reading.Nothing new = ⊥
 OffersPiece journal terms now number bytes old reading.Offered new =
@@ -324,7 +330,7 @@ OffersPiece journal terms now number bytes old reading.NoMemory new =
 
 -- the first of what is pending of a connection that may be offered more are offered, at most a share; the hub
 -- takes some of them, and the others are pending with the rest
-pub record OffersShare {S : Type 0} (journal : Bool) (terms : DeskTerms) (now number : ℕ)
+pub record OffersShare {S : Type 0} (journal : Bool) (terms : DispatcherTerms) (now number : ℕ)
     (old new : TrafficState S) : Type 0
   where
     pub may : MayBeOffered old.engine.hub number
@@ -344,7 +350,7 @@ pub record OffersNone {S : Type 0} (number : ℕ) (old new : TrafficState S) : T
   pub why : (¬ MayBeOffered old.engine.hub number) ⊎ (pending_of (link_at old.table number) ≡ [])
 
 -- what comes of one connection's share
-abbrev pub OffersOne : {S : Type 0} → Bool → DeskTerms → ℕ → ℕ → TrafficState S → Bool → TrafficState S
+abbrev pub OffersOne : {S : Type 0} → Bool → DispatcherTerms → ℕ → ℕ → TrafficState S → Bool → TrafficState S
     → Type 0
 OffersOne journal terms now number old true new = OffersShare journal terms now number old new
 OffersOne journal terms now number old false new = OffersNone number old new
@@ -363,7 +369,7 @@ pub record TookSome {S : Type 0} (contents : S → Option (List ℕ)) (now : ℕ
 
 -- the socket took the first of the bytes that the hub offers, at least one, and the hub is told exactly how
 -- many
-pub record Sends {S : Type 0} (contents : S → Option (List ℕ)) (journal : Bool) (terms : DeskTerms)
+pub record Sends {S : Type 0} (contents : S → Option (List ℕ)) (journal : Bool) (terms : DispatcherTerms)
     (now number : ℕ) (old new : TrafficState S) : Type 0
   where
     pub wire : Traffic
@@ -396,7 +402,7 @@ pub record SendsNothing {S : Type 0} (contents : S → Option (List ℕ)) (now n
         (λ wire. ChangesLink old.table number (TookNone contents now wire.ready) new.table)
 
 -- bytes were ready, and a write to its socket failed: the connection is given up
-pub record FailsToWrite {S : Type 0} (journal : Bool) (terms : DeskTerms) (now number : ℕ)
+pub record FailsToWrite {S : Type 0} (journal : Bool) (terms : DispatcherTerms) (now number : ℕ)
     (old new : TrafficState S) : Type 0
   where
     pub ready : HasWire old.engine.hub.open_wires number (λ wire. 0 < length wire.ready)
@@ -410,7 +416,7 @@ pub record ClosesSocket {S : Type 0} (number : ℕ) (old new : TrafficState S) :
   pub link : LetsGo old.table number new.table
 
 -- what comes of one connection's turn to be written to
-abbrev pub WritesOne : {S : Type 0} → (S → Option (List ℕ)) → Bool → DeskTerms → ℕ → ℕ → TrafficState S
+abbrev pub WritesOne : {S : Type 0} → (S → Option (List ℕ)) → Bool → DispatcherTerms → ℕ → ℕ → TrafficState S
     → Writing → TrafficState S → Type 0
 WritesOne contents journal terms now number old writing.Nothing new =
     SendsNothing contents now number old new

@@ -3,7 +3,7 @@ use Rattle.std.specs.Prelude.{ℕ, ◌≡◌, ◌≢◌, ◌<◌, ◌≤◌, ◌
 use Rattle.std.specs.Prelude.{Option, Some, false, length, map, true}
 use Rattle.std.specs.List.{count_by}
 use Rattle.rv_wires.specs.Connections.{HasWire}
-use Rattle.rv_hub.specs.desk.View.{DeskTerms}
+use Rattle.rv_hub.specs.dispatcher.View.{DispatcherTerms}
 use Rattle.rv_engine.specs.Engines.{EngineState}
 use Rattle.rv_engine.specs.EngineRuns.{ChangesLooks}
 use Rattle.rv_engine.specs.Handing.{Gathers, LooksAt}
@@ -82,19 +82,20 @@ pub record MakesTurn {S A : Type 0} (does : ℕ → TrafficState S → A → Tra
     pub settles : ComesToRest after turn.number new
 
 -- it is read once, where there is room for so many bytes in all
-abbrev pub ReadsTurn : {S : Type 0} → (S → Option (List ℕ)) → ℕ → Bool → DeskTerms → ℕ → TrafficState S
+abbrev pub ReadsTurn : {S : Type 0} → (S → Option (List ℕ)) → ℕ → Bool → DispatcherTerms → ℕ → TrafficState S
     → Turn Reading → TrafficState S → Type 0
 ReadsTurn {S} remaining room journal terms now old turn new =
     MakesTurn (λ (number : ℕ). ReadsOne {S = S} remaining room journal terms now number) old turn new
 
 -- its share is offered
-abbrev pub SharesTurn : {S : Type 0} → Bool → DeskTerms → ℕ → TrafficState S → Turn Bool → TrafficState S
+abbrev pub SharesTurn : {S : Type 0} → Bool → DispatcherTerms → ℕ → TrafficState S → Turn Bool
+    → TrafficState S
     → Type 0
 SharesTurn {S} journal terms now old turn new =
     MakesTurn (λ (number : ℕ). OffersOne {S = S} journal terms now number) old turn new
 
 -- it is written to once
-pub record WritesTurn {S : Type 0} (contents : S → Option (List ℕ)) (journal : Bool) (terms : DeskTerms)
+pub record WritesTurn {S : Type 0} (contents : S → Option (List ℕ)) (journal : Bool) (terms : DispatcherTerms)
     (now : ℕ) (old : TrafficState S) (turn : Turn Writing) (new : TrafficState S) : Type 0
   where
     pub after : TrafficState S
@@ -152,7 +153,7 @@ TakesShares {S} takes old (turn ∷ turns) new =
     (between : TrafficState S) × TakesShares takes old turns between × TakesDue takes between turn new
 
 -- one has its share
-abbrev pub SharesNext : {S : Type 0} → Bool → DeskTerms → ℕ → TrafficState S → TrafficState S → Type 0
+abbrev pub SharesNext : {S : Type 0} → Bool → DispatcherTerms → ℕ → TrafficState S → TrafficState S → Type 0
 SharesNext journal terms now old new =
     (turn : Turn Bool) × TakesDue (SharesTurn journal terms now) old turn new
 
@@ -163,7 +164,7 @@ pub record SharesNone {S : Type 0} (room : ℕ) (old new : TrafficState S) : Typ
 
 -- so many of those that wait have a share, one each and the last first, unless more is held of all than there
 -- is room for; those of the next round follow where none of this one is left
-pub record SharesOut {S : Type 0} (room : ℕ) (journal : Bool) (terms : DeskTerms) (now : ℕ)
+pub record SharesOut {S : Type 0} (room : ℕ) (journal : Bool) (terms : DispatcherTerms) (now : ℕ)
     (old new : TrafficState S) : Type 0
   where
     pub turns : List (Turn Bool)
@@ -214,14 +215,16 @@ write_faults turns = count_by (λ turn. is_write_broken turn.came) turns
 
 -- each that was to be looked at is read once
 pub record ReadsRound {S : Type 0} (remaining : S → Option (List ℕ)) (room : ℕ) (journal : Bool)
-    (terms : DeskTerms) (now : ℕ) (old : TrafficState S) (faults : ReadFaults) (new : TrafficState S) : Type 0
+    (terms : DispatcherTerms) (now : ℕ) (old : TrafficState S) (faults : ReadFaults) (new : TrafficState S) :
+    Type 0
   where
     pub turns : List (Turn Reading)
     pub round : GoesRound (ReadsTurn remaining room journal terms now) old turns new
     pub told : faults ≡ read_faults turns
 
 -- each that was to be looked at is written to once
-pub record WritesRound {S : Type 0} (contents : S → Option (List ℕ)) (journal : Bool) (terms : DeskTerms)
+pub record WritesRound {S : Type 0} (contents : S → Option (List ℕ)) (journal : Bool) (terms :
+    DispatcherTerms)
     (now : ℕ) (old : TrafficState S) (broken : ℕ) (new : TrafficState S) : Type 0
   where
     pub turns : List (Turn Writing)

@@ -11,7 +11,7 @@ ghost use Rattle.rv_traffic.specs.Views.{traffic_state};
 use crate::links::Links;
 use crate::traffic::Switchboard;
 use rv_engine::Engine;
-use rv_wires::hearers::ConnectionNumber;
+use rv_wires::subscribers::ConnectionNumber;
 
 // Whether more of a connection's input may be offered.
 pub(crate) fn may_offer(engine: &Engine, number: ConnectionNumber) -> bool

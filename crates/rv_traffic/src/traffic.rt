@@ -14,7 +14,7 @@ use crate::waiting::WaitingLists;
 use crate::{accepting, asking, giving_up, rounds, sharing};
 use rv_engine::{Engine, EngineFault, LinkEvent};
 use rv_frame::Sink;
-use rv_wires::hearers::ConnectionNumber;
+use rv_wires::subscribers::ConnectionNumber;
 use std::io::{Read, Write};
 
 /// A piece of at most so many bytes is small: it is offered as it comes.
@@ -114,7 +114,7 @@ impl<S: Drop> Switchboard<S> {
     pub fn open(&mut self, now: u64) -> Result<Opened, EngineFault>
         ensures opens { IfOk result (λ opened. HandsOn self.old.engine.hub.has_journal
             (hub_terms self.old.engine.hub) (engine_state self.old.engine) now event.Opened
-            self.new.engine.hub.desk.entries.items opened.number (engine_state self.new.engine)) }
+            self.new.engine.hub.dispatcher.entries.items opened.number (engine_state self.new.engine)) }
         ensures refused { IfErr result (λ why. IsRefused (engine_state self.old.engine) event.Opened why
             (engine_state self.new.engine)) }
         ensures links { self.new.links ≡ self.old.links }
@@ -208,7 +208,7 @@ impl<S: Drop> Switchboard<S> {
         ensures works { OnOk result (HasWorked file.old file.new) }
         ensures tells { IfOk result (λ told. TellsWritten self.old.engine.hub.has_journal
             (hub_terms self.old.engine.hub) (all_gone (engine_state self.old.engine)) now
-            self.new.engine.hub.desk.entries.items told (engine_state self.new.engine)) }
+            self.new.engine.hub.dispatcher.entries.items told (engine_state self.new.engine)) }
         ensures not_told { IfErr result (λ why. IsNotTold W.contents (engine_state self.old.engine) file.old
             why (engine_state self.new.engine) file.new) }
         ensures links { self.new.links ≡ self.old.links }

@@ -13,7 +13,7 @@ use crate::links::WriteOutcome;
 use crate::outcomes::Writing;
 use crate::traffic::Switchboard;
 use rv_engine::LinkEvent;
-use rv_wires::hearers::ConnectionNumber;
+use rv_wires::subscribers::ConnectionNumber;
 use std::io::Write;
 
 // Writes once to an open connection's socket, and tells the hub how many bytes that took.

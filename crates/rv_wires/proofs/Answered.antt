@@ -7,7 +7,7 @@ use Rattle.std.proofs.Common.{true, inl, inr, IsSome, unwrap_or, vec_capacity}
 use Rattle.rv_wires.specs.Table.{TableState, get, with_slot}
 use Rattle.rv_wires.specs.connection.Traffic.{Traffic, first_rests_on, held_count}
 use Rattle.rv_wires.specs.connection.Steps.{AnswersBy}
-use Rattle.rv_wires.specs.hearers.Pairs.{ChangesPairs, pair_count}
+use Rattle.rv_wires.specs.subscribers.Pairs.{ChangesPairs, pair_count}
 use Rattle.rv_wires.specs.declared.table.WireSlot.{WireSlot}
 use Rattle.rv_wires.specs.declared.slots.Slots.{Slots}
 use Rattle.rv_wires.specs.Connections.{count_at}

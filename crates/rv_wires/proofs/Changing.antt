@@ -6,8 +6,8 @@ use Rattle.std.proofs.lemmas.Bool.{cases_eq}
 use Rattle.std.proofs.lemmas.List.{set-get_or}
 use Rattle.rv_wires.specs.Table.{SetsSlot, TableState, get, with_slot}
 use Rattle.rv_wires.specs.connection.Traffic.{held_count}
-use Rattle.rv_wires.specs.declared.hearers.pairs.Pairs.{Pairs}
-use Rattle.rv_wires.specs.hearers.Pairs.{ChangesPairs, stands_under}
+use Rattle.rv_wires.specs.declared.subscribers.pairs.Pairs.{Pairs}
+use Rattle.rv_wires.specs.subscribers.Pairs.{ChangesPairs, stands_under}
 use Rattle.rv_wires.specs.declared.table.WireSlot.{WireSlot}
 use Rattle.rv_wires.specs.Connections.{count_at}
 use Rattle.rv_wires.specs.Fields.{AreHeld, IsIndexOf, Remarks, has_mark, is_slot_marked}

@@ -7,8 +7,8 @@ use Rattle.std.proofs.lemmas.Bool.{false≢true}
 use Rattle.rv_wires.specs.Table.{TableState, get}
 use Rattle.rv_wires.specs.connection.Traffic.{Traffic}
 use Rattle.rv_wires.specs.connection.Steps.{HoldsBack, Releases}
-use Rattle.rv_wires.specs.declared.hearers.pairs.Pairs.{Pairs}
-use Rattle.rv_wires.specs.hearers.Pairs.{ListsUpTo, StandOnce, StandsUpTo, pair_count}
+use Rattle.rv_wires.specs.declared.subscribers.pairs.Pairs.{Pairs}
+use Rattle.rv_wires.specs.subscribers.Pairs.{ListsUpTo, StandOnce, StandsUpTo, pair_count}
 use Rattle.rv_wires.specs.declared.table.WireSlot.{WireSlot}
 use Rattle.rv_wires.specs.declared.slots.Slots.{Slots}
 use Rattle.rv_wires.specs.Connections.{IsReleased, ReleasesAll, ReleasesOpen}

@@ -11,5 +11,5 @@ pub mod Reaching
 pub mod Leading
 pub mod Tallying
 pub mod Unreads
-pub mod OfHearers
+pub mod OfSubscribers
 pub mod OfConnection

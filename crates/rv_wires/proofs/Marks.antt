@@ -3,8 +3,8 @@ use Rattle.std.proofs.Common.{◌≡◌, ◌≢◌, ◌⊎◌, ◌∙◌, ℕ, B
 use Rattle.std.proofs.Common.{ap}
 use Rattle.std.proofs.Common.{inl, inr, nat_eq}
 use Rattle.std.proofs.lemmas.Bool.{cases_eq, eq-eqb, eqb-true}
-use Rattle.rv_wires.specs.declared.hearers.pairs.Pairs.{Pairs}
-use Rattle.rv_wires.specs.hearers.Pairs.{ChangesPairs, SamePairs, stands_under}
+use Rattle.rv_wires.specs.declared.subscribers.pairs.Pairs.{Pairs}
+use Rattle.rv_wires.specs.subscribers.Pairs.{ChangesPairs, SamePairs, stands_under}
 use Rattle.rv_wires.specs.Fields.{Drops, Remarks, StandsByMark, has_mark}
 
 true_or_false : (b : Bool) → (b ≡ true) ⊎ (b ≡ false)

@@ -6,8 +6,8 @@ use Rattle.std.specs.Option.{IsSomeAnd}
 use Rattle.rv_wires.specs.Table.{get, with_slot}
 use Rattle.rv_wires.specs.connection.Traffic.{AnswerByte, Traffic, first_rests_on, held_count}
 use Rattle.rv_wires.specs.connection.Steps.{Releases}
-use Rattle.rv_wires.specs.declared.hearers.pairs.Pairs.{Pairs}
-use Rattle.rv_wires.specs.hearers.Pairs.{pair_count}
+use Rattle.rv_wires.specs.declared.subscribers.pairs.Pairs.{Pairs}
+use Rattle.rv_wires.specs.subscribers.Pairs.{pair_count}
 use Rattle.rv_wires.specs.declared.table.WireSlot.{WireSlot}
 use Rattle.rv_wires.specs.declared.slots.Slots.{Slots}
 use Rattle.rv_wires.specs.Connections.{IsReleased, ReleasesOpen, count_at}

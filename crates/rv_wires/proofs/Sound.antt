@@ -10,8 +10,8 @@ use Rattle.rv_wires.specs.connection.Traffic.{AnswerByte, Traffic, bytes_of, fir
 use Rattle.rv_wires.specs.connection.Traffic.{resting}
 use Rattle.rv_frame.specs.Cut.{frame_bytes}
 use Rattle.rv_wires.specs.connection.Steps.{AnswersBy, TakesIn, fresh_traffic, left_by}
-use Rattle.rv_wires.specs.declared.hearers.pairs.Pairs.{Pairs}
-use Rattle.rv_wires.specs.hearers.Pairs.{SamePairs, pair_count, stands_under}
+use Rattle.rv_wires.specs.declared.subscribers.pairs.Pairs.{Pairs}
+use Rattle.rv_wires.specs.subscribers.Pairs.{SamePairs, pair_count, stands_under}
 use Rattle.rv_wires.specs.declared.table.WireSlot.{WireSlot}
 use Rattle.rv_wires.specs.declared.slots.Slots.{Slots}
 use Rattle.rv_wires.specs.Fields.{SameBut}

@@ -3,8 +3,8 @@ use Rattle.std.specs.Prelude.{ℕ, ◌≡◌, ◌≢◌, ◌≤◌, ◌+◌, Boo
 use Rattle.std.specs.Prelude.{◌<◌, ◌⊎◌, true, unwrap_or, List, [], length, AllPairs, Contains, IsSome}
 use Rattle.rv_wires.specs.Table.{get, with_slot}
 use Rattle.rv_wires.specs.connection.Traffic.{Traffic, first_rests_on, held_count}
-use Rattle.rv_wires.specs.declared.hearers.pairs.Pairs.{Pairs}
-use Rattle.rv_wires.specs.hearers.Pairs.{pair_count, stands_under}
+use Rattle.rv_wires.specs.declared.subscribers.pairs.Pairs.{Pairs}
+use Rattle.rv_wires.specs.subscribers.Pairs.{pair_count, stands_under}
 use Rattle.rv_wires.specs.declared.table.WireSlot.{WireSlot}
 use Rattle.rv_wires.specs.declared.slots.Slots.{Slots}
 use Rattle.rv_wires.specs.Connections.{IsReleased, ReleasesOpen, WiresState, total_below}

@@ -8,5 +8,5 @@ pub mod Noting
 pub mod Table
 pub mod Lending
 pub mod Flags
-pub mod hearers
+pub mod subscribers
 pub mod connection

@@ -4,7 +4,7 @@ ghost use Rattle.rv_wires.specs.Connections.{ListsAll, ListsOne};
 ghost use Rattle.rv_wires.specs.Noting.{IsChanges};
 
 use crate::connection::NoMemory;
-use crate::hearers::ConnectionNumber;
+use crate::subscribers::ConnectionNumber;
 use std::alloc::Global;
 
 // The numbers that are listed, with room for all that have a flag.

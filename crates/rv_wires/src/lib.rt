@@ -4,12 +4,12 @@
 
 mod changes;
 pub mod connection;
-pub mod hearers;
 mod noted;
 mod slots;
+pub mod subscribers;
 mod table;
 mod wires;
 
 pub use connection::NoMemory;
-pub use hearers::ConnectionNumber;
+pub use subscribers::ConnectionNumber;
 pub use wires::Wires;

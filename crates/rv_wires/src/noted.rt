@@ -12,8 +12,8 @@ ghost use Rattle.rv_wires.specs.Noting.{IsNoted, tally_of};
 
 use crate::changes::ChangeList;
 use crate::connection::{NoMemory, Wire};
-use crate::hearers::ConnectionNumber;
 use crate::slots::Slots;
+use crate::subscribers::ConnectionNumber;
 use std::alloc::Global;
 
 // The connections, with room in the list for each that is open.

@@ -11,11 +11,11 @@ ghost use Rattle.rv_wires.specs.Connections.{ReleasesAll, SetsWire, none_open};
 ghost use Rattle.rv_wires.specs.Fields.{AreHeldBack, Drops, Gives, IsHeldIn, HasIndex, IsReaching};
 ghost use Rattle.rv_wires.specs.Fields.{IsSoundSlots, OwesFirst, ReleasesOne};
 ghost use Rattle.rv_wires.specs.Fields.{Remarks, SameBut, KeepsRest, StandsByMark, mark_count, slots_state};
-ghost use Rattle.rv_wires.specs.hearers.Pairs.{pair_count, stands_under};
+ghost use Rattle.rv_wires.specs.subscribers.Pairs.{pair_count, stands_under};
 ghost use Rattle.rv_wires.specs.Table.{get};
 
 use crate::connection::{NoMemory, Wire};
-use crate::hearers::{ConnectionNumber, Pairs};
+use crate::subscribers::{ConnectionNumber, Pairs};
 use crate::table::{WireSlot, WireTable};
 use std::alloc::{AllocError, Global};
 

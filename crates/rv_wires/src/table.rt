@@ -1,6 +1,6 @@
 //! A table of connections under numbers: a number is given anew once nothing is under it.
 use crate::connection::{NoMemory, Wire};
-use crate::hearers::ConnectionNumber;
+use crate::subscribers::ConnectionNumber;
 use std::alloc::Global;
 use std::marker::Model;
 

@@ -5,8 +5,8 @@ ghost use Rattle.rv_wires.specs.Fields.{slots_state};
 ghost use Rattle.rv_wires.specs.Noting.{IsNoted, IsUnreadIn};
 
 use crate::connection::{NoMemory, Wire};
-use crate::hearers::ConnectionNumber;
 use crate::noted::Noted;
+use crate::subscribers::ConnectionNumber;
 use std::alloc::Global;
 use std::mem;
 

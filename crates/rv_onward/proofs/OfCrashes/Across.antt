@@ -1,4 +1,4 @@
--- Whatever occurs: what is kept, by what a server's deeds keep and by what may be sent.
+-- Whatever occurs: what is kept, by what a server's effects keep and by what may be sent.
 use Rattle.rv_world.proofs.OfParts.Words.{◌≡◌, ◌⊎◌, ◌++◌, ◌∷◌, ◌∙◌, inl, inr, ℕ, List, [], sym, subst}
 use Rattle.rv_world.proofs.OfParts.Words.{Contains, Contains-push, Contains-push_cases, Account, Key, Message}
 use Rattle.rv_world.proofs.OfParts.Words.{HasReply, Reply, World, IsAnswered, IsSoundWorld, OnlyGrows}
@@ -18,12 +18,12 @@ use Rattle.rv_world.proofs.OfParts.OneReply.{still_answered}
 use Rattle.rv_world.proofs.OfParts.Partners.{arrival_epoch, no_means_unmet}
 use Rattle.rv_world.proofs.OfParts.Soundness.{first_sound}
 use Rattle.rv_onward.specs.crashes.Crashes.{AtServer, CrashWorld, LeavesServer, Occurrence, Occurs, Outside}
-use Rattle.rv_onward.specs.crashes.Crashes.{RunsAcross, IsOfMessages, Sends, Server, ServerDeed, ServerDoes}
+use Rattle.rv_onward.specs.crashes.Crashes.{RunsAcross, IsOfMessages, Sends, Server, ServerEffect, ServerDoes}
 use Rattle.rv_onward.specs.crashes.Crashes.{first_crash_world, made, made_world, stored_world}
-use Rattle.rv_onward.specs.crashes.Laws.{DeedsKeepServers, EveryAnswer, IsHeldRightly, IsOfSomeStep, IsServer}
-use Rattle.rv_onward.specs.crashes.Laws.{KeepsServer, SentIsStored}
+use Rattle.rv_onward.specs.crashes.Laws.{EffectsKeepServers, EveryAnswer, IsHeldRightly, IsOfSomeStep}
+use Rattle.rv_onward.specs.crashes.Laws.{IsServer, KeepsServer, SentIsStored}
 use Rattle.rv_onward.proofs.OfCrashes.Fronts.{held_on, rightly_on}
-use Rattle.rv_onward.proofs.OfCrashes.Deeds.{begins, nothing_there}
+use Rattle.rv_onward.proofs.OfCrashes.Effects.{begins, nothing_there}
 use Rattle.rv_onward.proofs.OfCrashes.Around.{IsOutside, made_sound, outside_is, outside_sound, sends_grow}
 use Rattle.rv_onward.proofs.OfCrashes.Around.{sends_sound, stored_sound}
 
@@ -70,13 +70,13 @@ still_server messages more s grows server = record {
       (made s)) (server.answers packet count there);
 }
 
--- ---- a server's deed
+-- ---- a server's effect
 
-server_leads : DeedsKeepServers → (c : CrashWorld) (deed : ServerDeed) (t : Server) → IsKept c
-    → IsOfMessages c.around.to_server deed → ServerDoes c.server deed t
+server_leads : EffectsKeepServers → (c : CrashWorld) (effect : ServerEffect) (t : Server) → IsKept c
+    → IsOfMessages c.around.to_server effect → ServerDoes c.server effect t
     → Leads c (record { around = c.around; server = t })
-server_leads deeds c deed t kept sent does =
-    let keeps : KeepsServer c.around.to_server c.server t = deeds c.around.to_server c.server t deed
+server_leads effects c effect t kept sent does =
+    let keeps : KeepsServer c.around.to_server c.server t = effects c.around.to_server c.server t effect
     kept.server sent
     does in
     let both = stored_sound c t kept.sound keeps in
@@ -174,11 +174,11 @@ first_kept epoch = record {
   every = λ packet there. absurd (nothing_there packet there);
 }
 
-module _ (deeds : DeedsKeepServers) (sends : SentIsStored) where
+module _ (effects : EffectsKeepServers) (sends : SentIsStored) where
   pub occurs_leads : (c : CrashWorld) (o : Occurrence) (d : CrashWorld) → IsKept c → Occurs c o d → Leads c d
-  occurs_leads c (AtServer deed) d kept is =
+  occurs_leads c (AtServer effect) d kept is =
       subst (λ (w : World). Leads c (record { around = w; server = d.server }))
-      (sym is.2) (server_leads deeds c deed d.server kept is.0 is.1)
+      (sym is.2) (server_leads effects c effect d.server kept is.0 is.1)
   occurs_leads c (Sends packet) d kept is = sends_leads sends c d packet kept is
   occurs_leads c (Outside e) d kept is = outside_leads c d e kept is
 

@@ -31,12 +31,12 @@ use Rattle.rv_world.specs.parts.Events.{IsTold}
 use Rattle.rv_world.proofs.OfParts.Answered.{key_lines, ticked_arrives}
 use Rattle.rv_world.proofs.OfParts.Listing.{place_of}
 use Rattle.rv_onward.specs.crashes.Crashes.{AtServer, CrashWorld, Crashed, Lacked, LeavesServer, Occurrence}
-use Rattle.rv_onward.specs.crashes.Crashes.{Occurs, Outside, Passed, RunsAcross, Sends, Server, ServerDeed}
+use Rattle.rv_onward.specs.crashes.Crashes.{Occurs, Outside, Passed, RunsAcross, Sends, Server, ServerEffect}
 use Rattle.rv_onward.specs.crashes.Crashes.{ServerDoes, Stepped, Stored, IsOfMessages, first_crash_world}
 use Rattle.rv_onward.specs.crashes.Crashes.{made, stored_world}
-use Rattle.rv_onward.specs.crashes.Laws.{DeedsKeepServers, ForgetsClient, IsOfSomeStep, SentIsStored}
+use Rattle.rv_onward.specs.crashes.Laws.{EffectsKeepServers, ForgetsClient, IsOfSomeStep, SentIsStored}
 use Rattle.rv_onward.proofs.OfCrashes.Fronts.{made_extends}
-use Rattle.rv_onward.proofs.OfCrashes.Deeds.{nothing_there, ticked_act}
+use Rattle.rv_onward.proofs.OfCrashes.Effects.{nothing_there, ticked_act}
 use Rattle.rv_onward.proofs.OfCrashes.Around.{IsOutside, outside_is}
 use Rattle.rv_onward.proofs.OfCrashes.Across.{IsKept, first_kept, occurs_leads}
 use Rattle.rv_onward.proofs.OfCrashes.Known.{HasBefore, IsKnown, KnowsMessage, Remembers, at_remembers}
@@ -327,10 +327,10 @@ told_remembers : (said told : Answer) → IsTold said told → Remembers said �
 told_remembers said told (inl same) well = subst Remembers (sym same) well
 told_remembers said told (inr none) well = lack_remembers told none.1
 
-deed_remembers : (c : CrashWorld) (deed : ServerDeed) (t : Server) → IsRemembering c
-    → IsOfMessages c.around.to_server deed → ServerDoes c.server deed t → (packet : Packet) (count : ℕ)
+effect_remembers : (c : CrashWorld) (effect : ServerEffect) (t : Server) → IsRemembering c
+    → IsOfMessages c.around.to_server effect → ServerDoes c.server effect t → (packet : Packet) (count : ℕ)
     → Contains t.withheld (packet, count) → Remembers packet.answer
-deed_remembers c (Stepped limits moment m) t keep sent does packet count there =
+effect_remembers c (Stepped limits moment m) t keep sent does packet count there =
     let own : Packet = record { client = sender m; answer = does.told } in
     elim (Contains-push_cases c.server.withheld (own, rests_on does.told (length (made t).entries))
     (packet, count) (subst (λ (u : Server). Contains u.withheld (packet, count)) does.rest there)) [
@@ -339,18 +339,18 @@ deed_remembers c (Stepped limits moment m) t keep sent does packet count there =
           does.is_told
           (step_remembers c limits moment m (made t) does.said keep.kept keep.turns sent does.next))
     ]
-deed_remembers c (Passed moment) t keep sent does packet count there =
+effect_remembers c (Passed moment) t keep sent does packet count there =
     keep.held packet count (subst (λ (u : Server). Contains u.withheld (packet, count)) does.3 there)
-deed_remembers c (Lacked m) t keep sent does packet count there =
+effect_remembers c (Lacked m) t keep sent does packet count there =
     let own : Packet = record { client = sender m; answer = answers.Refused refusals.NoMemory } in
     elim (Contains-push_cases c.server.withheld (own, 0) (packet, count)
     (subst (λ (u : Server). Contains u.withheld (packet, count)) does there)) [
       | inl old ↦ keep.held packet count old
       | inr new ↦ lack_remembers packet.answer (sym (ap (λ (p : Packet × ℕ). p.0.answer) new))
     ]
-deed_remembers c (Stored stored) t keep sent does packet count there =
+effect_remembers c (Stored stored) t keep sent does packet count there =
     keep.held packet count (subst (λ (u : Server). Contains u.withheld (packet, count)) does.2 there)
-deed_remembers c (Crashed left) t keep sent does packet count there =
+effect_remembers c (Crashed left) t keep sent does packet count there =
     absurd (nothing_there (packet, count) (subst (λ (u : Server). Contains u.withheld (packet, count)) does
     there))
 
@@ -373,18 +373,18 @@ leaves_held (event.Crash client) s t same held = λ packet count there. held pac
 leaves_held (event.ToClient number) s t same held = λ packet count there. held packet count
     (subst (λ (u : Server). Contains u.withheld (packet, count)) same there)
 
-module _ (deeds : DeedsKeepServers) (sends : SentIsStored) where
+module _ (effects : EffectsKeepServers) (sends : SentIsStored) where
   occurs_remembers : (c : CrashWorld) (o : Occurrence) (d : CrashWorld) → IsRemembering c → Occurs c o d
       → IsRemembering d
-  occurs_remembers c (AtServer deed) d keep is = record {
-    kept = (occurs_leads deeds sends c (AtServer deed) d keep.kept is).kept;
+  occurs_remembers c (AtServer effect) d keep is = record {
+    kept = (occurs_leads effects sends c (AtServer effect) d keep.kept is).kept;
     turns = subst (λ (w : World). KeepTurns (record w { present = d.server.stored })) (sym is.2)
         (turns_at (stored_world c) d.server.stored keep.turns);
-    held = deed_remembers c deed d.server keep is.0 is.1;
+    held = effect_remembers c effect d.server keep is.0 is.1;
     sent = λ packet there. keep.sent packet (subst (λ (w : World). Contains w.to_client packet) is.2 there);
   }
   occurs_remembers c (Sends packet) d keep is =
-      let kept = (occurs_leads deeds sends c (Sends packet) d keep.kept is).kept in
+      let kept = (occurs_leads effects sends c (Sends packet) d keep.kept is).kept in
       let turns : KeepTurns (stored_world d) = subst (λ (b : CrashWorld). KeepTurns (stored_world b))
       (sym is.1)
       (turns_sent (stored_world c) (packet ∷ []) keep.turns) in
@@ -405,7 +405,7 @@ module _ (deeds : DeedsKeepServers) (sends : SentIsStored) where
       let outside : IsOutside (stored_world c) d.around d.server = outside_is c e d.around is.0 d.server is.1
       is.2 in
       record {
-        kept = (occurs_leads deeds sends c (Outside e) d keep.kept is).kept;
+        kept = (occurs_leads effects sends c (Outside e) d keep.kept is).kept;
         turns = turns_at d.around d.server.stored (steps_turns (stored_world c) e d.around is.0
             keep.kept.sound
             keep.turns (λ packet moment same. subst (λ (f : Event). LeavesServer f c.server d.server) same

@@ -1,4 +1,4 @@
--- A server that crashes and goes on, with its deeds; and the world in which that happens.
+-- A server that crashes and goes on, with its effects; and the world in which that happens.
 use Rattle.std.specs.Prelude.{◌≡◌, ◌≤◌, ◌++◌, ◌∷◌, [], ℕ, List, drop, length, take}
 use Rattle.std.specs.List.{Contains}
 use Rattle.rv_text.specs.declared.message.Message.{Message}
@@ -36,12 +36,12 @@ made s = record s.stored { entries = s.stored.entries ++ s.unstored }
 
 -- a step with a message; time alone; want of memory, told for a message with no step; of its entries so many
 -- are stored; and a crash, after which it goes on with so many of those that were not stored
-pub data ServerDeed : Type 0 where
-  Stepped : (limits : StepLimits) (moment : ℕ) (message : Message) → ServerDeed
-  Passed : (moment : ℕ) → ServerDeed
-  Lacked : (message : Message) → ServerDeed
-  Stored : (count : ℕ) → ServerDeed
-  Crashed : (left : ℕ) → ServerDeed
+pub data ServerEffect : Type 0 where
+  Stepped : (limits : StepLimits) (moment : ℕ) (message : Message) → ServerEffect
+  Passed : (moment : ℕ) → ServerEffect
+  Lacked : (message : Message) → ServerEffect
+  Stored : (count : ℕ) → ServerEffect
+  Crashed : (left : ℕ) → ServerEffect
 
 -- what is held back, with one answer more
 abbrev pub withholds : Server → Message → Answer → ℕ → List (Packet × ℕ)
@@ -59,8 +59,8 @@ pub record TakesMessage (s : Server) (limits : StepLimits) (moment : ℕ) (messa
     withheld = withholds s message told (rests_on told (length (made t).entries));
   }
 
--- the deed leads from the one server to the other
-abbrev pub ServerDoes : Server → ServerDeed → Server → Type 0
+-- the effect leads from the one server to the other
+abbrev pub ServerDoes : Server → ServerEffect → Server → Type 0
 ServerDoes s (Stepped limits moment message) t = TakesMessage s limits moment message t
 ServerDoes s (Passed moment) t = (own_moment (made s) ≤ moment) × (moment ≤ max_moment)
     × Ticks (made s) moment (made t) × (t ≡ record s { unstored = t.unstored })
@@ -69,11 +69,11 @@ ServerDoes s (Stored count) t = (length s.stored.entries ≤ count) × (count �
     × (t ≡ record s { stored = before (made s) count; unstored = drop count (made s).entries })
 ServerDoes s (Crashed left) t = t ≡ record s { unstored = take left s.unstored; withheld = [] }
 
--- the deed's message, if it has one, is among these
-abbrev pub IsOfMessages : List Message → ServerDeed → Type 0
+-- the effect's message, if it has one, is among these
+abbrev pub IsOfMessages : List Message → ServerEffect → Type 0
 IsOfMessages messages (Stepped limits moment message) = Contains messages message
 IsOfMessages messages (Lacked message) = Contains messages message
-IsOfMessages messages deed = Unit {0}
+IsOfMessages messages effect = Unit {0}
 
 -- the answer is held back, and all that it rests on is stored
 abbrev pub MaySend : Server → Packet → Type 0
@@ -99,11 +99,11 @@ made_world c = record c.around { present = made c.server }
 -- the server does something; an answer is sent; a client or the link does, or a server of a greater epoch
 -- begins
 pub data Occurrence : Type 0 where
-  AtServer : (deed : ServerDeed) → Occurrence
+  AtServer : (effect : ServerEffect) → Occurrence
   Sends : (packet : Packet) → Occurrence
   Outside : (event : Event) → Occurrence
 
--- which server there is after an event: messages come to it by its own deeds alone
+-- which server there is after an event: messages come to it by its own effects alone
 abbrev pub LeavesServer : Event → Server → Server → Type 0
 LeavesServer (event.ToServer packet moment) s t = ⊥
 LeavesServer (event.NewEpoch epoch) s t = t ≡ server_in epoch
@@ -111,8 +111,8 @@ LeavesServer e s t = t ≡ s
 
 -- what occurs leads from the one world to the other
 abbrev pub Occurs : CrashWorld → Occurrence → CrashWorld → Type 0
-Occurs c (AtServer deed) d =
-    IsOfMessages c.around.to_server deed × ServerDoes c.server deed d.server × (d.around ≡ c.around)
+Occurs c (AtServer effect) d =
+    IsOfMessages c.around.to_server effect × ServerDoes c.server effect d.server × (d.around ≡ c.around)
 Occurs c (Sends packet) d = MaySend c.server packet
     × (d ≡ record c { around = record c.around { to_client = c.around.to_client ++ packet ∷ [] } })
 Occurs c (Outside e) d = (shows : Seen) × Steps (stored_world c) e d.around shows × LeavesServer e c.server

@@ -1,4 +1,4 @@
--- The laws: of a server's deeds, whatever messages came; and the parts of the headline, after whatever
+-- The laws: of a server's effects, whatever messages came; and the parts of the headline, after whatever
 -- occurs.
 use Rattle.std.specs.Prelude.{◌≡◌, ◌⊎◌, ◌≤◌, ℕ, List, Some, length}
 use Rattle.std.specs.List.{Contains}
@@ -25,10 +25,10 @@ use Rattle.rv_world.specs.parts.Headline.{NoTwoReplies, OnlyGrows, OrderOfArriva
 use Rattle.rv_world.specs.parts.Headline.{TrueExchange}
 use Rattle.rv_world.specs.parts.Runs.{Happening, RunsAnyhow}
 use Rattle.rv_onward.specs.crashes.Crashes.{CrashWorld, IsOfMessages, MaySend, Occurrence, RunsAcross, Server}
-use Rattle.rv_onward.specs.crashes.Crashes.{ServerDeed, ServerDoes, first_crash_world, made, made_world}
+use Rattle.rv_onward.specs.crashes.Crashes.{ServerEffect, ServerDoes, first_crash_world, made, made_world}
 use Rattle.rv_onward.specs.crashes.Crashes.{server_in, stored_world}
 
--- ---- a server's deeds, whatever messages came
+-- ---- a server's effects, whatever messages came
 
 -- the answer is that of a step with one of these messages, which was its client's, from a front of the
 -- account to that of so many entries
@@ -71,10 +71,10 @@ pub record KeepsServer (messages : List Message) (s t : Server) : Type 0 where
   pub server : IsServer messages t
   pub stored : Extends s.stored t.stored
 
--- no deed ends that
-abbrev pub DeedsKeepServers : Type 0
-DeedsKeepServers = (messages : List Message) (s t : Server) (deed : ServerDeed) → IsServer messages s
-    → IsOfMessages messages deed → ServerDoes s deed t → KeepsServer messages s t
+-- no effect ends that
+abbrev pub EffectsKeepServers : Type 0
+EffectsKeepServers = (messages : List Message) (s t : Server) (effect : ServerEffect) → IsServer messages s
+    → IsOfMessages messages effect → ServerDoes s effect t → KeepsServer messages s t
 
 -- an answer that may be sent is that of a step between fronts of what is stored, or want of memory
 abbrev pub SentIsStored : Type 0

@@ -1,6 +1,6 @@
 //! Laws of a server that crashes and goes on, and of the world around it: each function is its contract, over
 //! the definitions alone.
-ghost use Rattle.rv_onward.specs.crashes.Laws.{DeedsKeepServers, EveryAnswerAcross, LegalAccountsAcross};
+ghost use Rattle.rv_onward.specs.crashes.Laws.{EffectsKeepServers, EveryAnswerAcross, LegalAccountsAcross};
 ghost use Rattle.rv_onward.specs.crashes.Laws.{NeverHandedOverAcross, NoTwoRepliesAcross};
 ghost use Rattle.rv_onward.specs.crashes.Laws.{NobodyForgottenAcross, OnlyGrowthAcross, OrderOfArrivalAcross};
 ghost use Rattle.rv_onward.specs.crashes.Laws.{ReceivedMeansAssignedAcross, SentIsStored, ServersBegin};
@@ -11,10 +11,10 @@ pub fn servers_begin()
     ensures { ServersBegin }
 {}
 
-/// Whatever messages came, a server's deeds keep what it made legal and what it stored, and each answer that
-/// it holds back is that of a step, or want of memory.
-pub fn deeds_keep_servers()
-    ensures { DeedsKeepServers }
+/// Whatever messages came, a server's effects keep what it made legal and what it stored, and each answer
+/// that it holds back is that of a step, or want of memory.
+pub fn effects_keep_servers()
+    ensures { EffectsKeepServers }
 {}
 
 /// Whatever messages came, an answer that may be sent is that of a step between two fronts of what is stored,
@@ -27,7 +27,7 @@ pub fn sent_is_stored()
 pub fn no_two_replies_across()
     ensures { NoTwoRepliesAcross }
 {
-    deeds_keep_servers();
+    effects_keep_servers();
     sent_is_stored();
 }
 
@@ -35,7 +35,7 @@ pub fn no_two_replies_across()
 pub fn legal_accounts_across()
     ensures { LegalAccountsAcross }
 {
-    deeds_keep_servers();
+    effects_keep_servers();
     sent_is_stored();
 }
 
@@ -43,7 +43,7 @@ pub fn legal_accounts_across()
 pub fn received_means_assigned_across()
     ensures { ReceivedMeansAssignedAcross }
 {
-    deeds_keep_servers();
+    effects_keep_servers();
     sent_is_stored();
 }
 
@@ -52,7 +52,7 @@ pub fn received_means_assigned_across()
 pub fn never_handed_over_across()
     ensures { NeverHandedOverAcross }
 {
-    deeds_keep_servers();
+    effects_keep_servers();
     sent_is_stored();
 }
 
@@ -60,7 +60,7 @@ pub fn never_handed_over_across()
 pub fn order_of_arrival_across()
     ensures { OrderOfArrivalAcross }
 {
-    deeds_keep_servers();
+    effects_keep_servers();
     sent_is_stored();
 }
 
@@ -68,7 +68,7 @@ pub fn order_of_arrival_across()
 pub fn true_exchange_across()
     ensures { TrueExchangeAcross }
 {
-    deeds_keep_servers();
+    effects_keep_servers();
     sent_is_stored();
 }
 
@@ -76,7 +76,7 @@ pub fn true_exchange_across()
 pub fn only_growth_across()
     ensures { OnlyGrowthAcross }
 {
-    deeds_keep_servers();
+    effects_keep_servers();
     sent_is_stored();
 }
 
@@ -85,7 +85,7 @@ pub fn only_growth_across()
 pub fn every_answer_across()
     ensures { EveryAnswerAcross }
 {
-    deeds_keep_servers();
+    effects_keep_servers();
     sent_is_stored();
 }
 
@@ -94,7 +94,7 @@ pub fn every_answer_across()
 pub fn nobody_is_forgotten_across()
     ensures { NobodyForgottenAcross }
 {
-    deeds_keep_servers();
+    effects_keep_servers();
     sent_is_stored();
 }
 

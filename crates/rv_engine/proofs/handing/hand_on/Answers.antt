@@ -12,8 +12,8 @@ pub returns-clause-takes : goal.returns-clause-takes
 returns-clause-takes c =
     IfOk-weaker c.hand_over.result _ _ (λ given does. handed_through _ _ (engine_state c.args.parts.now)
     (engine_state c.catch_up.new.parts) c.args.now c.args.event
-    c.hand_over.new.parts.hub.desk.entries.items given (engine_state c.hand_over.new.parts)
+    c.hand_over.new.parts.hub.dispatcher.entries.items given (engine_state c.hand_over.new.parts)
     c.catch_up.ensures.gathers
     (subst (λ (h : HubParts). HandsOn h.has_journal (hub_terms h) (engine_state c.catch_up.new.parts)
-    c.args.now c.args.event c.hand_over.new.parts.hub.desk.entries.items given
+    c.args.now c.args.event c.hand_over.new.parts.hub.dispatcher.entries.items given
     (engine_state c.hand_over.new.parts)) c.catch_up.ensures.hub does)) c.hand_over.ensures.takes

@@ -11,7 +11,8 @@ returns-in-Ok-clause-takes c = record {
   takes = c.in-Ok.ensures.takes;
   stored = refl;
   gathers = gathers_made c.args.parts.now.hub.has_journal c.args.parts.now.has_account
-      c.handle.new.self.desk.entries.items c.entries-made.result.now (engine_state c.args.parts.now).left
+      c.handle.new.self.dispatcher.entries.items c.entries-made.result.now
+      (engine_state c.args.parts.now).left
       c.gather_kept-parts.result (string_bytes c.args.parts.now.lines)
       (string_bytes c.gather_kept-parts.new.lines) c.requires.sound.account c.entries-made.ensures
       c.requires.none_left c.gather_kept-parts.ensures.gathers;

@@ -57,7 +57,7 @@ returns-clause-tells g c =
     let none : mid.left ≡ [] = sym (ap (λ (x : EngineState). x.left) c.in_default.ensures.gone)
     ∙ c.if-not-is_caught_up.ensures.yes in
     let wrote = c.write_gathered.new.parts in
-    let made = c.tell_written.new.parts.hub.desk.entries.items in
+    let made = c.tell_written.new.parts.hub.dispatcher.entries.items in
     let new = engine_state c.tell_written.new.parts in
     subst (λ (h : HubParts). TellsWritten h.has_journal (hub_terms h) (all_gone old) c.args.now made
     c.tell_written.result new) (c.write_gathered.ensures.hub ∙ c.catch_up.ensures.hub)

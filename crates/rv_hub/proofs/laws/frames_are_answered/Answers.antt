@@ -1,4 +1,4 @@
--- Deed by deed, with who waits for which frame.
+-- Effect by effect, with who waits for which frame.
 use Rattle.rv_hub.proofs.Paired.{frames_answered, pairs_begin}
 use Rattle.rv_hub.proofs.laws.frames_are_answered.Goals as goal
 

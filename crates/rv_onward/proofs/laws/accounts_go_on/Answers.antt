@@ -1,9 +1,9 @@
 -- The laws, which Room proves.
-use Rattle.rv_onward.proofs.Room.{deeds_keep_room, events_keep_room, fronts_go_on}
+use Rattle.rv_onward.proofs.Room.{effects_keep_room, events_keep_room, fronts_go_on}
 use Rattle.rv_onward.proofs.laws.accounts_go_on.Goals as goal
 
-pub returns-clause-deeds : goal.returns-clause-deeds
-returns-clause-deeds c = deeds_keep_room
+pub returns-clause-effects : goal.returns-clause-effects
+returns-clause-effects c = effects_keep_room
 
 pub returns-clause-events : goal.returns-clause-events
 returns-clause-events c = events_keep_room

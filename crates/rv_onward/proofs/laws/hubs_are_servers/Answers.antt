@@ -1,10 +1,10 @@
--- The laws, deed by deed.
+-- The laws, effect by effect.
 use Rattle.rv_onward.proofs.Lacking.{lacks_memory}
 use Rattle.rv_onward.proofs.Serving.{events_serve}
 use Rattle.rv_onward.proofs.laws.hubs_are_servers.Goals as goal
 
 pub returns-clause-events : goal.returns-clause-events
-returns-clause-events c = events_serve c.deeds_keep_servers.ensures
+returns-clause-events c = events_serve c.effects_keep_servers.ensures
 
 pub returns-clause-lacks : goal.returns-clause-lacks
-returns-clause-lacks c = lacks_memory c.deeds_keep_servers.ensures
+returns-clause-lacks c = lacks_memory c.effects_keep_servers.ensures

@@ -6,4 +6,4 @@ pub returns-clause-begins : goal.returns-clause-begins
 returns-clause-begins c = hubs_begin c.servers_begin.ensures
 
 pub returns-clause-goes_on : goal.returns-clause-goes_on
-returns-clause-goes_on c = hubs_go_on c.deeds_keep_servers.ensures
+returns-clause-goes_on c = hubs_go_on c.effects_keep_servers.ensures

@@ -1,4 +1,4 @@
--- The tick and the hearing are a whole step.
+-- The tick and the subscription are a whole step.
 use Rattle.rv_steps.proofs.Whole.{whole_step}
 use Rattle.rv_steps.proofs.steps.step.Goals as goal
 

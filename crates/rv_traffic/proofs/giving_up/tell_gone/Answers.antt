@@ -33,6 +33,7 @@ pub returns-clause-told : goal.returns-clause-told
 returns-clause-told c = inl (
   c.hand.result,
   hands_through c.args.engine.now.hub c.catch_up.new.self.hub (engine_state c.args.engine.now)
-      (engine_state c.catch_up.new.self) c.args.now _ c.hand.new.self.hub.desk.entries.items c.hand.result
+      (engine_state c.catch_up.new.self) c.args.now _ c.hand.new.self.hub.dispatcher.entries.items
+      c.hand.result
       (engine_state c.hand.new.self) c.catch_up.ensures.gathers c.catch_up.ensures.hub c.hand.ensures.takes,
 )

@@ -15,7 +15,8 @@ pub returns-then-count-piece-clause-offers : goal.returns-then-count-piece-claus
 returns-then-count-piece-clause-offers g c =
     kept_whole c.args.traffic.now.engine.hub.has_journal (hub_terms c.args.traffic.now.engine.hub) c.args.now
     c.args.number c.args.traffic.now.links.buffer.items (traffic_state c.args.traffic.now)
-    (engine_state c.hand-taken.new.self) _ c.hand-taken.new.self.hub.desk.entries.items c.hand-taken.result
+    (engine_state c.hand-taken.new.self) _ c.hand-taken.new.self.hub.dispatcher.entries.items
+    c.hand-taken.result
     c.at_most-count.result c.hand-taken.ensures.takes c.requires.there c.requires.none_pending
     (refl, c.piece-piece.ensures)
     (subst (λ (p : List ℕ). drop c.at_most-count.result p ≡ drop c.hand-taken.result p) c.piece-piece.ensures
@@ -31,7 +32,7 @@ returns-in-Ok-clause-offers g c =
       table = c.keep.new.self.table.items;
       waits = waits_of c.args.traffic.now.waits;
     }) _
-    c.hand-taken.new.self.hub.desk.entries.items c.hand-taken.result c.at_most-count.result
+    c.hand-taken.new.self.hub.dispatcher.entries.items c.hand-taken.result c.at_most-count.result
     c.hand-taken.ensures.takes c.requires.there c.requires.none_pending (refl, c.piece-piece.ensures)
     (subst (λ (p : List ℕ). drop c.at_most-count.result p ≡ drop c.hand-taken.result p) c.piece-piece.ensures
     c.at_most-count.ensures.same) c.in-Ok.ensures.kept c.keep.ensures.others
@@ -46,7 +47,8 @@ returns-in-Err-clause-offers g c =
       table = c.keep.new.self.table.items;
       waits = waits_of c.args.traffic.now.waits;
     })
-    (traffic_state c.give_up.new.traffic) _ c.hand-taken.new.self.hub.desk.entries.items c.hand-taken.result
+    (traffic_state c.give_up.new.traffic) _ c.hand-taken.new.self.hub.dispatcher.entries.items
+    c.hand-taken.result
     (some_left c.args.traffic.now.links.buffer.items c.hand-taken.result c.at_most-count.result
     (subst (λ (p : List ℕ). drop c.at_most-count.result p ≡ drop c.hand-taken.result p) c.piece-piece.ensures
     c.at_most-count.ensures.same)

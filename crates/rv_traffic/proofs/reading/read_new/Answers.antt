@@ -36,7 +36,7 @@ returns-in-End-clause-reads g c = record {
   may = c.requires.may;
   none_pending = c.requires.none_pending;
   given = c.hand.result;
-  hands = record { made = c.hand.new.self.hub.desk.entries.items; hands = c.hand.ensures.takes };
+  hands = record { made = c.hand.new.self.hub.dispatcher.entries.items; hands = c.hand.ensures.takes };
   link = end_came g.S.Read.remaining c.args.now c.args.traffic.now.links.table.items
       c.read.new.self.table.items
       c.args.number c.read.new.self.buffer.items c.in-End.ensures.reads c.read.ensures.others;

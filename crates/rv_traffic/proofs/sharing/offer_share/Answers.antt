@@ -32,7 +32,7 @@ returns-clause-offers g c =
       what = event.Came c.args.number c.share_of-share.result;
       given = c.hand-taken.result;
       hands = record {
-        made = c.hand-taken.new.self.hub.desk.entries.items;
+        made = c.hand-taken.new.self.hub.dispatcher.entries.items;
         hands = c.hand-taken.ensures.takes;
       };
       link = share_offered c.args.traffic.now.links.table.items c.advance.new.self.table.items c.args.number

@@ -45,7 +45,7 @@ returns-in-Took-clause-writes g c =
       within = subst (λ (l : List ℕ). c.in-Took.count ≤ length l) is
           (took_within g.S.Write.contents _ _ _ _ _ c.in-Took.ensures.writes).1;
       given = c.hand.result;
-      hands = record { made = c.hand.new.self.hub.desk.entries.items; hands = c.hand.ensures.takes };
+      hands = record { made = c.hand.new.self.hub.dispatcher.entries.items; hands = c.hand.ensures.takes };
       link = took_ready g.S.Write.contents c.args.now c.args.traffic.now.links.table.items
           c.write.new.self.table.items c.args.number c.ready_of-ready.result.now c.requires.is_open.wire.ready
           c.in-Took.count is

@@ -13,5 +13,5 @@ returns-clause-writes g c = (
   c.requires.none,
   refl,
   c.hand.result,
-  record { made = c.hand.new.self.hub.desk.entries.items; hands = c.hand.ensures.takes },
+  record { made = c.hand.new.self.hub.dispatcher.entries.items; hands = c.hand.ensures.takes },
 )

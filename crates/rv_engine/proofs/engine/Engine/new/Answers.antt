@@ -1,6 +1,6 @@
 -- No line is gathered, no entry left, and no connection listed.
 use Rattle.std.proofs.Common.{◌∙◌, ap, arith, length, sym}
-use Rattle.rv_hub.specs.desk.View.{DeskState}
+use Rattle.rv_hub.specs.dispatcher.View.{DispatcherState}
 use Rattle.rv_machine.specs.Machines.{state_in}
 use Rattle.rv_machine.specs.declared.machine.Machine.{Machine}
 use Rattle.rv_engine.proofs.Through.{all_gathered, state_is}
@@ -15,7 +15,7 @@ invariant_of-result c = record {
   within = omega (arith, ap length c.entries-gathered.ensures);
   nothing = λ _. record {
     lines = c.new-4.ensures.bytes;
-    left = all_gathered c.entries-gathered.result.now c.in_ok-hub.hub.desk.entries.items
+    left = all_gathered c.entries-gathered.result.now c.in_ok-hub.hub.dispatcher.entries.items
         c.entries-gathered.ensures;
   };
 }
@@ -23,9 +23,9 @@ invariant_of-result c = record {
 pub returns-clause-state : goal.returns-clause-state
 returns-clause-state c =
     state_is _ _ _ c.args.room c.in_ok-hub.ensures.state c.new-4.ensures.bytes
-    (all_gathered c.entries-gathered.result.now c.in_ok-hub.hub.desk.entries.items
+    (all_gathered c.entries-gathered.result.now c.in_ok-hub.hub.dispatcher.entries.items
     c.entries-gathered.ensures)
     (c.length-stored.ensures ∙ ap (λ (m : Machine). (state_in m).length) c.machine-book.ensures
-    ∙ ap (λ (s : DeskState). s.book.length) c.in_ok-hub.ensures.state) c.in_ok-looks.ensures.none
+    ∙ ap (λ (s : DispatcherState). s.book.length) c.in_ok-hub.ensures.state) c.in_ok-looks.ensures.none
     c.in_ok-round.ensures.none
     c.in_ok-looks.ensures.room

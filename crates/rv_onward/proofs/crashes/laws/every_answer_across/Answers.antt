@@ -4,4 +4,4 @@ use Rattle.rv_onward.proofs.crashes.laws.every_answer_across.Goals as goal
 
 pub returns : goal.returns
 returns c = λ epoch occurrences w runs.
-    (kept_after c.deeds_keep_servers.ensures c.sent_is_stored.ensures epoch occurrences w runs).every
+    (kept_after c.effects_keep_servers.ensures c.sent_is_stored.ensures epoch occurrences w runs).every

@@ -4,5 +4,5 @@ use Rattle.rv_onward.proofs.crashes.laws.legal_accounts_across.Goals as goal
 
 pub returns : goal.returns
 returns c = λ epoch occurrences w runs.
-    (all_sound w (kept_after c.deeds_keep_servers.ensures c.sent_is_stored.ensures epoch occurrences w
+    (all_sound w (kept_after c.effects_keep_servers.ensures c.sent_is_stored.ensures epoch occurrences w
     runs)).legal_accounts

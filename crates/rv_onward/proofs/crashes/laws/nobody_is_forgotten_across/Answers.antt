@@ -4,6 +4,6 @@ use Rattle.rv_onward.proofs.crashes.laws.nobody_is_forgotten_across.Goals as goa
 
 pub returns : goal.returns
 returns c = λ epoch occurrences w runs packet refusal there is forgets.
-    (remembered_after c.deeds_keep_servers.ensures c.sent_is_stored.ensures epoch occurrences w runs).sent
+    (remembered_after c.effects_keep_servers.ensures c.sent_is_stored.ensures epoch occurrences w runs).sent
     packet
     there refusal is forgets

@@ -6,5 +6,5 @@ use Rattle.rv_onward.proofs.crashes.laws.order_of_arrival_across.Goals as goal
 
 pub returns : goal.returns
 returns c = λ epoch occurrences w runs.
-    order_of_arrival (made_world w) (all_sound w (kept_after c.deeds_keep_servers.ensures
+    order_of_arrival (made_world w) (all_sound w (kept_after c.effects_keep_servers.ensures
     c.sent_is_stored.ensures epoch occurrences w runs))

@@ -6,5 +6,6 @@ use Rattle.rv_onward.proofs.crashes.laws.received_means_assigned_across.Goals as
 
 pub returns : goal.returns
 returns c = λ epoch occurrences w runs.
-    received_means_assigned (stored_world w) (kept_after c.deeds_keep_servers.ensures c.sent_is_stored.ensures
+    received_means_assigned (stored_world w) (kept_after c.effects_keep_servers.ensures
+    c.sent_is_stored.ensures
     epoch occurrences w runs).sound

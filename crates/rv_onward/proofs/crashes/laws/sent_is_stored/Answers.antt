@@ -1,5 +1,5 @@
--- The law, by what Deeds has of an answer that may be sent.
-use Rattle.rv_onward.proofs.OfCrashes.Deeds.{may_go}
+-- The law, by what Effects has of an answer that may be sent.
+use Rattle.rv_onward.proofs.OfCrashes.Effects.{may_go}
 use Rattle.rv_onward.proofs.crashes.laws.sent_is_stored.Goals as goal
 
 pub returns : goal.returns

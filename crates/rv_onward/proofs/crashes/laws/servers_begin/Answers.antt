@@ -1,5 +1,5 @@
--- The law, which Deeds proves.
-use Rattle.rv_onward.proofs.OfCrashes.Deeds.{begins}
+-- The law, which Effects proves.
+use Rattle.rv_onward.proofs.OfCrashes.Effects.{begins}
 use Rattle.rv_onward.proofs.crashes.laws.servers_begin.Goals as goal
 
 pub returns : goal.returns

@@ -6,5 +6,5 @@ use Rattle.rv_onward.proofs.crashes.laws.true_exchange_across.Goals as goal
 
 pub returns : goal.returns
 returns c = λ epoch occurrences w runs.
-    true_exchange (stored_world w) (kept_after c.deeds_keep_servers.ensures c.sent_is_stored.ensures epoch
+    true_exchange (stored_world w) (kept_after c.effects_keep_servers.ensures c.sent_is_stored.ensures epoch
     occurrences w runs).sound

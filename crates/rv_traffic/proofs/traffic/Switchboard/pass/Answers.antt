@@ -3,8 +3,13 @@ use Rattle.rv_traffic.proofs.CallsRun.{events_run}
 use Rattle.rv_traffic.proofs.traffic.Switchboard.pass.Goals as goal
 
 pub returns-clause-passes : goal.returns-clause-passes
-returns-clause-passes g c =
-    (c.hand.result, record { made = c.hand.new.self.hub.desk.entries.items; hands = c.hand.ensures.takes })
+returns-clause-passes g c = (
+  c.hand.result,
+  record {
+    made = c.hand.new.self.hub.dispatcher.entries.items;
+    hands = c.hand.ensures.takes;
+  },
+)
 
 pub returns-clause-runs : goal.returns-clause-runs
 returns-clause-runs g c = record {

@@ -2,7 +2,7 @@
 use Rattle.std.proofs.Common.{◌≡◌, ◌∙◌, arith, false, refl, ap}
 use Rattle.rv_wires.specs.declared.slots.Slots.{Slots}
 use Rattle.rv_wires.specs.Fields.{has_mark}
-use Rattle.rv_wires.specs.hearers.Pairs.{pair_count, stands_under}
+use Rattle.rv_wires.specs.subscribers.Pairs.{pair_count, stands_under}
 use Rattle.rv_wires.proofs.Answered.{held_sound}
 use Rattle.rv_wires.proofs.Changing.{moved_pairs}
 use Rattle.rv_wires.proofs.Marks.{added_removed}

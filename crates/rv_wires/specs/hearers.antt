@@ -1,6 +1,0 @@
--- What a reader must agree with: all that the public contracts cite.
-pub mod Hearing
-pub mod Hearers
-pub mod Pairs
--- What the fields hold: the model, private clauses and proofs cite it.
-pub mod Indexed
