@@ -32,7 +32,7 @@ OTHERS = 1_000
 # How the names of the functions begin that hand an event to the hub, and of those that they call for it: the compiler merges the
 # hub's own.
 CALLERS = ("rv_steps::run_lines", "rv_steps::answer_all", "rv_steps::print_answer", "rv_steps::driver::", "rv_hub::")
-HUB = ("rv_hub::", "rv_wires::", "rv_machine::")
+HUB = ("rv_hub::", "rv_server_connections::", "rv_machine::")
 
 
 @dataclass(frozen=True)

@@ -5,7 +5,7 @@ use Rattle.std.proofs.Common.{length, subst, suc, sym, take}
 use Rattle.std.proofs.lemmas.List.{take_all}
 use Rattle.std.proofs.Math.Seq.{take-suc}
 use Rattle.std.proofs.lemmas.List.Elements.{Contains-append_left, Contains-push, Contains-push_cases}
-use Rattle.rv_wires.specs.Connections.{ListsOne}
+use Rattle.rv_server_connections.specs.Connections.{ListsOne}
 use Rattle.rv_engine.specs.Handing.{AddsLooks}
 
 alone : (n k : ℕ) → Contains (n ∷ []) k → k ≡ n

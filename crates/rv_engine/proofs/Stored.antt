@@ -3,7 +3,7 @@ use Rattle.std.proofs.Common.{◌≡◌, ◌≤◌, ◌+◌, ◌-◌, ◌∙◌,
 use Rattle.std.proofs.Common.{append-nil, append_assoc, arith, length, length-append, refl, subst, sym}
 use Rattle.std.proofs.lemmas.List.Elements.{All-weaker}
 use Rattle.rv_account.specs.declared.entry.Entry.{Entry}
-use Rattle.rv_wires.specs.connection.Traffic.{AnswerByte, Traffic}
+use Rattle.rv_server_connections.specs.connection.Traffic.{AnswerByte, Traffic}
 use Rattle.rv_hub.specs.dispatcher.View.{DispatcherState, DispatcherTerms}
 use Rattle.rv_hub.specs.HubRuns.{AddsEntries, TookEvent, made_in, run_effects}
 use Rattle.rv_hub.specs.Pasts.{IsPast, Past}

@@ -5,7 +5,7 @@ use Rattle.std.specs.Prelude.{All, slice_get}
 use Rattle.rv_account.specs.declared.entry.Entry.{Entry}
 use Rattle.rv_text.specs.declared.answer.Answer.{Answer}
 use Rattle.rv_text.specs.declared.answer.Answer.TheVariants as answer
-use Rattle.rv_wires.specs.declared.subscribers.tables.Subscription.{Subscription}
+use Rattle.rv_server_connections.specs.declared.subscribers.tables.Subscription.{Subscription}
 use Rattle.rv_hub.specs.dispatcher.View.{DispatcherState, DispatcherTerms, begun}
 use Rattle.rv_hub.specs.dispatcher.Effects.{AnswersOrWaits, Effect, Does, DoesAll}
 use Rattle.rv_hub.specs.dispatcher.Effects.{Asked, Closed, Elapsed, EndedInput, Lacked, Left, Lost, Opened}

@@ -8,8 +8,8 @@ use Rattle.rv_account.specs.Limits.{max_moment}
 use Rattle.rv_rules.specs.StepLimits.{AreStepLimits}
 use Rattle.rv_lines.specs.Lines.{printed_lines}
 use Rattle.rv_lines.specs.Written.{account_lines}
-use Rattle.rv_wires.specs.connection.History.{given_bytes}
-use Rattle.rv_wires.specs.connection.Traffic.{AnswerByte, Traffic, bytes_of}
+use Rattle.rv_server_connections.specs.connection.History.{given_bytes}
+use Rattle.rv_server_connections.specs.connection.Traffic.{AnswerByte, Traffic, bytes_of}
 use Rattle.rv_hub.specs.dispatcher.View.{DispatcherTerms}
 use Rattle.rv_hub.specs.declared.events.HubEvent.{HubEvent}
 use Rattle.rv_hub.specs.EventEffects.{all_effects}

@@ -1,7 +1,7 @@
 -- What the parts of an engine hold.
 use Rattle.std.specs.Prelude.{ℕ, ◌≡◌, ◌≤◌, List, [], drop, false, length, string_bytes, vec_capacity}
 use Rattle.rv_account.specs.declared.entry.Entry.{Entry}
-use Rattle.rv_wires.specs.Flags.{AreListed}
+use Rattle.rv_server_connections.specs.Flags.{AreListed}
 use Rattle.rv_hub.specs.dispatcher.View.{DispatcherState}
 use Rattle.rv_hub.specs.Hubs.{hub_state}
 use Rattle.rv_engine.specs.declared.looks.LookList.{LookList}

@@ -4,7 +4,7 @@ ghost use Rattle.rv_engine.specs.Handing.{TellsStored, told_hub};
 
 use rv_frame::WriteFault;
 use rv_hub::{EventRefusal, HubEvent};
-use rv_wires::subscribers::ConnectionNumber;
+use rv_server_connections::subscribers::ConnectionNumber;
 use thiserror::Error;
 
 /// What happened to a connection, or that time went on. That entries are written is no such event: the engine

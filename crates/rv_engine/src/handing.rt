@@ -12,7 +12,7 @@ use crate::events::EngineFault;
 use crate::gathering::{gather, gather_kept};
 use crate::parts::EngineParts;
 use rv_hub::HubEvent;
-use rv_wires::subscribers::ConnectionNumber;
+use rv_server_connections::subscribers::ConnectionNumber;
 
 /// Gathers the lines of the entries that are left, as far as memory allows.
 pub(crate) fn catch_up(parts: &mut EngineParts)

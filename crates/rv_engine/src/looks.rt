@@ -1,11 +1,11 @@
 //! Numbers of connections, each at most once, in room that was made before.
 ghost use Rattle.std.specs.Prelude.{IsTrue, ◌↔◌};
 ghost use Rattle.std.specs.Prelude.{◌≡◌, ◌≤◌, ◌<◌, ◌++◌, ◌∷◌, [], length, vec_capacity, IfOk, IfNone, IfSome};
-ghost use Rattle.rv_wires.specs.Connections.{ListsOne};
+ghost use Rattle.rv_server_connections.specs.Connections.{ListsOne};
 ghost use Rattle.rv_engine.specs.Engines.{IsLooks};
 ghost use Rattle.rv_engine.specs.Handing.{AddsLooks};
 
-use rv_wires::subscribers::ConnectionNumber;
+use rv_server_connections::subscribers::ConnectionNumber;
 use std::alloc::{AllocError, Global};
 
 /// The numbers that are listed, with room for all that have a flag.

@@ -1,7 +1,7 @@
 -- When a connection's time is over.
 use Rattle.std.specs.Prelude.{ℕ, ◌≡◌, ◌<◌, ◌≤◌, ◌-◌, ◌⊎◌, None, Option, Some, false, if◌then◌else◌, length}
 use Rattle.std.specs.Prelude.{ltb, max}
-use Rattle.rv_wires.specs.connection.Traffic.{Traffic, held_count}
+use Rattle.rv_server_connections.specs.connection.Traffic.{Traffic, held_count}
 use Rattle.rv_host.specs.declared.overdue.TimeLimits.{TimeLimits}
 
 -- all that its peer asked is answered, and it has taken the answers

@@ -3,8 +3,8 @@ ghost use Rattle.std.specs.Prelude.{◌≡◌, get_or, replicate, slice_set, IfO
 ghost use Rattle.rv_host.specs.Times.{IsSeenSince};
 
 use crate::overdue::seen_since;
-use rv_wires::connection::Wire;
-use rv_wires::subscribers::ConnectionNumber;
+use rv_server_connections::connection::Wire;
+use rv_server_connections::subscribers::ConnectionNumber;
 use std::alloc::{AllocError, Global};
 
 /// For each connection, by its number, the look since which it is in the middle of one frame, if it is.

@@ -3,8 +3,8 @@ ghost use Rattle.std.specs.Prelude.{◌≡◌, ◌↔◌, get_or, replicate, sli
 ghost use Rattle.rv_traffic.specs.links.Table.{link_at};
 ghost use Rattle.rv_host.specs.Origins.{MayCome, count_from, is_from};
 
+use rv_server_connections::subscribers::ConnectionNumber;
 use rv_traffic::links::Links;
-use rv_wires::subscribers::ConnectionNumber;
 use std::alloc::{AllocError, Global};
 use std::net::{IpAddr, SocketAddr};
 

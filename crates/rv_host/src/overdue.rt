@@ -4,7 +4,7 @@ ghost use Rattle.rv_log.specs.declared.kind.FaultKind.TheVariants as kind;
 ghost use Rattle.rv_host.specs.Times.{IsMidFrame, IsSeenSince, IsSilent, IsStalled};
 
 use crate::report::FaultKind;
-use rv_wires::connection::Wire;
+use rv_server_connections::connection::Wire;
 
 /// For how many milliseconds a connection may stall, and for how many it may be idle.
 #[derive(Clone, Copy)]

@@ -5,7 +5,7 @@ ghost use Rattle.rv_traffic.specs.CallRuns.{OnlyCalls};
 use crate::overdue::overdue;
 use crate::report::FaultKind;
 use crate::shell::{LOOK_OVER, Shell};
-use rv_wires::subscribers::ConnectionNumber;
+use rv_server_connections::subscribers::ConnectionNumber;
 
 impl<W: Drop> Shell<W> {
     /// Once a second ends those that are idle or stall, looks at the account's file, and tells faults; and

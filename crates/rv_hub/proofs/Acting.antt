@@ -2,8 +2,8 @@
 use Rattle.std.proofs.Common.{◌≡◌, ◌≤◌, ℕ, [], None, Option, Some, refl, sym, subst}
 use Rattle.std.proofs.Common.{Bool, false, length, true}
 use Rattle.std.specs.Prelude.{IsSome}
-use Rattle.rv_wires.specs.connection.Steps.{input_ended, left_by}
-use Rattle.rv_wires.specs.Connections.{HasWire}
+use Rattle.rv_server_connections.specs.connection.Steps.{input_ended, left_by}
+use Rattle.rv_server_connections.specs.Connections.{HasWire}
 use Rattle.rv_hub.specs.declared.dispatcher.Dispatcher.{Dispatcher}
 use Rattle.rv_hub.specs.dispatcher.View.{ChangesBytes, DispatcherState}
 use Rattle.rv_hub.specs.dispatcher.Effects.{DoesAll, DoesClose, DoesOpen, DoesWrite}

@@ -3,8 +3,8 @@ use Rattle.std.proofs.Common.{◌≡◌, ◌<◌, ◌⊎◌, [], ℕ, arith, ref
 use Rattle.std.proofs.Common.{Bool, Err, IfErr, Ok, OnOk, Result, length}
 use Rattle.std.proofs.lemmas.Option.{none-some}
 use Rattle.rv_state.specs.State.{State}
-use Rattle.rv_wires.specs.subscribers.Subscription.{nobody}
-use Rattle.rv_wires.specs.Connections.{HasWire, none_open}
+use Rattle.rv_server_connections.specs.subscribers.Subscription.{nobody}
+use Rattle.rv_server_connections.specs.Connections.{HasWire, none_open}
 use Rattle.rv_hub.specs.dispatcher.View.{DispatcherState}
 use Rattle.rv_hub.specs.declared.events.EventRefusal.{EventRefusal}
 use Rattle.rv_hub.specs.declared.events.EventRefusal.TheVariants as refused

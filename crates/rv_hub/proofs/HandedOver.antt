@@ -28,7 +28,7 @@ use Rattle.rv_state.specs.State.{State}
 use Rattle.rv_state.proofs.StateLaws.{states_agree}
 use Rattle.rv_state.specs.resume.Resuming.{CanResume}
 use Rattle.rv_state.proofs.OfWaiting.WaitingLaws.{moves_answer, old_fits, told_fits}
-use Rattle.rv_wires.specs.connection.History.{Given}
+use Rattle.rv_server_connections.specs.connection.History.{Given}
 use Rattle.rv_hub.specs.dispatcher.View.{DispatcherState, DispatcherTerms, begun}
 use Rattle.rv_hub.specs.dispatcher.Effects.{Effect, Does, DoesAll, Stepped, entries_of_effect, rests_on}
 use Rattle.rv_hub.specs.dispatcher.Effects.{Asked, Closed, Elapsed, EndedInput, Lacked, Left, Lost, Opened}

@@ -11,12 +11,13 @@ use Rattle.rv_text.specs.declared.answer.Answer.{Answer}
 use Rattle.rv_text.specs.declared.answer.Answer.TheVariants as answer
 use Rattle.rv_text.specs.declared.answer.Refusal.TheVariants.{BadText, NoMemory}
 use Rattle.rv_text.specs.Bodies.{answer_text}
-use Rattle.rv_wires.specs.connection.Traffic.{Traffic}
-use Rattle.rv_wires.specs.connection.Steps.{AnswersBy, TakesIn, fresh_traffic, input_ended, left_by, taken}
-use Rattle.rv_wires.specs.connection.History.{IsHistory}
-use Rattle.rv_wires.proofs.OfConnection.Kept.{keeps_answer, keeps_end, keeps_frame, keeps_leaving}
-use Rattle.rv_wires.proofs.OfConnection.Kept.{keeps_piece, keeps_release, opens}
-use Rattle.rv_wires.specs.Connections.{ChangesWire, HasWire, ReleasesOpen, SetsWire}
+use Rattle.rv_server_connections.specs.connection.Traffic.{Traffic}
+use Rattle.rv_server_connections.specs.connection.Steps.{AnswersBy, TakesIn, fresh_traffic, input_ended}
+use Rattle.rv_server_connections.specs.connection.Steps.{left_by, taken}
+use Rattle.rv_server_connections.specs.connection.History.{IsHistory}
+use Rattle.rv_server_connections.proofs.OfConnection.Kept.{keeps_answer, keeps_end, keeps_frame}
+use Rattle.rv_server_connections.proofs.OfConnection.Kept.{keeps_leaving, keeps_piece, keeps_release, opens}
+use Rattle.rv_server_connections.specs.Connections.{ChangesWire, HasWire, ReleasesOpen, SetsWire}
 use Rattle.rv_hub.specs.dispatcher.View.{DispatcherState, DispatcherTerms}
 use Rattle.rv_hub.specs.dispatcher.Effects.{AnswersNow, AnswersOrWaits, Effect, Does, IsDueWith}
 use Rattle.rv_hub.specs.dispatcher.Effects.{entries_of_effect, rests_on}

@@ -5,10 +5,10 @@ use Rattle.std.proofs.Common.{false, true, length, option_to_list}
 use Rattle.std.specs.Prelude.{Contains}
 use Rattle.std.proofs.lemmas.Bool.{cases_eq}
 use Rattle.std.proofs.lemmas.List.{length-append, length-map}
-use Rattle.rv_wires.specs.connection.Traffic.{AnswerByte, IsBad, IsDue, IsFinished, IsWholeFrame, Traffic}
-use Rattle.rv_wires.specs.connection.Traffic.{bytes_of, held_count, most_held}
-use Rattle.rv_wires.specs.connection.Steps.{Releases, fresh_traffic}
-use Rattle.rv_wires.specs.Connections.{ReleasesOpen}
+use Rattle.rv_server_connections.specs.connection.Traffic.{AnswerByte, IsBad, IsDue, IsFinished, IsWholeFrame}
+use Rattle.rv_server_connections.specs.connection.Traffic.{Traffic, bytes_of, held_count, most_held}
+use Rattle.rv_server_connections.specs.connection.Steps.{Releases, fresh_traffic}
+use Rattle.rv_server_connections.specs.Connections.{ReleasesOpen}
 use Rattle.rv_hub.specs.dispatcher.View.{DispatcherState, DispatcherTerms}
 use Rattle.rv_hub.specs.dispatcher.Effects.{Effect, Does, DoesAll}
 use Rattle.rv_hub.specs.dispatcher.Effects.{Closed, EndedInput, Left, Opened, Wrote}

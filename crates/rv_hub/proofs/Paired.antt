@@ -22,11 +22,11 @@ use Rattle.rv_rules.specs.StepLimits.{AreStepLimits, StepLimits}
 use Rattle.rv_rules.specs.Steps.{NextUnder}
 use Rattle.rv_rules.proofs.Growing.{act_read, reads_on}
 use Rattle.rv_rules.proofs.Places.{get-append_cases, get-append_end, within}
-use Rattle.rv_wires.specs.connection.Traffic.{Traffic}
-use Rattle.rv_wires.specs.connection.History.{Given, owed_count}
-use Rattle.rv_wires.specs.declared.subscribers.tables.Subscription.{Subscription}
-use Rattle.rv_wires.specs.subscribers.Subscription.{SetsSubscription, WhoHears}
-use Rattle.rv_wires.specs.Connections.{ChangesWire, HasWire, ReleasesOpen, SetsWire, WiresState}
+use Rattle.rv_server_connections.specs.connection.Traffic.{Traffic}
+use Rattle.rv_server_connections.specs.connection.History.{Given, owed_count}
+use Rattle.rv_server_connections.specs.declared.subscribers.tables.Subscription.{Subscription}
+use Rattle.rv_server_connections.specs.subscribers.Subscription.{SetsSubscription, WhoHears}
+use Rattle.rv_server_connections.specs.Connections.{ChangesWire, HasWire, ReleasesOpen, SetsWire, WiresState}
 use Rattle.rv_hub.specs.dispatcher.View.{DispatcherState, DispatcherTerms, begun}
 use Rattle.rv_hub.specs.dispatcher.Effects.{AnswersNow, AnswersOrWaits, Effect, Does, DoesAll, IsDueWith}
 use Rattle.rv_hub.specs.dispatcher.Effects.{WaitsNow, entries_of_effect, rests_on, Asked, Closed, Elapsed}

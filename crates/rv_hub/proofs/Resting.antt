@@ -4,8 +4,9 @@ use Rattle.std.proofs.Common.{refl, sym, ap, subst, arith}
 use Rattle.std.proofs.Common.{Bool, false, true, length}
 use Rattle.std.specs.Option.{unwrap_or}
 use Rattle.std.proofs.lemmas.Bool.{cases_lt}
-use Rattle.rv_wires.specs.connection.Traffic.{IsBad, IsDue, IsWholeFrame, Traffic, held_count, most_held}
-use Rattle.rv_wires.specs.Connections.{ReleasesOpen}
+use Rattle.rv_server_connections.specs.connection.Traffic.{IsBad, IsDue, IsWholeFrame, Traffic, held_count}
+use Rattle.rv_server_connections.specs.connection.Traffic.{most_held}
+use Rattle.rv_server_connections.specs.Connections.{ReleasesOpen}
 use Rattle.rv_hub.specs.declared.dispatcher.Dispatcher.{Dispatcher}
 use Rattle.rv_hub.specs.dispatcher.View.{DispatcherState, DispatcherTerms, begun}
 use Rattle.rv_hub.specs.dispatcher.Effects.{DoesAll, Wrote}

@@ -9,7 +9,7 @@ use Rattle.std.proofs.lemmas.List.{length-drop}
 use Rattle.std.proofs.lemmas.List.Elements.{Contains-append_cases, Contains-append_left}
 use Rattle.std.proofs.lemmas.List.Elements.{Contains-append_right, Contains-push_cases}
 use Rattle.std.proofs.lemmas.Option.{none-some}
-use Rattle.rv_wires.specs.connection.Traffic.{IsBad, IsDue, IsFinished, IsWholeFrame, Traffic}
+use Rattle.rv_server_connections.specs.connection.Traffic.{IsBad, IsDue, IsFinished, IsWholeFrame, Traffic}
 use Rattle.rv_hub.specs.dispatcher.View.{DispatcherState, DispatcherTerms}
 use Rattle.rv_hub.specs.dispatcher.Effects.{Effect, told_in_effects}
 use Rattle.rv_hub.specs.dispatcher.Order.{IsTurn}

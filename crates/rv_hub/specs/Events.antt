@@ -1,6 +1,6 @@
 -- What happens to a hub, and which of it can't be.
 use Rattle.std.specs.Prelude.{ℕ, ◌≡◌, ◌<◌, ◌≤◌, ◌⊎◌, None, false, length, true}
-use Rattle.rv_wires.specs.Connections.{HasWire}
+use Rattle.rv_server_connections.specs.Connections.{HasWire}
 use Rattle.rv_hub.specs.dispatcher.View.{DispatcherState}
 use Rattle.rv_hub.specs.declared.events.EventRefusal.{EventRefusal}
 use Rattle.rv_hub.specs.declared.events.EventRefusal.TheVariants as refused

@@ -15,9 +15,9 @@ use Rattle.rv_account.specs.Account.{Account, act_at, own_moment}
 use Rattle.rv_account.specs.Limits.{max_moment}
 use Rattle.rv_rules.specs.StepLimits.{AreStepLimits, StepLimits}
 use Rattle.rv_rules.specs.Steps.{NextUnder}
-use Rattle.rv_wires.specs.connection.History.{Given}
-use Rattle.rv_wires.specs.declared.subscribers.tables.Subscription.{Subscription}
-use Rattle.rv_wires.specs.Connections.{HasWire}
+use Rattle.rv_server_connections.specs.connection.History.{Given}
+use Rattle.rv_server_connections.specs.declared.subscribers.tables.Subscription.{Subscription}
+use Rattle.rv_server_connections.specs.Connections.{HasWire}
 use Rattle.rv_hub.specs.dispatcher.View.{DispatcherState, DispatcherTerms}
 use Rattle.rv_hub.specs.dispatcher.Effects.{Effect}
 use Rattle.rv_hub.specs.EventEffects.{all_effects}

@@ -5,8 +5,8 @@ use Rattle.rv_text.specs.declared.answer.Answer.{Answer}
 use Rattle.rv_text.specs.declared.answer.Answer.TheVariants as answer
 use Rattle.rv_text.specs.declared.answer.Refusal.TheVariants.{BadText, NoMemory}
 use Rattle.rv_text.specs.Bodies.{answer_text}
-use Rattle.rv_wires.specs.connection.Traffic.{Traffic}
-use Rattle.rv_wires.specs.connection.History.{Given, History, IsHistory}
+use Rattle.rv_server_connections.specs.connection.Traffic.{Traffic}
+use Rattle.rv_server_connections.specs.connection.History.{Given, History, IsHistory}
 use Rattle.rv_hub.specs.dispatcher.View.{DispatcherState, DispatcherTerms}
 use Rattle.rv_hub.specs.dispatcher.Effects.{Effect, DoesAll, entries_of_effect, rests_on}
 use Rattle.rv_hub.specs.dispatcher.Effects.{Asked, Closed, Elapsed, EndedInput, Lacked, Left, Lost, Opened}

@@ -4,7 +4,8 @@ use Rattle.std.specs.Prelude.{Option, Some, cond, suc}
 use Rattle.std.specs.Prelude.{flat_map, length, nat_eq, option_to_list, slice_get, take}
 use Rattle.rv_text.specs.declared.message.Key.{Key}
 use Rattle.rv_account.specs.declared.entry.Entry.{Entry}
-use Rattle.rv_wires.specs.connection.Traffic.{IsBad, IsWholeFrame, Traffic, held_count, most_held}
+use Rattle.rv_server_connections.specs.connection.Traffic.{IsBad, IsWholeFrame, Traffic, held_count}
+use Rattle.rv_server_connections.specs.connection.Traffic.{most_held}
 use Rattle.rv_hub.specs.dispatcher.View.{DispatcherState, DispatcherTerms, begun, moment_now}
 use Rattle.rv_hub.specs.dispatcher.Effects.{Effect, DoesAll, bytes_in, entries_of_effect, told_in_effects}
 use Rattle.rv_hub.specs.dispatcher.Effects.{Closed, Elapsed, EndedInput, Left, Opened, Wrote}

@@ -1,14 +1,14 @@
 //! Which events can't be.
 ghost use Rattle.std.specs.Prelude.{◌≡◌, ◌⊎◌, ◌≤◌, ◌<◌, Some, true, false, length, IfErr, IfOk, OnOk};
-ghost use Rattle.rv_wires.specs.Connections.{HasWire};
+ghost use Rattle.rv_server_connections.specs.Connections.{HasWire};
 ghost use Rattle.rv_hub.specs.dispatcher.Fields.{dispatcher_state};
 ghost use Rattle.rv_hub.specs.declared.events.EventRefusal.TheVariants as refused;
 ghost use Rattle.rv_hub.specs.Events.{EventCan, EventCannotBe, IsNotOpen};
 
 use crate::dispatcher::Dispatcher;
 use crate::events::{EventRefusal, HubEvent};
-use rv_wires::connection::Wire;
-use rv_wires::subscribers::ConnectionNumber;
+use rv_server_connections::connection::Wire;
+use rv_server_connections::subscribers::ConnectionNumber;
 
 // The open connection of a number.
 fn open_wire(dispatcher: &Dispatcher, connection: ConnectionNumber) -> Result<&Wire, EventRefusal>

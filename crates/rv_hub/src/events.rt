@@ -1,5 +1,5 @@
 //! What happens to a hub.
-use rv_wires::subscribers::ConnectionNumber;
+use rv_server_connections::subscribers::ConnectionNumber;
 use thiserror::Error;
 
 /// An event of a hub. Each is handed over with its moment.

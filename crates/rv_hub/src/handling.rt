@@ -17,7 +17,7 @@ use crate::checks::check;
 use crate::dispatcher::Dispatcher;
 use crate::events::{EventRefusal, HubEvent};
 use crate::progress::turn_all;
-use rv_wires::subscribers::ConnectionNumber;
+use rv_server_connections::subscribers::ConnectionNumber;
 
 // The connection that goes on behind time, before those that were freed.
 fn first_of(event: &HubEvent<'_>) -> Option<ConnectionNumber>

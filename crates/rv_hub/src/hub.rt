@@ -8,9 +8,9 @@ use crate::parts::HubParts;
 use rv_account::Entry;
 use rv_machine::Machine;
 use rv_rules::Limits;
+use rv_server_connections::connection::Wire;
+use rv_server_connections::subscribers::ConnectionNumber;
 use rv_text::NoMemory;
-use rv_wires::connection::Wire;
-use rv_wires::subscribers::ConnectionNumber;
 use std::alloc::Global;
 use std::marker::Model;
 
@@ -46,8 +46,9 @@ impl Hub {
     ghost use Rattle.rv_machine.specs.Machines.{state_in};
     ghost use Rattle.rv_state.specs.resume.Resuming.{CanResume};
     ghost use Rattle.rv_rules.specs.StepLimits.{AreStepLimits};
-    ghost use Rattle.rv_wires.specs.subscribers.Subscription.{nobody};
-    ghost use Rattle.rv_wires.specs.Connections.{AllHeldBack, IsTotalHeld, IsTotalUnread, none_open};
+    ghost use Rattle.rv_server_connections.specs.subscribers.Subscription.{nobody};
+    ghost use Rattle.rv_server_connections.specs.Connections.{AllHeldBack, IsTotalHeld, IsTotalUnread};
+    ghost use Rattle.rv_server_connections.specs.Connections.{none_open};
     ghost use Rattle.rv_hub.specs.dispatcher.View.{begun};
     ghost use Rattle.rv_hub.specs.dispatcher.Telling.{CountsUnheard, IsUnheard};
     ghost use Rattle.rv_hub.specs.dispatcher.Rest.{IsNextMoment};

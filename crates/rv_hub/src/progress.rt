@@ -7,7 +7,7 @@ ghost use Rattle.rv_hub.specs.Turns.{offered_to};
 ghost use Rattle.rv_hub.specs.Steps.{IsGoing, IsOffering, TurnsOn, offer_from};
 
 use crate::dispatcher::Dispatcher;
-use rv_wires::subscribers::ConnectionNumber;
+use rv_server_connections::subscribers::ConnectionNumber;
 
 // A connection goes on until it stops. Bytes of a piece are taken of the connection alone of which it came.
 fn turn(

@@ -18,7 +18,7 @@ use Rattle.rv_account.specs.declared.entry.Entry.{Entry}
 use Rattle.rv_account.specs.declared.entry.Act.TheVariants.{Arrive}
 use Rattle.rv_account.specs.Account.{entry}
 use Rattle.rv_account.specs.Calls.{Lasts, may_name, opposite}
-use Rattle.rv_waiters.specs.Meeting.{StaysBy}
+use Rattle.rv_model_queues.specs.Meeting.{StaysBy}
 use Rattle.rv_state.specs.State.{OpenPlace, State, opposites, place_list}
 use Rattle.rv_state.specs.After.{Following, Settled, advanced, arrived, asked, closed, lasts_by, met_by}
 use Rattle.rv_state.specs.After.{opened_by, parked, request_after, settled_all, stays_open, told_alone}

@@ -31,7 +31,7 @@ use Rattle.rv_state.specs.After.{closed, parked, stays_open, told_alone, told_un
 use Rattle.rv_state.specs.Follows.{NumberIsNext}
 use Rattle.rv_state.proofs.Filtered.{append_get}
 use Rattle.rv_state.proofs.Words.{none-some, same_Some}
-use Rattle.rv_waiters.specs.Meeting.{StaysBy}
+use Rattle.rv_model_queues.specs.Meeting.{StaysBy}
 use Rattle.rv_machine.specs.open_places.OpenMap.{PlacesRise, found_at, opposed_in, count_waiting}
 use Rattle.rv_machine.specs.Machines.{IsConsistent, IsWaiter, LiesThere, AwaitsPlace, last_key_in}
 use Rattle.rv_machine.proofs.Asked.{arrived_by, asked_as}

@@ -21,7 +21,7 @@ use Rattle.rv_account.specs.Account.{entry}
 use Rattle.rv_state.specs.State.{OpenPlace, State, client_at, place_list}
 use Rattle.rv_state.specs.After.{Following, opened_by, request_after, told_alone}
 use Rattle.rv_state.specs.Moves.{told_again}
-use Rattle.rv_waiters.specs.Meeting.{StaysBy}
+use Rattle.rv_model_queues.specs.Meeting.{StaysBy}
 use Rattle.rv_machine.specs.declared.tables.Holdings.{Holdings}
 use Rattle.rv_machine.specs.Arriving.{Arrives, MayArrive, after_put}
 use Rattle.rv_machine.specs.Ending.{counted}

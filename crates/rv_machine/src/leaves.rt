@@ -5,7 +5,7 @@ ghost use Rattle.rv_text.specs.Limits.{FitsCall, FitsQueue};
 ghost use Rattle.rv_text.specs.declared.answer.Reply.TheVariants as reply;
 ghost use Rattle.rv_text.specs.declared.call.Call.TheVariants as call;
 ghost use Rattle.rv_account.specs.Calls.{Lasts};
-ghost use Rattle.rv_waiters.specs.Meeting.{StaysBy};
+ghost use Rattle.rv_model_queues.specs.Meeting.{StaysBy};
 ghost use Rattle.rv_state.specs.After.{told_alone, told_front, told_unmet};
 ghost use Rattle.rv_state.specs.State.{line};
 ghost use Rattle.rv_text.specs.declared.call.Side.TheVariants.{Gives};

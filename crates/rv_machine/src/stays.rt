@@ -6,7 +6,7 @@ ghost use Rattle.rv_rules.specs.Steps.{max_moment};
 ghost use Rattle.rv_state.specs.After.{opened_by};
 ghost use Rattle.rv_text.specs.Calls.{item_of, side_of, wait_of};
 ghost use Rattle.rv_text.specs.Limits.{FitsCall};
-ghost use Rattle.rv_waiters.specs.Meeting.{StaysBy};
+ghost use Rattle.rv_model_queues.specs.Meeting.{StaysBy};
 ghost use Rattle.rv_machine.specs.Arriving.{Arrives, IsAsBefore, MayArrive, after_put};
 ghost use Rattle.rv_machine.specs.Machines.{IsWhole, state_in};
 ghost use Rattle.rv_machine.specs.open_places.OpenMap.{opposed_in};

@@ -11,9 +11,9 @@ use crate::hexes::{written_hex, written_sum};
 use rv_account::Entry;
 use rv_hub::{EventRefusal, Hub};
 use rv_lines::entry_line;
+use rv_server_connections::connection::Wire;
+use rv_server_connections::subscribers::ConnectionNumber;
 use rv_text::NoMemory;
-use rv_wires::connection::Wire;
-use rv_wires::subscribers::ConnectionNumber;
 use std::alloc::Global;
 
 // More bytes to hand out are told by their sum.

@@ -2,7 +2,7 @@
 use Rattle.std.proofs.Common.{◌≡◌, ◌+◌, ◌<◌, ◌≤◌, ℕ, Bool, ap, false, true}
 use Rattle.std.specs.Bool.{OnFalse, OnTrue}
 use Rattle.std.specs.List.{sum_by}
-use Rattle.rv_wires.specs.Connections.{IsTotalHeld, IsTotalUnread}
+use Rattle.rv_server_connections.specs.Connections.{IsTotalHeld, IsTotalUnread}
 use Rattle.rv_traffic.specs.links.Table.{pending_at}
 use Rattle.rv_traffic.specs.Calls.{HoldsInAll, IsOverfull, HasRoomLeft}
 use Rattle.rv_traffic.specs.Views.{TrafficState}

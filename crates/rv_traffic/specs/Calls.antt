@@ -4,8 +4,8 @@ use Rattle.std.specs.Prelude.{◌+◌, drop, false, length, take, true}
 use Rattle.std.specs.List.{sum_by}
 use Rattle.std.specs.Io.KnownBytes.{Appends, Consumes, IsAtEnd, Keeps}
 use Rattle.rv_account.specs.declared.entry.Entry.{Entry}
-use Rattle.rv_wires.specs.connection.Traffic.{MayOffer, Traffic}
-use Rattle.rv_wires.specs.Connections.{HasWire, IsTotalHeld, IsTotalUnread}
+use Rattle.rv_server_connections.specs.connection.Traffic.{MayOffer, Traffic}
+use Rattle.rv_server_connections.specs.Connections.{HasWire, IsTotalHeld, IsTotalUnread}
 use Rattle.rv_hub.specs.dispatcher.View.{DispatcherState, DispatcherTerms}
 use Rattle.rv_hub.specs.declared.events.HubEvent.{HubEvent}
 use Rattle.rv_hub.specs.declared.events.HubEvent.TheVariants as event

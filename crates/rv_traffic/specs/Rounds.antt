@@ -2,7 +2,7 @@
 use Rattle.std.specs.Prelude.{ℕ, ◌≡◌, ◌≢◌, ◌<◌, ◌≤◌, ◌⊎◌, AllPairs, Bool, Contains, List, [], ◌∷◌, ◌++◌, None}
 use Rattle.std.specs.Prelude.{Option, Some, false, length, map, true}
 use Rattle.std.specs.List.{count_by}
-use Rattle.rv_wires.specs.Connections.{HasWire}
+use Rattle.rv_server_connections.specs.Connections.{HasWire}
 use Rattle.rv_hub.specs.dispatcher.View.{DispatcherTerms}
 use Rattle.rv_engine.specs.Engines.{EngineState}
 use Rattle.rv_engine.specs.EngineRuns.{ChangesLooks}

@@ -6,7 +6,7 @@ ghost use Rattle.rv_traffic.specs.Views.{SameTerms, traffic_state};
 
 use crate::giving_up::give_up;
 use crate::traffic::Switchboard;
-use rv_wires::subscribers::ConnectionNumber;
+use rv_server_connections::subscribers::ConnectionNumber;
 
 /// A connection that was opened, and has no socket yet. Only `Switchboard::open` makes one, of the number
 /// that the hub gave.

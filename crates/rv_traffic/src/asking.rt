@@ -1,8 +1,8 @@
 //! What is asked of a connection before its turn.
 ghost use Rattle.std.specs.Prelude.{◌≡◌, ◌<◌, ◌≤◌, ◌+◌, [], length, None, Some};
 ghost use Rattle.std.specs.Bool.{OnFalse, OnTrue};
-ghost use Rattle.rv_wires.specs.connection.Traffic.{Traffic};
-ghost use Rattle.rv_wires.specs.Connections.{HasWire};
+ghost use Rattle.rv_server_connections.specs.connection.Traffic.{Traffic};
+ghost use Rattle.rv_server_connections.specs.Connections.{HasWire};
 ghost use Rattle.rv_traffic.specs.links.Table.{HasInput, IsWritable, link_at, pending_of};
 ghost use Rattle.rv_engine.specs.Engines.{engine_state};
 ghost use Rattle.rv_traffic.specs.Calls.{IsOverfull, HasRoomLeft, MayBeOffered};
@@ -11,7 +11,7 @@ ghost use Rattle.rv_traffic.specs.Views.{traffic_state};
 use crate::links::Links;
 use crate::traffic::Switchboard;
 use rv_engine::Engine;
-use rv_wires::subscribers::ConnectionNumber;
+use rv_server_connections::subscribers::ConnectionNumber;
 
 // Whether more of a connection's input may be offered.
 pub(crate) fn may_offer(engine: &Engine, number: ConnectionNumber) -> bool

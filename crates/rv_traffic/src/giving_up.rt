@@ -8,7 +8,7 @@ ghost use Rattle.rv_traffic.specs.Views.{SameTerms, traffic_state};
 use crate::asking::is_open;
 use crate::traffic::Switchboard;
 use rv_engine::{Engine, LinkEvent};
-use rv_wires::subscribers::ConnectionNumber;
+use rv_server_connections::subscribers::ConnectionNumber;
 
 // Tells the hub that a connection is gone, if it is open and no entry is left; else it is to be looked at.
 fn tell_gone(engine: &mut Engine, now: u64, number: ConnectionNumber)

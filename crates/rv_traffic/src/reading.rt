@@ -12,7 +12,7 @@ use crate::links::ReadOutcome;
 use crate::outcomes::Reading;
 use crate::traffic::{SMALL, Switchboard};
 use rv_engine::LinkEvent;
-use rv_wires::subscribers::ConnectionNumber;
+use rv_server_connections::subscribers::ConnectionNumber;
 use std::io::Read;
 
 // So many bytes of a piece, or all.

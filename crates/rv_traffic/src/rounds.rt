@@ -14,7 +14,7 @@ use crate::outcomes::{ReadFaults, Reading, Writing};
 use crate::reading::read_one;
 use crate::traffic::Switchboard;
 use crate::writing::write_one;
-use rv_wires::subscribers::ConnectionNumber;
+use rv_server_connections::subscribers::ConnectionNumber;
 use std::io::{Read, Write};
 
 // With what came of one turn more.

@@ -13,7 +13,7 @@ use crate::reading::at_most;
 use crate::rounds::settle;
 use crate::traffic::{SHARE, SHARES, Switchboard};
 use rv_engine::LinkEvent;
-use rv_wires::subscribers::ConnectionNumber;
+use rv_server_connections::subscribers::ConnectionNumber;
 
 // The first of these bytes, at most a share.
 fn share_of(bytes: &[u8]) -> &[u8]

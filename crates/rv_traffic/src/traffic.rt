@@ -14,7 +14,7 @@ use crate::waiting::WaitingLists;
 use crate::{accepting, asking, giving_up, rounds, sharing};
 use rv_engine::{Engine, EngineFault, LinkEvent};
 use rv_frame::Sink;
-use rv_wires::subscribers::ConnectionNumber;
+use rv_server_connections::subscribers::ConnectionNumber;
 use std::io::{Read, Write};
 
 /// A piece of at most so many bytes is small: it is offered as it comes.

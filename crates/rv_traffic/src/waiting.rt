@@ -4,7 +4,7 @@ ghost use Rattle.std.specs.Prelude.{AllPairs, ◌≢◌};
 ghost use Rattle.rv_engine.specs.Engines.{IsLooks};
 
 use rv_engine::LookList;
-use rv_wires::subscribers::ConnectionNumber;
+use rv_server_connections::subscribers::ConnectionNumber;
 use std::alloc::{AllocError, Global};
 
 /// Connections that wait for a share of input, in room that was made before: those whose share of this round

@@ -1,6 +1,6 @@
 //! Writes once to a connection what may leave.
 ghost use Rattle.std.specs.Prelude.{◌≡◌, [], None, IsSome};
-ghost use Rattle.rv_wires.specs.Connections.{HasWire};
+ghost use Rattle.rv_server_connections.specs.Connections.{HasWire};
 ghost use Rattle.rv_hub.specs.Hubs.{hub_terms};
 ghost use Rattle.rv_engine.specs.Engines.{engine_state};
 ghost use Rattle.rv_traffic.specs.links.Table.{link_at};
@@ -13,7 +13,7 @@ use crate::links::WriteOutcome;
 use crate::outcomes::Writing;
 use crate::traffic::Switchboard;
 use rv_engine::LinkEvent;
-use rv_wires::subscribers::ConnectionNumber;
+use rv_server_connections::subscribers::ConnectionNumber;
 use std::io::Write;
 
 // Writes once to an open connection's socket, and tells the hub how many bytes that took.

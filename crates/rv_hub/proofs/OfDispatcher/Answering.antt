@@ -7,17 +7,17 @@ use Rattle.std.proofs.lemmas.List.{length-append}
 use Rattle.rv_text.specs.declared.message.Key.{Key}
 use Rattle.rv_frame.specs.Cut.{length_bytes}
 use Rattle.rv_machine.specs.Machines.{state_in}
-use Rattle.rv_wires.specs.connection.Traffic.{IsDue, Traffic}
-use Rattle.rv_wires.specs.connection.Steps.{AnswersBy, taken}
+use Rattle.rv_server_connections.specs.connection.Traffic.{IsDue, Traffic}
+use Rattle.rv_server_connections.specs.connection.Steps.{AnswersBy, taken}
 use Rattle.rv_state.specs.waiting.Waiting.{WaitsOn}
 use Rattle.rv_state.proofs.OfWaiting.WaitingLaws.{waiting_fits}
-use Rattle.rv_wires.specs.declared.subscribers.Subscribers.{Subscribers}
-use Rattle.rv_wires.specs.declared.subscribers.tables.Subscription.{Subscription}
-use Rattle.rv_wires.specs.subscribers.Subscription.{SetsSubscription, WhoHears}
-use Rattle.rv_wires.specs.subscribers.Subscribers.{subscribers_count, subscribers_of}
-use Rattle.rv_wires.specs.Connections.{ChangesWire, SetsWire, WiresState}
-use Rattle.rv_wires.specs.Wires.{tally_in, wires_in}
-use Rattle.rv_wires.specs.declared.wires.Wires.{Wires}
+use Rattle.rv_server_connections.specs.declared.subscribers.Subscribers.{Subscribers}
+use Rattle.rv_server_connections.specs.declared.subscribers.tables.Subscription.{Subscription}
+use Rattle.rv_server_connections.specs.subscribers.Subscription.{SetsSubscription, WhoHears}
+use Rattle.rv_server_connections.specs.subscribers.Subscribers.{subscribers_count, subscribers_of}
+use Rattle.rv_server_connections.specs.Connections.{ChangesWire, SetsWire, WiresState}
+use Rattle.rv_server_connections.specs.Wires.{tally_in, wires_in}
+use Rattle.rv_server_connections.specs.declared.wires.Wires.{Wires}
 use Rattle.rv_hub.specs.declared.dispatcher.Dispatcher.{Dispatcher}
 use Rattle.rv_hub.specs.dispatcher.Telling.{IsTellable}
 use Rattle.rv_hub.specs.dispatcher.Effects.{DoesClose}

@@ -6,8 +6,8 @@ use Rattle.std.proofs.lemmas.Bool.{cases_eq}
 use Rattle.std.proofs.lemmas.List.{append-nil}
 use Rattle.rv_text.specs.declared.answer.Answer.{Answer}
 use Rattle.rv_text.specs.declared.answer.Answer.TheVariants as answer
-use Rattle.rv_wires.specs.connection.Traffic.{AnswerByte, Traffic, bytes_of}
-use Rattle.rv_wires.specs.Connections.{ListsOne, ReleasesOpen, SetsWire}
+use Rattle.rv_server_connections.specs.connection.Traffic.{AnswerByte, Traffic, bytes_of}
+use Rattle.rv_server_connections.specs.Connections.{ListsOne, ReleasesOpen, SetsWire}
 use Rattle.rv_hub.specs.dispatcher.View.{DispatcherState, DispatcherTerms}
 use Rattle.rv_hub.specs.dispatcher.Effects.{AnswersOrWaits, Effect, Does, Asked, Closed, Elapsed, EndedInput}
 use Rattle.rv_hub.specs.dispatcher.Effects.{Lacked, Left, Lost, Opened, ReadNothing, Told, TookIn, Wrote}

@@ -7,8 +7,8 @@ use Rattle.std.specs.Prelude.{min}
 use Rattle.std.proofs.lemmas.Bool.{cases_lt}
 use Rattle.rv_state.specs.After.{due_at}
 use Rattle.rv_machine.specs.Redoing.{IsNextLimit}
-use Rattle.rv_wires.specs.declared.subscribers.tables.Subscription.{Subscription}
-use Rattle.rv_wires.specs.subscribers.Subscription.{IsNextUntil, WhoHears}
+use Rattle.rv_server_connections.specs.declared.subscribers.tables.Subscription.{Subscription}
+use Rattle.rv_server_connections.specs.subscribers.Subscription.{IsNextUntil, WhoHears}
 use Rattle.rv_hub.specs.dispatcher.View.{DispatcherState}
 use Rattle.rv_hub.specs.dispatcher.Rest.{IsNextMoment}
 use Rattle.rv_hub.specs.dispatcher.Going.{IsNextOverdue}

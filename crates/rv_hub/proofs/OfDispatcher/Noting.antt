@@ -2,11 +2,11 @@
 use Rattle.std.proofs.Common.{inl, inr, ◌≡◌, ◌≤◌, ◌+◌, ◌∙◌, ℕ, List, None, Option, Some, length, refl, sym}
 use Rattle.std.proofs.Common.{ap, subst, arith}
 use Rattle.std.specs.Prelude.{IsSome}
-use Rattle.rv_wires.specs.connection.Traffic.{Traffic}
-use Rattle.rv_wires.specs.Connections.{AllHeldBack, ListsOne, Notes, Tally, WiresState}
-use Rattle.rv_wires.specs.Wires.{tally_in, wires_in}
-use Rattle.rv_wires.specs.declared.wires.Wires.{Wires}
-use Rattle.rv_wires.proofs.Tallying.{all_held_back}
+use Rattle.rv_server_connections.specs.connection.Traffic.{Traffic}
+use Rattle.rv_server_connections.specs.Connections.{AllHeldBack, ListsOne, Notes, Tally, WiresState}
+use Rattle.rv_server_connections.specs.Wires.{tally_in, wires_in}
+use Rattle.rv_server_connections.specs.declared.wires.Wires.{Wires}
+use Rattle.rv_server_connections.proofs.Tallying.{all_held_back}
 use Rattle.rv_hub.specs.dispatcher.Going.{NotesOne, unread_of, unread_total}
 
 pub is_some_of : {X : Type 0} → (o : Option X) (x : X) → o ≡ Some x → IsSome o

@@ -11,16 +11,16 @@ use Rattle.rv_machine.specs.Machines.{state_in}
 use Rattle.rv_machine.specs.declared.machine.Machine.{Machine}
 use Rattle.rv_state.specs.resume.Resuming.{CanResume}
 use Rattle.rv_account.specs.declared.entry.Entry.{Entry}
-use Rattle.rv_wires.specs.connection.Traffic.{Traffic}
-use Rattle.rv_wires.specs.connection.Steps.{fresh_traffic, input_ended, left_by}
-use Rattle.rv_wires.specs.declared.subscribers.Subscribers.{Subscribers}
-use Rattle.rv_wires.specs.declared.subscribers.tables.Subscription.{Subscription}
-use Rattle.rv_wires.specs.subscribers.Subscription.{SetsSubscription, WhoHears, nobody}
-use Rattle.rv_wires.specs.subscribers.Subscribers.{subscribers_of}
-use Rattle.rv_wires.specs.Connections.{ChangesWire, HasWire, OpensWire, ReleasesAll, ReleasesOpen, SetsWire}
-use Rattle.rv_wires.specs.Connections.{WiresState, none_open}
-use Rattle.rv_wires.specs.Wires.{wires_in}
-use Rattle.rv_wires.specs.declared.wires.Wires.{Wires}
+use Rattle.rv_server_connections.specs.connection.Traffic.{Traffic}
+use Rattle.rv_server_connections.specs.connection.Steps.{fresh_traffic, input_ended, left_by}
+use Rattle.rv_server_connections.specs.declared.subscribers.Subscribers.{Subscribers}
+use Rattle.rv_server_connections.specs.declared.subscribers.tables.Subscription.{Subscription}
+use Rattle.rv_server_connections.specs.subscribers.Subscription.{SetsSubscription, WhoHears, nobody}
+use Rattle.rv_server_connections.specs.subscribers.Subscribers.{subscribers_of}
+use Rattle.rv_server_connections.specs.Connections.{ChangesWire, HasWire, OpensWire, ReleasesAll}
+use Rattle.rv_server_connections.specs.Connections.{ReleasesOpen, SetsWire, WiresState, none_open}
+use Rattle.rv_server_connections.specs.Wires.{wires_in}
+use Rattle.rv_server_connections.specs.declared.wires.Wires.{Wires}
 use Rattle.rv_hub.specs.declared.dispatcher.Dispatcher.{Dispatcher}
 use Rattle.rv_hub.specs.dispatcher.View.{ChangesBytes}
 use Rattle.rv_hub.specs.dispatcher.Effects.{DoesClose}

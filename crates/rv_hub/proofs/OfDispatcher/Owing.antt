@@ -2,10 +2,10 @@
 use Rattle.std.proofs.Common.{inl, inr, ◌≡◌, ◌∙◌, ℕ, Option, Some, sym, ap, subst, true}
 use Rattle.std.specs.Prelude.{IsSome}
 use Rattle.std.proofs.lemmas.Bool.{cases_eq}
-use Rattle.rv_wires.specs.connection.Traffic.{Traffic}
-use Rattle.rv_wires.specs.declared.subscribers.tables.Subscription.{Subscription}
-use Rattle.rv_wires.specs.subscribers.Subscription.{SetsSubscription}
-use Rattle.rv_wires.specs.Connections.{SetsWire}
+use Rattle.rv_server_connections.specs.connection.Traffic.{Traffic}
+use Rattle.rv_server_connections.specs.declared.subscribers.tables.Subscription.{Subscription}
+use Rattle.rv_server_connections.specs.subscribers.Subscription.{SetsSubscription}
+use Rattle.rv_server_connections.specs.Connections.{SetsWire}
 use Rattle.rv_hub.specs.dispatcher.View.{DispatcherState}
 use Rattle.rv_hub.specs.dispatcher.Rest.{SubscribersOwe, OwersHear}
 

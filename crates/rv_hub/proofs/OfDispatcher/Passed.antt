@@ -17,7 +17,7 @@ use Rattle.rv_machine.specs.Machines.{keys_settled, state_in}
 use Rattle.rv_machine.specs.Stepping.{IsTick}
 use Rattle.rv_state.specs.waiting.Waiting.{WaitsOn}
 use Rattle.rv_state.proofs.OfWaiting.WaitingLaws.{ticks_last}
-use Rattle.rv_wires.specs.declared.subscribers.tables.Subscription.{Subscription}
+use Rattle.rv_server_connections.specs.declared.subscribers.tables.Subscription.{Subscription}
 use Rattle.rv_hub.specs.declared.dispatcher.Dispatcher.{Dispatcher}
 use Rattle.rv_hub.specs.dispatcher.View.{moment_now}
 use Rattle.rv_hub.specs.dispatcher.Telling.{IsTellable}

@@ -4,8 +4,8 @@ use Rattle.std.proofs.Common.{subst, arith, length}
 use Rattle.std.specs.Prelude.{flat_map}
 use Rattle.std.proofs.lemmas.Bool.{cases_eq}
 use Rattle.rv_text.specs.declared.message.Key.{Key}
-use Rattle.rv_wires.specs.connection.Traffic.{Traffic}
-use Rattle.rv_wires.specs.Connections.{SetsWire, WiresState}
+use Rattle.rv_server_connections.specs.connection.Traffic.{Traffic}
+use Rattle.rv_server_connections.specs.Connections.{SetsWire, WiresState}
 use Rattle.rv_hub.specs.dispatcher.Going.{unread_of}
 use Rattle.rv_hub.specs.dispatcher.View.{DispatcherState, DispatcherTerms}
 use Rattle.rv_hub.specs.dispatcher.Effects.{Effect, Does, DoesAll, bytes_by, bytes_in, entries_of_effect}

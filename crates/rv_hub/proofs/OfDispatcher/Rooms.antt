@@ -1,16 +1,16 @@
 -- A call that only lends the room of texts, or takes it back, changes nothing else.
 use Rattle.std.proofs.Common.{inl, inr, ◌≡◌, ◌+◌, ◌≤◌, ◌∙◌, ℕ, List, refl, sym, ap, ap₂, subst, arith}
 use Rattle.std.proofs.Common.{length}
-use Rattle.rv_wires.specs.Connections.{HasWire, Tally, WiresState}
-use Rattle.rv_wires.specs.Wires.{tally_in, wires_in}
+use Rattle.rv_server_connections.specs.Connections.{HasWire, Tally, WiresState}
+use Rattle.rv_server_connections.specs.Wires.{tally_in, wires_in}
 use Rattle.rv_text.specs.Bodies.{answer_text}
 use Rattle.rv_text.specs.declared.answer.Answer.{Answer}
 use Rattle.rv_text.specs.declared.answer.Answer.TheVariants.{Refused}
 use Rattle.rv_text.specs.declared.answer.Refusal.TheVariants.{NoMemory}
 use Rattle.rv_machine.specs.Machines.{state_in}
-use Rattle.rv_wires.specs.connection.Traffic.{IsDue}
-use Rattle.rv_wires.specs.declared.subscribers.Subscribers.{Subscribers}
-use Rattle.rv_wires.specs.subscribers.Subscribers.{subscribers_count}
+use Rattle.rv_server_connections.specs.connection.Traffic.{IsDue}
+use Rattle.rv_server_connections.specs.declared.subscribers.Subscribers.{Subscribers}
+use Rattle.rv_server_connections.specs.subscribers.Subscribers.{subscribers_count}
 use Rattle.rv_hub.specs.declared.dispatcher.Dispatcher.{Dispatcher}
 use Rattle.rv_hub.specs.dispatcher.View.{DispatcherState}
 use Rattle.rv_hub.specs.dispatcher.Effects.{AnswersNow, DoesClose, IsDueWith, rests_on}

@@ -9,9 +9,9 @@ use Rattle.std.proofs.lemmas.List.Elements.{All-append, All-cons, All-nil, Conta
 use Rattle.std.proofs.lemmas.List.Elements.{Contains-append_right}
 use Rattle.std.proofs.lemmas.List.Kept.{AllPairs-cons}
 use Rattle.rv_text.specs.declared.message.Key.{Key}
-use Rattle.rv_wires.specs.declared.subscribers.tables.Subscription.{Subscription}
-use Rattle.rv_wires.specs.subscribers.Subscription.{SubscribesTo, IsFirstSubscriber, SetsSubscription}
-use Rattle.rv_wires.specs.subscribers.Subscription.{WhoHears}
+use Rattle.rv_server_connections.specs.declared.subscribers.tables.Subscription.{Subscription}
+use Rattle.rv_server_connections.specs.subscribers.Subscription.{SubscribesTo, IsFirstSubscriber}
+use Rattle.rv_server_connections.specs.subscribers.Subscription.{SetsSubscription, WhoHears}
 use Rattle.rv_hub.specs.dispatcher.Telling.{AreSubscribersOf, HearsAt, HearsSooner}
 use Rattle.rv_hub.specs.dispatcher.Going.{AreSubscribersOfClient}
 

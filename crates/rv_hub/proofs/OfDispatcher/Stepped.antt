@@ -13,8 +13,8 @@ use Rattle.rv_machine.specs.declared.machine.Machine.{Machine}
 use Rattle.rv_machine.specs.declared.steps.Heard.{Heard}
 use Rattle.rv_machine.specs.Machines.{keys_settled, state_in}
 use Rattle.rv_machine.specs.Stepping.{IsHearing}
-use Rattle.rv_wires.specs.declared.subscribers.tables.Subscription.{Subscription}
-use Rattle.rv_wires.specs.subscribers.Subscribers.{subscribers_of}
+use Rattle.rv_server_connections.specs.declared.subscribers.tables.Subscription.{Subscription}
+use Rattle.rv_server_connections.specs.subscribers.Subscribers.{subscribers_of}
 use Rattle.rv_hub.specs.declared.dispatcher.Dispatcher.{Dispatcher}
 use Rattle.rv_hub.specs.dispatcher.Telling.{IsTellable, WaitsOn}
 use Rattle.rv_hub.specs.dispatcher.Fields.{IsBook, IsDispatcherSound, IsSteady, dispatcher_terms}

@@ -19,11 +19,11 @@ use Rattle.rv_state.specs.State.{State}
 use Rattle.rv_machine.specs.declared.machine.Said.{Said}
 use Rattle.rv_machine.specs.Machines.{Says, keys_settled, state_in}
 use Rattle.rv_state.specs.waiting.Waiting.{WaitsOn}
-use Rattle.rv_wires.specs.declared.subscribers.tables.Subscription.{Subscription}
-use Rattle.rv_wires.specs.subscribers.Subscription.{SetsSubscription, WhoHears}
+use Rattle.rv_server_connections.specs.declared.subscribers.tables.Subscription.{Subscription}
+use Rattle.rv_server_connections.specs.subscribers.Subscription.{SetsSubscription, WhoHears}
 use Rattle.rv_hub.specs.declared.dispatcher.Dispatcher.{Dispatcher}
 use Rattle.rv_hub.specs.dispatcher.View.{DispatcherState, DispatcherTerms}
-use Rattle.rv_wires.specs.Connections.{HasWire}
+use Rattle.rv_server_connections.specs.Connections.{HasWire}
 use Rattle.rv_hub.specs.dispatcher.Effects.{AnswersNow, Effect, Does, DoesClose, IsDueWith, MakesStep}
 use Rattle.rv_hub.specs.dispatcher.Effects.{Stepped, bytes_by, bytes_in, entries_of_effect, settled_by}
 use Rattle.rv_hub.specs.dispatcher.Effects.{told_of_effect, told_in_effects, Asked, Closed, Lacked, Lost}

@@ -10,7 +10,7 @@ use Rattle.rv_text.specs.Limits.{FitsAnswer}
 use Rattle.rv_state.specs.State.{State}
 use Rattle.rv_state.specs.resume.Resuming.{CanResume}
 use Rattle.rv_state.proofs.OfWaiting.WaitingLaws.{old_fits, told_fits}
-use Rattle.rv_wires.specs.declared.subscribers.tables.Subscription.{Subscription}
+use Rattle.rv_server_connections.specs.declared.subscribers.tables.Subscription.{Subscription}
 use Rattle.rv_hub.specs.dispatcher.Telling.{IsTellable, IsToldAgain}
 use Rattle.rv_hub.specs.dispatcher.Going.{IsToldText}
 

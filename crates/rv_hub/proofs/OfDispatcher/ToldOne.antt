@@ -6,13 +6,13 @@ use Rattle.std.proofs.lemmas.List.{append-nil, length-append}
 use Rattle.std.proofs.lemmas.Option.{none-some}
 use Rattle.rv_rules.specs.StepLimits.{AreStepLimits}
 use Rattle.rv_machine.specs.Machines.{state_in}
-use Rattle.rv_wires.specs.connection.Traffic.{Traffic}
-use Rattle.rv_wires.specs.declared.subscribers.Subscribers.{Subscribers}
-use Rattle.rv_wires.specs.declared.subscribers.tables.Subscription.{Subscription}
-use Rattle.rv_wires.specs.subscribers.Subscription.{SetsSubscription, WhoHears}
-use Rattle.rv_wires.specs.subscribers.Subscribers.{subscribers_count, subscribers_of}
-use Rattle.rv_wires.specs.Connections.{HasWire, SetsWire}
-use Rattle.rv_wires.specs.Wires.{wires_in}
+use Rattle.rv_server_connections.specs.connection.Traffic.{Traffic}
+use Rattle.rv_server_connections.specs.declared.subscribers.Subscribers.{Subscribers}
+use Rattle.rv_server_connections.specs.declared.subscribers.tables.Subscription.{Subscription}
+use Rattle.rv_server_connections.specs.subscribers.Subscription.{SetsSubscription, WhoHears}
+use Rattle.rv_server_connections.specs.subscribers.Subscribers.{subscribers_count, subscribers_of}
+use Rattle.rv_server_connections.specs.Connections.{HasWire, SetsWire}
+use Rattle.rv_server_connections.specs.Wires.{wires_in}
 use Rattle.rv_hub.specs.declared.dispatcher.Dispatcher.{Dispatcher}
 use Rattle.rv_hub.specs.dispatcher.Telling.{IsTellable}
 use Rattle.rv_hub.specs.dispatcher.Effects.{Closed, Told}

@@ -10,12 +10,12 @@ use Rattle.std.proofs.lemmas.List.Elements.{All-append, All-cons, All-nil}
 use Rattle.std.proofs.lemmas.Grind.{flat_map-append}
 use Rattle.std.proofs.lemmas.Option.{none-some}
 use Rattle.rv_frame.specs.Cut.{IsUnfinished}
-use Rattle.rv_wires.specs.connection.Traffic.{IsBad, IsWholeFrame, Traffic}
-use Rattle.rv_wires.specs.connection.Steps.{TakesIn}
-use Rattle.rv_wires.specs.subscribers.Subscribers.{subscribers_count, subscribers_of}
-use Rattle.rv_wires.specs.Connections.{ChangesWire, HasWire, SetsWire, Tally, WiresState}
-use Rattle.rv_wires.specs.Wires.{tally_in, wires_in}
-use Rattle.rv_wires.specs.declared.wires.Wires.{Wires}
+use Rattle.rv_server_connections.specs.connection.Traffic.{IsBad, IsWholeFrame, Traffic}
+use Rattle.rv_server_connections.specs.connection.Steps.{TakesIn}
+use Rattle.rv_server_connections.specs.subscribers.Subscribers.{subscribers_count, subscribers_of}
+use Rattle.rv_server_connections.specs.Connections.{ChangesWire, HasWire, SetsWire, Tally, WiresState}
+use Rattle.rv_server_connections.specs.Wires.{tally_in, wires_in}
+use Rattle.rv_server_connections.specs.declared.wires.Wires.{Wires}
 use Rattle.rv_hub.specs.declared.dispatcher.Dispatcher.{Dispatcher}
 use Rattle.rv_hub.specs.dispatcher.View.{DispatcherState, DispatcherTerms}
 use Rattle.rv_hub.specs.dispatcher.Effects.{Effect, DoesClose, bytes_by, bytes_in, entries_of_effect}

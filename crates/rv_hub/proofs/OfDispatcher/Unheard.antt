@@ -20,9 +20,9 @@ use Rattle.rv_session.specs.declared.client.LastRequest.TheVariants.{Waits}
 use Rattle.rv_state.specs.State.{ClientState, OpenPlace, State, Waiter, client_at, waiting_count}
 use Rattle.rv_state.specs.resume.Resuming.{CanResume}
 use Rattle.rv_state.specs.waiting.Waiting.{WaitsOn}
-use Rattle.rv_wires.specs.declared.subscribers.tables.Subscription.{Subscription}
-use Rattle.rv_wires.specs.subscribers.Subscription.{AreHeard, CountsHeard, HasSubscriber, SubscribesTo}
-use Rattle.rv_wires.specs.subscribers.Subscription.{WhoHears}
+use Rattle.rv_server_connections.specs.declared.subscribers.tables.Subscription.{Subscription}
+use Rattle.rv_server_connections.specs.subscribers.Subscription.{AreHeard, CountsHeard, HasSubscriber}
+use Rattle.rv_server_connections.specs.subscribers.Subscription.{SubscribesTo, WhoHears}
 use Rattle.rv_hub.specs.dispatcher.Telling.{AreUnheard, CountsUnheard, DoesWait}
 use Rattle.rv_hub.proofs.OfDispatcher.Answering.{some_is}
 

@@ -11,13 +11,13 @@ use Rattle.rv_account.specs.declared.entry.Entry.{Entry}
 -- how many entries an answer to a step rests on
 pub use Rattle.rv_rules.specs.Resting.{rests_on}
 use Rattle.rv_state.specs.Moves.{Move, StateNextAtUnder, ticked_at}
-use Rattle.rv_wires.specs.connection.Traffic.{IsDue, Traffic}
-use Rattle.rv_wires.specs.connection.Steps.{AnswersBy, TakesIn, input_ended, left_by, taken}
-use Rattle.rv_wires.specs.declared.subscribers.tables.Subscription.{Subscription}
-use Rattle.rv_wires.specs.subscribers.Subscription.{SetsSubscription}
+use Rattle.rv_server_connections.specs.connection.Traffic.{IsDue, Traffic}
+use Rattle.rv_server_connections.specs.connection.Steps.{AnswersBy, TakesIn, input_ended, left_by, taken}
+use Rattle.rv_server_connections.specs.declared.subscribers.tables.Subscription.{Subscription}
+use Rattle.rv_server_connections.specs.subscribers.Subscription.{SetsSubscription}
 use Rattle.rv_machine.specs.Machines.{keys_settled}
-use Rattle.rv_wires.specs.Connections.{ChangesWire, HasWire, IsReleased, ListsOne, OpensWire, ReleasesAll}
-use Rattle.rv_wires.specs.Connections.{SetsWire}
+use Rattle.rv_server_connections.specs.Connections.{ChangesWire, HasWire, IsReleased, ListsOne, OpensWire}
+use Rattle.rv_server_connections.specs.Connections.{ReleasesAll, SetsWire}
 use Rattle.rv_hub.specs.dispatcher.View.{ChangesBytes, DispatcherState, DispatcherTerms}
 use Rattle.rv_hub.specs.dispatcher.Telling.{IsToldAgain}
 

@@ -6,9 +6,9 @@ use Rattle.rv_state.specs.After.{due_at}
 use Rattle.rv_machine.specs.Machines.{state_in}
 use Rattle.rv_machine.specs.declared.machine.Machine.{Machine}
 use Rattle.rv_state.specs.resume.Resuming.{CanResume}
-use Rattle.rv_wires.specs.declared.subscribers.tables.Subscription.{Subscription}
-use Rattle.rv_wires.specs.subscribers.Subscribers.{subscribers_of}
-use Rattle.rv_wires.specs.Wires.{tally_in, wires_in}
+use Rattle.rv_server_connections.specs.declared.subscribers.tables.Subscription.{Subscription}
+use Rattle.rv_server_connections.specs.subscribers.Subscribers.{subscribers_of}
+use Rattle.rv_server_connections.specs.Wires.{tally_in, wires_in}
 use Rattle.rv_hub.specs.declared.dispatcher.Dispatcher.{Dispatcher}
 use Rattle.rv_hub.specs.dispatcher.View.{DispatcherState, DispatcherTerms}
 use Rattle.rv_hub.specs.dispatcher.Telling.{IsTellable}

@@ -19,14 +19,14 @@ use Rattle.rv_state.specs.State.{State}
 use Rattle.rv_machine.specs.declared.machine.Said.{Said}
 use Rattle.rv_machine.specs.Machines.{Says, keys_settled, state_in}
 use Rattle.rv_state.specs.resume.Resuming.{CanResume}
-use Rattle.rv_wires.specs.connection.Traffic.{IsDue, IsFinished, Traffic}
-use Rattle.rv_wires.specs.connection.Steps.{AnswersBy}
-use Rattle.rv_wires.specs.declared.subscribers.tables.Subscription.{Subscription}
-use Rattle.rv_wires.specs.subscribers.Subscription.{SubscribesTo, WhoHears}
-use Rattle.rv_wires.specs.subscribers.Subscribers.{subscribers_count}
-use Rattle.rv_wires.specs.Connections.{ChangesWire, HasWire, Notes, count_at, unread_count}
-use Rattle.rv_wires.specs.Wires.{tally_in, wires_in}
-use Rattle.rv_wires.specs.declared.wires.Wires.{Wires}
+use Rattle.rv_server_connections.specs.connection.Traffic.{IsDue, IsFinished, Traffic}
+use Rattle.rv_server_connections.specs.connection.Steps.{AnswersBy}
+use Rattle.rv_server_connections.specs.declared.subscribers.tables.Subscription.{Subscription}
+use Rattle.rv_server_connections.specs.subscribers.Subscription.{SubscribesTo, WhoHears}
+use Rattle.rv_server_connections.specs.subscribers.Subscribers.{subscribers_count}
+use Rattle.rv_server_connections.specs.Connections.{ChangesWire, HasWire, Notes, count_at, unread_count}
+use Rattle.rv_server_connections.specs.Wires.{tally_in, wires_in}
+use Rattle.rv_server_connections.specs.declared.wires.Wires.{Wires}
 use Rattle.rv_hub.specs.declared.dispatcher.Dispatcher.{Dispatcher}
 use Rattle.rv_hub.specs.dispatcher.View.{DispatcherState, DispatcherTerms}
 use Rattle.rv_hub.specs.dispatcher.Telling.{IsTellable, IsToldAgain, WaitsOn}

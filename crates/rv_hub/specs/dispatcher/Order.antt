@@ -4,9 +4,9 @@ use Rattle.std.specs.Prelude.{drop, flat_map, length, take}
 use Rattle.rv_text.specs.declared.message.Key.{Key}
 use Rattle.rv_text.specs.declared.answer.Answer.TheVariants as answer
 use Rattle.rv_frame.specs.Cut.{IsUnfinished}
-use Rattle.rv_wires.specs.connection.Traffic.{IsDue, IsFinished, Traffic}
-use Rattle.rv_wires.specs.declared.subscribers.tables.Subscription.{Subscription}
-use Rattle.rv_wires.specs.Connections.{HasWire}
+use Rattle.rv_server_connections.specs.connection.Traffic.{IsDue, IsFinished, Traffic}
+use Rattle.rv_server_connections.specs.declared.subscribers.tables.Subscription.{Subscription}
+use Rattle.rv_server_connections.specs.Connections.{HasWire}
 use Rattle.rv_hub.specs.dispatcher.View.{DispatcherState, DispatcherTerms}
 use Rattle.rv_hub.specs.dispatcher.Telling.{AreSubscribersOf}
 use Rattle.rv_hub.specs.dispatcher.Effects.{Effect, Does, DoesAll, bytes_in, settled_by, Asked, Closed}

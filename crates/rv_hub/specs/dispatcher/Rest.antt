@@ -1,9 +1,9 @@
 -- What holds of a dispatcher behind each effect, and where a connection stops.
 use Rattle.std.specs.Prelude.{ℕ, ◌≡◌, ◌<◌, ◌≤◌, ◌⊎◌, [], true, IsSome, Some}
 use Rattle.rv_state.specs.After.{due_at}
-use Rattle.rv_wires.specs.connection.Traffic.{IsBad, IsDue, IsFinished, IsWholeFrame, Traffic}
-use Rattle.rv_wires.specs.declared.subscribers.tables.Subscription.{Subscription}
-use Rattle.rv_wires.specs.Connections.{HasWire}
+use Rattle.rv_server_connections.specs.connection.Traffic.{IsBad, IsDue, IsFinished, IsWholeFrame, Traffic}
+use Rattle.rv_server_connections.specs.declared.subscribers.tables.Subscription.{Subscription}
+use Rattle.rv_server_connections.specs.Connections.{HasWire}
 use Rattle.rv_hub.specs.dispatcher.View.{DispatcherState}
 use Rattle.rv_hub.specs.dispatcher.Telling.{WaitsOn}
 

@@ -11,7 +11,7 @@ use Rattle.rv_session.specs.declared.client.LastRequest.{LastRequest}
 use Rattle.rv_session.specs.declared.client.LastRequest.TheVariants.{Waits}
 use Rattle.rv_state.specs.Moves.{answer_told, told_again}
 use Rattle.rv_state.specs.State.{ClientState, State, client_at}
-use Rattle.rv_wires.specs.subscribers.Subscription.{SubscribesTo, WhoHears}
+use Rattle.rv_server_connections.specs.subscribers.Subscription.{SubscribesTo, WhoHears}
 -- the request with this key waits
 pub use Rattle.rv_state.specs.waiting.Waiting.{WaitsOn}
 

@@ -3,9 +3,9 @@ use Rattle.std.specs.Prelude.{ℕ, ◌≡◌, List, [], max, min}
 use Rattle.rv_rules.specs.Steps.{max_moment}
 use Rattle.rv_rules.specs.StepLimits.{StepLimits}
 use Rattle.rv_state.specs.State.{State}
-use Rattle.rv_wires.specs.Connections.{ChangesWire, ListsOne, WiresState}
-use Rattle.rv_wires.specs.connection.Traffic.{Traffic}
-use Rattle.rv_wires.specs.subscribers.Subscription.{WhoHears}
+use Rattle.rv_server_connections.specs.Connections.{ChangesWire, ListsOne, WiresState}
+use Rattle.rv_server_connections.specs.connection.Traffic.{Traffic}
+use Rattle.rv_server_connections.specs.subscribers.Subscription.{WhoHears}
 
 pub record DispatcherState : Type 0 where
   -- the state of the account

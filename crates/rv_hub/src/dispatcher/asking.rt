@@ -7,9 +7,9 @@ ghost use Rattle.rv_text.specs.declared.answer.Answer.{Answer as Answered};
 ghost use Rattle.rv_text.specs.Bodies.{IsMessageBody, answer_text};
 ghost use Rattle.rv_text.specs.Limits.{FitsAnswer, FitsMessage};
 ghost use Rattle.rv_machine.specs.Machines.{Says, state_in};
-ghost use Rattle.rv_wires.specs.connection.Traffic.{IsDue};
-ghost use Rattle.rv_wires.specs.Connections.{HasWire};
-ghost use Rattle.rv_wires.specs.Wires.{wires_in};
+ghost use Rattle.rv_server_connections.specs.connection.Traffic.{IsDue};
+ghost use Rattle.rv_server_connections.specs.Connections.{HasWire};
+ghost use Rattle.rv_server_connections.specs.Wires.{wires_in};
 ghost use Rattle.rv_hub.specs.dispatcher.Effects.{rests_on};
 ghost use Rattle.rv_hub.specs.dispatcher.Telling.{WaitsOn};
 ghost use Rattle.rv_hub.specs.dispatcher.Fields.{IsDispatcherSound, IsSteady, dispatcher_state};
@@ -20,11 +20,11 @@ ghost use Rattle.rv_hub.specs.dispatcher.Going.{Strides, WaitsIt, fault_answer};
 use crate::dispatcher::Dispatcher;
 use crate::dispatcher::telling::reply_to;
 use rv_machine::{Heard, Machine, Said};
+use rv_server_connections::subscribers::{ConnectionNumber, Subscription};
 use rv_text::{
     Answer, Key, Message, NoMemory, Refusal, TextFault, bad_text_body, decode_message,
     encode_answer_in, no_memory_body,
 };
-use rv_wires::subscribers::{ConnectionNumber, Subscription};
 use std::alloc::Global;
 
 // What is said of a step, as an answer.

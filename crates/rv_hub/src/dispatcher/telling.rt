@@ -6,7 +6,7 @@ ghost use Rattle.rv_text.specs.Limits.{FitsIdentifier};
 ghost use Rattle.rv_state.specs.resume.Resuming.{CanResume};
 ghost use Rattle.rv_state.specs.Moves.{answer_told, told_again};
 ghost use Rattle.rv_machine.specs.Machines.{state_in};
-ghost use Rattle.rv_wires.specs.subscribers.Subscribers.{subscribers_of};
+ghost use Rattle.rv_server_connections.specs.subscribers.Subscribers.{subscribers_of};
 ghost use Rattle.rv_hub.specs.dispatcher.Telling.{IsTellable, IsToldAgain};
 ghost use Rattle.rv_hub.specs.dispatcher.Fields.{IsDispatcherSound, dispatcher_state};
 ghost use Rattle.rv_hub.specs.dispatcher.Going.{GivesTold, IsNextOverdue, IsSameDispatcher, IsToldText};
@@ -15,9 +15,9 @@ ghost use Rattle.rv_hub.specs.dispatcher.Rest.{SubscribersInTime, SubscribersWai
 
 use crate::dispatcher::Dispatcher;
 use rv_machine::Machine;
+use rv_server_connections::subscribers::ConnectionNumber;
 use rv_session::LastRequest;
 use rv_text::{Answer, Key, NoMemory, Refusal, Reply, encode_answer};
-use rv_wires::subscribers::ConnectionNumber;
 use std::alloc::Global;
 
 // What a request of a key is answered, by what became of it.

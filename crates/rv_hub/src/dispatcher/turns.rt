@@ -2,15 +2,15 @@
 ghost use Rattle.std.specs.Prelude.{◌≡◌, ◌<◌, ◌++◌, [], IfNone, length, option_to_list};
 ghost use Rattle.std.specs.Bool.{OnFalse, OnTrue};
 ghost use Rattle.rv_frame.specs.Cut.{IsUnfinished};
-ghost use Rattle.rv_wires.specs.Connections.{HasWire};
-ghost use Rattle.rv_wires.specs.Wires.{wires_in};
+ghost use Rattle.rv_server_connections.specs.Connections.{HasWire};
+ghost use Rattle.rv_server_connections.specs.Wires.{wires_in};
 ghost use Rattle.rv_hub.specs.dispatcher.Fields.{IsSteady, dispatcher_state};
 ghost use Rattle.rv_hub.specs.dispatcher.Rest.{HasComeToStop, TakesNoMore};
 ghost use Rattle.rv_hub.specs.dispatcher.Going.{FeedsPiece, Finishes, TakesItsTurn};
 
 use crate::dispatcher::Dispatcher;
-use rv_wires::connection::Coming;
-use rv_wires::subscribers::ConnectionNumber;
+use rv_server_connections::connection::Coming;
+use rv_server_connections::subscribers::ConnectionNumber;
 
 impl Dispatcher {
     // Whether a connection takes more bytes of its input: it is open, and neither a whole frame is unread nor

@@ -9,8 +9,8 @@ use Rattle.rv_due.specs.Deadlines.{Deadlines}
 use Rattle.rv_state.specs.State.{OpenPlace, Waiter, place_list, same_side}
 use Rattle.rv_state.proofs.Filtered.{filter_get, rises_left}
 use Rattle.rv_state.proofs.SideLines.{same_side_is}
-use Rattle.rv_waiters.specs.Parked.{AreParked}
-use Rattle.rv_waiters.specs.Views.{Waiters, waiting_on}
+use Rattle.rv_model_queues.specs.Parked.{AreParked}
+use Rattle.rv_model_queues.specs.Views.{Waiters, waiting_on}
 use Rattle.rv_machine.specs.open_places.OpenMap.{PlacesRise, duty_at, found_at, line_in, owed_among}
 use Rattle.rv_machine.specs.open_places.OpenMap.{count_waiting, all_but, without_limit}
 use Rattle.rv_machine.specs.open_places.Indexed.{AreIndexed, ClosesFirst}

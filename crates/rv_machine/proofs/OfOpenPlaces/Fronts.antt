@@ -13,7 +13,7 @@ use Rattle.rv_state.specs.State.{OpenPlace, place_list, same_side}
 use Rattle.rv_state.proofs.Words.{cases_lt, none-some, same_Some}
 use Rattle.rv_state.specs.After.{deadline_of_place}
 use Rattle.rv_state.proofs.Filtered.{filter_get, find_get}
-use Rattle.rv_waiters.specs.Views.{Waiters, waiting_on}
+use Rattle.rv_model_queues.specs.Views.{Waiters, waiting_on}
 use Rattle.rv_machine.specs.open_places.OpenMap.{IsFirstDue, NeverDue, PlacesRise, due_in, duty_at, found_at}
 use Rattle.rv_machine.specs.open_places.OpenMap.{line_in, all_but, first_behind, without_limit}
 use Rattle.rv_machine.specs.open_places.Indexed.{AreIndexed, ClosesDue}

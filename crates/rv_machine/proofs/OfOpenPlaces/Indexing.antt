@@ -16,9 +16,9 @@ use Rattle.rv_state.specs.State.{OpenPlace, Waiter, place_list, same_side}
 use Rattle.rv_state.proofs.Words.{none-some, same_Some}
 use Rattle.rv_state.proofs.Filtered.{filter_get, find_get, get_filter, get_find, get_map, map_get, rises_left}
 use Rattle.rv_state.proofs.SideLines.{same_side_is, same_side_itself}
-use Rattle.rv_waiters.specs.Parked.{AreParked}
-use Rattle.rv_waiters.specs.Views.{Waiters, place_of_duty, waiting_on}
-use Rattle.rv_waiters.specs.Meeting.{LeavesSide, StandsOn, Withdrew}
+use Rattle.rv_model_queues.specs.Parked.{AreParked}
+use Rattle.rv_model_queues.specs.Views.{Waiters, place_of_duty, waiting_on}
+use Rattle.rv_model_queues.specs.Meeting.{LeavesSide, StandsOn, Withdrew}
 use Rattle.rv_machine.specs.open_places.OpenMap.{PlacesRise, duty_at, found_at, line_in, owed_among}
 use Rattle.rv_machine.specs.open_places.OpenMap.{count_waiting, all_but, without_limit}
 use Rattle.rv_machine.specs.open_places.Indexed.{AreIndexed, WaitsIn}

@@ -14,9 +14,9 @@ use Rattle.rv_due.specs.Deadlines.{Deadlines}
 use Rattle.rv_state.specs.State.{OpenPlace, place_list, same_side}
 use Rattle.rv_state.proofs.Filtered.{append_get}
 use Rattle.rv_state.proofs.SideLines.{same_side_itself}
-use Rattle.rv_waiters.specs.Meeting.{FindsNobody, StartsToWait}
-use Rattle.rv_waiters.specs.Parked.{AreParked}
-use Rattle.rv_waiters.specs.Views.{AreBelow, Waiters, waiting_on}
+use Rattle.rv_model_queues.specs.Meeting.{FindsNobody, StartsToWait}
+use Rattle.rv_model_queues.specs.Parked.{AreParked}
+use Rattle.rv_model_queues.specs.Views.{AreBelow, Waiters, waiting_on}
 use Rattle.rv_machine.specs.open_places.OpenMap.{StandBelow, count_waiting, duty_at, facing, found_at}
 use Rattle.rv_machine.specs.open_places.OpenMap.{line_in, opposed_in, owed_among, with_limit}
 use Rattle.rv_machine.specs.open_places.Indexed.{AreIndexed}

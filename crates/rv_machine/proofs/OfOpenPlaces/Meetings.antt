@@ -12,11 +12,11 @@ use Rattle.rv_due.specs.Deadlines.{Deadlines}
 use Rattle.rv_account.specs.Calls.{opposite}
 use Rattle.rv_state.specs.State.{OpenPlace, same_side}
 use Rattle.rv_state.proofs.Words.{none-some, same_Some}
-use Rattle.rv_waiters.specs.declared.outcome.Arrived.{Arrived}
-use Rattle.rv_waiters.specs.Parked.{AreParked}
-use Rattle.rv_waiters.specs.Meeting.{ArrivedOn, FindsNobody, HasRoomOn, MeetsOrWaits, OwnDuty}
-use Rattle.rv_waiters.specs.Meeting.{PartnersDuty}
-use Rattle.rv_waiters.specs.Views.{AreBelow, Waiters, waiting_on}
+use Rattle.rv_model_queues.specs.declared.outcome.Arrived.{Arrived}
+use Rattle.rv_model_queues.specs.Parked.{AreParked}
+use Rattle.rv_model_queues.specs.Meeting.{ArrivedOn, FindsNobody, HasRoomOn, MeetsOrWaits, OwnDuty}
+use Rattle.rv_model_queues.specs.Meeting.{PartnersDuty}
+use Rattle.rv_model_queues.specs.Views.{AreBelow, Waiters, waiting_on}
 use Rattle.rv_machine.specs.open_places.OpenMap.{StandBelow, facing, line_in, opposed_in, owed_among}
 use Rattle.rv_machine.specs.open_places.Indexed.{AreIndexed}
 use Rattle.rv_machine.proofs.OfOpenPlaces.Firsts.{FirstLeft, first_left, no_places}

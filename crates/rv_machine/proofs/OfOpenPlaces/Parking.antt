@@ -17,11 +17,11 @@ use Rattle.rv_session.specs.OwedDuty.{OwedDuty}
 use Rattle.rv_due.specs.Deadlines.{Deadlines}
 use Rattle.rv_state.specs.State.{OpenPlace, Waiter}
 use Rattle.rv_state.proofs.Words.{none-some}
-use Rattle.rv_waiters.specs.declared.outcome.Arrived.{Arrived}
-use Rattle.rv_waiters.specs.Meeting.{ArrivedOn, FindsNobody, MeetsFirst, MeetsOrWaits, OwnDuty, PartnersDuty}
-use Rattle.rv_waiters.specs.Meeting.{StartsToWait}
-use Rattle.rv_waiters.specs.Views.{SameWaiters, Waiters, waiting_on}
-use Rattle.rv_waiters.proofs.Tabled.{same_parked, same_waiting}
+use Rattle.rv_model_queues.specs.declared.outcome.Arrived.{Arrived}
+use Rattle.rv_model_queues.specs.Meeting.{ArrivedOn, FindsNobody, MeetsFirst, MeetsOrWaits, OwnDuty}
+use Rattle.rv_model_queues.specs.Meeting.{PartnersDuty, StartsToWait}
+use Rattle.rv_model_queues.specs.Views.{SameWaiters, Waiters, waiting_on}
+use Rattle.rv_model_queues.proofs.Tabled.{same_parked, same_waiting}
 use Rattle.rv_machine.specs.open_places.OpenMap.{StandBelow, duty_at, owed_among}
 use Rattle.rv_machine.specs.open_places.OpenMap.{count_waiting, with_limit, all_but}
 use Rattle.rv_machine.specs.open_places.Indexed.{AreIndexed, MayPark, own_duty}

@@ -13,8 +13,8 @@ use Rattle.rv_session.specs.declared.client.ClientState.{ClientState}
 use Rattle.rv_session.specs.OwedDuty.{OwedDuty}
 use Rattle.rv_due.specs.Deadlines.{Deadlines}
 use Rattle.rv_state.specs.State.{OpenPlace, Waiter}
-use Rattle.rv_waiters.specs.Laying.{LaidOn}
-use Rattle.rv_waiters.specs.Views.{Waiters}
+use Rattle.rv_model_queues.specs.Laying.{LaidOn}
+use Rattle.rv_model_queues.specs.Views.{Waiters}
 use Rattle.rv_machine.specs.open_places.OpenMap.{count_waiting, duty_at, with_limit}
 use Rattle.rv_machine.specs.open_places.Indexed.{AreIndexed}
 use Rattle.rv_machine.specs.open_places.Reopening.{CanBeClaimed, ClaimsUpTo, MayReopen, StandsOpen}

@@ -9,13 +9,13 @@ use Rattle.rv_text.specs.declared.call.Wait.{Wait}
 use Rattle.rv_text.specs.Calls.{side_of, wait_of}
 use Rattle.rv_session.specs.declared.client.LastRequest.TheVariants.{Waits}
 use Rattle.rv_session.specs.Clients.{ClientStates, clients_asked, with_clients}
-use Rattle.rv_waiters.specs.Meeting.{StaysBy}
+use Rattle.rv_model_queues.specs.Meeting.{StaysBy}
 use Rattle.rv_text.specs.Limits.{FitsSide}
 use Rattle.rv_session.specs.OwedDuty.{OwedDuty}
 use Rattle.rv_due.specs.Deadlines.{Deadlines}
 use Rattle.rv_state.specs.State.{OpenPlace, place_list}
-use Rattle.rv_waiters.specs.Parked.{AreParked}
-use Rattle.rv_waiters.specs.Views.{Waiters, waiting_on}
+use Rattle.rv_model_queues.specs.Parked.{AreParked}
+use Rattle.rv_model_queues.specs.Views.{Waiters, waiting_on}
 use Rattle.rv_machine.specs.open_places.OpenMap.{PlacesRise, due_in, duty_at, facing, found_at, deadlines_in}
 use Rattle.rv_machine.specs.open_places.OpenMap.{line_in, StandBelow, most_counted, opposed_in, owed_among}
 use Rattle.rv_machine.specs.open_places.OpenMap.{count_waiting, all_but}

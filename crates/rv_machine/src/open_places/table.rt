@@ -12,15 +12,15 @@ ghost use Rattle.rv_machine.specs.open_places.OpenMap.{count_waiting, IsFirstDue
 ghost use Rattle.rv_machine.specs.open_places.OpenMap.{all_but, without_limit, first_behind};
 ghost use Rattle.rv_machine.specs.open_places.Indexed.{ClosesPlace, ClosesDue, ClosesFirst, MayPark};
 ghost use Rattle.rv_machine.specs.open_places.Indexed.{ParksPlace, WaitsIn};
-ghost use Rattle.rv_waiters.specs.Meeting.{HasRoomOn, MakesRoomFor};
+ghost use Rattle.rv_model_queues.specs.Meeting.{HasRoomOn, MakesRoomFor};
 ghost use Rattle.rv_machine.specs.open_places.Reopening.{CanBeClaimed, ClaimsUpTo, MayReopen, MayResume};
 ghost use Rattle.rv_machine.specs.open_places.Reopening.{duty_of_waiter};
 
 use crate::open_places::opens::OpenMap;
 use rv_due::Due;
+use rv_model_queues::{Arrived, Waiters};
 use rv_session::{Claims, Clients, Duty, OpenPlace, Place, ReturnedClients, Waiter};
 use rv_text::{Call, Key, NoMemory, Side};
-use rv_waiters::{Arrived, Waiters};
 use std::alloc::Global;
 use std::marker::Model;
 

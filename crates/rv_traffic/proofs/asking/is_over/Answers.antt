@@ -2,7 +2,7 @@
 use Rattle.std.proofs.Common.{subst}
 use Rattle.rv_hub.specs.declared.parts.HubParts.{HubParts}
 use Rattle.rv_hub.specs.Hubs.{hub_state}
-use Rattle.rv_wires.specs.Connections.{IsTotalHeld, IsTotalUnread}
+use Rattle.rv_server_connections.specs.Connections.{IsTotalHeld, IsTotalUnread}
 use Rattle.rv_traffic.specs.Views.{traffic_state}
 use Rattle.rv_traffic.proofs.Held.{is_over_then, is_within_then}
 use Rattle.rv_traffic.proofs.asking.is_over.Goals as goal

@@ -1,6 +1,6 @@
 -- One flag more.
 use Rattle.std.proofs.Common.{ap, arith, vec_capacity}
-use Rattle.rv_wires.proofs.Listing.{flag_added}
+use Rattle.rv_server_connections.proofs.Listing.{flag_added}
 use Rattle.rv_engine.proofs.looks.LookList.add_flags.Goals as goal
 
 pub loop-self-preserved : goal.loop-self-preserved

@@ -1,6 +1,6 @@
 -- A number is listed that wasn't.
 use Rattle.std.proofs.Common.{◌≡◌, ◌∙◌, ap, arith, false, true, get_or, refl, sym}
-use Rattle.rv_wires.proofs.Listing.{fewer, get_or_set, lists_again, lists_one, marked}
+use Rattle.rv_server_connections.proofs.Listing.{fewer, get_or_set, lists_again, lists_one, marked}
 use Rattle.rv_engine.proofs.looks.LookList.mark.Goals as goal
 
 pub push_reserved-requires : goal.push_reserved-requires

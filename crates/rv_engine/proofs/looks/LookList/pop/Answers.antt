@@ -1,6 +1,6 @@
 -- The last is listed no longer.
 use Rattle.std.proofs.Common.{arith, refl}
-use Rattle.rv_wires.proofs.Listing.{last_within, unmarked}
+use Rattle.rv_server_connections.proofs.Listing.{last_within, unmarked}
 use Rattle.rv_engine.proofs.looks.LookList.pop.Goals as goal
 
 pub index_mut-requires : goal.index_mut-requires

@@ -1,6 +1,6 @@
 -- Its last request waits, and nobody hears of it.
 use Rattle.std.proofs.Common.{sym}
-use Rattle.rv_wires.specs.subscribers.Subscribers.{subscribers_of}
+use Rattle.rv_server_connections.specs.subscribers.Subscribers.{subscribers_of}
 use Rattle.rv_hub.proofs.OfDispatcher.Unheard.{none_heard, not_heard}
 use Rattle.rv_hub.proofs.dispatcher.Dispatcher.is_unheard.Goals as goal
 

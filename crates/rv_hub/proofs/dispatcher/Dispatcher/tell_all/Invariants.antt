@@ -1,5 +1,5 @@
 -- Those that were told so far are the first.
-use Rattle.rv_wires.specs.subscribers.Subscribers.{subscribers_count}
+use Rattle.rv_server_connections.specs.subscribers.Subscribers.{subscribers_count}
 use Rattle.rv_hub.specs.dispatcher.Fields.{IsDispatcherSound}
 use Rattle.rv_hub.proofs.OfDispatcher.Tellings.{TellsSoFar}
 use Rattle.rv_hub.proofs.dispatcher.Dispatcher.tell_all.Given as goal

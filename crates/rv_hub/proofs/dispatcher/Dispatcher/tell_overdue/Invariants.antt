@@ -1,5 +1,5 @@
 -- Those that were told so far have waited longest.
-use Rattle.rv_wires.specs.subscribers.Subscribers.{subscribers_count}
+use Rattle.rv_server_connections.specs.subscribers.Subscribers.{subscribers_count}
 use Rattle.rv_hub.specs.dispatcher.Fields.{IsDispatcherSound}
 use Rattle.rv_hub.proofs.OfDispatcher.Late.{TellsLateSoFar}
 use Rattle.rv_hub.proofs.dispatcher.Dispatcher.tell_overdue.Given as goal

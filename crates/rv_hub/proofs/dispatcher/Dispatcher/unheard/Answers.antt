@@ -1,7 +1,7 @@
 -- All that wait less those of which some connection hears.
 use Rattle.std.proofs.Common.{◌-◌, ◌≤◌, arith, subst, sym}
 use Rattle.rv_machine.specs.Machines.{state_in}
-use Rattle.rv_wires.specs.subscribers.Subscribers.{subscribers_of}
+use Rattle.rv_server_connections.specs.subscribers.Subscribers.{subscribers_of}
 use Rattle.rv_hub.proofs.OfDispatcher.Unheard.{counts_unheard, heard_at_most}
 use Rattle.rv_hub.proofs.dispatcher.Dispatcher.unheard.Goals as goal
 

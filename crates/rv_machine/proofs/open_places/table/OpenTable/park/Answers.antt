@@ -4,7 +4,7 @@ use Rattle.rv_text.specs.declared.call.Call.{Call}
 use Rattle.rv_text.specs.Calls.{side_of, wait_of}
 use Rattle.rv_session.specs.OwedDuty.{OwedDuty}
 use Rattle.rv_state.specs.State.{OpenPlace}
-use Rattle.rv_waiters.specs.Meeting.{ArrivedOn}
+use Rattle.rv_model_queues.specs.Meeting.{ArrivedOn}
 use Rattle.rv_machine.specs.open_places.OpenMap.{StandBelow}
 use Rattle.rv_machine.specs.open_places.Indexed.{AreIndexed, MayPark}
 use Rattle.rv_machine.proofs.OfOpenPlaces.Meetings.{are_below}

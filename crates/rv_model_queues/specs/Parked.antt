@@ -1,0 +1,22 @@
+-- Whose duties are parked: what those who wait are to the duties that are owed.
+use Rattle.std.specs.Prelude.{◌≡◌, ℕ, Option, Some, slice_get}
+use Rattle.rv_session.specs.OwedDuty.{OwedDuty}
+use Rattle.rv_dual.specs.Offers.{duty_of, place_of}
+use Rattle.rv_dual.specs.Queue.{Queue}
+use Rattle.rv_dual.specs.declared.giver.Offer.{Offer}
+use Rattle.rv_model_queues.specs.Views.{Waiters, exchanger_at, queue_at}
+
+-- Below, `owed` says for each place the duty to settle what arrived there, if one is owed; a put needs none.
+-- What is said here is said of whatever function tells this.
+
+-- the duties that are parked in a queue are those that are owed at their places
+pub record IsParked (owed : ℕ → Option OwedDuty) (q : Queue) : Type 0 where
+  pub givers : (i : ℕ) (offer : Offer) → slice_get q.givers i ≡ Some offer
+      → owed (place_of offer) ≡ duty_of offer
+  pub takers : (i : ℕ) (duty : OwedDuty) → slice_get q.takers i ≡ Some duty → owed duty.place ≡ Some duty
+
+-- and so in each queue and at each exchanger
+pub record AreParked (owed : ℕ → Option OwedDuty) (waiters : Waiters) : Type 0 where
+  pub queues : (queue : ℕ) → IsParked owed (queue_at waiters.queues queue)
+  pub exchangers : (exchanger : ℕ) (duty : OwedDuty) → exchanger_at waiters.exchangers exchanger ≡ Some duty
+      → owed duty.place ≡ Some duty

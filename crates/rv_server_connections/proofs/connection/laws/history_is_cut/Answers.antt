@@ -1,0 +1,6 @@
+-- Frames in a row, and what ends none behind them.
+use Rattle.rv_server_connections.proofs.OfConnection.Kept as kept
+use Rattle.rv_server_connections.proofs.connection.laws.history_is_cut.Goals as goal
+
+pub returns : goal.returns
+returns c = record { unfinished = kept.cuts_open; whole = kept.cuts_whole; bad = kept.cuts_bad }

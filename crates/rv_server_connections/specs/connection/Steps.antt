@@ -1,0 +1,53 @@
+-- What each call makes of a connection.
+use Rattle.std.specs.Prelude.{ℕ, ◌≡◌, ◌<◌, ◌≤◌, ◌⊎◌, false, true, List, [], ◌∷◌, ◌++◌, length, take, drop}
+use Rattle.std.specs.List.{All}
+use Rattle.rv_frame.specs.Cut.{frame_bytes}
+use Rattle.rv_server_connections.specs.connection.Traffic.{AnswerByte, IsBad, IsOneAtMost, IsWholeFrame}
+use Rattle.rv_server_connections.specs.connection.Traffic.{Traffic, bytes_of, resting}
+
+-- nothing came, and nothing is owed
+abbrev pub fresh_traffic : Traffic
+fresh_traffic = record { unread = []; owes = false; ready = []; behind = []; ended = false }
+
+-- of a piece so many bytes are taken: all, or as many as end a frame or a bad length
+pub record TakesIn (old : Traffic) (piece : List ℕ) (count : ℕ) (new : Traffic) : Type 0 where
+  pub within : count ≤ length piece
+  pub unread : new ≡ record old { unread = old.unread ++ take count piece }
+  pub one : IsOneAtMost new.unread
+  pub stops : count < length piece → IsWholeFrame new.unread ⊎ IsBad new.unread
+
+-- the first byte that may not leave rests on more entries than are written
+abbrev pub HoldsBack : ℕ → List AnswerByte → Type 0
+HoldsBack written [] = Unit {0}
+HoldsBack written (b ∷ behind) = written < b.rests_on
+
+-- of bytes in order those leave that stand before the first that rests on more entries than are written
+pub record Frees (written : ℕ) (held front rest : List AnswerByte) : Type 0 where
+  pub parts : held ≡ front ++ rest
+  pub free : All (λ b. b.rests_on ≤ written) front
+  pub held_back : HoldsBack written rest
+
+-- so many entries are written, and what may leave then is ready
+pub record Releases (written : ℕ) (old new : Traffic) : Type 0 where
+  pub front : List AnswerByte
+  pub frees : Frees written old.behind front new.behind
+  pub goes : new ≡ record old { ready = old.ready ++ bytes_of front; behind = new.behind }
+
+-- the owed answer is this body's frame, which rests on so many entries; it stands behind all that is held
+pub record AnswersBy (written : ℕ) (old : Traffic) (entries : ℕ) (body : List ℕ) (new : Traffic) :
+    Type 0 where
+  pub front : List AnswerByte
+  pub frees : Frees written (old.behind ++ resting entries (frame_bytes body)) front new.behind
+  pub goes : new ≡ record old { owes = false; ready = old.ready ++ bytes_of front; behind = new.behind }
+
+-- the unread frame is taken, and its answer is owed
+abbrev pub taken : Traffic → Traffic
+taken old = record old { unread = []; owes = true }
+
+-- so many of the bytes that may leave have left
+abbrev pub left_by : Traffic → ℕ → Traffic
+left_by old count = record old { ready = drop count old.ready }
+
+-- the input has ended
+abbrev pub input_ended : Traffic → Traffic
+input_ended old = record old { ended = true }

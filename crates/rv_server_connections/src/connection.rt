@@ -1,0 +1,185 @@
+//! One connection: the bytes that came of its input and weren't taken as a frame, and those of its answers
+//! that its peer hasn't taken.
+ghost use Rattle.std.specs.Prelude.{◌≡◌};
+
+mod answers;
+mod buffers;
+pub mod laws;
+mod unread;
+
+use crate::connection::buffers::Buffers;
+use std::alloc::Global;
+use std::marker::Model;
+pub use unread::Coming;
+
+/// A growth of memory was refused.
+pub type NoMemory = rv_frame::NoMemory;
+
+/// One connection: the bytes that came of its input and weren't taken as a frame, one frame at most; and the
+/// bytes of answers that its peer hasn't taken. Of these may leave what stands before the first answer that
+/// rests on an entry that isn't written.
+///
+/// A frame is taken only while no earlier answer is owed and at most 65,534 bytes of answers are held, so
+/// never more than 131,071 are. Contracts see a connection as its `Traffic`. What came, was answered and left
+/// from its opening on is a `History`, which each call keeps (`laws`).
+#[derive(Drop)]
+pub struct Wire {
+    buffers: Buffers,
+}
+
+impl Model for Wire {
+    ghost use Rattle.rv_server_connections.specs.connection.Traffic.{Traffic};
+
+    ghost Value = { Traffic };
+
+    ghost use Rattle.rv_server_connections.specs.connection.Fields.{IsSoundWire, traffic_of};
+
+    ghost view = { λ c. traffic_of c.buffers };
+
+    ghost invariant = { λ c. IsSoundWire c.buffers };
+}
+
+impl Wire {
+    ghost use Rattle.std.specs.Prelude.{◌≤◌, ◌↔◌, true, length, IfNone, IfOk, IfSome, IsTrue, OnErr, OnOk};
+    ghost use Rattle.rv_frame.specs.Cut.{IsFrameBody, frame_bytes};
+    ghost use Rattle.rv_server_connections.specs.connection.Traffic.{IsDue, IsFinished, IsComing, MayOffer};
+    ghost use Rattle.rv_server_connections.specs.connection.Traffic.{first_rests_on, held_count};
+    ghost use Rattle.rv_server_connections.specs.connection.Steps.{AnswersBy, HoldsBack, Releases, TakesIn};
+    ghost use Rattle.rv_server_connections.specs.connection.Steps.{fresh_traffic, input_ended, left_by};
+    ghost use Rattle.rv_server_connections.specs.connection.Steps.{taken};
+
+    /// A connection of which nothing came. It takes no memory yet.
+    pub fn new(alloc: Global) -> Wire
+        ensures { result ≡ fresh_traffic }
+    {
+        Wire {
+            buffers: Buffers::new(alloc),
+        }
+    }
+
+    /// Takes bytes of a piece of its input, and tells how many: all, or as many as end the unread frame or
+    /// show that its length is bad. If memory for them is refused nothing changes.
+    pub fn take_in(&mut self, piece: &[u8]) -> Result<usize, NoMemory>
+        ensures takes { IfOk result (λ count. TakesIn self.old piece.now count self.new) }
+        ensures refused { OnErr result (self.new ≡ self.old) }
+    {
+        self.buffers.take_in(piece)
+    }
+
+    /// What the unread bytes are.
+    pub fn unread(&self) -> Coming<'_>
+        ensures { IsComing self.now.unread result }
+    {
+        self.buffers.unread()
+    }
+
+    /// The body of the unread frame, if it is to be answered now.
+    pub fn next(&self) -> Option<&[u8]>
+        ensures due { IfSome result (λ body. IsDue self.now) }
+        ensures body { IfSome result (λ body. IsFrameBody body.now
+            × (self.now.unread ≡ frame_bytes body.now)) }
+        ensures none { IfNone result (¬ IsDue self.now) }
+    {
+        self.buffers.next()
+    }
+
+    /// Takes the unread frame, whose answer is then owed.
+    pub fn take_frame(&mut self)
+        requires { IsDue self.old }
+        ensures { self.new ≡ taken self.old }
+    {
+        self.buffers.take_frame()
+    }
+
+    /// Gives the answer that is owed, by its body, behind all that is held. It rests on so many entries, and
+    /// so many are written. If memory for it is refused nothing changes.
+    pub fn answer(&mut self, written: u64, entries: u64, body: &[u8]) -> Result<(), NoMemory>
+        requires owes { self.old.owes ≡ true }
+        requires held_back { HoldsBack written self.old.behind }
+        requires fits { IsFrameBody body.now }
+        ensures answers { OnOk result (AnswersBy written self.old entries body.now self.new) }
+        ensures refused { OnErr result (self.new ≡ self.old) }
+    {
+        self.buffers.answer(written, entries, body)
+    }
+
+    /// Lets answers go that rest on no more entries than are written.
+    pub fn release(&mut self, written: u64)
+        ensures { Releases written self.old self.new }
+    {
+        self.buffers.release(written)
+    }
+
+    /// How many entries have to be written before any of the bytes may leave that may not yet, if there are
+    /// such.
+    pub fn waits_for(&self) -> Option<u64>
+        ensures { result ≡ first_rests_on self.now.behind }
+    {
+        self.buffers.answers.waits_for()
+    }
+
+    /// The bytes that may leave.
+    pub fn ready(&self) -> &[u8]
+        ensures { result.now ≡ self.now.ready }
+    {
+        self.buffers.answers.ready()
+    }
+
+    /// So many of the bytes that may leave have left.
+    pub fn took(&mut self, count: usize)
+        requires { count ≤ length self.old.ready }
+        ensures { self.new ≡ left_by self.old count }
+    {
+        self.buffers.took(count)
+    }
+
+    /// Its input has ended.
+    pub fn end_input(&mut self)
+        ensures { self.new ≡ input_ended self.old }
+    {
+        self.buffers.end_input()
+    }
+
+    /// Whether an answer is owed.
+    pub fn owes(&self) -> bool
+        ensures { result ≡ self.now.owes }
+    {
+        self.buffers.owes
+    }
+
+    /// Whether its input has ended.
+    pub fn has_ended(&self) -> bool
+        ensures { result ≡ self.now.ended }
+    {
+        self.buffers.ended
+    }
+
+    /// How many bytes are unread.
+    pub fn unread_count(&self) -> usize
+        ensures { result ≡ length self.now.unread }
+    {
+        self.buffers.unread.len()
+    }
+
+    /// How many bytes of answers are held.
+    pub fn held(&self) -> usize
+        ensures count { result ≡ held_count self.now }
+        ensures within { result ≤ 131071 }
+    {
+        self.buffers.held()
+    }
+
+    /// Whether more of its input may be offered.
+    pub fn may_offer(&self) -> bool
+        ensures { IsTrue result ↔ MayOffer self.now }
+    {
+        self.buffers.may_offer()
+    }
+
+    /// Whether it is to be closed.
+    pub fn is_finished(&self) -> bool
+        ensures { IsTrue result ↔ IsFinished self.now }
+    {
+        self.buffers.is_finished()
+    }
+}

@@ -1,0 +1,257 @@
+//! All open connections of a hub.
+ghost use Rattle.std.specs.Prelude.{◌≡◌, ◌≤◌, ◌+◌, ◌*◌, Option, None, Some};
+ghost use Rattle.rv_server_connections.specs.Connections.{count_at, unread_count};
+ghost use Rattle.rv_server_connections.specs.Fields.{slots_state};
+ghost use Rattle.rv_server_connections.specs.Noting.{IsNoted, IsUnreadIn};
+
+use crate::connection::{NoMemory, Wire};
+use crate::noted::Noted;
+use crate::subscribers::ConnectionNumber;
+use std::alloc::Global;
+use std::mem;
+
+// How many bytes of a connection are unread, if it is open.
+fn unread_of(noted: &Noted, connection: ConnectionNumber) -> usize
+    requires { IsNoted noted.now }
+    ensures { result ≡ count_at unread_count ((slots_state noted.now.slots).wires connection) }
+{
+    match noted.get(connection) {
+        Some(wire) => wire.unread_count(),
+        None => 0,
+    }
+}
+
+// So many bytes more, where fewer than 2^64 are unread of each number that has room.
+fn add_unread(unread: u128, more: usize, room: usize) -> u128
+    requires { unread ≤ 18446744073709551615 * room }
+    ensures { result ≡ unread + more }
+{
+    let _ = room;
+    unread + more as u128
+}
+
+/// All open connections, each under its number, with how many entries are written.
+///
+/// Contracts see of each number the connection's bytes, if it is open (`wires_in`). A number is free exactly
+/// while no connection is open under it. All calls but `release` take constant time, or time logarithmic in
+/// the number of connections that hold something back.
+#[derive(Drop)]
+pub struct Wires {
+    noted: Noted,
+    // How many bytes are unread of all.
+    unread: u128,
+    // The room in which the texts of answers are written.
+    room: Vec<u8>,
+    ghost sound: { IsNoted noted },
+    ghost counted: { IsUnreadIn noted unread },
+}
+
+impl Wires {
+    ghost use Rattle.std.specs.Prelude.{◌≡◌, ◌≢◌, ◌≤◌, None, true, [], length, AllPairs, IfOk};
+    ghost use Rattle.std.specs.Prelude.{IsSome, OnErr, OnOk};
+    ghost use Rattle.std.specs.Option.{option_copied};
+    ghost use Rattle.rv_frame.specs.Cut.{IsFrameBody};
+    ghost use Rattle.rv_server_connections.specs.connection.Traffic.{IsDue};
+    ghost use Rattle.rv_server_connections.specs.connection.Steps.{AnswersBy, TakesIn, input_ended, left_by};
+    ghost use Rattle.rv_server_connections.specs.connection.Steps.{taken};
+    ghost use Rattle.rv_server_connections.specs.Connections.{AllHeldBack, ChangesWire, HasWire, IsTotalHeld};
+    ghost use Rattle.rv_server_connections.specs.Connections.{Notes, IsTotalUnread, NotesReleased, OpensWire};
+    ghost use Rattle.rv_server_connections.specs.Connections.{ReleasesAll, SetsWire, none_open};
+    ghost use Rattle.rv_server_connections.specs.Wires.{tally_in, wires_in};
+
+    /// No connection is open, and so many entries are written. It takes no memory yet.
+    pub fn new(alloc: Global, written: u64) -> Wires
+        ensures none { wires_in result ≡ none_open written }
+        ensures tally { tally_in result ≡ record { changed = []; unread = 0 } }
+    {
+        Wires {
+            noted: Noted::empty(alloc, written),
+            unread: 0,
+            room: Vec::new(alloc),
+        }
+    }
+
+    /// How many entries are written.
+    pub fn written(&self) -> u64
+        ensures { result ≡ (wires_in self.now).written }
+    {
+        self.noted.slots.written
+    }
+
+    /// Opens a connection, under a number that is free. If memory for it is refused nothing changes.
+    pub fn open(&mut self) -> Result<ConnectionNumber, NoMemory>
+        ensures opened { IfOk result (λ connection.
+            OpensWire (wires_in self.old) connection (wires_in self.new)) }
+        ensures noted { IfOk result (λ connection. Notes (wires_in self.old) (tally_in self.old) connection
+            (wires_in self.new) (tally_in self.new)) }
+        ensures refused { OnErr result (wires_in self.new ≡ wires_in self.old) }
+        ensures kept { OnErr result (tally_in self.new ≡ tally_in self.old) }
+    {
+        self.noted.open()
+    }
+
+    /// The connection under a number, if it is open. What may not leave of any begins with an answer that
+    /// rests on an entry which isn't written.
+    pub fn get(&self, connection: ConnectionNumber) -> Option<&Wire>
+        ensures found { option_copied result ≡ (wires_in self.now).wires connection }
+        ensures held_back { AllHeldBack (wires_in self.now) }
+    {
+        self.noted.get(connection)
+    }
+
+    /// Takes bytes of a piece of a connection's input, and tells how many (`Wire::take_in`). If memory for
+    /// them is refused nothing changes.
+    pub fn take_in(&mut self, connection: ConnectionNumber, piece: &[u8]) -> Result<usize, NoMemory>
+        requires { IsSome ((wires_in self.old).wires connection) }
+        ensures takes { IfOk result (λ count. ChangesWire (wires_in self.old) connection
+            (λ wire after. TakesIn wire piece.now count after) (wires_in self.new)) }
+        ensures noted { OnOk result (Notes (wires_in self.old) (tally_in self.old) connection
+            (wires_in self.new) (tally_in self.new)) }
+        ensures refused { OnErr result (wires_in self.new ≡ wires_in self.old) }
+        ensures kept { OnErr result (tally_in self.new ≡ tally_in self.old) }
+    {
+        let room = self.noted.slots.room();
+        let before = unread_of(&self.noted, connection);
+        let count = self.noted.take_in(connection, piece)?;
+        let more = unread_of(&self.noted, connection) - before;
+        self.unread = add_unread(self.unread, more, room);
+        Ok(count)
+    }
+
+    /// Takes the unread frame of a connection, whose answer is then owed.
+    pub fn take_frame(&mut self, connection: ConnectionNumber)
+        requires { HasWire (wires_in self.old) connection IsDue }
+        ensures changes { ChangesWire (wires_in self.old) connection (λ wire after. after ≡ taken wire)
+            (wires_in self.new) }
+        ensures noted { Notes (wires_in self.old) (tally_in self.old) connection
+            (wires_in self.new) (tally_in self.new) }
+    {
+        let gone = unread_of(&self.noted, connection);
+        self.noted.take_frame(connection);
+        self.unread -= gone as u128;
+    }
+
+    /// Gives the answer that a connection is owed, by its body, behind all that is held for it. It rests on
+    /// so many entries. If memory for it is refused nothing changes.
+    pub fn answer(
+        &mut self,
+        connection: ConnectionNumber,
+        entries: u64,
+        body: &[u8],
+    ) -> Result<(), NoMemory>
+        requires owes { HasWire (wires_in self.old) connection (λ wire. wire.owes ≡ true) }
+        requires fits { IsFrameBody body.now }
+        ensures answers { OnOk result (ChangesWire (wires_in self.old) connection
+            (λ wire after. AnswersBy (wires_in self.old).written wire entries body.now after)
+            (wires_in self.new)) }
+        ensures noted { OnOk result (Notes (wires_in self.old) (tally_in self.old) connection
+            (wires_in self.new) (tally_in self.new)) }
+        ensures refused { OnErr result (wires_in self.new ≡ wires_in self.old) }
+        ensures kept { OnErr result (tally_in self.new ≡ tally_in self.old) }
+    {
+        self.noted.answer(connection, entries, body)
+    }
+
+    /// Lends the room in which the texts of answers are written, so that one after another takes no memory
+    /// but where it needs more. While it is lent there is none.
+    pub fn lend_room(&mut self) -> Vec<u8>
+        ensures same { wires_in self.new ≡ wires_in self.old }
+        ensures tally { tally_in self.new ≡ tally_in self.old }
+    {
+        let none = Vec::new(*self.room.allocator());
+        mem::replace(&mut self.room, none)
+    }
+
+    /// Takes the room back. It stays as large as the longest text needed, twice the most bytes of a body.
+    pub fn keep_room(&mut self, room: Vec<u8>)
+        ensures same { wires_in self.new ≡ wires_in self.old }
+        ensures tally { tally_in self.new ≡ tally_in self.old }
+    {
+        self.room = room;
+    }
+
+    /// The input of a connection has ended.
+    pub fn end_input(&mut self, connection: ConnectionNumber)
+        requires { IsSome ((wires_in self.old).wires connection) }
+        ensures changes { ChangesWire (wires_in self.old) connection (λ wire after. after ≡ input_ended wire)
+            (wires_in self.new) }
+        ensures noted { Notes (wires_in self.old) (tally_in self.old) connection
+            (wires_in self.new) (tally_in self.new) }
+    {
+        self.noted.end_input(connection)
+    }
+
+    /// So many of the bytes of a connection that may leave have left.
+    pub fn took(&mut self, connection: ConnectionNumber, count: usize)
+        requires { HasWire (wires_in self.old) connection (λ wire. count ≤ length wire.ready) }
+        ensures changes { ChangesWire (wires_in self.old) connection
+            (λ wire after. after ≡ left_by wire count) (wires_in self.new) }
+        ensures noted { Notes (wires_in self.old) (tally_in self.old) connection
+            (wires_in self.new) (tally_in self.new) }
+    {
+        self.noted.took(connection, count)
+    }
+
+    /// So many entries are written from now on: all answers go that rest on no more. It takes time for the
+    /// connections that it releases, and none for the others. It takes no memory that would be missed: where
+    /// a growth is refused, the next call looks at a connection in vain.
+    pub fn release(&mut self, written: u64)
+        ensures releases { ReleasesAll (wires_in self.old) written (wires_in self.new) }
+        ensures noted { NotesReleased (wires_in self.old) (tally_in self.old) written (tally_in self.new) }
+    {
+        self.noted.release(written)
+    }
+
+    /// The connections of which bytes may leave since the last `release`, and might not before it.
+    pub fn released(&self) -> &[ConnectionNumber]
+        ensures { result.now ≡ (wires_in self.now).released }
+    {
+        &self.noted.slots.released
+    }
+
+    /// Closes a connection: nothing of it is held any more, and its number is free.
+    pub fn close(&mut self, connection: ConnectionNumber)
+        ensures closed { SetsWire (wires_in self.old) connection None (wires_in self.new) }
+        ensures noted { IsSome ((wires_in self.old).wires connection)
+            → Notes (wires_in self.old) (tally_in self.old) connection
+            (wires_in self.new) (tally_in self.new) }
+        ensures same { (wires_in self.old).wires connection ≡ None
+            → tally_in self.new ≡ tally_in self.old }
+    {
+        let gone = unread_of(&self.noted, connection);
+        self.noted.close(connection);
+        self.unread -= gone as u128;
+    }
+
+    /// How many bytes of answers are held for all connections.
+    pub fn held(&self) -> u128
+        ensures { IsTotalHeld (wires_in self.now).wires result }
+    {
+        self.noted.slots.held
+    }
+
+    /// How many bytes are unread, over all connections.
+    pub fn unread_count(&self) -> u128
+        ensures { IsTotalUnread (wires_in self.now).wires result }
+    {
+        let Wires { unread, .. } = self;
+        *unread
+    }
+
+    /// The connections that changed since `clear_changed`, each once: those that were opened or closed, that
+    /// have an answer more, whose input ended, and those of which bytes came, left, or may leave now.
+    pub fn changed(&self) -> &[ConnectionNumber]
+        ensures all { result.now ≡ (tally_in self.now).changed }
+        ensures once { AllPairs (λ one other. one ≢ other) result.now }
+    {
+        &self.noted.changes.numbers
+    }
+
+    /// Begins the list of those that changed anew. It takes time for those that are listed.
+    pub fn clear_changed(&mut self)
+        ensures same { wires_in self.new ≡ wires_in self.old }
+        ensures cleared { tally_in self.new ≡ record (tally_in self.old) { changed = [] } }
+    {
+        self.noted.clear_changed()
+    }
+}

@@ -1,0 +1,38 @@
+//! Laws of a hub that is a server that crashes and goes on: each function is its contract, over the
+//! definitions alone.
+ghost use Rattle.rv_server_crashes.specs.Laws.{HubsAreServers, HubsBegin, HubsGoOn, LacksMemory};
+ghost use Rattle.rv_server_crashes.specs.Laws.{SentMayLeave};
+ghost use Rattle.rv_server_crashes.specs.Room.{EffectsKeepRoom, EventsKeepRoom, FrontsGoOn};
+
+/// A hub's account had room after each of its entries, and so has it after what its effects add. So whatever
+/// a crash leaves of it, a machine can be made of that.
+pub fn accounts_go_on()
+    ensures effects { EffectsKeepRoom }
+    ensures events { EventsKeepRoom }
+    ensures fronts { FrontsGoOn }
+{}
+
+/// The events of a hub are effects of a server that crashes and goes on: steps under its limits, time alone,
+/// and entries that are stored. Each answer that a connection was given is held back for the sender of its
+/// frame's message, with the number of entries that it rests on. So may want of memory be, for any message.
+pub fn hubs_are_servers()
+    ensures events { HubsAreServers }
+    ensures lacks { LacksMemory }
+{
+    crate::crashes::laws::effects_keep_servers();
+}
+
+/// Of an answer no byte leaves before the server may send it.
+pub fn sent_may_leave()
+    ensures { SentMayLeave }
+{}
+
+/// A new hub is such a server, in an epoch in which nothing happened, and after a crash, over all that this
+/// left.
+pub fn hubs_go_on()
+    ensures begins { HubsBegin }
+    ensures goes_on { HubsGoOn }
+{
+    crate::crashes::laws::servers_begin();
+    crate::crashes::laws::effects_keep_servers();
+}

@@ -1,9 +1,0 @@
-use Rattle.std.proofs.Common.{◌≡◌, length}
-use Rattle.rv_wires.specs.Noting.{IsChanges}
-use Rattle.rv_wires.proofs.changes.ChangeList.clear.Given as goal
-
-abbrev pub invariant-loop-number : goal.invariant-loop-number
-invariant-loop-number l = IsChanges l.self × (length l.self.flags.items ≡ length l.fn.self.flags.items)
-
-abbrev pub decreases-loop-number : goal.decreases-loop-number
-decreases-loop-number l = length l.self.numbers.items
