@@ -54,7 +54,7 @@ KINDS = ("must-fail", "edits", "test-edits")
 # Crates of tests and measurements, files of laws and of devices for tests, and what has no other body than its own.
 TESTS = ("rv_tests", "rv_steps")
 BESIDE = re.compile(r"src/(?:\w+/)*(?:laws|testing)\.rt:")
-NO_WRONG_BODY = (r"\w+::swap::Swap\w*::new", r"\w+::waiters::Waiters\w*::empty", r"\w+::locked::(?:shared::)?Shared\w*::lock",
+NO_WRONG_BODY = (r"\w+::swap::Swap\w*::new", r"\w+::wait_queues::WaitQueues\w*::empty", r"\w+::locked::(?:shared::)?Shared\w*::lock",
                  r"\w+::account::Account\w*::allocator", r"\w+::\w+::Verifier\w*::machine", r"\w+::records::Records\w*::new",
                  r"\w+::dispatcher::Dispatcher\w*::machine", r"\w+::dispatcher::Dispatcher\w*::wires",
                  r"\w+::hub::Hub\w*::machine", r"\w+::engine::Engine\w*::hub",

@@ -4,7 +4,7 @@ use Rattle.std.proofs.Common.{append_assoc, arith, length, length-append, codes}
 use Rattle.std.specs.Fmt.{decimal}
 use Rattle.rv_account.specs.Account.{Account}
 use Rattle.rv_audit.specs.declared.rule.Rule.{Rule}
-use Rattle.rv_audit.specs.Breaking.{name_of}
+use Rattle.rv_audit.specs.AccountRules.{name_of}
 use Rattle.rv_audit.specs.Faults.{FirstFault}
 use Rattle.rv_lines.specs.Lines.{lines}
 use Rattle.rv_lines.specs.Reading.{FirstBadLine, ReadsAccount}

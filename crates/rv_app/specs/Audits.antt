@@ -10,7 +10,7 @@ use Rattle.rv_frame.specs.Source.{source_remaining}
 use Rattle.rv_account.specs.Account.{Account}
 use Rattle.rv_book.specs.Legal as book
 use Rattle.rv_audit.specs.declared.rule.Rule.{Rule}
-use Rattle.rv_audit.specs.Breaking.{name_of}
+use Rattle.rv_audit.specs.AccountRules.{name_of}
 use Rattle.rv_audit.specs.Faults.{FirstFault}
 use Rattle.rv_lines.specs.Lines.{lines}
 use Rattle.rv_lines.specs.Reading.{FirstBadLine, ReadsAccount}

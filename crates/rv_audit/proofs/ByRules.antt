@@ -6,7 +6,7 @@ use Rattle.std.proofs.lemmas.Bool.{cases_order}
 use Rattle.std.proofs.lemmas.List.{take-take}
 use Rattle.rv_rules.proofs.Fronts.{Legal-before}
 use Rattle.rv_audit.specs.declared.rule.Rule.{Rule}
-use Rattle.rv_audit.specs.Breaking.{rank_of}
+use Rattle.rv_audit.specs.AccountRules.{rank_of}
 use Rattle.rv_audit.specs.Faults.{FirstFault, KeepsRules}
 use Rattle.rv_audit.specs.Laws.{LegalByRules, OneAudit}
 use Rattle.rv_audit.proofs.RulesKept.{breaks_nothing}

@@ -9,7 +9,7 @@ use Rattle.rv_account.specs.Account.{Stored}
 use Rattle.rv_rules.proofs.Places.{get-take}
 use Rattle.rv_audit.specs.declared.front.Front.{Front}
 use Rattle.rv_audit.specs.declared.rule.Rule.{Rule}
-use Rattle.rv_audit.specs.Breaking.{BreaksFirst, BreaksNone}
+use Rattle.rv_audit.specs.AccountRules.{BreaksFirst, BreaksNone}
 use Rattle.rv_audit.specs.Passed.{MayPass}
 use Rattle.rv_audit.specs.Faults.{FirstFault, KeepsRules}
 use Rattle.rv_audit.proofs.RulesSuffice.{may_follow}

@@ -10,8 +10,8 @@ use Rattle.rv_account.specs.Account.{NamesAt}
 use Rattle.rv_rules.specs.Waiting.{NamesPartner}
 use Rattle.rv_rules.specs.Legal.{CancelsInTurn, CountsUp, IsOfSession, KeepsLimits, KeepsTime, PairsOldest}
 use Rattle.rv_rules.specs.Legal.{PairsOpposites, PairsWherePossible, RaisesIncarnation}
-use Rattle.rv_audit.specs.Breaking.{BreaksCount, FallsBack, IsOfNoSession, IsSwapped, NamesOne}
-use Rattle.rv_audit.specs.Breaking.{NamesTooMany, NamesWrongly, PassesLimit, TicksForNothing, WasNamed}
+use Rattle.rv_audit.specs.AccountRules.{BreaksCount, FallsBack, IsOfNoSession, IsSwapped, NamesOne}
+use Rattle.rv_audit.specs.AccountRules.{NamesTooMany, NamesWrongly, PassesLimit, TicksForNothing, WasNamed}
 
 -- ---- moments
 

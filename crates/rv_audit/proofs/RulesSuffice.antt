@@ -31,8 +31,8 @@ use Rattle.rv_state.proofs.OwnMoment.{later_keeps_time}
 use Rattle.rv_rules.proofs.Fronts.{open_in_front}
 use Rattle.rv_rules.proofs.Growing.{read_there}
 use Rattle.rv_rules.proofs.Naming.{among_or_not}
-use Rattle.rv_audit.specs.Breaking.{BreaksCount, FallsBack, IsOfNoSession, IsSwapped, NamesOne}
-use Rattle.rv_audit.specs.Breaking.{NamesWrongly, ArrivesAs, WasNamed}
+use Rattle.rv_audit.specs.AccountRules.{BreaksCount, FallsBack, IsOfNoSession, IsSwapped, NamesOne}
+use Rattle.rv_audit.specs.AccountRules.{NamesWrongly, ArrivesAs, WasNamed}
 
 -- ---- moments
 

@@ -14,8 +14,8 @@ use Rattle.rv_audit.proofs.Words.{is_any, AuditSession}
 use Rattle.std.proofs.Common.{nat_lt, nat_le, is_some}
 use Rattle.rv_rules.specs.Sessions.{LastNumber, SaidHello}
 use Rattle.rv_rules.proofs.Histories.{hellos_at_most}
-use Rattle.rv_audit.specs.Breaking.{ArrivesAs, ArrivesToMeet, CountsTo, IsNotNext}
-use Rattle.rv_audit.specs.Breaking.{TicksForNothing}
+use Rattle.rv_audit.specs.AccountRules.{ArrivesAs, ArrivesToMeet, CountsTo, IsNotNext}
+use Rattle.rv_audit.specs.AccountRules.{TicksForNothing}
 use Rattle.rv_audit.specs.Passed.{IsOfSessionOf, IsOldestOpposite, LeavesOlder}
 use Rattle.std.proofs.lemmas.Option.{get_or_from_slice_get}
 use Rattle.std.specs.List.Sorted.{IsStrictlyIncreasing}

@@ -12,8 +12,8 @@ pub use Rattle.rv_account.specs.Calls.{IsPut, may_name, opposite}
 pub use Rattle.rv_account.specs.declared.entry.Act.{Act}
 pub use Rattle.rv_account.specs.declared.entry.Act.TheVariants.{Arrive, Cancel, Hello, Tick}
 pub use Rattle.rv_account.specs.declared.entry.Entry.{Entry}
-pub use Rattle.rv_audit.specs.Breaking.{BreaksBehind, IsNoFreePlace, IsOutOfOrder, IsPaired, MeetsWrongly}
-pub use Rattle.rv_audit.specs.Breaking.{MissesPartner, NamesTaken, PassesOver, StartsNoNewer}
+pub use Rattle.rv_audit.specs.AccountRules.{BreaksBehind, IsNoFreePlace, IsOutOfOrder, IsPaired, MeetsWrongly}
+pub use Rattle.rv_audit.specs.AccountRules.{MissesPartner, NamesTaken, PassesOver, StartsNoNewer}
 pub use Rattle.rv_audit.specs.Lines.{IsOpenable, stands_in}
 pub use Rattle.rv_audit.specs.Marks.{IsFirstBehind, NoneBehind, NoneUntil, is_marked_under}
 pub use Rattle.rv_audit.specs.Passed.{AreTables, HasAmong, IsFront}

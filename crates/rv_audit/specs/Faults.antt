@@ -4,7 +4,7 @@ use Rattle.rv_account.specs.declared.entry.Entry.{Entry}
 use Rattle.rv_account.specs.Account.{Account}
 use Rattle.rv_rules.specs.Legal.{Legal, before}
 use Rattle.rv_audit.specs.declared.rule.Rule.{Rule}
-use Rattle.rv_audit.specs.Breaking.{BreaksBehind, rank_of}
+use Rattle.rv_audit.specs.AccountRules.{BreaksBehind, rank_of}
 use Rattle.rv_audit.specs.declared.outcome.Audit.{Audit}
 use Rattle.rv_audit.specs.declared.outcome.Audit.TheVariants as tells
 

@@ -16,7 +16,7 @@ use Rattle.rv_rules.specs.Legal.{IsOpenOpposite, Legal, MayFollow, before}
 use Rattle.rv_rules.specs.Steps.{own_moment}
 use Rattle.rv_state.specs.State.{ClientState, OpenPlace, State, client_at, client_waits, place_waiting}
 use Rattle.rv_state.specs.After.{but, due_at, just_open, lasts_by, met_by, state_of}
-use Rattle.rv_audit.specs.Breaking.{IsPaired, IsSwapped, NamesOne, WasNamed}
+use Rattle.rv_audit.specs.AccountRules.{IsPaired, IsSwapped, NamesOne, WasNamed}
 use Rattle.rv_audit.specs.declared.rules.MeetingKind.{MeetingKind}
 use Rattle.rv_audit.specs.declared.rules.MeetingKind.TheVariants as kinds
 use Rattle.rv_audit.specs.Opens.{AreTabled, AuditOpen, is_among, opening_at}

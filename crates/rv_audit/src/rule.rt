@@ -1,6 +1,6 @@
 //! The rules of an account.
 ghost use Rattle.std.specs.Prelude.{◌≡◌};
-ghost use Rattle.rv_audit.specs.Breaking.{name_of};
+ghost use Rattle.rv_audit.specs.AccountRules.{name_of};
 
 /// A rule of accounts. An entry keeps or breaks it by itself and by the entries before it. At one place an
 /// audit asks the rules in this order.

@@ -14,8 +14,8 @@ use Rattle.rv_state.specs.State.{State, client_at}
 use Rattle.rv_state.proofs.Coming.{Comes}
 use Rattle.rv_state.proofs.Stated.{stated}
 use Rattle.rv_text.specs.declared.message.Key.{Key}
-use Rattle.rv_book.specs.kept.Keeping.{AreKept}
-use Rattle.rv_book.specs.kept.Table.{KeptTable}
+use Rattle.rv_book.specs.reply_cache.Keeping.{AreKept}
+use Rattle.rv_book.specs.reply_cache.Table.{KeptTable}
 use Rattle.rv_machine.specs.Machines.{keys_settled}
 use Rattle.rv_book.specs.declared.state.BookState.{BookState}
 use Rattle.rv_book.specs.Operations.{AreKnown, IsAhead, Kepts, MayKeep, kept_after}

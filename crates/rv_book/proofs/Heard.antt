@@ -30,7 +30,7 @@ use Rattle.rv_state.specs.State.{State, client_at, waiting_count}
 use Rattle.rv_state.proofs.KnownClients.{has_client}
 use Rattle.rv_state.proofs.Leading.{IsMoveTo}
 use Rattle.rv_state.proofs.StepsBoth.{next_at_from}
-use Rattle.rv_book.specs.kept.Keeping.{AreKept, client_of}
+use Rattle.rv_book.specs.reply_cache.Keeping.{AreKept, client_of}
 use Rattle.rv_machine.specs.Machines.{Says, keys_settled, state_in}
 use Rattle.rv_machine.specs.Needing.{IsHello, act_of}
 use Rattle.rv_machine.specs.Stepping.{IsHearing}

@@ -13,7 +13,8 @@ use Rattle.rv_state.specs.After.{Settled, following}
 use Rattle.rv_state.specs.Moves.{told_again}
 use Rattle.rv_state.proofs.Coming.{Comes}
 use Rattle.rv_state.proofs.ToldClients.{get_own, get_other}
-use Rattle.rv_book.specs.kept.Keeping.{AreKept, IsKept, IsKeptAs, client_of, front_of, kept_again, source_of}
+use Rattle.rv_book.specs.reply_cache.Keeping.{AreKept, IsKept, IsKeptAs, client_of, front_of, kept_again}
+use Rattle.rv_book.specs.reply_cache.Keeping.{source_of}
 use Rattle.rv_book.proofs.KeptReplies.OwnKept.{own_kept}
 use Rattle.rv_book.proofs.KeptReplies.SettledKept.{settled_kept}
 use Rattle.rv_book.proofs.KeptReplies.OtherKept.{other_kept}

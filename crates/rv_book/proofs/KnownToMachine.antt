@@ -22,7 +22,7 @@ use Rattle.rv_state.proofs.Coming.{Comes}
 use Rattle.rv_state.proofs.KnownClients.{has_client}
 use Rattle.rv_state.proofs.Stated.{stated}
 use Rattle.rv_state.proofs.Telling.{settled_replies}
-use Rattle.rv_book.specs.kept.Keeping.{AreKept, client_of}
+use Rattle.rv_book.specs.reply_cache.Keeping.{AreKept, client_of}
 use Rattle.rv_machine.specs.Machines.{keys_settled}
 use Rattle.rv_book.specs.Operations.{AreKnown, Kepts}
 use Rattle.rv_book.proofs.KeptAfter.{came_of}

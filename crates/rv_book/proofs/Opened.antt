@@ -16,7 +16,7 @@ use Rattle.rv_state.specs.Agreement.{IsStateOf}
 use Rattle.rv_state.specs.State.{State, opening, waiting_count}
 use Rattle.rv_state.proofs.Agreed.{agreed}
 use Rattle.rv_state.proofs.WhoWaits.{tells_waiting}
-use Rattle.rv_book.specs.kept.Table.{KeptTable}
+use Rattle.rv_book.specs.reply_cache.Table.{KeptTable}
 use Rattle.rv_machine.specs.Machines.{state_in}
 use Rattle.rv_machine.specs.declared.machine.Machine.{Machine}
 use Rattle.rv_book.specs.Tables.{IsSound}

@@ -8,8 +8,8 @@ use Rattle.rv_rules.specs.Limits.{FitsAccount}
 use Rattle.rv_rules.specs.StepLimits.{book_limits}
 use Rattle.rv_state.specs.Agreement.{IsStateOf}
 use Rattle.rv_state.specs.State.{waiting_count}
-use Rattle.rv_book.specs.kept.Keeping.{AreKept}
-use Rattle.rv_book.specs.kept.Table.{KeptTable}
+use Rattle.rv_book.specs.reply_cache.Keeping.{AreKept}
+use Rattle.rv_book.specs.reply_cache.Table.{KeptTable}
 use Rattle.rv_machine.specs.Needing.{IsHello, message_need}
 use Rattle.rv_machine.proofs.RoomTaken.{moves_within}
 use Rattle.rv_book.specs.declared.state.BookState.{BookState}

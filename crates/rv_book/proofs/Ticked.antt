@@ -20,7 +20,7 @@ use Rattle.rv_state.specs.Moves.{Ticked, state_moment, ticked_at, ticked_if, tic
 use Rattle.rv_state.specs.State.{OpenPlace, State, waiting_count}
 use Rattle.rv_state.proofs.TicksBoth.{TicksTo, ticks_from, ticks_to}
 use Rattle.rv_state.specs.Follows.{partners_of}
-use Rattle.rv_book.specs.kept.Keeping.{AreKept, client_of}
+use Rattle.rv_book.specs.reply_cache.Keeping.{AreKept, client_of}
 use Rattle.rv_machine.specs.Machines.{keys_settled, state_in}
 use Rattle.rv_machine.specs.Stepping.{IsTick}
 use Rattle.rv_machine.specs.declared.machine.Machine.{Machine}

@@ -15,4 +15,4 @@ pub mod Saying
 pub mod Tables
 -- What only private clauses and proofs cite.
 pub mod Operations
-pub mod kept
+pub mod reply_cache

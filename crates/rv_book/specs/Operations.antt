@@ -15,8 +15,8 @@ use Rattle.rv_state.specs.Agreement.{IsStateOf}
 use Rattle.rv_state.specs.Follows.{partners_of}
 use Rattle.rv_state.specs.Moves.{Move, StateNextAt}
 use Rattle.rv_account.specs.Limits.{FitsAct}
-use Rattle.rv_book.specs.kept.Keeping.{AreKept, client_of, front_of, kept_again, source_of}
-use Rattle.rv_book.specs.kept.Table.{KeptTable}
+use Rattle.rv_book.specs.reply_cache.Keeping.{AreKept, client_of, front_of, kept_again, source_of}
+use Rattle.rv_book.specs.reply_cache.Table.{KeptTable}
 use Rattle.rv_machine.specs.Machines.{keys_settled, state_in}
 use Rattle.rv_machine.specs.Needing.{IsHello}
 use Rattle.rv_machine.specs.declared.machine.Machine.{Machine}

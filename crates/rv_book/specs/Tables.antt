@@ -1,7 +1,7 @@
 -- What the book holds beside its account, and what that says of it.
 use Rattle.std.specs.Prelude.{◌≤◌}
 use Rattle.rv_account.specs.Account.{Account}
-use Rattle.rv_book.specs.kept.Keeping.{AreKept}
+use Rattle.rv_book.specs.reply_cache.Keeping.{AreKept}
 use Rattle.rv_machine.specs.Machines.{state_in}
 use Rattle.rv_state.specs.Agreement.{IsStateOf}
 use Rattle.rv_state.specs.State.{State, waiting_count}

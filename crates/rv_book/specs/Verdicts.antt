@@ -8,7 +8,7 @@ use Rattle.rv_text.specs.declared.message.Message.{Message}
 use Rattle.rv_account.specs.Account.{Account}
 pub use Rattle.rv_account.specs.Account.{item_at}
 -- the reply that is kept, and that a reply carries texts
-pub use Rattle.rv_book.specs.kept.Keeping.{ReplyHasText, reply_of}
+pub use Rattle.rv_book.specs.reply_cache.Keeping.{ReplyHasText, reply_of}
 use Rattle.rv_book.specs.Legal.{Legal, before}
 use Rattle.rv_book.specs.Steps.{Next}
 

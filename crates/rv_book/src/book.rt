@@ -99,7 +99,7 @@ impl Book {
                 version,
             }),
             KeptAnswer::Replied { key, kept } => {
-                let reply = crate::kept::reply(alloc, self.state.account(), kept)?;
+                let reply = crate::reply_cache::reply(alloc, self.state.account(), kept)?;
                 Ok(Answer::Replied { key, reply })
             }
             KeptAnswer::Waiting { key } => Ok(Answer::Waiting { key }),

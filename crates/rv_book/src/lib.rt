@@ -2,8 +2,8 @@
 #![tactic(auto)]
 
 mod book;
-mod kept;
 pub mod laws;
+mod reply_cache;
 mod state;
 mod verdict;
 

@@ -3,12 +3,12 @@ ghost use Rattle.std.specs.Prelude.{◌≡◌, ◌<◌, [], None, Some, IfOk, Is
 ghost use Rattle.std.specs.FinMap.{get, insert};
 ghost use Rattle.rv_text.specs.Limits.{FitsIdentifier, FitsMessage};
 ghost use Rattle.rv_state.specs.State.{client_at};
-ghost use Rattle.rv_book.specs.kept.Keeping.{client_of, front_of};
+ghost use Rattle.rv_book.specs.reply_cache.Keeping.{client_of, front_of};
 ghost use Rattle.rv_account.specs.Limits.{FitsAct};
 ghost use Rattle.rv_machine.specs.Machines.{state_in};
 ghost use Rattle.rv_book.specs.Operations.{AreKnown, MayKeep, kept_after, kept_in, keeping_all};
 
-use crate::kept::{KeptReplies, kept_again, source};
+use crate::reply_cache::{KeptReplies, kept_again, source};
 use crate::verdict::KeptAnswer;
 use rv_account::{Account, Act, Entry};
 use rv_machine::{Heard, Machine, Said, TickMade, message_need};

@@ -2,4 +2,4 @@
 pub mod Outcomes
 -- What only private clauses and proofs cite.
 pub mod Told
-pub mod asked
+pub mod state_rules

@@ -14,7 +14,7 @@ use Rattle.rv_state.specs.Moves.{told_again}
 use Rattle.rv_state.specs.State.{ClientState, State, client_at}
 use Rattle.rv_follow.specs.declared.following.Followed.{Followed}
 use Rattle.rv_follow.specs.declared.following.Followed.TheVariants as followed
-use Rattle.rv_follow.specs.asked.Ruling.{IsFirstBroken, NamesClosed}
+use Rattle.rv_follow.specs.state_rules.Ruling.{IsFirstBroken, NamesClosed}
 
 -- the entry follows the state, and the state after it has room
 pub record FollowsInRoom (s : State) (e : Entry) : Type 0 where

@@ -4,7 +4,7 @@ use Rattle.rv_state.specs.Follows.{FollowsState}
 use Rattle.rv_state.specs.State.{State}
 use Rattle.rv_follow.specs.declared.ruling.Ruling.{Ruling}
 use Rattle.rv_follow.specs.declared.ruling.Ruling.TheVariants.{Breaks, Follows, NotOpen}
-use Rattle.rv_follow.specs.asked.Ruling.{IsFirstBroken, NamesClosed}
+use Rattle.rv_follow.specs.state_rules.Ruling.{IsFirstBroken, NamesClosed}
 
 -- what is told is so
 abbrev pub IsRulingOf : State → Entry → Ruling → Type 0

@@ -1,2 +1,2 @@
 //! Laws of entries that follow a state.
-pub use crate::asked::laws::{closed_breaks, follows_legally, rules_break};
+pub use crate::state_rules::laws::{closed_breaks, follows_legally, rules_break};

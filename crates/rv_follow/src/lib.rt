@@ -2,10 +2,10 @@
 //! not, and the machine after it.
 #![tactic(auto)]
 
-mod asked;
 mod following;
 pub mod laws;
 mod room;
 mod ruling;
+mod state_rules;
 
 pub use following::{Followed, follow};

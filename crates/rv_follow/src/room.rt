@@ -13,11 +13,11 @@ ghost use Rattle.rv_state.specs.resume.Resuming.{CanResume, StaysInRoom};
 ghost use Rattle.rv_state.specs.After.{following, met_by, state_after, stays_open};
 ghost use Rattle.rv_state.specs.Follows.{FollowsState};
 ghost use Rattle.rv_state.specs.State.{client_at, place_list};
-ghost use Rattle.rv_follow.specs.asked.Rooming.{AwaitsNothing, HasAwaiting, HasSpace, IsWaitedFor};
-ghost use Rattle.rv_follow.specs.asked.Rooming.{IsUnawaited};
-ghost use Rattle.rv_follow.specs.asked.Walking.{HoldsOfAll};
+ghost use Rattle.rv_follow.specs.state_rules.Rooming.{AwaitsNothing, HasAwaiting, HasSpace, IsWaitedFor};
+ghost use Rattle.rv_follow.specs.state_rules.Rooming.{IsUnawaited};
+ghost use Rattle.rv_follow.specs.state_rules.Walking.{HoldsOfAll};
 
-use crate::asked::{is_waiting, opposite};
+use crate::state_rules::{is_waiting, opposite};
 use rv_account::{Act, Entry, Place, lasts, need_of};
 use rv_machine::Machine;
 use rv_text::{Call, Key};

@@ -1,16 +1,16 @@
 //! What a machine tells of an entry before anything is done: that it follows, or which rule it breaks first.
 ghost use Rattle.std.specs.Prelude.{◌≡◌, ◌↔◌, IfNone, IfSome, IsTrue};
 ghost use Rattle.rv_account.specs.Limits.{FitsEntry};
-ghost use Rattle.rv_audit.specs.Breaking.{rank_of};
+ghost use Rattle.rv_audit.specs.AccountRules.{rank_of};
 ghost use Rattle.rv_audit.specs.declared.rule.Rule.{Rule};
 ghost use Rattle.rv_audit.specs.declared.rule.Rule.TheVariants.{P2};
 ghost use Rattle.rv_machine.specs.Machines.{state_in};
 ghost use Rattle.rv_state.specs.resume.Resuming.{CanResume};
 ghost use Rattle.rv_state.specs.Kept.{NamesOpen};
-ghost use Rattle.rv_follow.specs.asked.Ruling.{IsFirstBroken, KeepsUpTo, KeepsRule};
+ghost use Rattle.rv_follow.specs.state_rules.Ruling.{IsFirstBroken, KeepsUpTo, KeepsRule};
 ghost use Rattle.rv_follow.specs.Told.{IsRulingOf};
 
-use crate::asked::{keeps, names_open};
+use crate::state_rules::{keeps, names_open};
 use rv_account::Entry;
 use rv_audit::Rule;
 use rv_machine::Machine;

@@ -34,7 +34,7 @@ module _ (m : Holdings) (none : m.table ≡ []) (nobody : m.clients.clients ≡ 
     consistent = record {
       rise = λ i j one other less at there. absurd (nothing i one at);
       below = λ i one at. absurd (nothing i one at);
-      waiters = λ i there w at waits. absurd (nothing i there at);
+      wait_queues = λ i there w at waits. absurd (nothing i there at);
       lie = λ i there at waits. absurd (nothing i there at);
       clients = λ client session place call at waits. absurd (unknown client session at);
       time = time;

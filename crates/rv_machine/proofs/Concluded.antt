@@ -74,7 +74,7 @@ module _ (s : State) (client : ℕ) (session : ClientState) (is : IsConsistent s
   quiet_consistent = record {
     rise = is.rise;
     below = is.below;
-    waiters = λ i there w at has. still_waiter there w (is.waiters i there w at has);
+    wait_queues = λ i there w at has. still_waiter there w (is.wait_queues i there w at has);
     lie = is.lie;
     clients = λ other its place call known waits.
         still_for other place its call (cases_eq other client) known waits;

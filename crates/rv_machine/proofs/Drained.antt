@@ -117,7 +117,7 @@ module _ (s : State) (is : IsConsistent s) (moment : ℕ) (key : Key) (queue max
   at_line i there at =
       let was = filter_get (λ (o : OpenPlace). same_side o.side (Gives queue)) s.open_places i there
       (take_get (line s (Gives queue)) max i there at) in
-      by_waiter there there.waiter refl (λ w waits. is.waiters was.0 there w was.1 waits)
+      by_waiter there there.waiter refl (λ w waits. is.wait_queues was.0 there w was.1 waits)
       (same_side_is there.side (Gives queue) was.2)
 
   own_told : (gone : List OpenPlace) → told_own s key drain gone ≡ Some (reply.Drained (items_of gone))

@@ -49,7 +49,7 @@ module _ (s : State) (is : IsConsistent s) (place : ℕ) (there : OpenPlace) (w 
   at_place = eqb-true there.place place stands.2
 
   pub own : IsWaiter s there w
-  own = is.waiters stands.0 there w stands.1 waits
+  own = is.wait_queues stands.0 there w stands.1 waits
 
   pub opens_are : gone.open_places ≡ all_but all place
   opens_are = but_one all there ∙ ap (all_but all) at_place
@@ -130,8 +130,8 @@ module _ (s : State) (is : IsConsistent s) (place : ℕ) (there : OpenPlace) (w 
     rise = subst PlacesRise (sym opens_are)
         (rises_left (λ (x : OpenPlace). not (nat_eq x.place place)) (λ (o : OpenPlace). o.place) all is.rise);
     below = λ i o at. let was = left i o at in is.below was.0 o was.1;
-    waiters = λ i o v at has. let was = left i o at in
-        stays_waiter o v (is.waiters was.0 o v was.1 has) was.2;
+    wait_queues = λ i o v at has. let was = left i o at in
+        stays_waiter o v (is.wait_queues was.0 o v was.1 has) was.2;
     lie = λ i o at none. let was = left i o at in is.lie was.0 o was.1 none;
     clients = λ client session p call known asked.
         waits_still client session p call (same_client_or client w.key.client) known asked;

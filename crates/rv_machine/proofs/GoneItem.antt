@@ -70,7 +70,8 @@ module _ (s : State) (is : IsConsistent s) (there : OpenPlace)
         (rises_left (λ (x : OpenPlace). not (nat_eq x.place there.place)) (λ (o : OpenPlace). o.place) all
         is.rise);
     below = λ i o at. let was = left i o at in is.below was.0 o was.1;
-    waiters = λ i o w at has. let was = left i o at in still_waiter o w (is.waiters was.0 o w was.1 has);
+    wait_queues = λ i o w at has. let was = left i o at in still_waiter o w (is.wait_queues was.0 o w was.1
+        has);
     lie = λ i o at none. let was = left i o at in is.lie was.0 o was.1 none;
     clients = λ client session place call known asked.
         still_for client place (is.clients client session place call known asked);

@@ -66,7 +66,7 @@ module _ (s : State) (is : IsConsistent s) (client : ℕ) (idle : WaitsForNothin
   put_consistent = record {
     rise = is.rise;
     below = is.below;
-    waiters = λ i there w at has. kept_waiter there w (is.waiters i there w at has);
+    wait_queues = λ i there w at has. kept_waiter there w (is.wait_queues i there w at has);
     lie = is.lie;
     clients = still_waits;
     time = is.time;

@@ -36,7 +36,7 @@ module _ (s : State) (is : IsConsistent s) (queue : ℕ) where
       let lies = is.lie i there at none in
       subst (λ (o : Option (List ℕ)). IsSome o) (sym lies.has) refl
   open_item i there at side (Some w) has =
-      let own = is.waiters i there w at has in
+      let own = is.wait_queues i there w at has in
       subst (λ (o : Option (List ℕ)). IsSome o) (sym own.item)
       (gives_item own.call queue (sym own.side ∙ side))
 

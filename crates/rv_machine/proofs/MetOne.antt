@@ -82,7 +82,7 @@ module _ (m : Holdings) (moment : ℕ) (key : Key) (call : Call) (may : MayArriv
   stands = find_get (λ (o : OpenPlace). nat_eq o.place there.place) m.table there met.closes.found
 
   its : (w : Waiter) → there.waiter ≡ Some w → IsWaiter s there w
-  its w waits = is.waiters stands.0 there w stands.1 waits
+  its w waits = is.wait_queues stands.0 there w stands.1 waits
 
   -- who waits is of another client
   apart : (w : Waiter) → there.waiter ≡ Some w → w.key.client ≢ key.client

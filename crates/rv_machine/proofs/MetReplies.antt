@@ -129,7 +129,7 @@ module _ (s : State) (is : IsConsistent s) (place : ℕ) (there : OpenPlace)
           let lies = is.lie stands.0 there stands.1 none in
           subst (λ (o : Option (List ℕ)). IsSome o) (sym lies.has) refl
       by_waiter (Some w) some =
-          let own = is.waiters stands.0 there w stands.1 some in
+          let own = is.wait_queues stands.0 there w stands.1 some in
           subst (λ (o : Option (List ℕ)). IsSome o) (sym own.item) (of_call own.call (sym own.side ∙ its))
 
   key_some : (w : Option Waiter) → IsSome w → IsSome (option_map (λ (x : Waiter). x.key) w)

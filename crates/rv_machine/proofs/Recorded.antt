@@ -15,7 +15,7 @@ recorded_ready m moment ready time space =
       consistent = record {
         rise = is.rise;
         below = λ i one at. let less : one.place < m.length = is.below i one at in omega arith;
-        waiters = λ i there w at has. let own = is.waiters i there w at has in record {
+        wait_queues = λ i there w at has. let own = is.wait_queues i there w at has in record {
           session = own.session;
           known = own.known;
           key_is = own.key_is;

@@ -60,7 +60,7 @@ module _ (s : State) (is : CanResume s) where
   resumed_consistent = record {
     rise = is.rise;
     below = λ i there at. is.below there (i, at);
-    waiters = waiter_is;
+    wait_queues = waiter_is;
     lie = lies_there;
     clients = awaits_place;
     time = is.room.time;

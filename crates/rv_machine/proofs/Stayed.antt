@@ -324,8 +324,8 @@ module _ (s : State) (is : IsConsistent s) (moment : ℕ) (key : Key) (call : Ca
       | inl before ↦ let less : one.place < s.length = is.below before.0 one before.1 in omega arith
       | inr last ↦ subst (λ (x : OpenPlace). x.place < s.length + 1) last (omega arith)
     ];
-    waiters = λ i there w at has. elim (in_all i there at) [
-      | inl before ↦ waiter_still there w (is.waiters before.0 there w before.1 has)
+    wait_queues = λ i there w at has. elim (in_all i there at) [
+      | inl before ↦ waiter_still there w (is.wait_queues before.0 there w before.1 has)
       | inr last ↦ subst (λ (x : OpenPlace). IsWaiter t x w) last
           (own_waiter w (ap (λ (x : OpenPlace). x.waiter) last ∙ has))
     ];

@@ -64,7 +64,7 @@ module _ (m : Holdings) (ready : IsWhole m) (queue : ℕ) (taker : Key) (table :
   its_waiter w waits =
       let stands = find_get (λ (o : OpenPlace). nat_eq o.place there.place) m.table there takes.closes.found
       in
-      ready.consistent.waiters stands.0 there w stands.1 waits
+      ready.consistent.wait_queues stands.0 there w stands.1 waits
 
   -- its client is known
   pub is_known : (w : Waiter) → there.waiter ≡ Some w → IsSome (get m.clients.clients w.key.client)

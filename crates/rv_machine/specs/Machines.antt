@@ -86,7 +86,7 @@ pub record LiesThere (there : OpenPlace) : Type 0 where
 pub record IsConsistent (s : State) : Type 0 where
   pub rise : PlacesRise s.open_places
   pub below : StandBelow s.open_places s.length
-  pub waiters : (i : ℕ) (there : OpenPlace) (w : Waiter) → slice_get s.open_places i ≡ Some there
+  pub wait_queues : (i : ℕ) (there : OpenPlace) (w : Waiter) → slice_get s.open_places i ≡ Some there
       → there.waiter ≡ Some w → IsWaiter s there w
   pub lie : (i : ℕ) (there : OpenPlace) → slice_get s.open_places i ≡ Some there → there.waiter ≡ None
       → LiesThere there

@@ -2,8 +2,8 @@
 use Rattle.rv_model_queues.proofs.Words.{◌≡◌, ◌∷◌, ◌++◌, ◌∙◌, inl, inr, ℕ, zero, suc, List, [], Option, Some}
 use Rattle.rv_model_queues.proofs.Words.{None, refl, sym, ap, subst, none-some, same_Some, Side, Exchanges}
 use Rattle.rv_model_queues.proofs.Words.{Gives, Looks, Takes, Wait, OwedDuty, places_of, Arrived, Lasts}
-use Rattle.rv_model_queues.proofs.Words.{ArrivedOn, FindsNobody, AreParked, IsParked, AllFree, SameWaiters}
-use Rattle.rv_model_queues.proofs.Words.{Waiters, place_of_duty, queue_at, takers_places, waiting_on}
+use Rattle.rv_model_queues.proofs.Words.{ArrivedOn, FindsNobody, AreParked, IsParked, AllFree, SameWaitQueues}
+use Rattle.rv_model_queues.proofs.Words.{WaitQueues, place_of_duty, queue_at, takers_places, waiting_on}
 use Rattle.rv_model_queues.proofs.Words.{eqb_tells}
 use Rattle.rv_dual.specs.Queue.{SameLists}
 use Rattle.rv_model_queues.specs.Meeting.{Exchanged, SwappedNothing, SwappedWith, WaitsAlone}
@@ -12,14 +12,14 @@ use Rattle.rv_model_queues.specs.Views.{OnlyExchanger, exchanger_at}
 -- ---- one exchanger
 
 -- no other exchanger changed, and no queue
-pub record ExchangerChanged (old new : Waiters) (exchanger : ℕ) : Type 0 where
+pub record ExchangerChanged (old new : WaitQueues) (exchanger : ℕ) : Type 0 where
   pub others : OnlyExchanger exchanger old.exchangers new.exchangers
   pub queues : new.queues ≡ old.queues
 
 some_is_none : {X : Type 0} (x : X) → Some x ≡ None → ⊥
 some_is_none x is = none-some x (sym is)
 
-module _ (old new : Waiters) (exchanger : ℕ) (changed : ExchangerChanged old new exchanger) where
+module _ (old new : WaitQueues) (exchanger : ℕ) (changed : ExchangerChanged old new exchanger) where
   abbrev before : Option OwedDuty
   before = exchanger_at old.exchangers exchanger
 
@@ -47,7 +47,7 @@ module _ (old new : Waiters) (exchanger : ℕ) (changed : ExchangerChanged old n
     ];
   }
 
-  nothing_changed : after ≡ before → SameWaiters old new
+  nothing_changed : after ≡ before → SameWaitQueues old new
   nothing_changed same = record {
     queues = λ queue. subst (λ l. SameLists (queue_at old.queues queue) (queue_at l queue))
         (sym changed.queues) (record { givers = refl; takers = refl });

@@ -1,8 +1,8 @@
 -- What one who is laid in a queue or at an exchanger is to all who wait, side by side.
 use Rattle.rv_model_queues.proofs.Words.{◌≡◌, ◌∷◌, ◌++◌, ◌∙◌, ℕ, List, [], Option, Some, None, refl, sym, ap}
 use Rattle.rv_model_queues.proofs.Words.{arith, length, subst, same_Some, Exchanges, Gives, Takes, OwedDuty}
-use Rattle.rv_model_queues.proofs.Words.{place_of, places_of, FindsNobody, Waiters, place_of_duty, queue_at}
-use Rattle.rv_model_queues.proofs.Words.{takers_places, waiting_on}
+use Rattle.rv_model_queues.proofs.Words.{place_of, places_of, FindsNobody, WaitQueues, place_of_duty}
+use Rattle.rv_model_queues.proofs.Words.{queue_at, takers_places, waiting_on}
 use Rattle.std.specs.Prelude.{map}
 use Rattle.rv_dual.specs.Meanings.{ParksGiver, ParksTaker}
 use Rattle.rv_dual.specs.Offers.{duty_of}
@@ -23,21 +23,22 @@ empty_of : {X Y : Type 0} (f : X → Y) (xs : List X) → map f xs ≡ [] → xs
 empty_of f [] none = refl
 empty_of f (x ∷ xs) none = absurd (some_there _ _ none)
 
-pub takers_none : (waiters : Waiters) (queue : ℕ) → FindsNobody waiters (Gives queue)
-    → (queue_at waiters.queues queue).takers ≡ []
-takers_none waiters queue nobody = empty_of _ _ (nobody (Takes queue) refl)
+pub takers_none : (wait_queues : WaitQueues) (queue : ℕ) → FindsNobody wait_queues (Gives queue)
+    → (queue_at wait_queues.queues queue).takers ≡ []
+takers_none wait_queues queue nobody = empty_of _ _ (nobody (Takes queue) refl)
 
-pub givers_none : (waiters : Waiters) (queue : ℕ) → FindsNobody waiters (Takes queue)
-    → (queue_at waiters.queues queue).givers ≡ []
-givers_none waiters queue nobody = empty_of _ _ (nobody (Gives queue) refl)
+pub givers_none : (wait_queues : WaitQueues) (queue : ℕ) → FindsNobody wait_queues (Takes queue)
+    → (queue_at wait_queues.queues queue).givers ≡ []
+givers_none wait_queues queue nobody = empty_of _ _ (nobody (Gives queue) refl)
 
 free_of : (at : Option OwedDuty) → place_of_duty at ≡ [] → at ≡ None
 free_of None none = refl
 free_of (Some duty) none = absurd (some_there _ _ none)
 
-pub exchanger_free : (waiters : Waiters) (exchanger : ℕ) → FindsNobody waiters (Exchanges exchanger)
-    → exchanger_at waiters.exchangers exchanger ≡ None
-exchanger_free waiters exchanger nobody = free_of _ (nobody (Exchanges exchanger) refl)
+pub exchanger_free : (wait_queues : WaitQueues) (exchanger : ℕ)
+    → FindsNobody wait_queues (Exchanges exchanger)
+    → exchanger_at wait_queues.exchangers exchanger ≡ None
+exchanger_free wait_queues exchanger nobody = free_of _ (nobody (Exchanges exchanger) refl)
 
 -- ---- in a queue
 
@@ -50,7 +51,7 @@ duty_with : (place : ℕ) (duty : Option OwedDuty) → duty_of (offer_with place
 duty_with place None = refl
 duty_with place (Some duty) = refl
 
-module _ (old new : Waiters) (queue : ℕ) (changed : ChangedAt old new queue) (place : ℕ) where
+module _ (old new : WaitQueues) (queue : ℕ) (changed : ChangedAt old new queue) (place : ℕ) where
   pub laid_gives : (duty : Option OwedDuty) → MayWaitBy (Gives queue) place duty
       → ParksGiver (queue_at old.queues queue) (queue_at new.queues queue) (offer_with place duty)
       → LaidOn old new (Gives queue) place duty
@@ -86,7 +87,7 @@ module _ (old new : Waiters) (queue : ℕ) (changed : ChangedAt old new queue) (
 
 -- ---- at an exchanger
 
-pub laid_exchanges : (old new : Waiters) (exchanger : ℕ) → ExchangerChanged old new exchanger → (place : ℕ)
+pub laid_exchanges : (old new : WaitQueues) (exchanger : ℕ) → ExchangerChanged old new exchanger → (place : ℕ)
     (duty : OwedDuty) → duty.place ≡ place → exchanger_at old.exchangers exchanger ≡ None
     → exchanger_at new.exchangers exchanger ≡ Some duty → LaidOn old new (Exchanges exchanger) place
     (Some duty)

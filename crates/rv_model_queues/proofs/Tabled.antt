@@ -4,8 +4,9 @@ use Rattle.rv_model_queues.proofs.Words.{None, refl, sym, ap, subst, option_and_
 use Rattle.rv_model_queues.proofs.Words.{slice_get-map, slice_get-get_or, Side, Exchanges, Gives, Looks}
 use Rattle.rv_model_queues.proofs.Words.{Takes, Wait, OwedDuty, place_of, places_of, Queue, Arrived, Lasts}
 use Rattle.rv_model_queues.proofs.Words.{ArrivedOn, FindsNobody, LeavesFirst, OwnDuty, AreParked, IsParked}
-use Rattle.rv_model_queues.proofs.Words.{AllEmpty, AreBelow, SameWaiters, Waiters, place_of_duty, queue_at}
-use Rattle.rv_model_queues.proofs.Words.{takers_places, waiting_on, eqb_tells, option_map, same_Some}
+use Rattle.rv_model_queues.proofs.Words.{AllEmpty, AreBelow, SameWaitQueues, WaitQueues, place_of_duty}
+use Rattle.rv_model_queues.proofs.Words.{queue_at, takers_places, waiting_on, eqb_tells, option_map}
+use Rattle.rv_model_queues.proofs.Words.{same_Some}
 use Rattle.rv_dual.specs.Offers.{duty_of}
 use Rattle.rv_dual.specs.Meanings.{TakenFront}
 use Rattle.rv_dual.specs.Queue.{IsAbove, SameLists}
@@ -19,13 +20,13 @@ use Rattle.rv_model_queues.proofs.Pushed.{pushed_giver, pushed_taker}
 -- ---- one queue
 
 -- no other queue changed, and no exchanger
-pub record ChangedAt (old new : Waiters) (queue : ℕ) : Type 0 where
+pub record ChangedAt (old new : WaitQueues) (queue : ℕ) : Type 0 where
   pub others : OnlyQueue queue old.queues new.queues
   pub exchangers : new.exchangers ≡ old.exchangers
 
 -- ---- sides
 
-module _ (old new : Waiters) (queue : ℕ) (changed : ChangedAt old new queue) where
+module _ (old new : WaitQueues) (queue : ℕ) (changed : ChangedAt old new queue) where
   abbrev was : Queue
   was = queue_at old.queues queue
 
@@ -74,7 +75,7 @@ module _ (old new : Waiters) (queue : ℕ) (changed : ChangedAt old new queue) w
   givers_change same (Looks other) apart = refl
   givers_change same (Exchanges other) apart = exchangers_same other
 
-  pub nothing_changed : SameLists was is_now → SameWaiters old new
+  pub nothing_changed : SameLists was is_now → SameWaitQueues old new
   nothing_changed same = record {
     queues = λ other. elim (eqb_tells other queue) [
       | inl is ↦ subst (λ n. SameLists (queue_at old.queues n) (queue_at new.queues n)) (sym is.1) same
@@ -100,7 +101,7 @@ module _ (old new : Waiters) (queue : ℕ) (changed : ChangedAt old new queue) w
 
 -- ---- with nothing changed
 
-pub same_waiting : (old new : Waiters) → SameWaiters old new → (side : Side)
+pub same_waiting : (old new : WaitQueues) → SameWaitQueues old new → (side : Side)
     → waiting_on new side ≡ waiting_on old side
 same_waiting old new same (Gives queue) = ap places_of (same.queues queue).givers
 same_waiting old new same (Takes queue) = ap takers_places (same.queues queue).takers
@@ -113,7 +114,8 @@ parked_lists owed p q same is = record {
   takers = λ i duty at. is.takers i duty (sym (ap (λ (xs : List OwedDuty). slice_get xs i) same.takers) ∙ at);
 }
 
-pub same_parked : (owed : ℕ → Option OwedDuty) (old new : Waiters) → SameWaiters old new → AreParked owed old
+pub same_parked : (owed : ℕ → Option OwedDuty) (old new : WaitQueues) → SameWaitQueues old new
+    → AreParked owed old
     → AreParked owed new
 same_parked owed old new same parked = record {
   queues = λ queue. parked_lists owed (queue_at old.queues queue) (queue_at new.queues queue)
@@ -124,10 +126,10 @@ same_parked owed old new same parked = record {
 
 -- ---- above all that wait
 
-pub above : (waiters : Waiters) (queue place : ℕ) → AreBelow waiters place
-    → IsAbove (queue_at waiters.queues queue) place
-above waiters queue place below =
-    let q = queue_at waiters.queues queue in
+pub above : (wait_queues : WaitQueues) (queue place : ℕ) → AreBelow wait_queues place
+    → IsAbove (queue_at wait_queues.queues queue) place
+above wait_queues queue place below =
+    let q = queue_at wait_queues.queues queue in
     record {
       givers = λ k d inside. below (Gives queue) k _ (slice_get-map place_of q.givers k
           ∙ ap (λ o. option_map place_of o) (slice_get-get_or q.givers k d inside));
@@ -138,14 +140,14 @@ above waiters queue place below =
 
 -- ---- an arrival that gives
 
-pub no_takers : (waiters : Waiters) (queue : ℕ) → (queue_at waiters.queues queue).takers ≡ []
-    → FindsNobody waiters (Gives queue)
-no_takers waiters queue none other opposes = subst (λ side. waiting_on waiters side ≡ [])
+pub no_takers : (wait_queues : WaitQueues) (queue : ℕ) → (queue_at wait_queues.queues queue).takers ≡ []
+    → FindsNobody wait_queues (Gives queue)
+no_takers wait_queues queue none other opposes = subst (λ side. waiting_on wait_queues side ≡ [])
     (same_Some _ _ opposes) (ap takers_places none)
 
-pub no_givers : (waiters : Waiters) (queue : ℕ) → (queue_at waiters.queues queue).givers ≡ []
-    → FindsNobody waiters (Takes queue)
-no_givers waiters queue none other opposes = subst (λ side. waiting_on waiters side ≡ [])
+pub no_givers : (wait_queues : WaitQueues) (queue : ℕ) → (queue_at wait_queues.queues queue).givers ≡ []
+    → FindsNobody wait_queues (Takes queue)
+no_givers wait_queues queue none other opposes = subst (λ side. waiting_on wait_queues side ≡ [])
     (same_Some _ _ opposes) (ap places_of none)
 
 some_is_none : {X : Type 0} (x : X) → Some x ≡ None → ⊥
@@ -166,7 +168,7 @@ first_of xs ys x is = ap (λ l. slice_get l 0) is
 
 -- ---- the first item leaves
 
-module _ (old new : Waiters) (queue : ℕ) (changed : ChangedAt old new queue) where
+module _ (old new : WaitQueues) (queue : ℕ) (changed : ChangedAt old new queue) where
   first_leaves : (offer : Offer)
       → (queue_at old.queues queue).givers ≡ offer ∷ (queue_at new.queues queue).givers
       → (queue_at new.queues queue).takers ≡ (queue_at old.queues queue).takers
@@ -201,7 +203,7 @@ module _ (old new : Waiters) (queue : ℕ) (changed : ChangedAt old new queue) w
 
 -- ---- an arrival
 
-module _ (old new : Waiters) (queue : ℕ) (changed : ChangedAt old new queue) (duty : OwedDuty) where
+module _ (old new : WaitQueues) (queue : ℕ) (changed : ChangedAt old new queue) (duty : OwedDuty) where
   abbrev pub before : Queue
   before = queue_at old.queues queue
 

@@ -2,8 +2,8 @@
 use Rattle.rv_model_queues.proofs.Words.{◌≡◌, ◌∷◌, ◌∙◌, inl, inr, ℕ, suc, List, [], cond, Bool, true, false}
 use Rattle.rv_model_queues.proofs.Words.{Option, Some, None, refl, sym, ap, slice_get, none-some, same_Some}
 use Rattle.rv_model_queues.proofs.Words.{slice_get-map, slice_get-get_or, Gives, Takes, OwedDuty, place_of}
-use Rattle.rv_model_queues.proofs.Words.{places_of, Queue, LeavesSide, StandsOn, AreParked, IsParked, Waiters}
-use Rattle.rv_model_queues.proofs.Words.{queue_at, takers_places, option_map, eqb_tells}
+use Rattle.rv_model_queues.proofs.Words.{places_of, Queue, LeavesSide, StandsOn, AreParked, IsParked}
+use Rattle.rv_model_queues.proofs.Words.{WaitQueues, queue_at, takers_places, option_map, eqb_tells}
 use Rattle.std.proofs.Common.{map}
 use Rattle.std.specs.List.{filter}
 use Rattle.std.specs.Prelude.{IfNone, IfSome, not, ◌==◌}
@@ -150,7 +150,7 @@ parked_left owed q new place result w parked = record {
 
 -- ---- all who wait
 
-module _ (old new : Waiters) (queue : ℕ) (changed : ChangedAt old new queue) (place : ℕ) (result :
+module _ (old new : WaitQueues) (queue : ℕ) (changed : ChangedAt old new queue) (place : ℕ) (result :
     Option OwedDuty) (w : Withdraws (queue_at old.queues queue) (queue_at new.queues queue) place result)
     (owed : ℕ → Option OwedDuty) (duty : OwedDuty) (parked : AreParked owed old) (is_owed : owed place ≡ Some
     duty)

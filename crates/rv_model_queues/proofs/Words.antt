@@ -10,8 +10,8 @@ pub use Rattle.rv_text.specs.declared.call.Wait.{Wait}
 pub use Rattle.rv_model_queues.specs.Meeting.{ArrivedOn, FindsNobody, LeavesFirst, LeavesSide, OwnDuty}
 pub use Rattle.rv_model_queues.specs.Meeting.{StandsOn, opposed_by}
 pub use Rattle.rv_model_queues.specs.Parked.{AreParked, IsParked}
-pub use Rattle.rv_model_queues.specs.Views.{AllEmpty, AllFree, AreBelow, SameWaiters, Waiters, place_of_duty}
-pub use Rattle.rv_model_queues.specs.Views.{queue_at, waiting_on}
+pub use Rattle.rv_model_queues.specs.Views.{AllEmpty, AllFree, AreBelow, SameWaitQueues, WaitQueues}
+pub use Rattle.rv_model_queues.specs.Views.{place_of_duty, queue_at, waiting_on}
 pub use Rattle.rv_model_queues.specs.declared.outcome.Arrived.{Arrived}
 pub use Rattle.std.proofs.Common.{Bool, List, None, Option, Some, [], ap, arith, cond, false, inl, inr}
 pub use Rattle.std.proofs.Common.{length, length-append, option_and_then, refl, subst, suc, sym, true, zero}

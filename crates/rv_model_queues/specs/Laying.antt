@@ -7,7 +7,7 @@ use Rattle.rv_dual.specs.declared.giver.Offer.{Offer}
 use Rattle.rv_dual.specs.declared.giver.Offer.TheVariants.{Put, Waits}
 use Rattle.rv_model_queues.specs.Meeting.{StartsToWait}
 use Rattle.rv_model_queues.specs.Parked.{AreParked}
-use Rattle.rv_model_queues.specs.Views.{Waiters}
+use Rattle.rv_model_queues.specs.Views.{WaitQueues}
 
 -- who waits on the side at the place may have this duty: a request that of its place, the item of a put none;
 -- who looks never waits
@@ -27,6 +27,6 @@ offer_with place (Some duty) = Waits duty
 
 -- one more waits on the side, behind all others there, with its duty, if it has one; whatever duties are
 -- owed, those that are parked after it are owed too, where those before and this one are
-pub record LaidOn (old new : Waiters) (side : Side) (place : ℕ) (duty : Option OwedDuty) : Type 0 where
+pub record LaidOn (old new : WaitQueues) (side : Side) (place : ℕ) (duty : Option OwedDuty) : Type 0 where
   pub waits : StartsToWait old new side place
   pub parked : (owed : ℕ → Option OwedDuty) → AreParked owed old → owed place ≡ duty → AreParked owed new

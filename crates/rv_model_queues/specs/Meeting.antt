@@ -19,7 +19,7 @@ use Rattle.rv_model_queues.specs.declared.outcome.Arrived.{Arrived}
 use Rattle.rv_model_queues.specs.Parked.{AreParked}
 use Rattle.rv_text.specs.Calls.{side_of}
 use Rattle.rv_account.specs.Calls.{Lasts, may_name, opposite}
-use Rattle.rv_model_queues.specs.Views.{SameWaiters, Waiters, queue_at, waiting_on}
+use Rattle.rv_model_queues.specs.Views.{SameWaitQueues, WaitQueues, queue_at, waiting_on}
 
 -- ---- one queue
 
@@ -155,28 +155,28 @@ abbrev pub StaysBy : Side → Option Wait → Type 0
 StaysBy side wait = IsSome (opposite side) × Lasts wait
 
 -- it met the first of the other side, which left
-pub record MeetsFirst (old new : Waiters) (side : Side) (place : ℕ) : Type 0 where
+pub record MeetsFirst (old new : WaitQueues) (side : Side) (place : ℕ) : Type 0 where
   pub other : Side
   pub opposes : opposite side ≡ Some other
   pub first : waiting_on old other ≡ place ∷ waiting_on new other
   pub others : (third : Side) → third ≢ other → waiting_on new third ≡ waiting_on old third
 
 -- nobody waits on the side that it meets
-abbrev pub FindsNobody : Waiters → Side → Type 0
-FindsNobody waiters side = (other : Side) → opposite side ≡ Some other → waiting_on waiters other ≡ []
+abbrev pub FindsNobody : WaitQueues → Side → Type 0
+FindsNobody wait_queues side = (other : Side) → opposite side ≡ Some other → waiting_on wait_queues other ≡ []
 
 -- it waits behind all others of its side
-pub record StartsToWait (old new : Waiters) (side : Side) (place : ℕ) : Type 0 where
+pub record StartsToWait (old new : WaitQueues) (side : Side) (place : ℕ) : Type 0 where
   pub nobody : FindsNobody old side
   pub last : waiting_on new side ≡ waiting_on old side ++ place ∷ []
   pub others : (third : Side) → third ≢ side → waiting_on new third ≡ waiting_on old third
 
 -- what became of all that wait, where the arrival at the place met this partner or nobody
-abbrev pub MeetsOrWaits : Waiters → Waiters → Side → Option Wait → ℕ → Option ℕ → Type 0
+abbrev pub MeetsOrWaits : WaitQueues → WaitQueues → Side → Option Wait → ℕ → Option ℕ → Type 0
 MeetsOrWaits old new side wait place (Some partner) = MeetsFirst old new side partner
 MeetsOrWaits old new side wait place None =
     (StaysBy side wait × StartsToWait old new side place)
-    ⊎ ((¬ StaysBy side wait) × FindsNobody old side × SameWaiters old new)
+    ⊎ ((¬ StaysBy side wait) × FindsNobody old side × SameWaitQueues old new)
 
 -- its own duty comes back, but where it is a request that waits now
 abbrev pub OwnDuty : Side → Option Wait → Option ℕ → OwedDuty → Option OwedDuty → Type 0
@@ -201,7 +201,7 @@ PartnersDuty owed (Some partner) other = other ≡ owed partner
 
 -- what the arrival of a request with this duty did; whatever duties are owed, those that are parked after it
 -- are owed too, where those before and this one are
-pub record ArrivedOn (old new : Waiters) (side : Side) (wait : Option Wait) (duty : OwedDuty)
+pub record ArrivedOn (old new : WaitQueues) (side : Side) (wait : Option Wait) (duty : OwedDuty)
     (result : Arrived) : Type 0 where
   pub meets : MeetsOrWaits old new side wait duty.place result.partner
   pub own : OwnDuty side wait result.partner duty result.own
@@ -213,7 +213,7 @@ pub record ArrivedOn (old new : Waiters) (side : Side) (wait : Option Wait) (dut
 -- ---- what is taken out
 
 -- the request that waits on the side left it, and its duty came back
-pub record LeavesSide (old new : Waiters) (side : Side) (duty : OwedDuty) (result : Option OwedDuty)
+pub record LeavesSide (old new : WaitQueues) (side : Side) (duty : OwedDuty) (result : Option OwedDuty)
     : Type 0 where
   pub is : result ≡ Some duty
   pub places : waiting_on new side ≡ filter (λ r. not (r == duty.place)) (waiting_on old side)
@@ -222,89 +222,90 @@ pub record LeavesSide (old new : Waiters) (side : Side) (duty : OwedDuty) (resul
 
 -- the first that waits on the side left it, and its duty came out, if it is a request; the duties of those
 -- who stay are parked as they were
-pub record LeavesFirst (old new : Waiters) (side : Side) (duty : Option OwedDuty) (place : ℕ) : Type 0 where
+pub record LeavesFirst (old new : WaitQueues) (side : Side) (duty : Option OwedDuty) (place : ℕ) :
+    Type 0 where
   pub first : waiting_on old side ≡ place ∷ waiting_on new side
   pub others : (third : Side) → third ≢ side → waiting_on new third ≡ waiting_on old third
   pub duty_is : (owed : ℕ → Option OwedDuty) → AreParked owed old → duty ≡ owed place
   pub parked : (owed : ℕ → Option OwedDuty) → AreParked owed old → AreParked owed new
 
 -- the first that waits on the side, if one does, left it; where none does all that wait stay
-abbrev pub LeftFront : Waiters → Waiters → Side → Option (Option OwedDuty × ℕ) → Type 0
+abbrev pub LeftFront : WaitQueues → WaitQueues → Side → Option (Option OwedDuty × ℕ) → Type 0
 LeftFront old new side (Some (duty, place)) = LeavesFirst old new side duty place
-LeftFront old new side None = (waiting_on old side ≡ []) × SameWaiters old new
+LeftFront old new side None = (waiting_on old side ≡ []) × SameWaitQueues old new
 
 -- the same of the items that a side takes; no other side takes any
-abbrev pub TakenFor : Waiters → Waiters → Side → Option (Option OwedDuty × ℕ) → Type 0
+abbrev pub TakenFor : WaitQueues → WaitQueues → Side → Option (Option OwedDuty × ℕ) → Type 0
 TakenFor old new (Takes queue) result = LeftFront old new (Gives queue) result
 TakenFor old new (Gives queue) result = (result ≡ None) × (new ≡ old)
 TakenFor old new (Looks queue) result = (result ≡ None) × (new ≡ old)
 TakenFor old new (Exchanges exchanger) result = (result ≡ None) × (new ≡ old)
 
 -- the place waits on the side, and on no other
-pub record StandsOn (waiters : Waiters) (side : Side) (place : ℕ) : Type 0 where
+pub record StandsOn (wait_queues : WaitQueues) (side : Side) (place : ℕ) : Type 0 where
   pub i : ℕ
-  pub there : slice_get (waiting_on waiters side) i ≡ Some place
-  pub only : (other : Side) (j : ℕ) → slice_get (waiting_on waiters other) j ≡ Some place → other ≡ side
+  pub there : slice_get (waiting_on wait_queues side) i ≡ Some place
+  pub only : (other : Side) (j : ℕ) → slice_get (waiting_on wait_queues other) j ≡ Some place → other ≡ side
 
 -- whose duty is parked at the place, by whatever duties are owed, left its side
-abbrev pub Withdrew : Waiters → Waiters → Side → ℕ → Option OwedDuty → Type 0
+abbrev pub Withdrew : WaitQueues → WaitQueues → Side → ℕ → Option OwedDuty → Type 0
 Withdrew old new side place result = (owed : ℕ → Option OwedDuty) (duty : OwedDuty) → AreParked owed old
     → StandsOn old side place → owed place ≡ Some duty → LeavesSide old new side duty result
 
 -- ---- room
 
 -- the room of a side; who looks waits nowhere, and an exchanger has its own
-abbrev pub room_on : Waiters → Side → Room
-room_on waiters (Gives queue) = (queue_at waiters.queues queue).giver_room
-room_on waiters (Takes queue) = (queue_at waiters.queues queue).taker_room
-room_on waiters (Looks queue) = record { spare = 1; capacity = 1 }
-room_on waiters (Exchanges exchanger) = record { spare = 1; capacity = 1 }
+abbrev pub room_on : WaitQueues → Side → Room
+room_on wait_queues (Gives queue) = (queue_at wait_queues.queues queue).giver_room
+room_on wait_queues (Takes queue) = (queue_at wait_queues.queues queue).taker_room
+room_on wait_queues (Looks queue) = record { spare = 1; capacity = 1 }
+room_on wait_queues (Exchanges exchanger) = record { spare = 1; capacity = 1 }
 
 -- how many wait on this side, which an arrival meets, if it meets any
-abbrev pub opposed_by : Waiters → Option Side → ℕ
-opposed_by waiters None = 0
-opposed_by waiters (Some other) = length (waiting_on waiters other)
+abbrev pub opposed_by : WaitQueues → Option Side → ℕ
+opposed_by wait_queues None = 0
+opposed_by wait_queues (Some other) = length (waiting_on wait_queues other)
 
 -- who comes to the side with this wait lasts, and nobody is there whom it meets
-abbrev pub StaysAlone : Waiters → Side → Option Wait → Type 0
-StaysAlone waiters side wait = Lasts wait × (opposed_by waiters (opposite side) ≡ 0)
+abbrev pub StaysAlone : WaitQueues → Side → Option Wait → Type 0
+StaysAlone wait_queues side wait = Lasts wait × (opposed_by wait_queues (opposite side) ≡ 0)
 
 -- an arrival of the side with this wait parks: it stays, and nobody is there whom it meets
-pub record ParksOn (waiters : Waiters) (side : Side) (wait : Option Wait) : Type 0 where
+pub record ParksOn (wait_queues : WaitQueues) (side : Side) (wait : Option Wait) : Type 0 where
   pub stays : StaysBy side wait
-  pub nobody : FindsNobody waiters side
+  pub nobody : FindsNobody wait_queues side
 
 -- an arrival that parks has room on its side
-abbrev pub HasRoomOn : Waiters → Side → Option Wait → Type 0
-HasRoomOn waiters side wait = ParksOn waiters side wait → 0 < (room_on waiters side).spare
+abbrev pub HasRoomOn : WaitQueues → Side → Option Wait → Type 0
+HasRoomOn wait_queues side wait = ParksOn wait_queues side wait → 0 < (room_on wait_queues side).spare
 
 -- it parks, and has no room: the one arrival for which a growth of a queue can be refused
-abbrev pub LacksRoomOn : Waiters → Side → Option Wait → Type 0
-LacksRoomOn waiters side wait = ParksOn waiters side wait × ((room_on waiters side).spare ≡ 0)
+abbrev pub LacksRoomOn : WaitQueues → Side → Option Wait → Type 0
+LacksRoomOn wait_queues side wait = ParksOn wait_queues side wait × ((room_on wait_queues side).spare ≡ 0)
 
 -- room was made on one side alone; who looks needs none
-pub record MakesRoomOn (old new : Waiters) (side : Side) : Type 0 where
-  pub same : SameWaiters old new
+pub record MakesRoomOn (old new : WaitQueues) (side : Side) : Type 0 where
+  pub same : SameWaitQueues old new
   pub own : GrowsRoom (room_on old side) (room_on new side)
   pub others : (third : Side) → third ≢ side → room_on new third ≡ room_on old third
   pub looks : opposite side ≡ None → new ≡ old
 
 -- room was made for an arrival that parks, on its own side alone; for any other nothing changed
-pub record MakesRoomFor (old new : Waiters) (side : Side) (wait : Option Wait) : Type 0 where
-  pub same : SameWaiters old new
+pub record MakesRoomFor (old new : WaitQueues) (side : Side) (wait : Option Wait) : Type 0 where
+  pub same : SameWaitQueues old new
   pub own : GrowsRoom (room_on old side) (room_on new side)
   pub others : (third : Side) → third ≢ side → room_on new third ≡ room_on old third
   pub needless : ¬ ParksOn old side wait → new ≡ old
 
 -- how many partners the call can meet
-abbrev pub most_named : Waiters → Call → ℕ
-most_named waiters call = min (may_name call) (opposed_by waiters (opposite (side_of call)))
+abbrev pub most_named : WaitQueues → Call → ℕ
+most_named wait_queues call = min (may_name call) (opposed_by wait_queues (opposite (side_of call)))
 
 -- it can meet some
-abbrev pub NamesSome : Waiters → Call → Type 0
-NamesSome waiters call = 0 < most_named waiters call
+abbrev pub NamesSome : WaitQueues → Call → Type 0
+NamesSome wait_queues call = 0 < most_named wait_queues call
 
 -- nothing is listed, and there is room for all partners that the call can meet
-pub record HasRoomToName (waiters : Waiters) (call : Call) (places : Vec ℕ) : Type 0 where
+pub record HasRoomToName (wait_queues : WaitQueues) (call : Call) (places : Vec ℕ) : Type 0 where
   pub none : places.items ≡ []
-  pub room : most_named waiters call ≤ vec_capacity places
+  pub room : most_named wait_queues call ≤ vec_capacity places

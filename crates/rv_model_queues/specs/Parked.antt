@@ -4,7 +4,7 @@ use Rattle.rv_session.specs.OwedDuty.{OwedDuty}
 use Rattle.rv_dual.specs.Offers.{duty_of, place_of}
 use Rattle.rv_dual.specs.Queue.{Queue}
 use Rattle.rv_dual.specs.declared.giver.Offer.{Offer}
-use Rattle.rv_model_queues.specs.Views.{Waiters, exchanger_at, queue_at}
+use Rattle.rv_model_queues.specs.Views.{WaitQueues, exchanger_at, queue_at}
 
 -- Below, `owed` says for each place the duty to settle what arrived there, if one is owed; a put needs none.
 -- What is said here is said of whatever function tells this.
@@ -16,7 +16,8 @@ pub record IsParked (owed : ℕ → Option OwedDuty) (q : Queue) : Type 0 where
   pub takers : (i : ℕ) (duty : OwedDuty) → slice_get q.takers i ≡ Some duty → owed duty.place ≡ Some duty
 
 -- and so in each queue and at each exchanger
-pub record AreParked (owed : ℕ → Option OwedDuty) (waiters : Waiters) : Type 0 where
-  pub queues : (queue : ℕ) → IsParked owed (queue_at waiters.queues queue)
-  pub exchangers : (exchanger : ℕ) (duty : OwedDuty) → exchanger_at waiters.exchangers exchanger ≡ Some duty
+pub record AreParked (owed : ℕ → Option OwedDuty) (wait_queues : WaitQueues) : Type 0 where
+  pub queues : (queue : ℕ) → IsParked owed (queue_at wait_queues.queues queue)
+  pub exchangers : (exchanger : ℕ) (duty : OwedDuty)
+      → exchanger_at wait_queues.exchangers exchanger ≡ Some duty
       → owed duty.place ≡ Some duty

@@ -58,28 +58,28 @@ OnlyExchanger exchanger old new =
 -- ---- both
 
 -- where requests wait for each other: the queues, and the exchangers with the duty that waits at each
-pub record Waiters : Type 0 where
+pub record WaitQueues : Type 0 where
   pub queues : List Queue
   pub exchangers : List (Option OwedDuty)
 
 -- the places that wait on a side, the oldest first
-abbrev pub waiting_on : Waiters → Side → List ℕ
-waiting_on waiters (Gives queue) = places_of (queue_at waiters.queues queue).givers
-waiting_on waiters (Takes queue) = takers_places (queue_at waiters.queues queue).takers
-waiting_on waiters (Looks queue) = []
-waiting_on waiters (Exchanges exchanger) = place_of_duty (exchanger_at waiters.exchangers exchanger)
+abbrev pub waiting_on : WaitQueues → Side → List ℕ
+waiting_on wait_queues (Gives queue) = places_of (queue_at wait_queues.queues queue).givers
+waiting_on wait_queues (Takes queue) = takers_places (queue_at wait_queues.queues queue).takers
+waiting_on wait_queues (Looks queue) = []
+waiting_on wait_queues (Exchanges exchanger) = place_of_duty (exchanger_at wait_queues.exchangers exchanger)
 
 -- all that wait stay
-pub record SameWaiters (old new : Waiters) : Type 0 where
+pub record SameWaitQueues (old new : WaitQueues) : Type 0 where
   pub queues : SameQueues old.queues new.queues
   pub exchangers : SameExchangers old.exchangers new.exchangers
 
 -- nobody waits
-pub record NobodyWaits (waiters : Waiters) : Type 0 where
-  pub queues : AllEmpty waiters.queues
-  pub exchangers : AllFree waiters.exchangers
+pub record NobodyWaits (wait_queues : WaitQueues) : Type 0 where
+  pub queues : AllEmpty wait_queues.queues
+  pub exchangers : AllFree wait_queues.exchangers
 
 -- whoever waits, waits at a place below this one
-abbrev pub AreBelow : Waiters → ℕ → Type 0
-AreBelow waiters place =
-    (side : Side) (i r : ℕ) → slice_get (waiting_on waiters side) i ≡ Some r → r < place
+abbrev pub AreBelow : WaitQueues → ℕ → Type 0
+AreBelow wait_queues place =
+    (side : Side) (i r : ℕ) → slice_get (waiting_on wait_queues side) i ≡ Some r → r < place

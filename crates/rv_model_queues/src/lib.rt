@@ -5,7 +5,7 @@
 mod exchangers;
 mod outcome;
 mod queues;
-mod waiters;
+mod wait_queues;
 
 pub use outcome::Arrived;
-pub use waiters::Waiters;
+pub use wait_queues::WaitQueues;

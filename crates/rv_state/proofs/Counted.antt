@@ -124,11 +124,11 @@ module _ (a : Account) (s : State) (state : IsStateOf a s) (i : ℕ) (there : Op
       ∙ waiter_by arrival.key arrival.moment (wait_of arrival.call)
       (λ none. waits.no_put (waits.is_open.stays.0, ap wait_of (sym (same_call waits.is_open)) ∙ none))
 
-pub waiters_number : (a : Account) (s : State) → IsStateOf a s
+pub wait_queues_number : (a : Account) (s : State) → IsStateOf a s
     → NumberOf (Waiting a.entries) (waiting_count s)
-waiters_number a s state =
-    let waiters : List OpenPlace = filter (λ (o : OpenPlace). is_some o.waiter) s.open_places in
-    subst (NumberOf (Waiting a.entries)) (length-map waiters (λ (o : OpenPlace). o.place))
-    (line_count (Waiting a.entries) (place_list waiters)
+wait_queues_number a s state =
+    let wait_queues : List OpenPlace = filter (λ (o : OpenPlace). is_some o.waiter) s.open_places in
+    subst (NumberOf (Waiting a.entries)) (length-map wait_queues (λ (o : OpenPlace). o.place))
+    (line_count (Waiting a.entries) (place_list wait_queues)
     (line_left (Open a.entries) (Waiting a.entries) (λ (o : OpenPlace). is_some o.waiter) s.open_places
     state.in_order (with_waiter a s state) (waiter_there a s state) (λ r waits. waits.is_open)))

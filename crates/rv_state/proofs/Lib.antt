@@ -11,7 +11,7 @@ pub mod GoneBy
 pub mod OpensBy
 pub mod PlacesAfter
 pub mod SideLines
-pub mod WaitersThere
+pub mod WaitQueuesThere
 pub mod MetPlaces
 pub mod KnownClients
 pub mod ClosedPlaces

@@ -20,7 +20,7 @@ use Rattle.rv_state.proofs.KnownClients.{found_client, has_client}
 use Rattle.rv_state.proofs.Filtered.{mapped_there}
 use Rattle.rv_state.proofs.MetPlaces.{IsMet, is_met, partners_are}
 use Rattle.rv_state.proofs.MetReplies.{met_replies, met_told}
-use Rattle.rv_state.proofs.WaitersThere.{waiter_waits}
+use Rattle.rv_state.proofs.WaitQueuesThere.{waiter_waits}
 use Rattle.rv_text.specs.declared.call.Call.TheVariants as call
 use Rattle.rv_text.specs.declared.answer.Reply.TheVariants as reply
 

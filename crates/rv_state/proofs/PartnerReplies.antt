@@ -15,7 +15,7 @@ use Rattle.rv_state.proofs.Filtered.{mapped_there}
 use Rattle.rv_state.proofs.MetPlaces.{IsMet}
 use Rattle.rv_state.proofs.MetReplies.{met_replies, met_told}
 use Rattle.rv_state.proofs.Sessions.{WaitsInState, waits_in_state}
-use Rattle.rv_state.proofs.WaitersThere.{same_call_at, waits_by}
+use Rattle.rv_state.proofs.WaitQueuesThere.{same_call_at, waits_by}
 use Rattle.rv_text.specs.declared.call.Call.TheVariants as call
 
 -- what stays is no drain

@@ -20,7 +20,7 @@ use Rattle.rv_state.specs.Moves.{EpochDiffers, HasSessionOf, NoClientMoreUnder, 
 use Rattle.rv_state.specs.Moves.{NoPlaceMore, NumberAbove}
 use Rattle.rv_state.specs.Moves.{NumberIsLast, NumberOld, SessionBusy, SessionLacks, VersionDiffers}
 use Rattle.rv_state.specs.State.{opposites, waiting_count}
-use Rattle.rv_state.proofs.Counted.{clients_number, open_number, waiters_number}
+use Rattle.rv_state.proofs.Counted.{clients_number, open_number, wait_queues_number}
 use Rattle.rv_state.proofs.ClientParts.{above_to_lower, client_known, client_new, has_said, lower_to_above}
 use Rattle.rv_state.proofs.ClientParts.{said_known, same_incarnation, same_last, session_incarnation}
 use Rattle.rv_state.proofs.NamedPlaces.{opposite_from, opposite_to}
@@ -219,7 +219,7 @@ module _ (a : Account) (s : State) (legal : Legal a) (state : IsStateOf a s) whe
       → EpochFullDueUnder limits a need refusal → NoEntryMoreUnder limits s need refusal
   full_to limits need refusal due =
       let same : due.waiting ≡ waiting_count s =
-      one_number (Waiting a.entries) due.waiting (waiting_count s) due.count (waiters_number a s state) in
+      one_number (Waiting a.entries) due.waiting (waiting_count s) due.count (wait_queues_number a s state) in
       let full : limits.entries < length a.entries + due.waiting + need = due.full in
       let long : s.length ≡ length a.entries = state.length in
       record { full = omega arith; is = due.is }
@@ -229,7 +229,13 @@ module _ (a : Account) (s : State) (legal : Legal a) (state : IsStateOf a s) whe
   full_from limits need refusal due =
       let full : limits.entries < s.length + waiting_count s + need = due.full in
       let long : s.length ≡ length a.entries = state.length in
-      record { waiting = waiting_count s; count = waiters_number a s state; full = omega arith; is = due.is }
+      record {
+        waiting = waiting_count s;
+        count = wait_queues_number a s state;
+        full = omega arith;
+        is =
+            due.is;
+      }
 
   -- ---- what is open
 

@@ -18,7 +18,7 @@ use Rattle.rv_state.proofs.MetPlaces.{IsMet, is_met}
 use Rattle.rv_state.proofs.PartnerReplies.{partner_has, partner_replies}
 use Rattle.rv_state.proofs.SideLines.{stands_open}
 use Rattle.rv_state.proofs.StopReplies.{stop_replies}
-use Rattle.rv_state.proofs.WaitersThere.{waiter_waits}
+use Rattle.rv_state.proofs.WaitQueuesThere.{waiter_waits}
 use Rattle.rv_text.specs.declared.answer.Reply.TheVariants as reply
 
 -- what an act tells who waits at a place that it closes

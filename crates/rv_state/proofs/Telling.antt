@@ -7,7 +7,7 @@ use Rattle.rv_state.proofs.ClosedPlaces.{closed_not_open, closed_now, closes_ope
 use Rattle.rv_state.proofs.Coming.{Comes, more}
 use Rattle.rv_state.proofs.OwnReplies.{own_told, own_waiting}
 use Rattle.rv_state.proofs.Settling.{settled_there, tells_replies, was_settled}
-use Rattle.rv_state.proofs.WaitersThere.{open_waits, waits_at_waiter, waits_by}
+use Rattle.rv_state.proofs.WaitQueuesThere.{open_waits, waits_at_waiter, waits_by}
 
 -- who is settled waited, and has the reply that it is told
 pub record IsSettledBy (a : Account) (e : Entry) (settled : Settled) : Type 0 where

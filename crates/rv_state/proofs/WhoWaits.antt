@@ -6,7 +6,7 @@ use Rattle.rv_state.specs.State.{OpenPlace, State, client_waits, place_list}
 use Rattle.rv_state.specs.After.{due_at}
 use Rattle.rv_state.specs.Agreement.{IsStateOf, SaysWaits, TellsWaiting, ClientWaitsAt}
 use Rattle.rv_rules.proofs.Waits.{one_waits}
-use Rattle.rv_state.proofs.Counted.{clients_number, waiter_there, waiters_number, with_waiter}
+use Rattle.rv_state.proofs.Counted.{clients_number, waiter_there, wait_queues_number, with_waiter}
 use Rattle.rv_state.proofs.Due.{due_found, due_there}
 use Rattle.rv_state.proofs.GoneBy.{names_of}
 use Rattle.rv_state.proofs.PlacesLeft.{among_place, place_among}
@@ -59,6 +59,6 @@ module _ (a : Account) (s : State) (legal : Legal a) (state : IsStateOf a s) whe
           waits_by client place,
         );
         due = λ moment r. (found_due moment r, due_among moment r);
-        number = waiters_number a s state;
+        number = wait_queues_number a s state;
         clients = clients_number a s state;
       }

@@ -8,7 +8,7 @@ use Rattle.rv_account.specs.Account.{Account}
 use Rattle.rv_rules.specs.Legal.{Legal, before}
 use Rattle.rv_rules.proofs.Fronts.{Legal-before}
 use Rattle.rv_rules.proofs.Places.{get-take, within}
-use Rattle.rv_audit.specs.Breaking.{BreaksBehind}
+use Rattle.rv_audit.specs.AccountRules.{BreaksBehind}
 use Rattle.rv_audit.specs.Faults.{Breaks, FirstFault, KeepsRules}
 use Rattle.rv_audit.specs.declared.outcome.Audit.TheVariants as tells
 use Rattle.rv_audit.specs.declared.rule.Rule.{Rule}

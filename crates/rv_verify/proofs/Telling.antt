@@ -11,7 +11,7 @@ use Rattle.rv_state.specs.resume.Laws.{HadRoom}
 use Rattle.rv_state.specs.resume.Resuming.{StaysInRoom}
 use Rattle.rv_machine.specs.Machines.{state_in}
 use Rattle.rv_audit.specs.declared.rule.Rule.{Rule}
-use Rattle.rv_follow.specs.asked.Ruling.{IsFirstBroken, IsOnNamed, NamesClosed}
+use Rattle.rv_follow.specs.state_rules.Ruling.{IsFirstBroken, IsOnNamed, NamesClosed}
 use Rattle.rv_follow.proofs.OfAsked.RuleLaws.{closed_breaks, follows_legally, rules_break}
 use Rattle.rv_verify.specs.Standing.{HasRead, StandsAt, StopsBehind}
 use Rattle.rv_verify.specs.Verdicts.{AuditTells, IsVerdictOn, ReadsLong, TellsFaultOf}

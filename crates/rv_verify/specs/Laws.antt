@@ -4,7 +4,7 @@ use Rattle.rv_account.specs.Account.{Account}
 use Rattle.rv_audit.specs.Faults.{IsToldOf}
 use Rattle.rv_audit.specs.declared.outcome.Audit.{Audit}
 use Rattle.rv_audit.specs.declared.outcome.Audit.TheVariants as tells
-use Rattle.rv_follow.specs.asked.Ruling.{IsOnNamed}
+use Rattle.rv_follow.specs.state_rules.Ruling.{IsOnNamed}
 use Rattle.rv_lines.specs.Reading.{ReadsAccount}
 use Rattle.rv_state.specs.resume.Laws.{HadRoom}
 use Rattle.rv_rules.specs.Legal.{Legal}

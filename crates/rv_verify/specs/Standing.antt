@@ -13,7 +13,7 @@ use Rattle.rv_state.specs.resume.Resuming.{CanResume}
 use Rattle.rv_machine.specs.Machines.{state_in}
 use Rattle.rv_machine.specs.declared.machine.Machine.{Machine}
 use Rattle.rv_follow.specs.Outcomes.{PassesRoom}
-use Rattle.rv_follow.specs.asked.Ruling.{IsFirstBroken, NamesClosed}
+use Rattle.rv_follow.specs.state_rules.Ruling.{IsFirstBroken, NamesClosed}
 use Rattle.rv_verify.specs.Verdicts.{ReadsLong}
 use Rattle.rv_verify.specs.declared.verifier.StopReason.{StopReason}
 use Rattle.rv_verify.specs.declared.verifier.StopReason.TheVariants as stop

@@ -15,7 +15,7 @@ use Rattle.rv_audit.specs.Faults.{IsToldOf}
 use Rattle.rv_audit.specs.declared.outcome.Audit.{Audit}
 use Rattle.rv_audit.specs.declared.outcome.Audit.TheVariants as tells
 use Rattle.rv_audit.specs.declared.rule.Rule.{Rule}
-use Rattle.rv_follow.specs.asked.Ruling.{IsOnNamed, NamesClosed}
+use Rattle.rv_follow.specs.state_rules.Ruling.{IsOnNamed, NamesClosed}
 use Rattle.rv_lines.specs.Reading.{FirstBadLineUnder, LineLimits, ReadsAccountUnder, ReadsEntryUpTo}
 use Rattle.rv_replies.specs.declared.findings.verdict.AccountVerdict.{AccountVerdict}
 use Rattle.rv_replies.specs.declared.findings.verdict.AccountVerdict.TheVariants as verdict

@@ -9,7 +9,7 @@ use Rattle.std.proofs.Math.Seq.{take-nil}
 use Rattle.rv_text.specs.declared.call.Side.TheVariants.{Looks}
 use Rattle.rv_state.specs.After.{lasts_by, opened_by, parked}
 use Rattle.rv_state.proofs.PlacesLeft.{but_none}
-use Rattle.rv_book.specs.kept.Keeping.{front_at, front_of}
+use Rattle.rv_book.specs.reply_cache.Keeping.{front_at, front_of}
 
 asked_opens : (t : State) (key : Key) (request : LastRequest) (o : Option ClientState)
     → (with_last t key request o).open_places ≡ t.open_places

@@ -8,7 +8,7 @@ use Rattle.rv_session.specs.declared.kept.Kept.{Kept}
 use Rattle.rv_session.specs.declared.kept.Kept.TheVariants as kept
 use Rattle.rv_text.specs.declared.answer.Reply.TheVariants as reply
 use Rattle.rv_state.proofs.Filtered.{mapped_there}
-use Rattle.rv_book.specs.kept.Keeping.{IsKeptAs, reply_of}
+use Rattle.rv_book.specs.reply_cache.Keeping.{IsKeptAs, reply_of}
 use Rattle.rv_state.proofs.StayingReplies.{drains_on}
 
 item_on : (es more : List Entry) (place : ℕ) (told_with : List ℕ → Reply) (told : Reply)

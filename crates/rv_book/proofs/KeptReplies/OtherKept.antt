@@ -6,7 +6,7 @@ use Rattle.rv_state.proofs.Words.{CancelledUnseen, following}
 use Rattle.rv_state.specs.Moves.{told_again}
 use Rattle.rv_state.proofs.Filtered.{mapped_there}
 use Rattle.rv_state.proofs.ToldClients.{told_client, told_or_waits, told_request, told_still}
-use Rattle.rv_book.specs.kept.Keeping.{client_of}
+use Rattle.rv_book.specs.reply_cache.Keeping.{client_of}
 use Rattle.rv_book.proofs.KeptReplies.RequestsAfter.{others_told}
 
 -- none of the settled is of the client

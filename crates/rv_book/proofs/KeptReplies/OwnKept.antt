@@ -12,7 +12,7 @@ use Rattle.rv_state.specs.Moves.{told_again}
 use Rattle.rv_state.proofs.Coming.{Comes, more}
 use Rattle.rv_state.proofs.Filtered.{chained_there, mapped_there}
 use Rattle.rv_state.proofs.ToldClients.{get_own, get_tell_all, told_client, told_request}
-use Rattle.rv_book.specs.kept.Keeping.{IsKeptAs, client_of, front_of, kept_again, source_in, source_of}
+use Rattle.rv_book.specs.reply_cache.Keeping.{IsKeptAs, client_of, front_of, kept_again, source_in, source_of}
 use Rattle.rv_book.proofs.KeptReplies.FrontAfter.{front_after}
 use Rattle.rv_book.proofs.KeptReplies.OwnTexts.{own_text}
 use Rattle.rv_book.proofs.KeptReplies.RequestsAfter.{asked_request}

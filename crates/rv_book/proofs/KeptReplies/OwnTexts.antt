@@ -18,8 +18,8 @@ use Rattle.rv_state.proofs.Coming.{Comes, more}
 use Rattle.rv_state.proofs.Filtered.{mapped_there}
 use Rattle.rv_state.proofs.MetPlaces.{IsMet, is_met, line_of_there, partners_are}
 use Rattle.rv_state.proofs.OwnReplies.{items_met}
-use Rattle.rv_state.proofs.WaitersThere.{waiter_waits}
-use Rattle.rv_book.specs.kept.Keeping.{source_in, source_named, source_of}
+use Rattle.rv_state.proofs.WaitQueuesThere.{waiter_waits}
+use Rattle.rv_book.specs.reply_cache.Keeping.{source_in, source_named, source_of}
 use Rattle.rv_book.proofs.KeptReplies.MetTexts.{met_text, unmet_text}
 use Rattle.rv_book.proofs.KeptReplies.TextsAt.{HasTextAt}
 

@@ -7,7 +7,7 @@ use Rattle.rv_state.proofs.Words.{cancelled}
 use Rattle.rv_state.proofs.Words.{with_last, refl}
 use Rattle.rv_state.specs.After.{tell_all}
 use Rattle.rv_state.proofs.ToldClients.{get_other, get_own, get_tell_all, told_client}
-use Rattle.rv_book.specs.kept.Keeping.{client_of}
+use Rattle.rv_book.specs.reply_cache.Keeping.{client_of}
 
 -- ---- the request of its own key
 

@@ -11,7 +11,7 @@ use Rattle.rv_state.proofs.Coming.{Comes, more}
 use Rattle.rv_state.proofs.Sessions.{waits_in_state}
 use Rattle.rv_state.proofs.Telling.{IsSettledBy, settled_replies}
 use Rattle.rv_state.proofs.ToldClients.{told_client, told_request}
-use Rattle.rv_book.specs.kept.Keeping.{IsKeptAs, client_of, kept_again}
+use Rattle.rv_book.specs.reply_cache.Keeping.{IsKeptAs, client_of, kept_again}
 use Rattle.rv_book.proofs.KeptReplies.OwnKept.{cancel_kept, hello_kept}
 use Rattle.rv_book.proofs.KeptReplies.RequestsAfter.{others_told}
 use Rattle.rv_book.proofs.KeptReplies.SettledTexts.{told_keeps}

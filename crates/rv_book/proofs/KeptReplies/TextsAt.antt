@@ -4,7 +4,7 @@ use Rattle.rv_state.proofs.Words.{LastRequest}
 use Rattle.rv_account.specs.Account.{item_at, key_at, partners_items}
 use Rattle.rv_state.specs.Moves.{told_again}
 use Rattle.rv_text.specs.declared.answer.Reply.TheVariants as reply
-use Rattle.rv_book.specs.kept.Keeping.{IsKeptAs, kept_again, kept_from, reply_of}
+use Rattle.rv_book.specs.reply_cache.Keeping.{IsKeptAs, kept_again, kept_from, reply_of}
 
 -- the text, the texts or the consumer of the reply stand at the place
 abbrev pub HasTextAt : List Entry → ℕ → Reply → Type 0

@@ -14,7 +14,7 @@ use Rattle.rv_account.specs.Calls.{MayMeet, may_name, opposite}
 use Rattle.std.proofs.Common.{is_some}
 use Rattle.std.proofs.lemmas.Bool.{false≢true}
 use Rattle.rv_state.specs.Kept.{HelloRises, NumberInTurn}
-use Rattle.rv_audit.specs.Breaking.{ArrivesAs, IsPaired, IsSwapped}
+use Rattle.rv_audit.specs.AccountRules.{ArrivesAs, IsPaired, IsSwapped}
 use Rattle.rv_audit.specs.declared.rule.Rule.{Rule}
 use Rattle.rv_audit.specs.declared.rule.Rule.TheVariants.{M1, M2, M3, N1, N3, P1, P2, P3, P4, S1, S2}
 use Rattle.rv_audit.proofs.RulesSuffice.{paired_or_swapped, swapped_opposite}
@@ -25,8 +25,8 @@ use Rattle.rv_state.specs.Follows.{DueOnlyAtTick, FollowsState, NumberFits, part
 use Rattle.rv_state.specs.Kept.{IsOpposite, NamesAll, NamesOldest, NamesOpposites, NamesWell}
 use Rattle.rv_state.specs.State.{OpenPlace, State, line_of, opposites, place_list}
 use Rattle.rv_state.proofs.Filtered.{map_get}
-use Rattle.rv_follow.specs.asked.Ruling.{KeepsRule}
-use Rattle.rv_follow.specs.asked.Walking.{LeadsLine, facing_places}
+use Rattle.rv_follow.specs.state_rules.Ruling.{KeepsRule}
+use Rattle.rv_follow.specs.state_rules.Walking.{LeadsLine, facing_places}
 use Rattle.rv_follow.proofs.OfAsked.Lines.{facing_rises, front_kept}
 use Rattle.rv_follow.proofs.OfAsked.Prefixes.{Rise, in_rest, rest_rises}
 

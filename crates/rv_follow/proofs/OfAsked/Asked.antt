@@ -5,7 +5,7 @@ use Rattle.std.proofs.Common.{arith, slice_get, IsTrue}
 use Rattle.std.proofs.lemmas.Bool.{cases_lt, false≢true}
 use Rattle.std.proofs.lemmas.Option.{get_or_from_slice_get, slice_get-get_or}
 use Rattle.rv_rules.proofs.Places.{within}
-use Rattle.rv_follow.specs.asked.Walking.{HoldsBefore, HoldsOfAll}
+use Rattle.rv_follow.specs.state_rules.Walking.{HoldsBefore, HoldsOfAll}
 use Rattle.rv_follow.proofs.OfAsked.DueNow.{Iff}
 
 module _ (places : List ℕ) (n : ℕ) where

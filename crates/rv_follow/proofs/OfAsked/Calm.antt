@@ -12,8 +12,8 @@ use Rattle.rv_account.specs.Limits.{max_moment}
 use Rattle.rv_account.specs.declared.entry.Act.{Act}
 use Rattle.rv_session.specs.Clients.{place_waiting}
 use Rattle.rv_state.specs.resume.Resuming.{CanResume, StaysInRoom}
-use Rattle.rv_state.proofs.Resumed.Counts.{length_acted, places_within, waiter_gone, waiters, waiting_acted}
-use Rattle.rv_state.proofs.Resumed.Counts.{waiting_within}
+use Rattle.rv_state.proofs.Resumed.Counts.{length_acted, places_within, waiter_gone, wait_queues}
+use Rattle.rv_state.proofs.Resumed.Counts.{waiting_acted, waiting_within}
 use Rattle.rv_state.proofs.Resumed.Kept.{holds}
 use Rattle.rv_state.proofs.Resumed.Stopping.{waits_found}
 use Rattle.rv_state.specs.After.{acted, but, following, just_open}
@@ -22,7 +22,7 @@ use Rattle.rv_state.specs.State.{waiting_count}
 use Rattle.rv_state.proofs.Filtered.{any_get}
 use Rattle.rv_state.proofs.GoneBy.{gone_by}
 use Rattle.rv_state.proofs.OpensBy.{opens_by}
-use Rattle.rv_follow.specs.asked.Rooming.{AwaitsNothing, HasAwaiting, HasSpace}
+use Rattle.rv_follow.specs.state_rules.Rooming.{AwaitsNothing, HasAwaiting, HasSpace}
 use Rattle.rv_follow.proofs.OfAsked.DueNow.{Iff}
 
 -- ---- nobody who waits is gone
@@ -45,7 +45,8 @@ not_true false is = absurd (true≢false is)
 
 module _ (o : OpenPlace) (all gone : List OpenPlace) where
   one_left : (b : Bool) → is_left gone o ≡ b → (is_left gone o ≡ false → is_some o.waiter ≡ false)
-      → waiters (but all gone) ≡ waiters all → waiters (cond b (o ∷ but all gone) (but all gone)) ≡ waiters
+      → wait_queues (but all gone) ≡ wait_queues all
+      → wait_queues (cond b (o ∷ but all gone) (but all gone)) ≡ wait_queues
       (o ∷ all)
   one_left true is none same =
       both_more (is_some o.waiter) o (filter (λ (x : OpenPlace). is_some x.waiter) (but all gone))
@@ -54,7 +55,8 @@ module _ (o : OpenPlace) (all gone : List OpenPlace) where
       same ∙ ap (λ c. length (cond c (o ∷ filter (λ (x : OpenPlace). is_some x.waiter) all)
       (filter (λ (x : OpenPlace). is_some x.waiter) all))) (sym (none is))
 
-pub none_gone : (all gone : List OpenPlace) → Unawaited all gone → waiters (but all gone) ≡ waiters all
+pub none_gone : (all gone : List OpenPlace) → Unawaited all gone
+    → wait_queues (but all gone) ≡ wait_queues all
 none_gone [] gone none = refl
 none_gone (o ∷ all) gone none =
     one_left o all gone (is_left gone o) refl
@@ -71,13 +73,13 @@ module _ (s : State) (is : CanResume s) (moment : ℕ) (time : moment ≤ max_mo
   after = (following s moment does).after
 
   left_waits : waiting_count (acted s moment does).after
-      ≡ waiters (but s.open_places (gone_by s moment does))
+      ≡ wait_queues (but s.open_places (gone_by s moment does))
   left_waits =
       let is_count = waiting_acted s moment does in
-      let no_more : waiters (opens_by s moment does) ≡ 0 = ap waiters none in
+      let no_more : wait_queues (opens_by s moment does) ≡ 0 = ap wait_queues none in
       omega (arith, is_count, no_more)
 
-  pub calm_room : s.length + 1 + waiters (but s.open_places (gone_by s moment does)) ≤ max_identifier
+  pub calm_room : s.length + 1 + wait_queues (but s.open_places (gone_by s moment does)) ≤ max_identifier
       → StaysInRoom after
   calm_room space =
       let places = places_within s moment does in
@@ -93,18 +95,18 @@ module _ (s : State) (is : CanResume s) (moment : ℕ) (time : moment ≤ max_mo
       }
 
   pub room_space : StaysInRoom after
-      → s.length + 1 + waiters (but s.open_places (gone_by s moment does)) ≤ max_identifier
+      → s.length + 1 + wait_queues (but s.open_places (gone_by s moment does)) ≤ max_identifier
   room_space room =
       let long = length_acted s moment does in
       let left = left_waits in
       let space = room.space in
       omega (arith, space, long, left)
 
-  pub fewer : waiters (but s.open_places (gone_by s moment does)) ≤ waiting_count s
+  pub fewer : wait_queues (but s.open_places (gone_by s moment does)) ≤ waiting_count s
   fewer =
       let within = waiting_within s moment does in
       let is_count = waiting_acted s moment does in
-      let no_more : waiters (opens_by s moment does) ≡ 0 = ap waiters none in
+      let no_more : wait_queues (opens_by s moment does) ≡ 0 = ap wait_queues none in
       omega (arith, within, is_count, no_more)
 
   -- with space for it

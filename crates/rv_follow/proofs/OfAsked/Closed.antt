@@ -4,12 +4,12 @@ use Rattle.std.proofs.Common.{slice_get}
 use Rattle.std.proofs.lemmas.Option.{none-some, same_Some}
 use Rattle.rv_account.specs.declared.entry.Entry.{Entry}
 use Rattle.rv_account.specs.Account.{Among}
-use Rattle.rv_audit.specs.Breaking.{rank_of}
+use Rattle.rv_audit.specs.AccountRules.{rank_of}
 use Rattle.rv_audit.specs.declared.rule.Rule.TheVariants.{P2}
 use Rattle.rv_rules.proofs.Naming.{among_or_not}
 use Rattle.rv_state.specs.State.{State, place_list}
-use Rattle.rv_follow.specs.asked.Ruling.{KeepsUpTo, NamesClosed}
-use Rattle.rv_follow.specs.asked.Walking.{HoldsOfAll}
+use Rattle.rv_follow.specs.state_rules.Ruling.{KeepsUpTo, NamesClosed}
+use Rattle.rv_follow.specs.state_rules.Walking.{HoldsOfAll}
 
 one_closed : (opened places : List ℕ) → (HoldsOfAll (Among opened) places → ⊥)
     → (p : ℕ) × Among places p × (Among opened p → ⊥)

@@ -18,27 +18,28 @@ use Rattle.rv_account.specs.Limits.{max_moment}
 use Rattle.rv_account.specs.declared.entry.Act.TheVariants.{Arrive}
 use Rattle.rv_machine.proofs.OfOpenPlaces.Indexing.{same_place}
 use Rattle.rv_state.specs.resume.Resuming.{CanResume, StaysInRoom}
-use Rattle.rv_state.proofs.Resumed.Counts.{arrived_len, length_acted, places_within, waiters, waiting_acted}
+use Rattle.rv_state.proofs.Resumed.Counts.{arrived_len, length_acted, places_within, wait_queues}
+use Rattle.rv_state.proofs.Resumed.Counts.{waiting_acted}
 use Rattle.rv_state.specs.After.{acted, but, following, lasts_by, met_by, opened_by, parked, stays_open}
 use Rattle.rv_state.specs.State.{OpenPlace, State, Waiter, place_list, waiting_count}
 use Rattle.rv_state.proofs.Filtered.{filter_all, find_get, get_find, get_map, map_get}
 use Rattle.rv_state.proofs.GoneBy.{gone_by}
 use Rattle.rv_state.proofs.OpensBy.{opens_by}
 use Rattle.rv_state.proofs.PlacesAfter.{places_acted}
-use Rattle.rv_follow.specs.asked.Rooming.{HasSpace, IsWaitedFor, IsUnawaited}
-use Rattle.rv_follow.specs.asked.Walking.{HoldsOfAll}
+use Rattle.rv_follow.specs.state_rules.Rooming.{HasSpace, IsWaitedFor, IsUnawaited}
+use Rattle.rv_follow.specs.state_rules.Walking.{HoldsOfAll}
 use Rattle.rv_follow.proofs.OfAsked.Calm.{Unawaited, freed, is_left, none_gone, spaced, unfreed}
 
 -- ---- what an arrival that meets nobody needs
 
 module _ (s : State) (moment : ℕ) (key : Key) where
   by_wait : (c : Call) (w : Waiter) (wait : Wait) → (opened_by s moment key c).waiter ≡ Some w
-      → waiters (cond (true && lasts_by (Some wait)) (opened_by s moment key c ∷ []) []) + 1
+      → wait_queues (cond (true && lasts_by (Some wait)) (opened_by s moment key c ∷ []) []) + 1
       ≡ need_by (Some wait)
   by_wait c w Now is = refl
   by_wait c w (Millis zero) is = refl
   by_wait c w (Millis (suc n)) is =
-      ap (λ (b : Bool). waiters (cond (true && b) (opened_by s moment key c ∷ []) []) + 1) (less n)
+      ap (λ (b : Bool). wait_queues (cond (true && b) (opened_by s moment key c ∷ []) []) + 1) (less n)
       ∙ ap (λ (o : Option Waiter). length (cond (is_some o) (opened_by s moment key c ∷ []) []) + 1) is
     where
       less : (n : ℕ) → nat_lt 0 (suc n) ≡ true
@@ -46,7 +47,7 @@ module _ (s : State) (moment : ℕ) (key : Key) where
   by_wait c w Forever is =
       ap (λ (o : Option Waiter). length (cond (is_some o) (opened_by s moment key c ∷ []) []) + 1) is
 
-  pub alone_need : (c : Call) → waiters (parked s moment key c []) + 1 ≡ need_of c
+  pub alone_need : (c : Call) → wait_queues (parked s moment key c []) + 1 ≡ need_of c
   alone_need (call.Put queue item) = refl
   alone_need (call.Transfer queue item wait) = by_wait (call.Transfer queue item wait) _ wait refl
   alone_need (call.Take queue wait) = by_wait (call.Take queue wait) _ wait refl
@@ -75,7 +76,7 @@ module _ (s : State) (is : CanResume s) (moment : ℕ) (time : moment ≤ max_mo
         (λ i j o x at stands equal. absurd (none-some x (ap (λ (l : List OpenPlace). slice_get l j)
         (sym alone)
         ∙ stands))) in
-        let more = ap waiters opens_alone in
+        let more = ap wait_queues opens_alone in
         let need = alone_need s moment key c in
         omega (arith, is_count, same, more, need)
 

@@ -10,7 +10,7 @@ use Rattle.rv_account.specs.declared.entry.Entry.{Entry}
 use Rattle.rv_account.specs.Account.{Among}
 use Rattle.rv_account.specs.Calls.{opposite}
 use Rattle.rv_rules.proofs.Naming.{among_none}
-use Rattle.rv_audit.specs.Breaking.{ArrivesAs}
+use Rattle.rv_audit.specs.AccountRules.{ArrivesAs}
 use Rattle.rv_machine.proofs.OfOpenPlaces.Indexing.{same_place}
 use Rattle.rv_state.specs.resume.Resuming.{CanResume}
 use Rattle.rv_state.proofs.Resumed.Alone.{in_line}
@@ -19,11 +19,11 @@ use Rattle.rv_state.specs.State.{OpenPlace, State, line_of, open_at, place_list,
 use Rattle.rv_state.proofs.Filtered.{find_get, get_filter, get_find, map_get}
 use Rattle.rv_state.proofs.PlacesLeft.{among_place}
 use Rattle.rv_state.proofs.SideLines.{same_side_itself}
-use Rattle.rv_follow.specs.asked.Ruling.{IfArrives}
+use Rattle.rv_follow.specs.state_rules.Ruling.{IfArrives}
 use Rattle.std.proofs.Common.{[], ◌∷◌, cond}
 use Rattle.rv_machine.specs.open_places.OpenMap.{first_behind}
 use Rattle.rv_state.specs.State.{line}
-use Rattle.rv_follow.specs.asked.Walking.{HoldsOfAll, facing_places, first_above, is_above}
+use Rattle.rv_follow.specs.state_rules.Walking.{HoldsOfAll, facing_places, first_above, is_above}
 use Rattle.rv_follow.proofs.OfAsked.DueNow.{Iff}
 use Rattle.rv_follow.proofs.OfAsked.Naming.{never}
 

@@ -16,7 +16,7 @@ use Rattle.rv_state.proofs.Resumed.Counts.{cancelled_len, greeted_len}
 use Rattle.rv_state.proofs.Resumed.Rooms.{tick_room}
 use Rattle.rv_state.specs.After.{due_at, following}
 use Rattle.rv_state.specs.State.{ClientState, OpenPlace, State, client_at}
-use Rattle.rv_follow.specs.asked.Rooming.{AwaitsNothing, HasAwaiting, HasSpace}
+use Rattle.rv_follow.specs.state_rules.Rooming.{AwaitsNothing, HasAwaiting, HasSpace}
 use Rattle.rv_follow.proofs.OfAsked.Calm.{no_place, place_there, told_by}
 use Rattle.rv_follow.proofs.OfAsked.DueNow.{Iff}
 

@@ -13,15 +13,15 @@ use Rattle.rv_account.specs.declared.entry.Entry.{Entry}
 use Rattle.rv_account.specs.Account.{Among, call_in}
 use Rattle.rv_account.specs.Calls.{may_name, opposite}
 use Rattle.rv_account.specs.Limits.{FitsAct}
-use Rattle.rv_audit.specs.Breaking.{ArrivesAs, IsSwapped}
+use Rattle.rv_audit.specs.AccountRules.{ArrivesAs, IsSwapped}
 use Rattle.rv_audit.proofs.RulesSuffice.{one_partner}
 use Rattle.rv_state.specs.resume.Resuming.{CanResume}
 use Rattle.rv_rules.proofs.Places.{within}
 use Rattle.rv_state.specs.Kept.{IsOpposite, NamesAll, NamesOldest, NamesOpposites, NamesWell}
 use Rattle.rv_state.specs.State.{OpenPlace, State, line_of, place_list, same_side}
 use Rattle.rv_state.proofs.Filtered.{filter_order, map_get}
-use Rattle.rv_follow.specs.asked.Ruling.{IfArrives}
-use Rattle.rv_follow.specs.asked.Walking.{LeadsLine, NamesEachFacing, facing_places}
+use Rattle.rv_follow.specs.state_rules.Ruling.{IfArrives}
+use Rattle.rv_follow.specs.state_rules.Walking.{LeadsLine, NamesEachFacing, facing_places}
 use Rattle.rv_follow.proofs.OfAsked.DueNow.{Iff}
 use Rattle.rv_follow.proofs.OfAsked.Naming.{never}
 use Rattle.rv_follow.proofs.OfAsked.Prefixes.{Rise, front_closed, front_from, rise_from}

@@ -10,10 +10,10 @@ use Rattle.rv_account.specs.declared.entry.Entry.{Entry}
 use Rattle.rv_account.specs.Account.{Names, call_in}
 use Rattle.rv_account.specs.Calls.{may_name}
 use Rattle.rv_rules.proofs.Naming.{among_none, first_among}
-use Rattle.rv_audit.specs.Breaking.{ArrivesToMeet, NamesTooMany}
+use Rattle.rv_audit.specs.AccountRules.{ArrivesToMeet, NamesTooMany}
 use Rattle.rv_state.specs.Kept.{NamesWell}
 use Rattle.rv_state.specs.State.{State}
-use Rattle.rv_follow.specs.asked.Walking.{HoldsOfAll}
+use Rattle.rv_follow.specs.state_rules.Walking.{HoldsOfAll}
 use Rattle.rv_follow.proofs.OfAsked.DueNow.{Iff}
 
 abbrev pub No : Type 0 → Type 0

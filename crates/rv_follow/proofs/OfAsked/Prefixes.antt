@@ -10,7 +10,7 @@ use Rattle.std.specs.List.Sorted.{IsStrictlyIncreasing}
 use Rattle.rv_account.specs.Account.{Among}
 use Rattle.rv_rules.proofs.Counting.{later_is_greater}
 use Rattle.rv_rules.proofs.Places.{within}
-use Rattle.rv_follow.specs.asked.Walking.{AgreeBefore, LeadsLine, first_above, is_above}
+use Rattle.rv_follow.specs.state_rules.Walking.{AgreeBefore, LeadsLine, first_above, is_above}
 
 -- each of them is below those behind it
 abbrev pub Rise : List ℕ → Type 0

@@ -19,7 +19,7 @@ use Rattle.rv_state.specs.State.{place_list}
 use Rattle.rv_state.proofs.Agreed.{agreed}
 use Rattle.rv_state.proofs.FollowsBoth.{account_to_state, state_to_account}
 use Rattle.rv_state.proofs.RulesKept.{rules_agree}
-use Rattle.rv_audit.specs.Breaking.{BreaksBehind, rank_of}
+use Rattle.rv_audit.specs.AccountRules.{BreaksBehind, rank_of}
 use Rattle.rv_audit.specs.Faults.{FirstFault, IsToldOf}
 use Rattle.rv_audit.specs.declared.outcome.Audit.{Audit}
 use Rattle.rv_audit.specs.declared.outcome.Audit.TheVariants as tells
@@ -27,8 +27,8 @@ use Rattle.rv_audit.specs.declared.rule.Rule.{Rule}
 use Rattle.rv_audit.specs.declared.rule.Rule.TheVariants.{M1, M2, M3, N1, N2, N3, P1, P2, P3, P4, S1, S2}
 use Rattle.rv_audit.proofs.ByRules.{one_rank}
 use Rattle.rv_audit.proofs.RulesKept.{breaks_nothing}
-use Rattle.rv_follow.specs.asked.Laws.{ClosedBreaks, FollowsLegally, RulesBreak, ToldOnNamed}
-use Rattle.rv_follow.specs.asked.Ruling.{IsFirstBroken, IsOnNamed, KeepsUpTo, KeepsRule, NamesClosed}
+use Rattle.rv_follow.specs.state_rules.Laws.{ClosedBreaks, FollowsLegally, RulesBreak, ToldOnNamed}
+use Rattle.rv_follow.specs.state_rules.Ruling.{IsFirstBroken, IsOnNamed, KeepsUpTo, KeepsRule, NamesClosed}
 use Rattle.rv_follow.proofs.OfAsked.Rules.{breaks_not, keeps_below, opposites_open}
 
 pub follows_legally : FollowsLegally

@@ -17,8 +17,8 @@ use Rattle.rv_state.specs.Kept.{RulesAgree}
 use Rattle.rv_state.specs.State.{OpenPlace, State, line_of, place_list, same_side}
 use Rattle.rv_state.proofs.Filtered.{filter_get, map_get}
 use Rattle.rv_state.proofs.PlacesLeft.{among_place}
-use Rattle.rv_audit.specs.Breaking.{ArrivesAs, BreaksBehind, IsPaired, IsSwapped, MeetsWrongly, MissesPartner}
-use Rattle.rv_audit.specs.Breaking.{rank_of}
+use Rattle.rv_audit.specs.AccountRules.{ArrivesAs, BreaksBehind, IsPaired, IsSwapped, MeetsWrongly}
+use Rattle.rv_audit.specs.AccountRules.{MissesPartner, rank_of}
 use Rattle.rv_audit.specs.declared.rule.Rule.{Rule}
 use Rattle.rv_audit.specs.declared.rule.Rule.TheVariants.{M1, M2, M3, N1, N2, N3, P1, P2, P3, P4, S1, S2}
 use Rattle.rv_audit.proofs.RulesKept.{counts_in_turn, falls_not_back, is_of_session, meets_rightly}
@@ -27,7 +27,7 @@ use Rattle.rv_audit.proofs.RulesKept.{passes_nobody_over, starts_newer, swapped_
 use Rattle.rv_audit.proofs.RulesSuffice.{cancels_in_turn, counts_up, keeps_limits, keeps_time}
 use Rattle.rv_audit.proofs.RulesSuffice.{names_free_partners, of_session, pairs_oldest, pairs_opposites}
 use Rattle.rv_audit.proofs.RulesSuffice.{pairs_where_possible, raises_incarnation}
-use Rattle.rv_follow.specs.asked.Ruling.{KeepsUpTo, KeepsRule}
+use Rattle.rv_follow.specs.state_rules.Ruling.{KeepsUpTo, KeepsRule}
 
 -- ---- whom it might meet
 

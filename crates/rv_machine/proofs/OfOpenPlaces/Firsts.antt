@@ -10,7 +10,7 @@ use Rattle.rv_state.specs.State.{OpenPlace, Waiter, place_list, same_side}
 use Rattle.rv_state.proofs.Filtered.{filter_get, rises_left}
 use Rattle.rv_state.proofs.SideLines.{same_side_is}
 use Rattle.rv_model_queues.specs.Parked.{AreParked}
-use Rattle.rv_model_queues.specs.Views.{Waiters, waiting_on}
+use Rattle.rv_model_queues.specs.Views.{WaitQueues, waiting_on}
 use Rattle.rv_machine.specs.open_places.OpenMap.{PlacesRise, duty_at, found_at, line_in, owed_among}
 use Rattle.rv_machine.specs.open_places.OpenMap.{count_waiting, all_but, without_limit}
 use Rattle.rv_machine.specs.open_places.Indexed.{AreIndexed, ClosesFirst}
@@ -20,7 +20,7 @@ use Rattle.rv_machine.proofs.OfOpenPlaces.Indexing.{LeftLine, closed_all, one_le
 use Rattle.rv_machine.proofs.OfOpenPlaces.Parted.{others_pass}
 
 -- the first of a line, which left it
-pub record FirstLeft (all : List OpenPlace) (old new : Waiters) (side : Side) (place : ℕ) : Type 0 where
+pub record FirstLeft (all : List OpenPlace) (old new : WaitQueues) (side : Side) (place : ℕ) : Type 0 where
   pub there : OpenPlace
   pub found : found_at all place ≡ Some there
   pub at_place : there.place ≡ place
@@ -47,7 +47,8 @@ rest_of x xs rise =
     ap (λ b. cond (not b) (x ∷ all_but xs x.place) (all_but xs x.place)) (eq-eqb x.place x.place refl)
     ∙ others_pass x xs rise
 
-module _ (all : List OpenPlace) (old new : Waiters) (waiting : ℕ) (due : Deadlines) (side : Side) (place : ℕ)
+module _ (all : List OpenPlace) (old new : WaitQueues) (waiting : ℕ) (due : Deadlines) (side : Side) (place :
+    ℕ)
     (is : AreIndexed all old waiting due) (first : waiting_on old side ≡ place ∷ waiting_on new side)
     (others : (third : Side) → third ≢ side → waiting_on new third ≡ waiting_on old third)
     (parked : AreParked (owed_among all) new) where
@@ -115,16 +116,17 @@ closes_first all new side place there duty found at line owed rest =
     }
 
 -- how many wait with it, and without it
-pub count_first : (all : List OpenPlace) (waiters : Waiters) (waiting : ℕ) (due : Deadlines) (place : ℕ)
-    (there : OpenPlace) (duty : Option OwedDuty) → AreIndexed all waiters waiting due
+pub count_first : (all : List OpenPlace) (wait_queues : WaitQueues) (waiting : ℕ) (due : Deadlines) (place :
+    ℕ)
+    (there : OpenPlace) (duty : Option OwedDuty) → AreIndexed all wait_queues waiting due
     → found_at all place ≡ Some there → duty_at there ≡ duty
     → waiting ≡ count_waiting (all_but all place) + cond (is_some duty) 1 0
-count_first all waiters waiting due place there duty is found owed =
+count_first all wait_queues waiting due place there duty is found owed =
     is.counted ∙ one_less all place there is.rise found
     ∙ ap (λ b. count_waiting (all_but all place) + cond b 1 0) (sym (count_owed there duty owed))
 
 -- what is closed leaves the tables of all others
-pub closed_first : (all rest : List OpenPlace) (old new : Waiters) (waiting left count : ℕ) (due after :
+pub closed_first : (all rest : List OpenPlace) (old new : WaitQueues) (waiting left count : ℕ) (due after :
     Deadlines)
     (place : ℕ) (there : OpenPlace) (duty : Option OwedDuty) → AreIndexed all old waiting due
     → found_at all place ≡ Some there → duty_at there ≡ duty → count ≡ cond (is_some duty) 1 0

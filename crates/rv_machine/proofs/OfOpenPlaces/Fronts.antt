@@ -13,7 +13,7 @@ use Rattle.rv_state.specs.State.{OpenPlace, place_list, same_side}
 use Rattle.rv_state.proofs.Words.{cases_lt, none-some, same_Some}
 use Rattle.rv_state.specs.After.{deadline_of_place}
 use Rattle.rv_state.proofs.Filtered.{filter_get, find_get}
-use Rattle.rv_model_queues.specs.Views.{Waiters, waiting_on}
+use Rattle.rv_model_queues.specs.Views.{WaitQueues, waiting_on}
 use Rattle.rv_machine.specs.open_places.OpenMap.{IsFirstDue, NeverDue, PlacesRise, due_in, duty_at, found_at}
 use Rattle.rv_machine.specs.open_places.OpenMap.{line_in, all_but, first_behind, without_limit}
 use Rattle.rv_machine.specs.open_places.Indexed.{AreIndexed, ClosesDue}
@@ -31,10 +31,10 @@ pub record DueThere (all : List OpenPlace) (d : Deadline) : Type 0 where
   pub has : there.limit ≡ Some d.0
   pub waits : IsSome there.waiter
 
-pub due_there : (all : List OpenPlace) (waiters : Waiters) (waiting moment : ℕ) (due : Deadlines)
+pub due_there : (all : List OpenPlace) (wait_queues : WaitQueues) (waiting moment : ℕ) (due : Deadlines)
     (d : Deadline)
-    → AreIndexed all waiters waiting due → IsLeastUntil due moment d → DueThere all d
-due_there all waiters waiting moment due d is least =
+    → AreIndexed all wait_queues waiting due → IsLeastUntil due moment d → DueThere all d
+due_there all wait_queues waiting moment due d is least =
     let listed = listed_place all d (sym (contains-from_list by_moment_total (filter_map deadline_of_place
     all) d)
     ∙ ap (λ (s : Deadlines). contains s d) (sym is.limits) ∙ least.there) in
@@ -46,11 +46,11 @@ due_there all waiters waiting moment due d is least =
           (subst (λ (o : Option ℕ). IsSome o) (sym listed.4) refl);
     }
 
-pub due_first : (all : List OpenPlace) (waiters : Waiters) (waiting moment : ℕ) (due : Deadlines)
+pub due_first : (all : List OpenPlace) (wait_queues : WaitQueues) (waiting moment : ℕ) (due : Deadlines)
     (d : Deadline)
-    → AreIndexed all waiters waiting due → IsLeastUntil due moment d → (at : DueThere all d)
+    → AreIndexed all wait_queues waiting due → IsLeastUntil due moment d → (at : DueThere all d)
     → due_in all moment ≡ at.there ∷ due_in (all_but all d.1) moment
-due_first all waiters waiting moment due d is least at =
+due_first all wait_queues waiting moment due d is least at =
     first_due all d.1 moment d.0 at.there (parted all d.1 at.there is.rise at.found) at.has
     (subst (λ (s : Deadlines). IsLeastUntil s moment d) is.limits least) at.found
 
@@ -70,11 +70,12 @@ line_found all side rise i o at =
     let was = filter_get (λ (x : OpenPlace). same_side x.side side) all i o at in
     stands_found all was.0 o rise was.1
 
-pub first_found : (all : List OpenPlace) (waiters : Waiters) (waiting place : ℕ) (due : Deadlines) (side :
+pub first_found : (all : List OpenPlace) (wait_queues : WaitQueues) (waiting place : ℕ) (due : Deadlines)
+    (side :
     Side)
-    → AreIndexed all waiters waiting due → slice_get (waiting_on waiters side) 0 ≡ Some place
+    → AreIndexed all wait_queues waiting due → slice_get (waiting_on wait_queues side) 0 ≡ Some place
     → found_at all place ≡ slice_get (line_in all side) 0
-first_found all waiters waiting place due side is first =
+first_found all wait_queues waiting place due side is first =
     found_first all (line_in all side) (line_found all side is.rise) place
     (sym (ap (λ l. slice_get l 0) (is.lines side)) ∙ first)
 
@@ -93,13 +94,13 @@ behind_places after (o ∷ line) = by_head (is_above after o.place) (behind_plac
     by_head true rest = refl
     by_head false rest = rest
 
-module _ (all : List OpenPlace) (waiters : Waiters) (waiting : ℕ) (due : Deadlines) (side : Side)
-    (after : Option ℕ) (is : AreIndexed all waiters waiting due) where
-  waits_behind : first_above after (waiting_on waiters side)
+module _ (all : List OpenPlace) (wait_queues : WaitQueues) (waiting : ℕ) (due : Deadlines) (side : Side)
+    (after : Option ℕ) (is : AreIndexed all wait_queues waiting due) where
+  waits_behind : first_above after (waiting_on wait_queues side)
       ≡ option_map (λ o. o.place) (first_behind after (line_in all side))
   waits_behind = ap (first_above after) (is.lines side) ∙ behind_places after (line_in all side)
 
-  pub found_behind : (place : ℕ) → first_above after (waiting_on waiters side) ≡ Some place
+  pub found_behind : (place : ℕ) → first_above after (waiting_on wait_queues side) ≡ Some place
       → found_at all place ≡ first_behind after (line_in all side)
   found_behind place first = by_found (first_behind after (line_in all side)) refl (sym waits_behind ∙ first)
     where
@@ -110,7 +111,7 @@ module _ (all : List OpenPlace) (waiters : Waiters) (waiting : ℕ) (due : Deadl
           let there = find_get (λ (x : OpenPlace). is_above after x.place) (line_in all side) o found in
           ap (found_at all) (sym (same_Some _ _ at)) ∙ line_found all side is.rise there.0 o there.1
 
-  pub none_behind : first_above after (waiting_on waiters side) ≡ None
+  pub none_behind : first_above after (waiting_on wait_queues side) ≡ None
       → first_behind after (line_in all side) ≡ None
   none_behind none = by_found (first_behind after (line_in all side)) (sym waits_behind ∙ none)
     where
@@ -125,24 +126,25 @@ pub record DueOut (all : List OpenPlace) (moment : ℕ) (d : Deadline) (there : 
   pub at_place : there.place ≡ d.1
   pub first : due_in all moment ≡ there ∷ due_in (all_but all d.1) moment
 
-pub due_out : (all : List OpenPlace) (waiters : Waiters) (waiting moment : ℕ) (due : Deadlines) (d : Deadline)
-    (there : OpenPlace) → AreIndexed all waiters waiting due → IsLeastUntil due moment d
+pub due_out : (all : List OpenPlace) (wait_queues : WaitQueues) (waiting moment : ℕ) (due : Deadlines)
+    (d : Deadline)
+    (there : OpenPlace) → AreIndexed all wait_queues waiting due → IsLeastUntil due moment d
     → found_at all d.1 ≡ Some there → DueOut all moment d there
-due_out all waiters waiting moment due d there is least found =
-    let at = due_there all waiters waiting moment due d is least in
+due_out all wait_queues waiting moment due d there is least found =
+    let at = due_there all wait_queues waiting moment due d is least in
     let same : at.there ≡ there = same_Some _ _ (sym at.found ∙ found) in
     let stands = find_get (λ (o : OpenPlace). nat_eq o.place d.1) all there found in
     record {
       has = subst (λ (o : OpenPlace). o.limit ≡ Some d.0) same at.has;
       waits = subst (λ (o : OpenPlace). IsSome o.waiter) same at.waits;
       at_place = eqb-true there.place d.1 stands.2;
-      first = due_first all waiters waiting moment due d is least at
+      first = due_first all wait_queues waiting moment due d is least at
           ∙ ap (λ (o : OpenPlace). o ∷ due_in (all_but all d.1) moment) same;
     }
 
-pub nothing_due : (all : List OpenPlace) (waiters : Waiters) (waiting moment : ℕ) (due : Deadlines)
-    → AreIndexed all waiters waiting due → AllAbove due moment → due_in all moment ≡ []
-nothing_due all waiters waiting moment due is above =
+pub nothing_due : (all : List OpenPlace) (wait_queues : WaitQueues) (waiting moment : ℕ) (due : Deadlines)
+    → AreIndexed all wait_queues waiting due → AllAbove due moment → due_in all moment ≡ []
+nothing_due all wait_queues waiting moment due is above =
     none_due all moment (subst (λ (s : Deadlines). AllAbove s moment) is.limits above)
 
 -- its place is closed, with its limit gone already
@@ -179,19 +181,20 @@ above_earlier due d earlier least before other there = elim (cases_lt earlier ot
     apart : other.0 ≡ d.0 → other.0 ≤ earlier → ⊥
     apart same most = omega (arith, same, most, before)
 
-pub first_due_at : (all : List OpenPlace) (waiters : Waiters) (waiting : ℕ) (due : Deadlines) (d : Deadline)
-    → AreIndexed all waiters waiting due → IsLeastUntil due d.0 d → IsFirstDue all d.0
-first_due_at all waiters waiting due d is least = record {
-  due = λ none. absurd (cons-nil (sym (due_first all waiters waiting d.0 due d is least
-      (due_there all waiters waiting d.0 due d is least)) ∙ none));
-  none_before = λ earlier before. nothing_due all waiters waiting earlier due is
+pub first_due_at : (all : List OpenPlace) (wait_queues : WaitQueues) (waiting : ℕ) (due : Deadlines)
+    (d : Deadline)
+    → AreIndexed all wait_queues waiting due → IsLeastUntil due d.0 d → IsFirstDue all d.0
+first_due_at all wait_queues waiting due d is least = record {
+  due = λ none. absurd (cons-nil (sym (due_first all wait_queues waiting d.0 due d is least
+      (due_there all wait_queues waiting d.0 due d is least)) ∙ none));
+  none_before = λ earlier before. nothing_due all wait_queues waiting earlier due is
       (above_earlier due d earlier least before);
 }
   where
     cons-nil : {o : OpenPlace} {l : List OpenPlace} → o ∷ l ≡ [] → ⊥
     cons-nil e = cc
 
-pub never_due : (all : List OpenPlace) (waiters : Waiters) (waiting : ℕ) (due : Deadlines)
-    → AreIndexed all waiters waiting due → ((moment : ℕ) → AllAbove due moment) → NeverDue all
-never_due all waiters waiting due is above moment = nothing_due all waiters waiting moment due is
+pub never_due : (all : List OpenPlace) (wait_queues : WaitQueues) (waiting : ℕ) (due : Deadlines)
+    → AreIndexed all wait_queues waiting due → ((moment : ℕ) → AllAbove due moment) → NeverDue all
+never_due all wait_queues waiting due is above moment = nothing_due all wait_queues waiting moment due is
     (above moment)

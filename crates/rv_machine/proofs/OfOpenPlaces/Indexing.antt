@@ -17,7 +17,7 @@ use Rattle.rv_state.proofs.Words.{none-some, same_Some}
 use Rattle.rv_state.proofs.Filtered.{filter_get, find_get, get_filter, get_find, get_map, map_get, rises_left}
 use Rattle.rv_state.proofs.SideLines.{same_side_is, same_side_itself}
 use Rattle.rv_model_queues.specs.Parked.{AreParked}
-use Rattle.rv_model_queues.specs.Views.{Waiters, place_of_duty, waiting_on}
+use Rattle.rv_model_queues.specs.Views.{WaitQueues, place_of_duty, waiting_on}
 use Rattle.rv_model_queues.specs.Meeting.{LeavesSide, StandsOn, Withdrew}
 use Rattle.rv_machine.specs.open_places.OpenMap.{PlacesRise, duty_at, found_at, line_in, owed_among}
 use Rattle.rv_machine.specs.open_places.OpenMap.{count_waiting, all_but, without_limit}
@@ -30,10 +30,10 @@ use Rattle.rv_machine.proofs.OfOpenPlaces.Parted.{PartedAt, parted}
 -- ---- whose duties are parked
 
 -- what is owed where somebody waits stays
-pub parked_on : (owed now : ℕ → Option OwedDuty) (waiters : Waiters)
-    → ((side : Side) (i r : ℕ) → slice_get (waiting_on waiters side) i ≡ Some r → now r ≡ owed r)
-    → AreParked owed waiters → AreParked now waiters
-parked_on owed now waiters same parked = record {
+pub parked_on : (owed now : ℕ → Option OwedDuty) (wait_queues : WaitQueues)
+    → ((side : Side) (i r : ℕ) → slice_get (waiting_on wait_queues side) i ≡ Some r → now r ≡ owed r)
+    → AreParked owed wait_queues → AreParked now wait_queues
+parked_on owed now wait_queues same parked = record {
   queues = λ queue. record {
     givers = λ i offer at. same (Gives queue) i (place_of offer)
         (slice_get-map place_of _ i ∙ ap (option_map place_of) at) ∙ (parked.queues queue).givers i offer at;
@@ -94,12 +94,12 @@ on_line all side i r at =
 -- ---- a place is closed
 
 -- it left its line, and all else of those who wait stays
-pub record LeftLine (all : List OpenPlace) (old new : Waiters) (there : OpenPlace) : Type 0 where
+pub record LeftLine (all : List OpenPlace) (old new : WaitQueues) (there : OpenPlace) : Type 0 where
   pub places : waiting_on new there.side ≡ place_list (all_but (line_in all there.side) there.place)
   pub others : (third : Side) → third ≢ there.side → waiting_on new third ≡ waiting_on old third
   pub parked : AreParked (owed_among all) new
 
-module _ (all : List OpenPlace) (old new : Waiters) (waiting : ℕ) (due : Deadlines)
+module _ (all : List OpenPlace) (old new : WaitQueues) (waiting : ℕ) (due : Deadlines)
     (is : AreIndexed all old waiting due) (place : ℕ) (there : OpenPlace) (at : PartedAt all place there)
     (left : LeftLine all old new there) where
   abbrev rest : List OpenPlace
@@ -144,10 +144,10 @@ module _ (all : List OpenPlace) (old new : Waiters) (waiting : ℕ) (due : Deadl
 
 -- ---- what closing wants, and leaves
 
-pub fits_found : (all : List OpenPlace) (waiters : Waiters) (waiting : ℕ) (due : Deadlines) (place : ℕ)
-    (there : OpenPlace) → AreIndexed all waiters waiting due → found_at all place ≡ Some there
+pub fits_found : (all : List OpenPlace) (wait_queues : WaitQueues) (waiting : ℕ) (due : Deadlines) (place : ℕ)
+    (there : OpenPlace) → AreIndexed all wait_queues waiting due → found_at all place ≡ Some there
     → FitsSide there.side
-fits_found all waiters waiting due place there is found =
+fits_found all wait_queues waiting due place there is found =
     let at = find_get (λ (o : OpenPlace). nat_eq o.place place) all there found in is.fit at.0 there at.1
 
 pub one_less : (all : List OpenPlace) (place : ℕ) (there : OpenPlace) → PlacesRise all
@@ -155,7 +155,7 @@ pub one_less : (all : List OpenPlace) (place : ℕ) (there : OpenPlace) → Plac
     + cond (is_some there.waiter) 1 0
 one_less all place there rise found = one_waits_less all place there (parted all place there rise found)
 
-pub closed_all : (all rest : List OpenPlace) (old new : Waiters) (waiting left : ℕ) (due after : Deadlines)
+pub closed_all : (all rest : List OpenPlace) (old new : WaitQueues) (waiting left : ℕ) (due after : Deadlines)
     (place : ℕ) (there : OpenPlace) → AreIndexed all old waiting due → found_at all place ≡ Some there
     → rest ≡ all_but all place → LeftLine all old new there
     → waiting ≡ left + cond (is_some there.waiter) 1 0
@@ -183,10 +183,10 @@ same_owed : (all : List OpenPlace) (place : ℕ) (there : OpenPlace) (duty : Owe
 same_owed all place there duty found owed = ap (option_and_then duty_at) found ∙ owed
 
 -- it stands on its side, and on no other
-pub stands_on : (all : List OpenPlace) (waiters : Waiters) (waiting : ℕ) (due : Deadlines) (place : ℕ)
-    (there : OpenPlace) → AreIndexed all waiters waiting due → found_at all place ≡ Some there
-    → StandsOn waiters there.side place
-stands_on all waiters waiting due place there is found =
+pub stands_on : (all : List OpenPlace) (wait_queues : WaitQueues) (waiting : ℕ) (due : Deadlines) (place : ℕ)
+    (there : OpenPlace) → AreIndexed all wait_queues waiting due → found_at all place ≡ Some there
+    → StandsOn wait_queues there.side place
+stands_on all wait_queues waiting due place there is found =
     let at = find_get (λ (o : OpenPlace). nat_eq o.place place) all there found in
     let is_at : there.place ≡ place = eqb-true there.place place at.2 in
     let listed = get_filter (λ (o : OpenPlace). same_side o.side there.side) all at.0 there at.1
@@ -202,7 +202,8 @@ stands_on all waiters waiting due place there is found =
           sym found.4 ∙ ap (λ (o : OpenPlace). o.side) same;
     }
 
-pub left_by_withdrawal : (all : List OpenPlace) (old new : Waiters) (waiting : ℕ) (due : Deadlines) (place :
+pub left_by_withdrawal : (all : List OpenPlace) (old new : WaitQueues) (waiting : ℕ) (due : Deadlines)
+    (place :
     ℕ)
     (there : OpenPlace) (duty : OwedDuty) (result : Option OwedDuty) → AreIndexed all old waiting due
     → found_at all place ≡ Some there → duty_at there ≡ Some duty
@@ -235,7 +236,7 @@ has_duty there waits = by_waiter there.waiter waits
     by_waiter (Some w) some = (record { place = there.place; client = w.key.client }, refl)
 
 -- who waited left, and the duty came back
-pub record Withdrawn (all : List OpenPlace) (old new : Waiters) (there : OpenPlace) (result :
+pub record Withdrawn (all : List OpenPlace) (old new : WaitQueues) (there : OpenPlace) (result :
     Option OwedDuty) :
     Type 0 where
   pub duty : OwedDuty
@@ -243,7 +244,7 @@ pub record Withdrawn (all : List OpenPlace) (old new : Waiters) (there : OpenPla
   pub is : result ≡ Some duty
   pub left : LeftLine all old new there
 
-pub withdrawn : (all : List OpenPlace) (old new : Waiters) (waiting : ℕ) (due : Deadlines) (place : ℕ)
+pub withdrawn : (all : List OpenPlace) (old new : WaitQueues) (waiting : ℕ) (due : Deadlines) (place : ℕ)
     (there : OpenPlace) (result : Option OwedDuty) → AreIndexed all old waiting due
     → found_at all place ≡ Some there → IsSome there.waiter → Withdrew old new there.side place result
     → Withdrawn all old new there result
@@ -264,14 +265,14 @@ pub waits_there : (all : List OpenPlace) (place : ℕ) (there : OpenPlace) → W
 waits_there all place there waits found =
     subst (λ (o : OpenPlace). IsSome o.waiter) (same_Some _ _ (sym waits.found ∙ found)) waits.waits
 
-pub one_waits : (all : List OpenPlace) (old : Waiters) (waiting : ℕ) (due : Deadlines) (place : ℕ)
+pub one_waits : (all : List OpenPlace) (old : WaitQueues) (waiting : ℕ) (due : Deadlines) (place : ℕ)
     (there : OpenPlace) → AreIndexed all old waiting due → found_at all place ≡ Some there
     → IsSome there.waiter → waiting ≡ count_waiting (all_but all place) + 1
 one_waits all old waiting due place there is found waits =
     is.counted ∙ one_less all place there is.rise found
     ∙ ap (λ b. count_waiting (all_but all place) + cond b 1 0) waits
 
-pub closed_waiting : (all rest : List OpenPlace) (old new : Waiters) (waiting left : ℕ) (due after :
+pub closed_waiting : (all rest : List OpenPlace) (old new : WaitQueues) (waiting left : ℕ) (due after :
     Deadlines)
     (place : ℕ) (there : OpenPlace) → AreIndexed all old waiting due → found_at all place ≡ Some there
     → IsSome there.waiter → rest ≡ all_but all place → LeftLine all old new there → left ≡ waiting - 1

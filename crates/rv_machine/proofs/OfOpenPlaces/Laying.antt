@@ -16,7 +16,7 @@ use Rattle.rv_state.proofs.Filtered.{append_get}
 use Rattle.rv_state.proofs.SideLines.{same_side_itself}
 use Rattle.rv_model_queues.specs.Meeting.{FindsNobody, StartsToWait}
 use Rattle.rv_model_queues.specs.Parked.{AreParked}
-use Rattle.rv_model_queues.specs.Views.{AreBelow, Waiters, waiting_on}
+use Rattle.rv_model_queues.specs.Views.{AreBelow, WaitQueues, waiting_on}
 use Rattle.rv_machine.specs.open_places.OpenMap.{StandBelow, count_waiting, duty_at, facing, found_at}
 use Rattle.rv_machine.specs.open_places.OpenMap.{line_in, opposed_in, owed_among, with_limit}
 use Rattle.rv_machine.specs.open_places.Indexed.{AreIndexed}
@@ -26,12 +26,13 @@ use Rattle.rv_machine.proofs.OfOpenPlaces.Limits.{limits_more}
 use Rattle.rv_machine.proofs.OfOpenPlaces.Meetings.{are_below}
 
 -- nobody waits whom an arrival could meet, where no open place faces it
-pub finds_nobody : (all : List OpenPlace) (waiters : Waiters) (waiting : ℕ) (due : Deadlines) (side : Side)
-    → AreIndexed all waiters waiting due → opposed_in all side ≡ [] → FindsNobody waiters side
-finds_nobody all waiters waiting due side is alone other opposes =
+pub finds_nobody : (all : List OpenPlace) (wait_queues : WaitQueues) (waiting : ℕ) (due : Deadlines) (side :
+    Side)
+    → AreIndexed all wait_queues waiting due → opposed_in all side ≡ [] → FindsNobody wait_queues side
+finds_nobody all wait_queues waiting due side is alone other opposes =
     is.lines other ∙ ap place_list (sym (ap (facing all) opposes) ∙ alone)
 
-module _ (all : List OpenPlace) (old : Waiters) (waiting : ℕ) (due : Deadlines) (o : OpenPlace)
+module _ (all : List OpenPlace) (old : WaitQueues) (waiting : ℕ) (due : Deadlines) (o : OpenPlace)
     (is : AreIndexed all old waiting due) (below : StandBelow all o.place) where
   abbrev pub more : List OpenPlace
   more = all ++ o ∷ []
@@ -75,7 +76,7 @@ module _ (all : List OpenPlace) (old : Waiters) (waiting : ℕ) (due : Deadlines
       by_waiter true = refl
       by_waiter false = refl
 
-  module _ (new : Waiters) (waits : StartsToWait old new o.side o.place)
+  module _ (new : WaitQueues) (waits : StartsToWait old new o.side o.place)
       (parked : (owed : ℕ → Option OwedDuty) → AreParked owed old → owed o.place ≡ duty_at o
       → AreParked owed new)
       (fits : FitsSide o.side) (limited : IsSome o.limit → IsSome o.waiter) where

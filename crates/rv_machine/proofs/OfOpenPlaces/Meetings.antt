@@ -16,7 +16,7 @@ use Rattle.rv_model_queues.specs.declared.outcome.Arrived.{Arrived}
 use Rattle.rv_model_queues.specs.Parked.{AreParked}
 use Rattle.rv_model_queues.specs.Meeting.{ArrivedOn, FindsNobody, HasRoomOn, MeetsOrWaits, OwnDuty}
 use Rattle.rv_model_queues.specs.Meeting.{PartnersDuty}
-use Rattle.rv_model_queues.specs.Views.{AreBelow, Waiters, waiting_on}
+use Rattle.rv_model_queues.specs.Views.{AreBelow, WaitQueues, waiting_on}
 use Rattle.rv_machine.specs.open_places.OpenMap.{StandBelow, facing, line_in, opposed_in, owed_among}
 use Rattle.rv_machine.specs.open_places.Indexed.{AreIndexed}
 use Rattle.rv_machine.proofs.OfOpenPlaces.Firsts.{FirstLeft, first_left, no_places}
@@ -25,39 +25,42 @@ use Rattle.rv_state.proofs.SideLines.{same_side_itself}
 
 -- ---- all stand below an arrival
 
-pub are_below : (all : List OpenPlace) (waiters : Waiters) (waiting place : ℕ) (due : Deadlines)
-    → AreIndexed all waiters waiting due → StandBelow all place → AreBelow waiters place
-are_below all waiters waiting place due is below side i r on =
+pub are_below : (all : List OpenPlace) (wait_queues : WaitQueues) (waiting place : ℕ) (due : Deadlines)
+    → AreIndexed all wait_queues waiting due → StandBelow all place → AreBelow wait_queues place
+are_below all wait_queues waiting place due is below side i r on =
     let found = on_line all side i r (sym (ap (λ l. slice_get l i) (is.lines side)) ∙ on) in
     let less : found.1.place < place = below found.0 found.1 found.2 in
     subst (λ p. p < place) found.3 less
 
 -- ---- somebody is there
 
-none_facing : (all : List OpenPlace) (waiters : Waiters) (waiting : ℕ) (due : Deadlines) (side : Side)
-    → AreIndexed all waiters waiting due → FindsNobody waiters side → (o : Option Side) → opposite side ≡ o
+none_facing : (all : List OpenPlace) (wait_queues : WaitQueues) (waiting : ℕ) (due : Deadlines) (side : Side)
+    → AreIndexed all wait_queues waiting due → FindsNobody wait_queues side → (o : Option Side)
+    → opposite side ≡ o
     → facing all o ≡ []
-none_facing all waiters waiting due side is nobody None has = refl
-none_facing all waiters waiting due side is nobody (Some other) has =
+none_facing all wait_queues waiting due side is nobody None has = refl
+none_facing all wait_queues waiting due side is nobody (Some other) has =
     no_places (line_in all other) (sym (is.lines other) ∙ nobody other has)
 
-pub somebody : (all : List OpenPlace) (waiters : Waiters) (waiting : ℕ) (due : Deadlines) (side : Side)
-    → AreIndexed all waiters waiting due → 0 < length (opposed_in all side) → FindsNobody waiters side → ⊥
-somebody all waiters waiting due side is some nobody =
-    let none = none_facing all waiters waiting due side is nobody (opposite side) refl in
+pub somebody : (all : List OpenPlace) (wait_queues : WaitQueues) (waiting : ℕ) (due : Deadlines) (side : Side)
+    → AreIndexed all wait_queues waiting due → 0 < length (opposed_in all side) → FindsNobody wait_queues side
+    → ⊥
+somebody all wait_queues waiting due side is some nobody =
+    let none = none_facing all wait_queues waiting due side is nobody (opposite side) refl in
     let zero_long : length (opposed_in all side) ≡ 0 = ap (λ (l : List OpenPlace). length l) none in
     omega (arith, zero_long, some)
 
-pub room_needless : (all : List OpenPlace) (waiters : Waiters) (waiting : ℕ) (due : Deadlines) (side : Side)
-    (wait : Option Wait) → AreIndexed all waiters waiting due → 0 < length (opposed_in all side)
-    → HasRoomOn waiters side wait
-room_needless all waiters waiting due side wait is some parks =
-    absurd (somebody all waiters waiting due side is some parks.nobody)
+pub room_needless : (all : List OpenPlace) (wait_queues : WaitQueues) (waiting : ℕ) (due : Deadlines) (side :
+    Side)
+    (wait : Option Wait) → AreIndexed all wait_queues waiting due → 0 < length (opposed_in all side)
+    → HasRoomOn wait_queues side wait
+room_needless all wait_queues waiting due side wait is some parks =
+    absurd (somebody all wait_queues waiting due side is some parks.nobody)
 
 -- ---- it was met
 
 -- the arrival met the first of the line that it faces, at this place
-pub record MetFirst (all : List OpenPlace) (old new : Waiters) (side : Side) (duty : OwedDuty)
+pub record MetFirst (all : List OpenPlace) (old new : WaitQueues) (side : Side) (duty : OwedDuty)
     (result : Arrived) : Type 0 where
   pub partner : ℕ
   pub partner_is : result.partner ≡ Some partner
@@ -67,7 +70,7 @@ pub record MetFirst (all : List OpenPlace) (old new : Waiters) (side : Side) (du
   pub owed : result.other ≡ owed_among all partner
   pub left : FirstLeft all old new other partner
 
-module _ (all : List OpenPlace) (old new : Waiters) (waiting : ℕ) (due : Deadlines) (side : Side)
+module _ (all : List OpenPlace) (old new : WaitQueues) (waiting : ℕ) (due : Deadlines) (side : Side)
     (wait : Option Wait) (duty : OwedDuty) (result : Arrived) (is : AreIndexed all old waiting due)
     (some : 0 < length (opposed_in all side)) (below : StandBelow all duty.place)
     (arrived : ArrivedOn old new side wait duty result) where

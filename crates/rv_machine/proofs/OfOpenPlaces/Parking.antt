@@ -20,7 +20,7 @@ use Rattle.rv_state.proofs.Words.{none-some}
 use Rattle.rv_model_queues.specs.declared.outcome.Arrived.{Arrived}
 use Rattle.rv_model_queues.specs.Meeting.{ArrivedOn, FindsNobody, MeetsFirst, MeetsOrWaits, OwnDuty}
 use Rattle.rv_model_queues.specs.Meeting.{PartnersDuty, StartsToWait}
-use Rattle.rv_model_queues.specs.Views.{SameWaiters, Waiters, waiting_on}
+use Rattle.rv_model_queues.specs.Views.{SameWaitQueues, WaitQueues, waiting_on}
 use Rattle.rv_model_queues.proofs.Tabled.{same_parked, same_waiting}
 use Rattle.rv_machine.specs.open_places.OpenMap.{StandBelow, duty_at, owed_among}
 use Rattle.rv_machine.specs.open_places.OpenMap.{count_waiting, with_limit, all_but}
@@ -31,8 +31,8 @@ use Rattle.rv_machine.proofs.OfOpenPlaces.Laying.{counted_more, finds_nobody, la
 
 -- ---- with other room alone
 
-pub same_index : (all : List OpenPlace) (old new : Waiters) (waiting : ℕ) (due : Deadlines)
-    → AreIndexed all old waiting due → SameWaiters old new → AreIndexed all new waiting due
+pub same_index : (all : List OpenPlace) (old new : WaitQueues) (waiting : ℕ) (due : Deadlines)
+    → AreIndexed all old waiting due → SameWaitQueues old new → AreIndexed all new waiting due
 same_index all old new waiting due is same = record {
   rise = is.rise;
   fit = is.fit;
@@ -63,7 +63,7 @@ on_err_back a b c (Err x) is then = is ∙ then
 
 -- ---- an arrival that stays
 
-module _ (all : List OpenPlace) (old new : Waiters) (waiting : ℕ) (due : Deadlines) (o : OpenPlace)
+module _ (all : List OpenPlace) (old new : WaitQueues) (waiting : ℕ) (due : Deadlines) (o : OpenPlace)
     (key : Key) (call : Call) (result : Arrived) (is : AreIndexed all old waiting due)
     (may : MayPark all o key call) where
   abbrev duty : OwedDuty

@@ -14,7 +14,7 @@ use Rattle.rv_session.specs.OwedDuty.{OwedDuty}
 use Rattle.rv_due.specs.Deadlines.{Deadlines}
 use Rattle.rv_state.specs.State.{OpenPlace, Waiter}
 use Rattle.rv_model_queues.specs.Laying.{LaidOn}
-use Rattle.rv_model_queues.specs.Views.{Waiters}
+use Rattle.rv_model_queues.specs.Views.{WaitQueues}
 use Rattle.rv_machine.specs.open_places.OpenMap.{count_waiting, duty_at, with_limit}
 use Rattle.rv_machine.specs.open_places.Indexed.{AreIndexed}
 use Rattle.rv_machine.specs.open_places.Reopening.{CanBeClaimed, ClaimsUpTo, MayReopen, StandsOpen}
@@ -36,7 +36,7 @@ one_more true = omega arith
 one_more false = omega arith
 
 -- who waits is counted
-pub counts : (all : List OpenPlace) (old : Waiters) (waiting count : ℕ) (due : Deadlines) (one : OpenPlace)
+pub counts : (all : List OpenPlace) (old : WaitQueues) (waiting count : ℕ) (due : Deadlines) (one : OpenPlace)
     (claims : Claiming) (duty : Option OwedDuty) → AreIndexed all old waiting due
     → MayReopen all one claims → count ≡ cond (is_some duty) 1 0 → waiting + count < 2 ^ 64
 counts all old waiting count due one claims duty is may count_is =
@@ -55,7 +55,7 @@ owed_there one clients stands = by_waiter one.waiter refl
     by_waiter (Some w) is =
         ap (option_map (λ place. record { place = place; client = w.key.client })) (stands.awaited w is)
 
-pub reopened : (all : List OpenPlace) (old new : Waiters) (waiting count : ℕ) (due after : Deadlines)
+pub reopened : (all : List OpenPlace) (old new : WaitQueues) (waiting count : ℕ) (due after : Deadlines)
     (one : OpenPlace) (claims : Claiming) (duty : Option OwedDuty)
     → AreIndexed all old waiting due
     → MayReopen all one claims → duty ≡ duty_of_waiter claims.table.clients one.waiter

@@ -15,20 +15,21 @@ use Rattle.rv_session.specs.OwedDuty.{OwedDuty}
 use Rattle.rv_due.specs.Deadlines.{Deadlines}
 use Rattle.rv_state.specs.State.{OpenPlace, place_list}
 use Rattle.rv_model_queues.specs.Parked.{AreParked}
-use Rattle.rv_model_queues.specs.Views.{Waiters, waiting_on}
+use Rattle.rv_model_queues.specs.Views.{WaitQueues, waiting_on}
 use Rattle.rv_machine.specs.open_places.OpenMap.{PlacesRise, due_in, duty_at, facing, found_at, deadlines_in}
 use Rattle.rv_machine.specs.open_places.OpenMap.{line_in, StandBelow, most_counted, opposed_in, owed_among}
 use Rattle.rv_machine.specs.open_places.OpenMap.{count_waiting, all_but}
 
 -- the places rise, each is of a side that there is, and whoever has a limit waits; the tables have just these
-pub record AreIndexed (all : List OpenPlace) (waiters : Waiters) (waiting : ℕ) (due : Deadlines) : Type 0
+pub record AreIndexed (all : List OpenPlace) (wait_queues : WaitQueues) (waiting : ℕ) (due : Deadlines) :
+    Type 0
   where
     pub rise : PlacesRise all
     pub fit : (i : ℕ) (one : OpenPlace) → slice_get all i ≡ Some one → FitsSide one.side
     pub limited : (i : ℕ) (one : OpenPlace) → slice_get all i ≡ Some one → IsSome one.limit
         → IsSome one.waiter
-    pub lines : (side : Side) → waiting_on waiters side ≡ place_list (line_in all side)
-    pub parked : AreParked (owed_among all) waiters
+    pub lines : (side : Side) → waiting_on wait_queues side ≡ place_list (line_in all side)
+    pub parked : AreParked (owed_among all) wait_queues
     pub counted : waiting ≡ count_waiting all
     pub limits : due ≡ deadlines_in all
 

@@ -18,7 +18,7 @@ ghost use Rattle.rv_machine.specs.open_places.Reopening.{duty_of_waiter};
 
 use crate::open_places::opens::OpenMap;
 use rv_due::Due;
-use rv_model_queues::{Arrived, Waiters};
+use rv_model_queues::{Arrived, WaitQueues};
 use rv_session::{Claims, Clients, Duty, OpenPlace, Place, ReturnedClients, Waiter};
 use rv_text::{Call, Key, NoMemory, Side};
 use std::alloc::Global;
@@ -28,7 +28,7 @@ use std::marker::Model;
 #[derive(Drop)]
 pub struct OpenTable {
     opens: OpenMap,
-    waiters: Waiters,
+    wait_queues: WaitQueues,
     // How many requests wait.
     waiting: usize,
     // The limits of those that have one, with their places.
@@ -54,7 +54,7 @@ impl Model for OpenTable {
 
     ghost view = { λ t. t.opens };
 
-    ghost invariant = { λ t. AreIndexed t.opens t.waiters t.waiting t.due };
+    ghost invariant = { λ t. AreIndexed t.opens t.wait_queues t.waiting t.due };
 }
 
 // Takes the limit of a place out, if it has one.
@@ -102,7 +102,7 @@ fn lay_limit(opens: &mut OpenMap, due: &mut Due, limit: u64, place: Place) -> Re
 // Makes room for an arrival with a call, and lays its open place. Fails only if memory was refused, and then
 // all stays but for the room.
 fn lay_for(
-    waiters: &mut Waiters,
+    wait_queues: &mut WaitQueues,
     opens: &mut OpenMap,
     due: &mut Due,
     opened: OpenPlace,
@@ -110,14 +110,14 @@ fn lay_for(
 ) -> Result<(), NoMemory>
     requires fits { FitsSide (side_of call.now) }
     requires below { StandBelow opens.old opened.place }
-    ensures makes { MakesRoomFor waiters.old waiters.new (side_of call.now) (wait_of call.now) }
-    ensures room { OnOk result (HasRoomOn waiters.new (side_of call.now) (wait_of call.now)) }
+    ensures makes { MakesRoomFor wait_queues.old wait_queues.new (side_of call.now) (wait_of call.now) }
+    ensures room { OnOk result (HasRoomOn wait_queues.new (side_of call.now) (wait_of call.now)) }
     ensures opened { OnOk result (opens.new ≡ opens.old ++ opened ∷ []) }
     ensures limit { OnOk result (due.new ≡ with_limit opened.limit opened.place due.old) }
     ensures opens { OnErr result (opens.new ≡ opens.old) }
     ensures due { OnErr result (due.new ≡ due.old) }
 {
-    match waiters.reserve(call) {
+    match wait_queues.reserve(call) {
         Ok(()) => lay(opens, due, opened),
         Err(refused) => {
             drop(opened);
@@ -169,7 +169,7 @@ impl OpenTable {
     {
         Ok(OpenTable {
             opens: OpenMap::new(alloc),
-            waiters: Waiters::empty(alloc)?,
+            wait_queues: WaitQueues::empty(alloc)?,
             waiting: 0,
             due: Due::new(alloc),
         })
@@ -220,11 +220,11 @@ impl OpenTable {
         ensures table { claims.new.table ≡ claims.old.table }
     {
         let (place, side, waiter) = (opened.place, opened.side, opened.waiter);
-        self.waiters.reserve_on(side)?;
+        self.wait_queues.reserve_on(side)?;
         lay(&mut self.opens, &mut self.due, opened)?;
         let duty = owed(claims, waiter);
         self.waiting += owing(&duty);
-        self.waiters.lay(side, place, duty);
+        self.wait_queues.lay(side, place, duty);
         Ok(())
     }
 
@@ -262,7 +262,7 @@ impl OpenTable {
         ensures { ClosesPlace self.old self.new place result.0 (Some result.1) }
     {
         let there = self.opens.take(place).unwrap();
-        let duty = self.waiters.withdraw(there.side, place).unwrap();
+        let duty = self.wait_queues.withdraw(there.side, place).unwrap();
         forget(&mut self.due, there.limit, place);
         self.waiting -= 1;
         (there, duty)
@@ -277,7 +277,7 @@ impl OpenTable {
     {
         let (_, place) = self.due.pop_until(moment)?;
         let there = self.opens.take(place).unwrap();
-        let duty = self.waiters.withdraw(there.side, place).unwrap();
+        let duty = self.wait_queues.withdraw(there.side, place).unwrap();
         self.waiting -= 1;
         Some((there, duty))
     }
@@ -296,7 +296,7 @@ impl OpenTable {
         ensures items { result.0 ≡ length (line_in self.now (Gives queue)) }
         ensures consumers { result.1 ≡ length (line_in self.now (Takes queue)) }
     {
-        self.waiters.count(queue)
+        self.wait_queues.count(queue)
     }
 
     /// The oldest item of a queue.
@@ -304,7 +304,7 @@ impl OpenTable {
         requires { FitsQueue queue }
         ensures { option_map (λ o. o.now) result ≡ slice_get (line_in self.now (Gives queue)) 0 }
     {
-        self.opens.get(self.waiters.front(queue)?)
+        self.opens.get(self.wait_queues.front(queue)?)
     }
 
     /// The first of a side's line at a place above another, or the oldest of the line.
@@ -312,7 +312,7 @@ impl OpenTable {
         requires { FitsSide side }
         ensures { option_map (λ o. o.now) result ≡ first_behind after (line_in self.now side) }
     {
-        self.opens.get(self.waiters.behind(side, after)?)
+        self.opens.get(self.wait_queues.behind(side, after)?)
     }
 
     /// How many wait that an arrival of this side can meet.
@@ -320,7 +320,7 @@ impl OpenTable {
         requires { FitsSide side }
         ensures { result ≡ length (opposed_in self.now side) }
     {
-        self.waiters.opposed(side)
+        self.wait_queues.opposed(side)
     }
 
     /// Closes the place of a queue's oldest item, and gives the duty to settle who waited with it; a put's
@@ -331,7 +331,7 @@ impl OpenTable {
         ensures none { IfNone result (line_in self.old (Gives queue) ≡ []) }
         ensures stays { IfNone result (self.new ≡ self.old) }
     {
-        let (duty, place) = self.waiters.take_front(Side::Takes(queue))?;
+        let (duty, place) = self.wait_queues.take_front(Side::Takes(queue))?;
         let there = self.opens.take(place).unwrap();
         forget(&mut self.due, there.limit, place);
         self.waiting -= owing(&duty);
@@ -351,7 +351,7 @@ impl OpenTable {
             partner,
             own,
             other,
-        } = self.waiters.arrive(call, duty);
+        } = self.wait_queues.arrive(call, duty);
         let there = self.opens.take(partner.unwrap()).unwrap();
         forget(&mut self.due, there.limit, there.place);
         self.waiting -= owing(&other);
@@ -382,7 +382,7 @@ impl OpenTable {
     {
         let place = opened.place;
         match lay_for(
-            &mut self.waiters,
+            &mut self.wait_queues,
             &mut self.opens,
             &mut self.due,
             opened,
@@ -390,7 +390,7 @@ impl OpenTable {
         ) {
             Ok(()) => {
                 let (duty, _) = clients.begin(key, place, call);
-                let own = parked(self.waiters.arrive(copy, duty));
+                let own = parked(self.wait_queues.arrive(copy, duty));
                 self.waiting += 1 - owing(&own);
                 Ok(own)
             }

@@ -3,7 +3,7 @@ use Rattle.std.specs.Prelude.{◌≡◌, ◌∷◌, ◌++◌, ◌+◌, [], true,
 use Rattle.std.specs.Prelude.{filter, length}
 use Rattle.std.specs.Fmt.{decimal}
 use Rattle.rv_account.specs.Account.{Account}
-use Rattle.rv_audit.specs.Breaking.{name_of}
+use Rattle.rv_audit.specs.AccountRules.{name_of}
 use Rattle.rv_audit.specs.declared.rule.Rule.{Rule}
 use Rattle.rv_replies.specs.findings.Fates.{IsFateOf}
 use Rattle.rv_replies.specs.findings.Tallies.{is_finding, words_of}

@@ -78,41 +78,42 @@ module _ {X : Type 0} (p q : X → Bool) where
 
 -- ---- how many wait
 
-abbrev pub waiters : List OpenPlace → ℕ
-waiters all = length (filter (λ (o : OpenPlace). is_some o.waiter) all)
+abbrev pub wait_queues : List OpenPlace → ℕ
+wait_queues all = length (filter (λ (o : OpenPlace). is_some o.waiter) all)
 
 abbrev stays_by : List OpenPlace → OpenPlace → Bool
 stays_by gone o = not (list_any (λ (other : OpenPlace). nat_eq other.place o.place) gone)
 
-but_fewer : (all gone : List OpenPlace) → waiters (but all gone) ≤ waiters all
+but_fewer : (all gone : List OpenPlace) → wait_queues (but all gone) ≤ wait_queues all
 but_fewer all gone =
     let fewer = fewer_left (λ (o : OpenPlace). is_some o.waiter) (stays_by gone) all in omega (arith, fewer)
 
 -- one that waits is gone
 pub waiter_gone : (all gone : List OpenPlace) (i j : ℕ) (o x : OpenPlace) → slice_get all i ≡ Some o
     → is_some o.waiter ≡ true → slice_get gone j ≡ Some x → x.place ≡ o.place
-    → waiters (but all gone) + 1 ≤ waiters all
+    → wait_queues (but all gone) + 1 ≤ wait_queues all
 waiter_gone all gone i j o x at waits stands same =
     one_fewer (λ (o : OpenPlace). is_some o.waiter) (stays_by gone) all i o at waits
     (ap not (get_any (λ (other : OpenPlace). nat_eq other.place o.place) gone j x stands
     (eq-eqb x.place o.place same)))
 
-waiters_both : (all more : List OpenPlace) → waiters (all ++ more) ≡ waiters all + waiters more
-waiters_both all more =
+wait_queues_both : (all more : List OpenPlace) → wait_queues (all ++ more) ≡ wait_queues all + wait_queues
+    more
+wait_queues_both all more =
     ap length (filter-append (λ (o : OpenPlace). is_some o.waiter) all more)
     ∙ length-append (filter (λ (o : OpenPlace). is_some o.waiter) all)
     (filter (λ (o : OpenPlace). is_some o.waiter) more)
 
 pub waiting_acted : (s : State) (moment : ℕ) (does : Act)
     → waiting_count (acted s moment does).after
-    ≡ waiters (but s.open_places (gone_by s moment does)) + waiters (opens_by s moment does)
+    ≡ wait_queues (but s.open_places (gone_by s moment does)) + wait_queues (opens_by s moment does)
 waiting_acted s moment does =
-    ap waiters (places_acted s moment does)
-    ∙ waiters_both (but s.open_places (gone_by s moment does)) (opens_by s moment does)
+    ap wait_queues (places_acted s moment does)
+    ∙ wait_queues_both (but s.open_places (gone_by s moment does)) (opens_by s moment does)
 
 -- no more than before, and those that open
 pub waiting_within : (s : State) (moment : ℕ) (does : Act)
-    → waiting_count (acted s moment does).after ≤ waiting_count s + waiters (opens_by s moment does)
+    → waiting_count (acted s moment does).after ≤ waiting_count s + wait_queues (opens_by s moment does)
 waiting_within s moment does =
     let is = waiting_acted s moment does in
     let fewer = but_fewer s.open_places (gone_by s moment does) in omega (arith, is, fewer)
@@ -123,7 +124,7 @@ one_at_most : (b : Bool) (o : OpenPlace) → length (cond b (o ∷ []) []) ≤ 1
 one_at_most true o = omega arith
 one_at_most false o = omega arith
 
-if_open : (c : Bool) (o : OpenPlace) → waiters (cond c (o ∷ []) []) ≤ 1
+if_open : (c : Bool) (o : OpenPlace) → wait_queues (cond c (o ∷ []) []) ≤ 1
 if_open true o = one_at_most (is_some o.waiter) o
 if_open false o = omega arith
 
@@ -136,10 +137,11 @@ needs_one (Some Forever) = omega arith
 
 opens_by_wait : (b : Bool) (wait : Option Wait) (key : Key) (moment : ℕ) (o : OpenPlace)
     → o.waiter ≡ waiter_of key moment wait
-    → waiters (cond (b && lasts_by wait) (o ∷ []) []) + 1 ≤ need_by wait
+    → wait_queues (cond (b && lasts_by wait) (o ∷ []) []) + 1 ≤ need_by wait
 opens_by_wait false wait key moment o is = let least = needs_one wait in omega arith
 opens_by_wait true None key moment o is =
-    let none : waiters (o ∷ []) ≡ 0 = ap (λ (w : Option Waiter). length (cond (is_some w) (o ∷ []) [])) is in
+    let none : wait_queues (o ∷ []) ≡ 0 = ap (λ (w : Option Waiter). length (cond (is_some w) (o ∷ []) [])) is
+    in
     omega arith
 opens_by_wait true (Some Now) key moment o is = omega arith
 opens_by_wait true (Some (Millis zero)) key moment o is = omega arith
@@ -149,7 +151,7 @@ opens_by_wait true (Some Forever) key moment o is = let most = if_open true o in
 
 -- what opens waits only where the call needs two entries
 pub parks_within : (s : State) (moment : ℕ) (key : Key) (c : Call) (met : List OpenPlace)
-    → waiters (parked s moment key c met) + 1 ≤ need_of c
+    → wait_queues (parked s moment key c met) + 1 ≤ need_of c
 parks_within s moment key c [] =
     opens_by_wait (is_some (opposite (side_of c))) (wait_of c) key moment (opened_by s moment key c) refl
 parks_within s moment key c (first ∷ others) = let least = needs_one (wait_of c) in omega arith

@@ -32,7 +32,7 @@ use Rattle.rv_state.proofs.Resumed.Stopping.{waits_found}
 use Rattle.rv_state.proofs.Resumed.Counts.{arrived_len, cancelled_len, few_below, greeted_len, length_acted}
 use Rattle.rv_state.proofs.Resumed.Counts.{needs_one, parks_within}
 use Rattle.rv_state.proofs.Resumed.Counts.{places_within, ticked_len, waiter_gone, waiting_acted}
-use Rattle.rv_state.proofs.Resumed.Counts.{waiting_within, waiters}
+use Rattle.rv_state.proofs.Resumed.Counts.{waiting_within, wait_queues}
 use Rattle.rv_state.proofs.Resumed.NextNumbers.{NotDue}
 use Rattle.rv_state.proofs.Resumed.Opening.{none_opposite, stays_by}
 
@@ -62,7 +62,7 @@ module _ (s : State) (is : CanResume s) (moment : ℕ) (time : moment ≤ max_mo
       → waiting_count (acted s moment does).after ≤ waiting_count s
   no_more_wait does none =
       let within = waiting_within s moment does in
-      let no_more : waiters (opens_by s moment does) ≡ 0 = ap waiters none in
+      let no_more : wait_queues (opens_by s moment does) ≡ 0 = ap wait_queues none in
       omega (arith, within, no_more)
 
   -- one that waited is gone
@@ -72,7 +72,7 @@ module _ (s : State) (is : CanResume s) (moment : ℕ) (time : moment ≤ max_mo
       → s.length + 1 + waiting_count (acted s moment does).after ≤ max_identifier
   one_less_waits does none i j o x at waits stands same =
       let is_count = waiting_acted s moment does in
-      let no_more : waiters (opens_by s moment does) ≡ 0 = ap waiters none in
+      let no_more : wait_queues (opens_by s moment does) ≡ 0 = ap wait_queues none in
       let less = waiter_gone s.open_places (gone_by s moment does) i j o x at waits stands same in
       let space = is.room.space in
       omega (arith, is_count, no_more, less, space)

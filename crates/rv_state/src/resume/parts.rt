@@ -8,7 +8,7 @@ ghost use Rattle.rv_state.specs.resume.Checking.{IsSettledIn, OpensRise, StandsW
 use crate::places::{is_last_of, lies_open};
 use crate::resume::clients::fits_session;
 use crate::resume::finding::{client_index, open_index};
-use crate::resume::sides::count_waiters;
+use crate::resume::sides::count_wait_queues;
 use rv_session::{ClientState, LastRequest, OpenPlace, Place, Waiter};
 use rv_text::MAX_IDENTIFIER;
 
@@ -120,5 +120,5 @@ pub(crate) fn has_room_in(
         && opens.len() <= MAX_OPEN_PLACES
         && clients.len() <= MAX_RESUMED_CLIENTS
         && length <= MAX_IDENTIFIER
-        && count_waiters(opens) as u64 <= MAX_IDENTIFIER - length
+        && count_wait_queues(opens) as u64 <= MAX_IDENTIFIER - length
 }

@@ -21,7 +21,7 @@ fn count_side(opens: &[OpenPlace], side: Side) -> usize
 }
 
 // How many open places have a waiter.
-pub(crate) fn count_waiters(opens: &[OpenPlace]) -> usize
+pub(crate) fn count_wait_queues(opens: &[OpenPlace]) -> usize
     ensures { result ≡ length (filter (λ o. is_some o.waiter) opens.now) }
 {
     opens.iter().filter(|there| there.waiter.is_some()).count()

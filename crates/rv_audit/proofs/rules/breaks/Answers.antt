@@ -1,5 +1,5 @@
 use Rattle.rv_audit.proofs.Words.{N2, P1, P2, ap, arith, passed_account}
-use Rattle.rv_audit.specs.Breaking.{rank_of}
+use Rattle.rv_audit.specs.AccountRules.{rank_of}
 use Rattle.rv_audit.proofs.RulesSuffice.{names_free_partners, of_session}
 use Rattle.rv_audit.proofs.rules.breaks.Goals as goal
 

@@ -2,7 +2,7 @@ use Rattle.std.proofs.Common.{◌≡◌, ◌∙◌, ◌<◌, ℕ, arith, length,
 use Rattle.std.proofs.lemmas.Bool.{false≢true}
 use Rattle.std.proofs.lemmas.Bool.Decides.{nat_tests}
 use Rattle.rv_machine.specs.Machines.{state_in}
-use Rattle.rv_follow.specs.asked.Rooming.{HasSpace}
+use Rattle.rv_follow.specs.state_rules.Rooming.{HasSpace}
 use Rattle.rv_follow.proofs.OfAsked.DueNow.{Iff}
 use Rattle.rv_follow.proofs.OfAsked.Comers.{alone_places, alone_room, alone_space}
 use Rattle.rv_follow.proofs.room.alone_fits.Goals as goal

@@ -1,6 +1,6 @@
 use Rattle.rv_machine.specs.Machines.{state_in}
-use Rattle.rv_follow.specs.asked.Rooming.{IsUnawaited}
-use Rattle.rv_follow.specs.asked.Walking.{HoldsBefore}
+use Rattle.rv_follow.specs.state_rules.Rooming.{IsUnawaited}
+use Rattle.rv_follow.specs.state_rules.Walking.{HoldsBefore}
 use Rattle.rv_follow.proofs.room.first_awaited.Given as goal
 
 abbrev pub invariant-loop-place : goal.invariant-loop-place

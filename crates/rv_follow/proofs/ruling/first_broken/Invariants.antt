@@ -1,5 +1,5 @@
 use Rattle.rv_machine.specs.Machines.{state_in}
-use Rattle.rv_follow.specs.asked.Ruling.{KeepsUpTo}
+use Rattle.rv_follow.specs.state_rules.Ruling.{KeepsUpTo}
 use Rattle.rv_follow.proofs.ruling.first_broken.Given as goal
 
 abbrev pub invariant-loop-rule : goal.invariant-loop-rule

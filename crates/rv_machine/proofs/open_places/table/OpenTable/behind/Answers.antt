@@ -8,7 +8,7 @@ use Rattle.rv_machine.proofs.open_places.table.OpenTable.behind.Goals as goal
 pub returns : goal.returns
 returns c =
     c.get.ensures
-    ∙ found_behind c.self.inside.opens c.self.inside.waiters c.self.inside.waiting c.self.inside.due
+    ∙ found_behind c.self.inside.opens c.self.inside.wait_queues c.self.inside.waiting c.self.inside.due
     c.args.side c.args.after c.self.invariant c.in_ok-behind.field-0
     (sym c.in_ok-behind.ensures)
     ∙ ap (λ (all : List OpenPlace). first_behind c.args.after (line_in all c.args.side)) c.self.view_is
@@ -16,6 +16,6 @@ returns c =
 pub returns-in_err-behind : goal.returns-in_err-behind
 returns-in_err-behind c =
     ap (λ (r : Option (Bor OpenPlace)). option_map (λ o. o.now) r) c.from_residual.ensures
-    ∙ sym (none_behind c.self.inside.opens c.self.inside.waiters c.self.inside.waiting c.self.inside.due
+    ∙ sym (none_behind c.self.inside.opens c.self.inside.wait_queues c.self.inside.waiting c.self.inside.due
     c.args.side c.args.after c.self.invariant (sym c.in_err-behind.ensures))
     ∙ ap (λ (all : List OpenPlace). first_behind c.args.after (line_in all c.args.side)) c.self.view_is

@@ -10,7 +10,8 @@ use Rattle.rv_machine.proofs.open_places.table.OpenTable.close.Goals as goal
 
 pub withdraw-requires : goal.withdraw-requires
 withdraw-requires c =
-    fits_found c.self.inside.opens c.self.inside.waiters c.self.inside.waiting c.self.inside.due c.args.place
+    fits_found c.self.inside.opens c.self.inside.wait_queues c.self.inside.waiting c.self.inside.due
+    c.args.place
     c.unwrap-there.result c.self.invariant (sym c.take.ensures.found ∙ c.unwrap-there.ensures)
 
 pub unwrap-duty-requires : goal.unwrap-duty-requires
@@ -18,7 +19,8 @@ unwrap-duty-requires c =
     let found = sym c.take.ensures.found ∙ c.unwrap-there.ensures in
     let waits = waits_there c.self.inside.opens c.args.place c.unwrap-there.result
     (subst (λ (all : List OpenPlace). WaitsIn all c.args.place) (sym c.self.view_is) c.requires) found in
-    let out = withdrawn c.self.inside.opens c.self.inside.waiters c.withdraw.new.self c.self.inside.waiting
+    let out = withdrawn c.self.inside.opens c.self.inside.wait_queues c.withdraw.new.self
+    c.self.inside.waiting
     c.self.inside.due c.args.place c.unwrap-there.result c.withdraw.result c.self.invariant found waits
     c.withdraw.ensures in
     subst (λ (o : Option OwedDuty). IsSome o) (sym out.is) refl
@@ -28,7 +30,7 @@ overflow_sub-self c =
     let found = sym c.take.ensures.found ∙ c.unwrap-there.ensures in
     let waits = waits_there c.self.inside.opens c.args.place c.unwrap-there.result
     (subst (λ (all : List OpenPlace). WaitsIn all c.args.place) (sym c.self.view_is) c.requires) found in
-    let one = one_waits c.self.inside.opens c.self.inside.waiters c.self.inside.waiting c.self.inside.due
+    let one = one_waits c.self.inside.opens c.self.inside.wait_queues c.self.inside.waiting c.self.inside.due
     c.args.place c.unwrap-there.result c.self.invariant found waits in
     omega (arith, one)
 
@@ -37,10 +39,12 @@ invariant_of-self c =
     let found = sym c.take.ensures.found ∙ c.unwrap-there.ensures in
     let waits = waits_there c.self.inside.opens c.args.place c.unwrap-there.result
     (subst (λ (all : List OpenPlace). WaitsIn all c.args.place) (sym c.self.view_is) c.requires) found in
-    let out = withdrawn c.self.inside.opens c.self.inside.waiters c.withdraw.new.self c.self.inside.waiting
+    let out = withdrawn c.self.inside.opens c.self.inside.wait_queues c.withdraw.new.self
+    c.self.inside.waiting
     c.self.inside.due c.args.place c.unwrap-there.result c.withdraw.result c.self.invariant found waits
     c.withdraw.ensures in
-    closed_waiting c.self.inside.opens _ c.self.inside.waiters _ c.self.inside.waiting _ c.self.inside.due _
+    closed_waiting c.self.inside.opens _ c.self.inside.wait_queues _ c.self.inside.waiting _ c.self.inside.due
+    _
     c.args.place c.unwrap-there.result c.self.invariant found waits c.take.ensures.rest out.left refl
     c.forget.ensures
 
@@ -49,7 +53,8 @@ returns c =
     let found = sym c.take.ensures.found ∙ c.unwrap-there.ensures in
     let waits = waits_there c.self.inside.opens c.args.place c.unwrap-there.result
     (subst (λ (all : List OpenPlace). WaitsIn all c.args.place) (sym c.self.view_is) c.requires) found in
-    let out = withdrawn c.self.inside.opens c.self.inside.waiters c.withdraw.new.self c.self.inside.waiting
+    let out = withdrawn c.self.inside.opens c.self.inside.wait_queues c.withdraw.new.self
+    c.self.inside.waiting
     c.self.inside.due c.args.place c.unwrap-there.result c.withdraw.result c.self.invariant found waits
     c.withdraw.ensures in
     record {

@@ -15,7 +15,7 @@ use Rattle.rv_machine.proofs.open_places.table.OpenTable.meet.Goals as goal
 
 pub arrive-partner-requires-clause-room : goal.arrive-partner-requires-clause-room
 arrive-partner-requires-clause-room c =
-    room_needless c.self.inside.opens c.self.inside.waiters c.self.inside.waiting c.self.inside.due
+    room_needless c.self.inside.opens c.self.inside.wait_queues c.self.inside.waiting c.self.inside.due
     (side_of c.args.call.now) (wait_of c.args.call.now) c.self.invariant
     (subst (λ (all : List OpenPlace). 0 < length (opposed_in all (side_of c.args.call.now)))
     (sym c.self.view_is)
@@ -23,14 +23,14 @@ arrive-partner-requires-clause-room c =
 
 pub arrive-partner-requires-clause-above : goal.arrive-partner-requires-clause-above
 arrive-partner-requires-clause-above c =
-    are_below c.self.inside.opens c.self.inside.waiters c.self.inside.waiting c.args.duty.place
+    are_below c.self.inside.opens c.self.inside.wait_queues c.self.inside.waiting c.args.duty.place
     c.self.inside.due
     c.self.invariant
     (subst (λ (all : List OpenPlace). StandBelow all c.args.duty.place) (sym c.self.view_is) c.requires.above)
 
 pub unwrap-requires : goal.unwrap-requires
 unwrap-requires c =
-    let m = met c.self.inside.opens c.self.inside.waiters c.arrive-partner.new.self c.self.inside.waiting
+    let m = met c.self.inside.opens c.self.inside.wait_queues c.arrive-partner.new.self c.self.inside.waiting
     c.self.inside.due (side_of c.args.call.now) (wait_of c.args.call.now) c.args.duty c.arrive-partner.result
     c.self.invariant
     (subst (λ (all : List OpenPlace). 0 < length (opposed_in all (side_of c.args.call.now)))
@@ -42,7 +42,7 @@ unwrap-requires c =
 
 pub unwrap-there-requires : goal.unwrap-there-requires
 unwrap-there-requires c =
-    let m = met c.self.inside.opens c.self.inside.waiters c.arrive-partner.new.self c.self.inside.waiting
+    let m = met c.self.inside.opens c.self.inside.wait_queues c.arrive-partner.new.self c.self.inside.waiting
     c.self.inside.due (side_of c.args.call.now) (wait_of c.args.call.now) c.args.duty c.arrive-partner.result
     c.self.invariant
     (subst (λ (all : List OpenPlace). 0 < length (opposed_in all (side_of c.args.call.now)))
@@ -56,7 +56,7 @@ unwrap-there-requires c =
 
 pub overflow_sub-self : goal.overflow_sub-self
 overflow_sub-self c =
-    let m = met c.self.inside.opens c.self.inside.waiters c.arrive-partner.new.self c.self.inside.waiting
+    let m = met c.self.inside.opens c.self.inside.wait_queues c.arrive-partner.new.self c.self.inside.waiting
     c.self.inside.due (side_of c.args.call.now) (wait_of c.args.call.now) c.args.duty c.arrive-partner.result
     c.self.invariant
     (subst (λ (all : List OpenPlace). 0 < length (opposed_in all (side_of c.args.call.now)))
@@ -72,14 +72,14 @@ overflow_sub-self c =
     here
     m.owed in
     let rest = c.take.ensures.rest ∙ ap (all_but c.self.inside.opens) (sym at) in
-    let counted = count_first c.self.inside.opens c.self.inside.waiters c.self.inside.waiting
+    let counted = count_first c.self.inside.opens c.self.inside.wait_queues c.self.inside.waiting
     c.self.inside.due
     m.partner c.unwrap-there.result c.arrive-partner.result.other c.self.invariant here owed in
     omega (arith, counted, c.owing.ensures)
 
 pub invariant_of-self : goal.invariant_of-self
 invariant_of-self c =
-    let m = met c.self.inside.opens c.self.inside.waiters c.arrive-partner.new.self c.self.inside.waiting
+    let m = met c.self.inside.opens c.self.inside.wait_queues c.arrive-partner.new.self c.self.inside.waiting
     c.self.inside.due (side_of c.args.call.now) (wait_of c.args.call.now) c.args.duty c.arrive-partner.result
     c.self.invariant
     (subst (λ (all : List OpenPlace). 0 < length (opposed_in all (side_of c.args.call.now)))
@@ -95,10 +95,12 @@ invariant_of-self c =
     here
     m.owed in
     let rest = c.take.ensures.rest ∙ ap (all_but c.self.inside.opens) (sym at) in
-    closed_first c.self.inside.opens _ c.self.inside.waiters c.arrive-partner.new.self c.self.inside.waiting _
+    closed_first c.self.inside.opens _ c.self.inside.wait_queues c.arrive-partner.new.self
+    c.self.inside.waiting _
     c.owing.result c.self.inside.due _ m.partner c.unwrap-there.result c.arrive-partner.result.other
     c.self.invariant here owed c.owing.ensures rest
-    (subst (LeftLine c.self.inside.opens c.self.inside.waiters c.arrive-partner.new.self) same m.left.left)
+    (subst (LeftLine c.self.inside.opens c.self.inside.wait_queues c.arrive-partner.new.self) same
+    m.left.left)
     refl
     (c.forget.ensures
     ∙ ap (λ (p : ℕ). without_limit c.unwrap-there.result.limit p c.self.inside.due)
@@ -106,7 +108,7 @@ invariant_of-self c =
 
 pub returns-clause-met : goal.returns-clause-met
 returns-clause-met c =
-    let m = met c.self.inside.opens c.self.inside.waiters c.arrive-partner.new.self c.self.inside.waiting
+    let m = met c.self.inside.opens c.self.inside.wait_queues c.arrive-partner.new.self c.self.inside.waiting
     c.self.inside.due (side_of c.args.call.now) (wait_of c.args.call.now) c.args.duty c.arrive-partner.result
     c.self.invariant
     (subst (λ (all : List OpenPlace). 0 < length (opposed_in all (side_of c.args.call.now)))

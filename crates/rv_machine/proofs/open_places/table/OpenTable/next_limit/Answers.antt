@@ -9,12 +9,12 @@ use Rattle.rv_machine.proofs.open_places.table.OpenTable.next_limit.Goals as goa
 pub returns-in_err-first-clause-none : goal.returns-in_err-first-clause-none
 returns-in_err-first-clause-none c =
     if_none c.from_residual.result (subst (λ (all : List OpenPlace). NeverDue all) c.self.view_is
-    (never_due c.self.inside.opens c.self.inside.waiters c.self.inside.waiting c.self.inside.due
+    (never_due c.self.inside.opens c.self.inside.wait_queues c.self.inside.waiting c.self.inside.due
     c.self.invariant c.in_err-first.ensures.none))
 
 pub returns-clause-some : goal.returns-clause-some
 returns-clause-some c =
     let d = c.in_ok-first.field-0 in
     subst (λ (all : List OpenPlace). IsFirstDue all d.0) c.self.view_is
-    (first_due_at c.self.inside.opens c.self.inside.waiters c.self.inside.waiting c.self.inside.due d
+    (first_due_at c.self.inside.opens c.self.inside.wait_queues c.self.inside.waiting c.self.inside.due d
     c.self.invariant c.in_ok-first.ensures.least)

@@ -19,9 +19,10 @@ arrive-requires-clause-above c =
     (subst (λ (all : List OpenPlace). MayPark all c.args.opened c.args.key.now c.args.call)
     (sym c.self.view_is)
     c.requires.may) in
-    let is = same_index c.self.inside.opens c.self.inside.waiters c.lay_for.new.waiters c.self.inside.waiting
+    let is = same_index c.self.inside.opens c.self.inside.wait_queues c.lay_for.new.wait_queues
+    c.self.inside.waiting
     c.self.inside.due c.self.invariant c.lay_for.ensures.makes.same in
-    are_below c.self.inside.opens c.lay_for.new.waiters c.self.inside.waiting c.begin-duty.result.0.place
+    are_below c.self.inside.opens c.lay_for.new.wait_queues c.self.inside.waiting c.begin-duty.result.0.place
     c.self.inside.due is
     (subst (λ (d : OwedDuty). StandBelow c.self.inside.opens d.place) (sym c.begin-duty.ensures.duty)
     may.below)
@@ -33,12 +34,13 @@ parked-own-requires c =
     (subst (λ (all : List OpenPlace). MayPark all c.args.opened c.args.key.now c.args.call)
     (sym c.self.view_is)
     c.requires.may) in
-    let is = same_index c.self.inside.opens c.self.inside.waiters c.lay_for.new.waiters c.self.inside.waiting
+    let is = same_index c.self.inside.opens c.self.inside.wait_queues c.lay_for.new.wait_queues
+    c.self.inside.waiting
     c.self.inside.due c.self.invariant c.lay_for.ensures.makes.same in
-    let arrived = subst (λ (d : OwedDuty). ArrivedOn c.lay_for.new.waiters c.arrive.new.self
+    let arrived = subst (λ (d : OwedDuty). ArrivedOn c.lay_for.new.wait_queues c.arrive.new.self
     (side_of c.args.copy.now)
     (wait_of c.args.copy.now) d c.arrive.result) c.begin-duty.ensures.duty c.arrive.ensures in
-    nobody_owed c.self.inside.opens c.lay_for.new.waiters c.arrive.new.self c.self.inside.waiting
+    nobody_owed c.self.inside.opens c.lay_for.new.wait_queues c.arrive.new.self c.self.inside.waiting
     c.self.inside.due c.args.opened c.args.key.now c.args.copy.now c.arrive.result is may arrived
 
 pub invariant_of-self : goal.invariant_of-self
@@ -48,20 +50,21 @@ invariant_of-self c =
     (subst (λ (all : List OpenPlace). MayPark all c.args.opened c.args.key.now c.args.call)
     (sym c.self.view_is)
     c.requires.may) in
-    let is = same_index c.self.inside.opens c.self.inside.waiters c.lay_for.new.waiters c.self.inside.waiting
+    let is = same_index c.self.inside.opens c.self.inside.wait_queues c.lay_for.new.wait_queues
+    c.self.inside.waiting
     c.self.inside.due c.self.invariant c.lay_for.ensures.makes.same in
-    let arrived = subst (λ (d : OwedDuty). ArrivedOn c.lay_for.new.waiters c.arrive.new.self
+    let arrived = subst (λ (d : OwedDuty). ArrivedOn c.lay_for.new.wait_queues c.arrive.new.self
     (side_of c.args.copy.now)
     (wait_of c.args.copy.now) d c.arrive.result) c.begin-duty.ensures.duty c.arrive.ensures in
-    let own = c.parked-own.ensures ∙ own_back c.self.inside.opens c.lay_for.new.waiters c.arrive.new.self
+    let own = c.parked-own.ensures ∙ own_back c.self.inside.opens c.lay_for.new.wait_queues c.arrive.new.self
     c.self.inside.waiting c.self.inside.due c.args.opened c.args.key.now c.args.copy.now c.arrive.result is
     may
     arrived in
     subst (λ (all : List OpenPlace). AreIndexed all c.arrive.new.self
     (c.self.inside.waiting + (1 - c.owing.result)) c.lay_for.new.due) (sym c.in-Ok.ensures.opened)
-    (parked_index c.self.inside.opens c.lay_for.new.waiters c.arrive.new.self c.self.inside.waiting
+    (parked_index c.self.inside.opens c.lay_for.new.wait_queues c.arrive.new.self c.self.inside.waiting
     c.self.inside.due c.args.opened c.args.key.now c.args.copy.now c.arrive.result is may arrived _
     c.lay_for.new.due
-    (counted_back c.self.inside.opens c.lay_for.new.waiters c.arrive.new.self c.self.inside.waiting
+    (counted_back c.self.inside.opens c.lay_for.new.wait_queues c.arrive.new.self c.self.inside.waiting
     c.self.inside.due c.args.opened c.args.key.now c.args.copy.now c.arrive.result is may c.parked-own.result
     c.owing.result own c.owing.ensures) c.in-Ok.ensures.limit)

@@ -14,7 +14,8 @@ overflow_add-self c =
     (sym c.self.view_is) c.requires in
     omega (
       arith,
-      counts c.self.inside.opens c.self.inside.waiters c.self.inside.waiting c.owing.result c.self.inside.due
+      counts c.self.inside.opens c.self.inside.wait_queues c.self.inside.waiting c.owing.result
+          c.self.inside.due
           c.args.opened c.args.claims.now c.owed-duty.result c.self.invariant may c.owing.ensures,
     )
 
@@ -22,7 +23,8 @@ pub lay-requires-2-clause-above : goal.lay-requires-2-clause-above
 lay-requires-2-clause-above c =
     let may = subst (λ (all : List OpenPlace). MayReopen all c.args.opened c.args.claims.now)
     (sym c.self.view_is) c.requires in
-    let is = same_index c.self.inside.opens c.self.inside.waiters c.reserve_on.new.self c.self.inside.waiting
+    let is = same_index c.self.inside.opens c.self.inside.wait_queues c.reserve_on.new.self
+    c.self.inside.waiting
     c.self.inside.due c.self.invariant c.in_ok-reserve_on.ensures.makes.same in
     all_below c.self.inside.opens c.reserve_on.new.self c.self.inside.waiting c.self.inside.due c.args.opened
     is may.below
@@ -31,7 +33,8 @@ pub invariant_of-self-2 : goal.invariant_of-self-2
 invariant_of-self-2 c =
     let may = subst (λ (all : List OpenPlace). MayReopen all c.args.opened c.args.claims.now)
     (sym c.self.view_is) c.requires in
-    let is = same_index c.self.inside.opens c.self.inside.waiters c.reserve_on.new.self c.self.inside.waiting
+    let is = same_index c.self.inside.opens c.self.inside.wait_queues c.reserve_on.new.self
+    c.self.inside.waiting
     c.self.inside.due c.self.invariant c.in_ok-reserve_on.ensures.makes.same in
     subst (λ (all : List OpenPlace). AreIndexed all c.lay-2.new.self
     (c.self.inside.waiting + c.owing.result) c.lay.new.due) (sym c.in_ok-lay.ensures.opened)

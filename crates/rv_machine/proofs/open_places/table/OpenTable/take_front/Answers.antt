@@ -20,7 +20,7 @@ returns-in_err-duty-clause-none c =
 
 pub unwrap-there-requires : goal.unwrap-there-requires
 unwrap-there-requires c =
-    let first = first_left c.self.inside.opens c.self.inside.waiters c.take_front.new.self
+    let first = first_left c.self.inside.opens c.self.inside.wait_queues c.take_front.new.self
     c.self.inside.waiting
     c.self.inside.due (Gives c.args.queue) c.in_ok-duty.place c.self.invariant c.in_ok-duty.ensures.first
     c.in_ok-duty.ensures.others (c.in_ok-duty.ensures.parked (owed_among c.self.inside.opens)
@@ -29,7 +29,7 @@ unwrap-there-requires c =
 
 pub overflow_sub-self : goal.overflow_sub-self
 overflow_sub-self c =
-    let first = first_left c.self.inside.opens c.self.inside.waiters c.take_front.new.self
+    let first = first_left c.self.inside.opens c.self.inside.wait_queues c.take_front.new.self
     c.self.inside.waiting
     c.self.inside.due (Gives c.args.queue) c.in_ok-duty.place c.self.invariant c.in_ok-duty.ensures.first
     c.in_ok-duty.ensures.others (c.in_ok-duty.ensures.parked (owed_among c.self.inside.opens)
@@ -38,14 +38,14 @@ overflow_sub-self c =
     let same : first.there ≡ c.unwrap-there.result = same_Some _ _ (sym first.found ∙ found) in
     let owed = owed_there c.self.inside.opens c.in_ok-duty.place c.unwrap-there.result c.in_ok-duty.duty found
     (c.in_ok-duty.ensures.duty_is (owed_among c.self.inside.opens) c.self.invariant.parked) in
-    let counted = count_first c.self.inside.opens c.self.inside.waiters c.self.inside.waiting
+    let counted = count_first c.self.inside.opens c.self.inside.wait_queues c.self.inside.waiting
     c.self.inside.due
     c.in_ok-duty.place c.unwrap-there.result c.in_ok-duty.duty c.self.invariant found owed in
     omega (arith, counted, c.owing.ensures)
 
 pub invariant_of-self-2 : goal.invariant_of-self-2
 invariant_of-self-2 c =
-    let first = first_left c.self.inside.opens c.self.inside.waiters c.take_front.new.self
+    let first = first_left c.self.inside.opens c.self.inside.wait_queues c.take_front.new.self
     c.self.inside.waiting
     c.self.inside.due (Gives c.args.queue) c.in_ok-duty.place c.self.invariant c.in_ok-duty.ensures.first
     c.in_ok-duty.ensures.others (c.in_ok-duty.ensures.parked (owed_among c.self.inside.opens)
@@ -54,15 +54,16 @@ invariant_of-self-2 c =
     let same : first.there ≡ c.unwrap-there.result = same_Some _ _ (sym first.found ∙ found) in
     let owed = owed_there c.self.inside.opens c.in_ok-duty.place c.unwrap-there.result c.in_ok-duty.duty found
     (c.in_ok-duty.ensures.duty_is (owed_among c.self.inside.opens) c.self.invariant.parked) in
-    closed_first c.self.inside.opens _ c.self.inside.waiters c.take_front.new.self c.self.inside.waiting _
+    closed_first c.self.inside.opens _ c.self.inside.wait_queues c.take_front.new.self c.self.inside.waiting _
     c.owing.result c.self.inside.due _ c.in_ok-duty.place c.unwrap-there.result c.in_ok-duty.duty
     c.self.invariant found owed c.owing.ensures c.take.ensures.rest
-    (subst (LeftLine c.self.inside.opens c.self.inside.waiters c.take_front.new.self) same first.left) refl
+    (subst (LeftLine c.self.inside.opens c.self.inside.wait_queues c.take_front.new.self) same first.left)
+    refl
     c.forget.ensures
 
 pub returns-clause-some : goal.returns-clause-some
 returns-clause-some c =
-    let first = first_left c.self.inside.opens c.self.inside.waiters c.take_front.new.self
+    let first = first_left c.self.inside.opens c.self.inside.wait_queues c.take_front.new.self
     c.self.inside.waiting
     c.self.inside.due (Gives c.args.queue) c.in_ok-duty.place c.self.invariant c.in_ok-duty.ensures.first
     c.in_ok-duty.ensures.others (c.in_ok-duty.ensures.parked (owed_among c.self.inside.opens)

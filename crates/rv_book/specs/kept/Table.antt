@@ -1,2 +1,0 @@
--- Handed on from below: the table of what is kept of each client's reply.
-pub use Rattle.rv_book.specs.kept.KeptTable.{KeptTable, kept_code}
