@@ -92,8 +92,8 @@ old_number_fits a key fits refusal due = refusal_is _ refusal due.is (last_fits 
 other_call_fits : (a : Account) (key : Key) (call : Call) → DueFits (OtherCallDue a key call)
 other_call_fits a key call refusal due = refusal_is _ refusal due.is tt
 
--- the last number of a client with a request that waits is no less than that request's: no hello stands
--- behind it
+-- the last number of a client with a request that waits is no less than that request's: no hello comes
+-- after it
 waiting_reached : (a : Account) (client last : ℕ) → FitsAccount a → LastNumber a.entries client last
     → HasWaiting a.entries client → 1 ≤ last
 waiting_reached a client last fits is_last waits =

@@ -148,7 +148,7 @@ module _ (book : BookState) (moment : ℕ) (quiet : IsQuiet book moment) (m : Me
       becomes_said a a moment m (Refused NoMemory) (said.TheVariants.Refused NoMemory)
       (stays_there (staying s (Refused NoMemory)) steps refl) refl
 
-  -- ---- the book with the machine behind it
+  -- ---- the book with the machine after the message
 
   module _ (new : Machine) (made : HeardOf)
       (limits : StepLimits) (is_book : limits ≡ book_limits)

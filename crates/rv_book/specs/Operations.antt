@@ -69,8 +69,8 @@ pub record MayKeep (m : Machine) (kept : KeptTable) (e : Entry) : Type 0 where
 
 -- ---- an entry that the machine made
 
--- the machine stands behind an entry that the account lacks, which is legal there: what it settled is listed,
--- nothing of it is kept yet, and there is room for it and for what waits then
+-- the machine is one entry ahead of the account, and that entry is legal there: what it settled is listed,
+-- none of its replies is kept yet, and there is room for the entry and for what waits after it
 pub record IsAhead (book : BookState) (e : Entry) : Type 0 where
   pub state : State
   pub legal : Legal (account_of book)

@@ -60,7 +60,7 @@ module _ {X : Type 0} (place_of : X → ℕ) (p : ℕ) where
       → place_of x ≡ p → Rises place_of slots → Rises place_of (slice_set slots i (Withdrawn p))
   rises_marked slots i x there at rises = subst (AllPairs ◌<◌) (sym (same_places slots i x there at)) rises
 
-  -- none behind the first is of its place
+  -- no slot after the first has its place
   none_behind : (s : Slot X) (slots : List (Slot X)) → slot_place place_of s ≡ p → Rises place_of (s ∷ slots)
       → NoSlotAt place_of p slots
   none_behind s slots at rises = λ k d within same. omega (

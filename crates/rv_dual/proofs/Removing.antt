@@ -1,4 +1,4 @@
--- A list in which no element passes a test, and what is left of a list of pairs behind its first.
+-- A list in which no element passes a test, and what is left of a list of pairs after its first.
 use Rattle.std.proofs.Common.{◌≡◌, suc, Bool, cond, List, [], ◌∷◌, refl, sym, ap, ◌∙◌, arith}
 use Rattle.std.specs.Prelude.{not}
 use Rattle.std.specs.List.{AllPairs, filter}

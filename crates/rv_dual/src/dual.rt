@@ -120,9 +120,9 @@ impl Dual {
         self.reserve_taker()
     }
 
-    /// A giver arrives: it meets the consumer that waited longest, which leaves the queue, or waits behind
-    /// the items that are there. If no consumer waits there must be room for an item. The giver's place must
-    /// be above all that wait.
+    /// A giver arrives. It meets the consumer that has waited longest, which leaves the queue. If no consumer
+    /// waits, the giver waits after the items that are there, and there must be room for one more item. The
+    /// giver's place must be above all that wait.
     pub fn give(&mut self, giver: Giver) -> DualOutcome
         requires room { self.old.takers ≡ [] → 0 < self.old.giver_room.spare }
         requires above { IsAbove self.old (place_of (offer_of giver)) }
@@ -137,9 +137,9 @@ impl Dual {
         }
     }
 
-    /// A taker arrives: it meets the oldest item, which leaves the queue, or waits behind the consumers
-    /// that are there. If no item waits there must be room for a consumer. The taker's place must be above
-    /// all that wait.
+    /// A taker arrives. It meets the oldest item, which leaves the queue. If no item waits, the taker waits
+    /// after the consumers that are there, and there must be room for one more consumer. The taker's place
+    /// must be above all that wait.
     pub fn take(&mut self, duty: Duty) -> DualOutcome
         requires room { self.old.givers ≡ [] → 0 < self.old.taker_room.spare }
         requires above { IsAbove self.old duty.place }

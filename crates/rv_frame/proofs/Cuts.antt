@@ -82,7 +82,7 @@ row_append [] b = refl
 row_append (body ∷ a) b = ap (λ l. frame_bytes body ++ l) (row_append a b)
     ∙ sym (append_assoc (frame_bytes body) (row_bytes a) (row_bytes b))
 
--- the cut goes on behind an open end
+-- the cut goes on after an open end
 pub cut_on : (bytes piece rest : List ℕ) (bodies more : List (List ℕ)) (end : End)
     → Cut bytes bodies (Open rest) → Cut (rest ++ piece) more end
     → Cut (bytes ++ piece) (bodies ++ more) end

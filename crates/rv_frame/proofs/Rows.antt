@@ -49,7 +49,7 @@ front_bodies bytes whole front =
 
 -- ---- fronts that grow
 
--- what a piece behind the bytes adds to their frames it adds to the stream
+-- what a further piece adds to the frames of the bytes, it adds to the stream
 pub feeds_on : (bytes piece both : List ℕ) (whole : ℕ) (bad : Option ℕ) (end : End) (new : Stream)
     → bad ≡ None → whole ≤ length bytes → both ≡ bytes ++ piece
     → Grows (record { frames = bodies_in whole (take whole both); end = end }) (drop whole both) new

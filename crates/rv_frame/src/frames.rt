@@ -37,7 +37,7 @@ impl From<AllocError> for FrameFault {
 /// Frames out of bytes that are fed in pieces. A frame is a length, in two bytes with the greater part first,
 /// and so many bytes of body: 1 to 65,535.
 ///
-/// Contracts see the bodies of the whole frames that can still be taken, oldest first, and the end behind
+/// Contracts see the bodies of the whole frames that can still be taken, oldest first, and what follows
 /// them: the bytes of a frame that is not whole, or the bad length that was met. The frames that were
 /// taken and those that can still be are those of the cut of all bytes that were fed, whatever the pieces
 /// (`laws::fed_is_cut`, `laws::taken_is_cut`).

@@ -160,7 +160,7 @@ pub flat_text : (fs : List FlatMember) (f : FlatMember) (text : List ℕ) → Fi
 flat_text fs f text fit is =
     makes_read text (object (flat_members (fs ++ f ∷ []))) (flat_makes fs f text fit is)
 
--- ---- two texts, each behind its name
+-- ---- two texts, each after its name
 
 behind_name : (name text rest : List ℕ) (written : Data) → text ≡ compact_text written
     → (quoted name ++ (58 ∷ text)) ++ rest ≡ quoted name ++ 58 ∷ (compact_text written ++ rest)

@@ -34,7 +34,7 @@ pub record BeginsByFlat (bytes rest : List ℕ) : Type 0 where
   pub fit : FitEach (fields ++ last ∷ [])
   pub text : bytes ≡ object_text fields last ++ rest
 
--- two texts, each behind its name
+-- two texts, each after its name
 abbrev pub pair_text : List ℕ → List ℕ → List ℕ → List ℕ → List ℕ
 pair_text first one second other =
     123 ∷ ((quoted first ++ (58 ∷ one)) ++ (44 ∷ ((quoted second ++ (58 ∷ other)) ++ 125 ∷ [])))

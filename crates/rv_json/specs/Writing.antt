@@ -19,6 +19,6 @@ abbrev pub ahead_of : Members → List (List ℕ × Data) → Members
 ahead_of rest [] = rest
 ahead_of rest (field ∷ fields) = member field.0 field.1 (ahead_of rest fields)
 
--- the new text has these members behind those of the old, in their order
+-- the new text has these members after those of the old, in their order
 abbrev pub Writes : List (List ℕ × Data) → ObjectText → ObjectText → Type 0
 Writes fields old new = (rest : Members) → text_with rest new ≡ text_with (ahead_of rest fields) old

@@ -7,7 +7,7 @@ use Rattle.std.proofs.lemmas.List.{take-append-drop, append_assoc}
 use Rattle.std.proofs.lemmas.List.Elements.{All-append}
 use Rattle.rv_lines.specs.Pieces.{BehindLacking}
 
--- behind a further piece, of n bytes, in which no byte is this one
+-- after a further piece, of n bytes, in which no byte is this one
 pub behind_piece : (n byte : ℕ) (bytes rest piece after : List ℕ) → BehindLacking byte bytes rest
     → piece ≡ take n rest → after ≡ drop n rest
     → AllWithin (λ b. eqb b byte ≡ false) piece 0 (length piece)

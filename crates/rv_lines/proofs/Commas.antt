@@ -35,7 +35,7 @@ module _ (most : ℕ) (field piece after : List ℕ) (parts : field ≡ piece ++
       none place (subst (λ f. WritesUpTo most f place)
       (sym (cut_too says.0 says.1 place says.2 says.3).0) says.3)
 
-  -- nor where nothing is said behind the comma
+  -- nor where nothing is said after the comma
   pub none_behind : ((more : List ℕ) → ¬ SaysSomePlacesUpTo most after more) → (all : List ℕ)
       → ¬ SaysSomePlacesUpTo most field all
   none_behind none [] says = says

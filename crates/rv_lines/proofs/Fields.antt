@@ -7,7 +7,7 @@ use Rattle.rv_lines.proofs.Commas.{partners_one}
 use Rattle.rv_lines.proofs.Cutting.{Lacks, cut_once, not_lacking}
 use Rattle.rv_lines.proofs.Plain.{plain_lacks, plainly_one}
 
--- a line by its first space and the bytes behind it
+-- a line by its first space and the bytes after it
 parts_cut : (line moment partners field : List ℕ) → line ≡ moment ++ 32 ∷ partners ++ 32 ∷ field
     → line ≡ moment ++ 32 ∷ (partners ++ 32 ∷ field)
 parts_cut line moment partners field is = is ∙ append_assoc moment (32 ∷ partners) (32 ∷ field)
@@ -45,7 +45,7 @@ pub parts_joined : (line moment rest partners field : List ℕ) → line ≡ mom
 parts_joined line moment rest partners field is is' =
     is ∙ ap (λ r. moment ++ 32 ∷ r) is' ∙ sym (append_assoc moment (32 ∷ partners) (32 ∷ field))
 
--- a line has one moment, one partners' field and one field behind them
+-- a line has one moment, one partners' field and one field after them
 pub cuts_one : {line : List ℕ} {m m' : ℕ} {p p' f f' : List ℕ} → CutsFields line m p f
     → CutsFields line m' p' f' → (m ≡ m') × (p ≡ p') × (f ≡ f')
 cuts_one {m = m} {m' = m'} {p = p} {p' = p'} {f = f} {f' = f'} a b =

@@ -53,7 +53,7 @@ AllUpTo most places = (p : ℕ) → Among places p → p ≤ most
 pub up_to_behind : (most place : ℕ) (more : List ℕ) → AllUpTo most (place ∷ more) → AllUpTo most more
 up_to_behind most place more small p among = small p (suc among.0, among.1)
 
--- each of these places behind a comma
+-- each of these places after a comma
 abbrev pub more_text : List ℕ → List ℕ
 more_text [] = []
 more_text (place ∷ more) = 44 ∷ decimal place ++ more_text more

@@ -159,7 +159,7 @@ module _ {limits : LineLimits} {rest : List (List ℕ)} {n : ℕ} (stops : Stops
 
 module _ (limits : LineLimits) (all : List (List ℕ)) (a : Account) (reads : ReadsAccountUnder limits all a)
   where
-    -- behind lines that are read as an account, that of an entry more
+    -- lines that are read as an account, and the line of an entry more
     pub account_more : (line : List ℕ) (e : Entry) → ReadsEntryUpTo limits.greatest_place line e
         → length a.entries + 1 ≤ limits.most_entries
         → ReadsAccountUnder limits (all ++ line ∷ []) (with_entry a e)

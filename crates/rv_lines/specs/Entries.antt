@@ -1,9 +1,9 @@
--- How far the lines behind the first are read: for private clauses and proofs.
+-- How far the lines after the first are read: for private clauses and proofs.
 use Rattle.std.specs.Prelude.{◌≤◌, ◌+◌, ◌∷◌, ◌++◌, ◌≡◌, ◌⊎◌, ℕ, List, length}
 use Rattle.rv_account.specs.declared.entry.Entry.{Entry}
 use Rattle.rv_lines.specs.Reading.{LineLimits, ReadsEntriesUnder, ReadsEntryUpTo}
 
--- behind so many entries the line is read as none more
+-- after so many entries the line is not read as another one
 abbrev pub IsNoNext : LineLimits → ℕ → List ℕ → Type 0
 IsNoNext limits before line =
     (limits.most_entries ≤ before) ⊎ ((e : Entry) → ¬ ReadsEntryUpTo limits.greatest_place line e)

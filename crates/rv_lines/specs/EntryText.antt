@@ -22,7 +22,7 @@ message_in act.Tick = None
 abbrev pub head_text : ℕ → ℕ → List ℕ
 head_text epoch opened = codes "epoch " ++ decimal epoch ++ codes " opened " ++ decimal opened
 
--- a place and those behind it, with a comma (44) between each two
+-- a place and those after it, with a comma (44) between each two
 abbrev pub places_text : ℕ → List ℕ → List ℕ
 places_text place [] = decimal place
 places_text place (next ∷ more) = decimal place ++ 44 ∷ places_text next more

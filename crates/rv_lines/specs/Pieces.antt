@@ -1,4 +1,4 @@
--- What stands behind bytes that lack one: for private clauses and proofs.
+-- What follows the bytes that lack a given one: for private clauses and proofs.
 use Rattle.std.specs.Prelude.{ℕ, List, ◌++◌, ◌≡◌, ◌≢◌}
 use Rattle.std.specs.List.{All}
 

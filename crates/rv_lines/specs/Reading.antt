@@ -23,7 +23,7 @@ pub record ReadsHead (line : List ℕ) (epoch opened : ℕ) : Type 0 where
   pub epoch_fits : FitsIdentifier epoch
   pub says_opened : WritesUpTo max_moment opened_field opened
 
--- a place and those behind it, each at most this, with a comma (44) between each two
+-- a place and those after it, each at most this, with a comma (44) between each two
 abbrev pub SaysPlacesUpTo : ℕ → List ℕ → ℕ → List ℕ → Type 0
 SaysPlacesUpTo most field place [] = WritesUpTo most field place
 SaysPlacesUpTo most field place (next ∷ more) =

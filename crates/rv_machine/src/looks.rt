@@ -89,8 +89,8 @@ impl Machine {
         Some(self.tables.table.front(queue)?.place)
     }
 
-    /// The oldest that is open on a side behind a place, or on the whole side. So a line is read in its
-    /// order, without a copy.
+    /// The first open place on a side that is above the given one, or the first on the side if none is given.
+    /// So a side can be read in order without a copy.
     pub fn behind(&self, side: Side, after: Option<Place>) -> Option<&OpenPlace>
         requires { FitsSide side }
         ensures { option_map (λ o. o.now) result ≡ first_behind after (line (state_in self.now) side) }

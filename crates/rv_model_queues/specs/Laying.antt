@@ -1,4 +1,4 @@
--- What it is to lay one who waited before: behind all others of its side, with its duty.
+-- How a place that was open before is laid in again: after all others of its side, with its duty.
 use Rattle.std.specs.Prelude.{◌≡◌, ℕ, Option, Some, None}
 use Rattle.rv_text.specs.declared.call.Side.{Side}
 use Rattle.rv_text.specs.declared.call.Side.TheVariants.{Gives, Takes, Looks, Exchanges}
@@ -25,7 +25,7 @@ abbrev pub offer_with : ℕ → Option OwedDuty → Offer
 offer_with place None = Put place
 offer_with place (Some duty) = Waits duty
 
--- one more waits on the side, behind all others there, with its duty, if it has one; whatever duties are
+-- one more waits on the side, after all others there, with its duty, if it has one; whatever duties are
 -- owed, those that are parked after it are owed too, where those before and this one are
 pub record LaidOn (old new : WaitQueues) (side : Side) (place : ℕ) (duty : Option OwedDuty) : Type 0 where
   pub waits : StartsToWait old new side place

@@ -46,7 +46,7 @@ pub record GaveTo (old new : Queue) (duty : OwedDuty) (result : Arrived) : Type 
   pub memory : SameMemory old new
   pub is : result ≡ record { partner = Some taker.place; own = Some duty; other = Some taker }
 
--- no consumer is there: its item waits behind the others
+-- no consumer is there: its item waits after the others
 pub record LaysDown (old new : Queue) (wait : Option Wait) (duty : OwedDuty) (result : Arrived) : Type 0 where
   pub nobody : old.takers ≡ []
   pub givers : new.givers ≡ old.givers ++ offer_by wait duty ∷ []
@@ -69,7 +69,7 @@ pub record TookFrom (old new : Queue) (duty : OwedDuty) (result : Arrived) : Typ
   pub memory : SameMemory old new
   pub is : result ≡ record { partner = Some (place_of offer); own = Some duty; other = duty_of offer }
 
--- no item is there: it waits behind the other consumers
+-- no item is there: it waits after the other consumers
 pub record StandsBy (old new : Queue) (duty : OwedDuty) (result : Arrived) : Type 0 where
   pub nobody : old.givers ≡ []
   pub takers : new.takers ≡ old.takers ++ duty ∷ []
@@ -165,7 +165,7 @@ pub record MeetsFirst (old new : WaitQueues) (side : Side) (place : ℕ) : Type 
 abbrev pub FindsNobody : WaitQueues → Side → Type 0
 FindsNobody wait_queues side = (other : Side) → opposite side ≡ Some other → waiting_on wait_queues other ≡ []
 
--- it waits behind all others of its side
+-- it waits after all others of its side
 pub record StartsToWait (old new : WaitQueues) (side : Side) (place : ℕ) : Type 0 where
   pub nobody : FindsNobody old side
   pub last : waiting_on new side ≡ waiting_on old side ++ place ∷ []

@@ -237,7 +237,7 @@ impl Queues {
         receive(&mut self.queues[queue as usize], wait, duty)
     }
 
-    /// An item is laid behind the others of a queue in which no consumer waits.
+    /// Adds an item at the end of a queue in which no consumer waits.
     pub(crate) fn lay_giver(&mut self, queue: u64, giver: Giver)
         requires fits { FitsQueue queue }
         requires nobody { (queue_at self.old queue).takers ≡ [] }
@@ -249,7 +249,7 @@ impl Queues {
         lay_giver(&mut self.queues[queue as usize], giver)
     }
 
-    /// A consumer is laid behind the others of a queue in which no item waits.
+    /// Adds a consumer at the end of a queue in which no item waits.
     pub(crate) fn lay_taker(&mut self, queue: u64, duty: Duty)
         requires fits { FitsQueue queue }
         requires nobody { (queue_at self.old queue).givers ≡ [] }

@@ -26,7 +26,7 @@ same_number P Q n same count = record {
 
 -- ---- there is one
 
--- a greater number behind numbers that rise
+-- a greater number after numbers that rise
 pub rising_push : (places : List ℕ) (n : ℕ) → IsStrictlyIncreasing places
     → ((r : ℕ) → Contains places r → r < n) → IsStrictlyIncreasing (places ++ n ∷ [])
 rising_push places n rising below k less =
@@ -223,7 +223,7 @@ line_number es side places line = record {
 
 -- ---- one place more, and one less
 
--- a place behind all others
+-- a place after all others
 pub number_push : (P Q : ℕ → Type 0) (m n : ℕ) → NumberOf P m → ((r : ℕ) → P r → r < n)
     → ((r : ℕ) → Q r ↔ (P r ⊎ (r ≡ n))) → NumberOf Q (m + 1)
 number_push P Q m n count below gains = record {

@@ -82,7 +82,7 @@ pub find_clients : (es : List Entry) → (n : ℕ) × NumberOf (SaidHello es) n
 find_clients es = find_number (SaidHello es) (said_or_not es) (clients_below es) (λ c said. is_below es c
     said.0 said.1 said.2 said.3)
 
--- the greatest number of the client's keys behind h and below n
+-- the greatest number of the client's keys after h and below n
 pub record Greatest (es : List Entry) (c h n m : ℕ) : Type 0 where
   pub most : (r : ℕ) (key : Key) → h < r → r < n → NamesKey es c r key → key.number ≤ m
   pub reached : (m ≡ 0) ⊎ ((r : ℕ) × (key : Key) × (h < r) × NamesKey es c r key × (key.number ≡ m))
@@ -311,7 +311,7 @@ put_or_not call = elim (meets_or_not call) [
   ]
 ]
 
--- behind r stands what ends a wait with this key and this limit
+-- after r comes what ends a wait with this key and this limit
 record EndBehind (es : List Entry) (key : Key) (limit : Option ℕ) (r s : ℕ) : Type 0 where
   later : r < s
   stopper : Entry

@@ -29,7 +29,7 @@ few_none most es none clients count =
     in
     omega arith
 
--- behind an entry that is no hello of a new client
+-- after an entry that is no hello of a new client
 pub few_still : (most : ℕ) (es : List Entry) (e : Entry)
     → ((client incarnation : ℕ) (v : Version) → Some e.act ≡ Some (Hello client incarnation v) → SaidHello es
     client) → ClientsAtMost most es → ClientsAtMost most (es ++ e ∷ [])
@@ -43,7 +43,7 @@ few_still most es e known few clients count =
     let bound : found.0 ≤ most = few found.0 found.1 in
     omega arith
 
--- behind a hello for whose client there is room
+-- after a hello for whose client there is room
 module _ (a : Account) (e : Entry) (client incarnation : ℕ) (v : Version) (says : Some e.act ≡ Some
     (Hello client incarnation v)) where
   own_client : (c i : ℕ) (w : Version) → Some e.act ≡ Some (Hello c i w) → client ≡ c

@@ -14,7 +14,7 @@ use Rattle.rv_rules.specs.Steps.{PlaceLine, PlacesFullDue, RefuseOr, Refuses, Wh
 
 -- ---- lines
 
--- a line goes on as another does behind it
+-- a line that goes on may go on to something else
 behind_line : (D R : Refusal → Type 0) (O P : Type 0) → (O → P) → RefuseOr D R O → RefuseOr D R P
 behind_line D R O P on (inl h) = inl h
 behind_line D R O P on (inr h) = inr (h.0, on h.1)

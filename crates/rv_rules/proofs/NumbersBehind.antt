@@ -1,4 +1,4 @@
--- How many places have a property behind one entry more, which adds no more than its own place.
+-- How many places have a property after one entry more, which adds no more than its own place.
 use Rattle.rv_rules.proofs.Words.{◌≡◌, ◌⊎◌, ◌+◌, ◌<◌, ◌≤◌, inl, inr, ℕ, subst, arith, NumberOf}
 use Rattle.rv_rules.proofs.Counting.{number_at_most, number_drop, number_push}
 

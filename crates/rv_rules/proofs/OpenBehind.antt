@@ -1,4 +1,4 @@
--- How many places are open behind one entry more.
+-- How many places are open after one entry more.
 use Rattle.rv_rules.proofs.Words.{◌≡◌, ◌⊎◌, ◌+◌, ◌<◌, ◌≤◌, ◌∷◌, ◌++◌, inl, inr, ℕ, List, [], length, Some}
 use Rattle.rv_rules.proofs.Words.{None, refl, sym, ap, subst, arith, cases_lt, none-some, same_Some, Call}
 use Rattle.rv_rules.proofs.Words.{◌∙◌, Entry, Account, call_in, may_name, Legal, NumberOf, Open}
@@ -57,11 +57,11 @@ module _ (a : Account) (e : Entry) where
     no_more_open =
         no_more (Open a.entries) Behind (length a.entries) n m before after (open_below a.entries) back
 
-    -- no more, behind an entry that is no arrival
+    -- no more, after an entry that is no arrival
     pub calm_open : call_in e.act ≡ None → m ≤ n
     calm_open says = no_more_open (λ opened. none-some opened.call (sym says ∙ own_call opened))
 
-    -- behind an arrival that wasn't refused no more than the bound, or than before
+    -- after an arrival that wasn't refused no more than the bound, or than before
     pub arrival_open : Legal (with_entry a e) → (bound : ℕ) (call : Call) → call_in e.act ≡ Some call
         → ((p : Refusal) → PlacesFullDue bound a call p → ⊥) → m ≤ max bound n
     arrival_open legal bound call says room =

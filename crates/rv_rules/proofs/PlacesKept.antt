@@ -1,4 +1,4 @@
--- Behind a step under limits places that are open are at most the bound, or at most what they were.
+-- After a step under limits places that are open are at most the bound, or at most what they were.
 use Rattle.rv_rules.proofs.Words.{◌≡◌, ◌≤◌, ◌∷◌, ◌++◌, inl, inr, ℕ, List, [], Some, None, sym, ap, subst}
 use Rattle.rv_rules.proofs.Words.{arith, Account, Entry, Legal, NumberOf, Open, call_in}
 use Rattle.std.specs.Prelude.{max}

@@ -1,4 +1,4 @@
--- Behind a step under limits entries and those that wait are at most the limit, or at most what they were; so
+-- After a step under limits entries and those that wait are at most the limit, or at most what they were; so
 -- are the clients.
 use Rattle.rv_rules.proofs.Words.{◌≡◌, ◌+◌, ◌≤◌, ◌∷◌, ◌++◌, ◌∙◌, inl, inr, ℕ, List, [], length, Some}
 use Rattle.rv_rules.proofs.Words.{None, refl, sym, ap, subst, arith, cases_lt, Act, Call, Entry}

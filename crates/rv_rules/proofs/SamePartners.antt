@@ -1,4 +1,4 @@
--- Two entries of one act that may stand behind an account name the same partners.
+-- Two entries of one act that may follow an account name the same partners.
 use Rattle.rv_rules.proofs.Words.{◌≡◌, ◌⊎◌, ◌+◌, ◌<◌, ◌≤◌, ◌∙◌, inl, inr, ℕ, List, length, Some, refl, sym}
 use Rattle.rv_rules.proofs.Words.{ap, subst, arith, slice_index, IsStrictlyIncreasing, cases_lt}
 use Rattle.rv_rules.proofs.Words.{get_or_from_slice_get, same_Some, slice_get-get_or, Call, Entry, Account}

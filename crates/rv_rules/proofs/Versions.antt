@@ -40,7 +40,7 @@ one_opened es c i j v w first second =
     one_version_of c i j v w (sym (opened_hello es c i v first) ∙ ap (act_at es) same ∙ opened_hello es c j w
     second)
 
--- it stays behind an entry that is no hello of its client
+-- it stays after an entry that is no hello of its client
 pub HasOpened-on : (es : List Entry) (e : Entry) (c i : ℕ) (v : Version)
     → ((j : ℕ) (w : Version) → Some e.act ≡ Some (Hello c j w) → ⊥) → HasOpened es c i v
     → HasOpened (es ++ e ∷ []) c i v
@@ -95,7 +95,7 @@ key_or_hello : (es : List Entry) (r : ℕ) (key : Key) (c i : ℕ) (v : Version)
     → act_at es r ≡ Some (Hello c i v) → ⊥
 key_or_hello es r key c i v named hello = none-some key (sym (ap (option_and_then key_in) hello) ∙ named)
 
--- a request behind which its client says no hello was asked in the session that the client has
+-- a request after which its client says no hello was asked in the session that the client has
 pub asked_before : (es : List Entry) (r : ℕ) (key : Key) (i : ℕ) (v : Version) → key_at es r ≡ Some key
     → ((s j : ℕ) (w : Version) → r < s → act_at es s ≡ Some (Hello key.client j w) → ⊥)
     → HasOpened es key.client i v → AskedIn es r v

@@ -1,4 +1,4 @@
--- How many requests wait behind one entry more, and so how many entries those there are may still need.
+-- How many requests wait after one entry more, and so how many entries those there are may still need.
 use Rattle.rv_rules.proofs.Words.{◌≡◌, ◌⊎◌, ◌+◌, ◌<◌, ◌≤◌, ◌∷◌, ◌++◌, ◌∙◌, inl, inr, ℕ, List, [], length}
 use Rattle.rv_rules.proofs.Words.{Some, None, refl, sym, subst, arith, none-some, same_Some, Call, Entry}
 use Rattle.rv_rules.proofs.Words.{Account, call_in, IsPut, Legal, NumberOf, Stays, StoppedAt, Waiting}
@@ -37,7 +37,7 @@ module _ (a : Account) (e : Entry) (n m : ℕ) (legal : Legal (with_entry a e))
   no_arrival : call_in e.act ≡ None → Behind (length a.entries) → ⊥
   no_arrival says waits = let new = last_comes waits in none-some new.call (sym says ∙ new.arrives)
 
-  -- no more, behind an entry that is no arrival
+  -- no more, after an entry that is no arrival
   pub calm_behind : call_in e.act ≡ None → m ≤ n
   calm_behind says =
       no_more (Waiting a.entries) Behind (length a.entries) n m before after (waiting_below a.entries) back

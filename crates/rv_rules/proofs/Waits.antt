@@ -40,7 +40,7 @@ cancel a r key legal cancelled =
     let session = numbers.of_session key (ap key_in does) in
     record { epoch = session.0; incarnation = session.1; turn = numbers.cancels key does }
 
--- ---- what stands behind a request that waits
+-- ---- what comes after a request that waits
 
 -- no hello of its client, which would have stopped it
 pub no_hello_behind : (a : Account) (r h : ℕ) (key : Key) (call : Call) (incarnation : ℕ) (v : Version)

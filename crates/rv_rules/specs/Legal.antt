@@ -1,4 +1,4 @@
--- Which entry may stand behind which entries, and so which accounts are legal.
+-- Which entry may follow which entries, and so which accounts are legal.
 use Rattle.std.specs.Prelude.{◌≡◌, ◌⊎◌, ◌<◌, ◌≤◌, ◌+◌, ℕ, List, length, take, Some, slice_get}
 use Rattle.std.specs.List.Sorted.{IsStrictlyIncreasing}
 use Rattle.rv_text.specs.declared.version.Version.{Version}
@@ -150,7 +150,7 @@ pub record KeepsPairs (entries : List Entry) (e : Entry) : Type 0 where
 
 -- ---- legal accounts
 
--- the entry may stand behind those of the account
+-- the entry may follow those of the account
 pub record MayFollow (a : Account) (e : Entry) : Type 0 where
   pub moments : KeepsMoments a e.moment e.act
   pub numbers : KeepsNumbers a e.act
@@ -160,6 +160,6 @@ pub record MayFollow (a : Account) (e : Entry) : Type 0 where
 abbrev pub before : Account → ℕ → Account
 before a j = record { epoch = a.epoch; opened = a.opened; entries = take j a.entries }
 
--- each entry may stand behind those before it
+-- each entry may follow those before it
 abbrev pub Legal : Account → Type 0
 Legal a = (j : ℕ) (e : Entry) → slice_get a.entries j ≡ Some e → MayFollow (before a j) e

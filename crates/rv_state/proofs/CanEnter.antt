@@ -1,4 +1,4 @@
--- Whatever comes, and under whatever limits, each legal account has a step; what can enter behind the step's
+-- Whatever comes, and under whatever limits, each legal account has a step; what can enter after the step's
 -- time-outs is read off it.
 use Rattle.rv_state.proofs.Words.{ℕ, Option, Some, None, inl, inr, refl, sym, subst, Account, Act, Answer}
 use Rattle.rv_state.proofs.Words.{Answers, Arrive, Call, Cancel, Key, Legal, Message, Refusal, Replied}
@@ -45,7 +45,7 @@ ticked_legal : (a b : Account) (moment : ℕ) → Legal a → Ticks a moment b �
 ticked_legal a b moment legal (inl ticks) = ticks.1.legal
 ticked_legal a b moment legal (inr same) = subst Legal (sym same.1) legal
 
--- what the message does behind the time-outs
+-- what the message does after the time-outs
 record LeadsOn (limits : StepLimits) (a : Account) (moment : ℕ) (m : Message) : Type 0 where
   after : Account
   answer : Answer

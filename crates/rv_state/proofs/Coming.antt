@@ -9,6 +9,6 @@ pub record Comes (a : Account) (s : State) (e : Entry) : Type 0 where
   pub follows : MayFollow a e
   pub partners : e.partners ≡ partners_of s e.act
 
--- the entries with that one behind them
+-- the entries with that one after them
 abbrev pub more : Account → Entry → List Entry
 more a e = a.entries ++ e ∷ []

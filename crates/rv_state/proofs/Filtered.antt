@@ -204,7 +204,7 @@ pub get_map : {X Y : Type 0} (f : X → Y) (xs : List X) (i : ℕ) (x : X) → s
     → slice_get (map f xs) i ≡ Some (f x)
 get_map f xs i x at = slice_get-map f xs i ∙ ap (option_map f) at
 
--- ---- a front, and one list behind another
+-- ---- a front, and one list after another
 
 pub take_get : {X : Type 0} (xs : List X) (n i : ℕ) (x : X) → slice_get (take n xs) i ≡ Some x
     → slice_get xs i ≡ Some x

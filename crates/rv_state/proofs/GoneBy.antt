@@ -26,7 +26,7 @@ gone_by s moment (Arrive key call) = met_by s call
 gone_by s moment (Cancel key) = just_open (client_waits s key.client)
 gone_by s moment Tick = due_at s moment
 
--- the entry behind those names the place, or stops what arrived there
+-- the entry after those names the place, or stops what arrived there
 abbrev pub ClosesAt : List Entry → Entry → ℕ → Type 0
 ClosesAt es e r = Names e r ⊎ StoppedAt (es ++ e ∷ []) r (length es)
 

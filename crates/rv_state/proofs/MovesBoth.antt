@@ -20,7 +20,7 @@ not_before s now = omega arith
 
 -- ---- both parts of a step
 
--- the move of the message behind the time-outs
+-- the move of the message after the time-outs
 joined : (a t b : Account) (moment : ℕ) (made : Ticked) (said : Answer) (then move : Move)
     → TicksTo a moment made t → IsMoveTo t b said then → move.entries ≡ made.entries ++ then.entries
     → move.answer ≡ then.answer → move.after ≡ then.after → IsMoveTo a b said move

@@ -15,7 +15,7 @@ use Rattle.rv_state.proofs.EntersBoth.{Entered, adds_own, comes_adds, own_comes,
 use Rattle.rv_state.proofs.Leading.{entered_legal, entered_state}
 use Rattle.rv_state.proofs.MomentsBoth.{due_to_some, none_due}
 
--- ---- what was due is no longer, behind a tick
+-- ---- what was due is no longer, after a tick
 
 pub tick_ends : (es : List Entry) (e : Entry) → NamesFreePartners es e → e.act ≡ Tick
     → NothingDue (es ++ e ∷ []) e.moment

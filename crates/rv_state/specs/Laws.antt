@@ -169,7 +169,7 @@ LimitsOnlyRefuse = (limits greater : StepLimits) (a b : Account) (now : ℕ) (m 
     → AreAtMost limits greater → NextUnder limits a now m b answer → answer ≢ Refused ClientsFull
     → answer ≢ Refused EpochFull → NextUnder greater a now m b answer
 
--- what limits bound is at most its limit behind a step, or at most what it was before: the entries with those
+-- what limits bound is at most its limit after a step, or at most what it was before: the entries with those
 -- that wait, the clients, and what is open
 pub record StaysWithin (limits : StepLimits) (a b : Account) : Type 0 where
   pub entries : (before after : ℕ) → NumberOf (Waiting a.entries) before

@@ -55,7 +55,8 @@ pub record SettlesAt (entries : List Entry) (e : Entry) (settles : List Settled)
       → WaitsThere entries one.key p call → WaitsThere entries other.key q called
       → SettlesBefore entries e.act p q
 
--- these are settled by some entries, one after the other, each with those before it behind the others
+-- these are settled by some entries, one after the other; each entry comes after the given ones and those
+-- before it
 abbrev pub SettlesEach : List Entry → List Entry → List Settled → Type 0
 SettlesEach before [] settles = settles ≡ []
 SettlesEach before (e ∷ more) settles =

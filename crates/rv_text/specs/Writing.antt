@@ -10,7 +10,7 @@ use Rattle.rv_text.specs.declared.call.Wait.{Wait}
 use Rattle.rv_text.specs.Members.{Member, word, whole, identifiers, Field, field_of, members_of}
 use Rattle.rv_text.specs.Rows.{key_row, side_row, wait_row, max_or_wait_row}
 
--- the new text has the row's members behind those of the old, in their order
+-- the new text has the row's members after those of the old, in their order
 abbrev pub WritesRow : List Member → ObjectText → ObjectText → Type 0
 WritesRow row old new = Writes (map field_of row) old new
 

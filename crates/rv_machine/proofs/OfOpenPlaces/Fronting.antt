@@ -1,4 +1,4 @@
--- Places that may be open again may be so one after the other, each behind those before it.
+-- Places that may be open again may be so one after the other, each after those before it.
 use Rattle.std.proofs.Common.{◌≡◌, ◌≢◌, ◌<◌, ◌++◌, ◌∷◌, ◌∙◌, ◌+◌, ℕ, zero, suc, List, [], Bool, true, false}
 use Rattle.std.proofs.Common.{cond, Option, Some, None, length, refl, sym, ap, arith, slice_get}
 use Rattle.std.specs.Prelude.{filter}
@@ -17,7 +17,7 @@ use Rattle.rv_state.proofs.Words.{none-some}
 use Rattle.rv_machine.specs.open_places.OpenMap.{StandBelow, facing, line_in, most_counted}
 use Rattle.rv_machine.specs.open_places.Reopening.{ClaimsUpTo, MayReopen, MayResume}
 
--- the one behind a front stands at its length
+-- the one after a front stands at the front's length
 at_end : {X : Type 0} (front rest : List X) (x : X) → slice_get (front ++ x ∷ rest) (length front) ≡ Some x
 at_end [] rest x = refl
 at_end (y ∷ front) rest x = at_end front rest x
@@ -81,7 +81,7 @@ module _ (front rest : List OpenPlace) (one : OpenPlace) (claims : Claiming)
     unclaimed = last one.place (stands_before front rest one claims.table.clients may);
   }
 
--- one more is laid behind the front: whatever all stand below is above what was made
+-- one more is laid after the front: whatever all stand below is above what was made
 pub claimed_below : (front : List OpenPlace) (one : OpenPlace) (before after : Option ℕ)
     → ((place : ℕ) → StandBelow front place → is_above before place ≡ true)
     → ClaimsUpTo before one.place after

@@ -1,4 +1,4 @@
--- The map in which what is open is kept: what an insertion behind all others, a look-up and a removal are in
+-- The map in which what is open is kept: what an insertion after all others, a look-up and a removal are in
 -- the list of its values.
 use Rattle.std.proofs.Common.{◌≡◌, ◌<◌, ◌++◌, ◌∷◌, ◌∙◌, ◌==◌, ℕ, zero, suc, List, [], Bool, true, false, cond}
 use Rattle.std.proofs.Common.{not, Some, refl, sym, ap, subst, arith, slice_get, nat_eq}
@@ -35,7 +35,7 @@ same_test k key place same = unsigned_tied k key ∙ turned
     turned : (k == key) ≡ nat_eq place k
     turned = grind (arith, nat_tests)
 
--- ---- behind all others
+-- ---- after all others
 
 pub inserted_last : (es : Entries) (k : ℕ) (v : OpenPlace) → StandUnderPlaces es
     → StandBelow (values_of es) k → insert_entry nat_cmp es k v ≡ es ++ (k, v) ∷ []

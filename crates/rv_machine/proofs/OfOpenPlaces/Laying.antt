@@ -1,4 +1,4 @@
--- The tables of what is open, where one more is laid behind all others.
+-- The tables of what is open, where one more is laid after all others.
 use Rattle.std.proofs.Common.{◌≡◌, ◌≢◌, ◌⊎◌, ◌<◌, ◌++◌, ◌∷◌, ◌∙◌, ◌+◌, ℕ, List, [], Bool, true, false}
 use Rattle.std.proofs.Common.{cond, Option, Some, None, IsSome, is_some, length, refl, sym, ap, subst}
 use Rattle.std.proofs.Common.{arith}

@@ -1,4 +1,4 @@
--- A list of open places parted at one of them: before it, itself, and behind it.
+-- A list of open places parted at one of them: before it, itself, and after it.
 use Rattle.std.proofs.Common.{◌≡◌, ◌<◌, ◌++◌, ◌∷◌, ◌∙◌, ℕ, suc, List, [], Bool, true, false, cond, not}
 use Rattle.std.proofs.Common.{Some, refl, sym, ap, arith, nat_eq}
 use Rattle.std.specs.Prelude.{filter}
@@ -11,7 +11,7 @@ use Rattle.rv_state.proofs.Words.{none-some, same_Some}
 use Rattle.rv_machine.specs.open_places.OpenMap.{PlacesRise, found_at, all_but}
 use Rattle.rv_machine.proofs.OfOpenPlaces.Kept.{apart_from, filter_these, same_nat}
 
--- the one at a place, those before it and those behind it
+-- the one at a place, those before it and those after it
 pub record PartedAt (all : List OpenPlace) (place : ℕ) (there : OpenPlace) : Type 0 where
   pub front : List OpenPlace
   pub behind : List OpenPlace

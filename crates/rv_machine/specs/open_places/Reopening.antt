@@ -43,7 +43,7 @@ pub record MayResume (all : List OpenPlace) (clients : FinMap nat_cmp ClientStat
   pub apart : (i j : ℕ) (one other : OpenPlace) → slice_get all i ≡ Some one → slice_get all j ≡ Some other
       → one.place ≢ other.place → opposite one.side ≢ Some other.side
 
--- one may be open behind all others: it stands open by itself, above them, and could have met none; and its
+-- one may be open after all others: it stands open by itself, above them, and could have met none; and its
 -- duty can still be made
 pub record MayReopen (all : List OpenPlace) (one : OpenPlace) (claims : Claiming) : Type 0 where
   pub few : length all < most_counted

@@ -29,7 +29,7 @@ over_on x y key same o = record {
   over = o.over;
 }
 
--- where no session of who waited changed behind one move, it settles the same
+-- if the session of no request that waited differs after a move, it settles the same
 pub just_on : (s x y : State) (settles : List Settled) → ((key : Key) → WaitsOn s key → IsSameOf x y key)
     → SettlesJust s x settles → SettlesJust s y settles
 just_on s x y settles same just = record {

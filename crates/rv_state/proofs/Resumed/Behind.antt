@@ -1,4 +1,4 @@
--- Behind an entry what is open came no later than its moment, and nothing is due then.
+-- After an entry what is open came no later than its moment, and nothing is due then.
 use Rattle.std.proofs.Common.{◌≡◌, ◌≢◌, ◌<◌, ◌≤◌, ◌∷◌, ◌∙◌, [], ℕ, List, Bool, true, false, cond}
 use Rattle.std.proofs.Common.{Option, Some, None}
 use Rattle.std.proofs.Common.{inl, inr, not, refl, sym, ap, subst, arith, slice_get, nat_eq}
@@ -24,7 +24,7 @@ use Rattle.rv_state.specs.resume.Resuming.{CanResume, IsOpenIn}
 use Rattle.rv_state.proofs.Resumed.Moments.{none_due_at, undue_past}
 use Rattle.rv_state.proofs.Resumed.Opening.{limit_behind, one_of_one, stays_by, waiter_is}
 
--- who waits there came no later, and the limit is behind
+-- what waits there came no later, and its limit is later
 pub record IsInTime (moment : ℕ) (there : OpenPlace) : Type 0 where
   pub began : (w : Waiter) → there.waiter ≡ Some w → w.since ≤ moment
   pub undue : (limit : ℕ) → there.limit ≡ Some limit → moment < limit

@@ -1,4 +1,4 @@
--- How many places are open, how many wait, and how many clients there are behind an entry.
+-- How many places are open, how many wait, and how many clients there are after an entry.
 use Rattle.std.proofs.Common.{◌≡◌, ◌<◌, ◌≤◌, ◌+◌, ◌++◌, ◌∷◌, ◌∙◌, ◌&&◌, ℕ, zero, suc, List, [], Bool, true}
 use Rattle.std.proofs.Common.{false}
 use Rattle.std.proofs.Common.{cond, not, Option, Some, None, IsSome, is_some, inl, inr, length, refl, sym, ap}

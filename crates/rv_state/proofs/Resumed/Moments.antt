@@ -1,4 +1,4 @@
--- How the moments of what is open stand behind an entry.
+-- How the moments of what is open stand after an entry.
 use Rattle.std.proofs.Common.{◌≡◌, ◌≢◌, ◌<◌, ◌≤◌, ◌∙◌, [], ℕ, List, Some, inl, inr, refl, sym, ap}
 use Rattle.std.proofs.Common.{slice_get}
 use Rattle.std.proofs.lemmas.Bool.{cases_lt}
@@ -30,7 +30,7 @@ due_there s moment there limit at has elapsed =
     })) in
     record { i = found.i; due = found.there; stands = found.stands; at_place = found.at_place }
 
--- what isn't among those has its limit behind the moment
+-- what isn't among those has a limit after the moment
 pub undue_past : (s : State) (moment : ℕ) (there : OpenPlace) (limit : ℕ) → IsOpenIn s there
     → there.limit ≡ Some limit
     → ((i : ℕ) (o : OpenPlace) → slice_get (due_at s moment) i ≡ Some o → o.place ≢ there.place)

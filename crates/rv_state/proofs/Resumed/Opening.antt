@@ -127,7 +127,7 @@ limit_later moment limit wait lasts (Some (Millis n)) is has =
     let some : 0 < n = subst Lasts is lasts in
     let same : moment + n ≡ limit = same_Some _ _ has in omega (arith, some, same)
 
--- its limit is behind the moment
+-- its limit is after the moment
 pub limit_behind : (moment limit : ℕ) (c : Call) → Stays c → limit_of moment c ≡ Some limit → moment < limit
 limit_behind moment limit c stays has = limit_later moment limit (wait_of c) stays.1 (wait_of c) refl has
 

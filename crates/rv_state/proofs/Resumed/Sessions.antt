@@ -189,7 +189,7 @@ abbrev pub FitEach : ℕ → ClientMap → List Settled → Type 0
 FitEach epoch clients settles = (i : ℕ) (x : Settled) → slice_get settles i ≡ Some x
     → IsFitting epoch clients x
 
--- the others too, behind the first
+-- the others too, after the first
 fit_then : (epoch : ℕ) (clients : ClientMap) (y : Settled) (settles : List Settled)
     → FitEach epoch clients (y ∷ settles) → FitEach epoch (tell clients y) settles
 fit_then epoch clients y settles fit i x at =

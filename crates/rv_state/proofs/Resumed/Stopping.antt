@@ -1,4 +1,4 @@
--- A state behind a hello, a cancel or a tick holds together as before.
+-- A state after a hello, a cancel or a tick holds together as before.
 use Rattle.std.proofs.Common.{◌≡◌, ◌≢◌, ◌⊎◌, ◌∷◌, ◌∙◌, ℕ, zero, suc, List, [], Option, Some}
 use Rattle.std.proofs.Common.{None}
 use Rattle.std.proofs.Common.{inl, inr, refl, sym, ap, subst, arith, slice_get, nat_eq}

@@ -1,4 +1,4 @@
--- The slots behind a partition point are those above the place.
+-- The slots after a partition point are those above the place.
 use Rattle.std.proofs.Common.{Option, ℕ, ◌≡◌, drop, map, sym, subst, rules}
 use Rattle.std.specs.Prelude.{slice_get}
 use Rattle.std.proofs.Math.Dec.{leb}

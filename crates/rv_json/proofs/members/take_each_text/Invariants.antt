@@ -1,4 +1,4 @@
--- All the texts are those that were read, and behind them those of the values that are left.
+-- All the texts are those that were read, and after them those of the values that are left.
 use Rattle.std.proofs.Common.{◌≡◌, ◌++◌, length, option_map}
 use Rattle.std.specs.Vec.Iter.{into_iter_items, into_iter_len}
 use Rattle.serde_json.specs.View.{items_view}

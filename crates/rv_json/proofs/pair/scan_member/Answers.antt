@@ -1,4 +1,4 @@
--- The name, its colon, and the flat object behind it.
+-- The name, its colon, and the flat object after it.
 use Rattle.std.proofs.Common.{◌≡◌, ◌<◌, ◌++◌, length, get_or, drop, sym, ◌∙◌, subst}
 use Rattle.std.proofs.lemmas.Option.{IfSome_then}
 use Rattle.std.proofs.lemmas.Bool.{not-false}

@@ -1,4 +1,4 @@
--- The text, and the byte that stands behind it.
+-- The text, and the byte that stands after it.
 use Rattle.std.proofs.Common.{◌≡◌, ◌<◌, ◌++◌, length, get_or, ap, ◌∙◌, subst}
 use Rattle.json.specs.Print.{quoted}
 use Rattle.rv_json.proofs.FlatParts.{byte_here}

@@ -1,4 +1,4 @@
--- A piece in which no byte is the one is behind.
+-- A piece in which no byte is the one is passed.
 use Rattle.rv_lines.proofs.Behind.{behind_piece}
 use Rattle.rv_lines.proofs.line.behind_pieces.Goals as goal
 

@@ -1,4 +1,4 @@
--- Two numbers behind words are short.
+-- Two words, each with a number after it, are short.
 use Rattle.std.proofs.Common.{string_bytes}
 use Rattle.std.proofs.lemmas.Result.{IfOk-weaker}
 use Rattle.rv_lines.proofs.Texts.{head_is_short, head_text_is}

@@ -1,4 +1,4 @@
--- The first place is written, and then each of the others behind a comma.
+-- The first place is written, and then each of the others after a comma.
 use Rattle.std.proofs.Common.{arith, ap, string_bytes, sym, ◌++◌, ◌∙◌}
 use Rattle.rv_lines.proofs.Texts.{more_text, place_written, places_text_is, places_written}
 use Rattle.rv_lines.specs.EntryText.{places_text}

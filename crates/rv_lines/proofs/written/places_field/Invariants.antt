@@ -1,4 +1,4 @@
--- All places are those that were written, and behind them those that are left.
+-- All places are those that were written, and after them those that are left.
 use Rattle.std.proofs.Common.{◌≡◌, ◌++◌, drop, string_bytes}
 use Rattle.rv_lines.specs.EntryText.{places_text}
 use Rattle.rv_lines.proofs.Texts.{more_text}

@@ -1,4 +1,4 @@
--- Each member stands behind those before it, and all in byte order.
+-- Each member stands after those before it, and all in byte order.
 use Rattle.std.proofs.Common.{sym, ap, ◌∙◌}
 use Rattle.std.proofs.lemmas.Result.{on_ok_weaker}
 use Rattle.serde_json.specs.Data.{no_members}

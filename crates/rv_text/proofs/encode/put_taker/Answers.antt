@@ -1,4 +1,4 @@
--- Each member stands behind those before it.
+-- Each member stands after those before it.
 use Rattle.std.proofs.Common.{◌∙◌}
 use Rattle.std.proofs.lemmas.Result.{on_ok_weaker}
 use Rattle.rv_text.proofs.encode.put_taker.Goals as goal

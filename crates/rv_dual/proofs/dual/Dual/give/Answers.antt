@@ -1,4 +1,4 @@
--- Who is parked stands behind the other items, and no consumer waits.
+-- What is parked stands after the other items, and no consumer waits.
 use Rattle.std.proofs.Common.{◌<◌, sym, subst}
 use Rattle.std.specs.List.{All}
 use Rattle.rv_dual.specs.declared.giver.Offer.{Offer}

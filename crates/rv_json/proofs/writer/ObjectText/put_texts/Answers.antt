@@ -1,4 +1,4 @@
--- Each token stands behind those before it.
+-- Each token stands after those before it.
 use Rattle.std.proofs.lemmas.Result.{on_ok_weaker}
 use Rattle.rv_json.specs.Writing.{text_with}
 use Rattle.rv_json.proofs.Tokens.{list_written}

@@ -1,4 +1,4 @@
--- What was copied, and behind it what is left, are all that is open.
+-- What was copied, and after it what is left, are all that is open.
 use Rattle.std.proofs.Common.{◌≡◌, ◌++◌}
 use Rattle.rv_machine.proofs.open_places.opens.OpenMap.copies.Given as goal
 

@@ -1,4 +1,4 @@
--- An insertion behind all others adds to the list's end.
+-- An insertion after all others adds to the list's end.
 use Rattle.std.proofs.Common.{◌++◌, ◌∷◌, ◌∙◌, [], ap, subst, sym, List}
 use Rattle.rv_state.specs.State.{OpenPlace}
 use Rattle.rv_machine.specs.open_places.OpenMap.{StandBelow}

@@ -1,4 +1,4 @@
--- One more is open, behind all others.
+-- One more is open, after all others.
 use Rattle.std.proofs.Common.{◌∙◌, ◌+◌, ◌-◌, subst, sym, List}
 use Rattle.rv_text.specs.declared.call.Call.{Call}
 use Rattle.rv_text.specs.Calls.{side_of, wait_of}

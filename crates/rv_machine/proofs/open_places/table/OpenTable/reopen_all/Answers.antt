@@ -1,4 +1,4 @@
--- Each place may be open again behind those before it.
+-- Each place may be open again after those before it.
 use Rattle.std.proofs.Common.{◌≡◌, [], ◌∙◌, ◌++◌, ◌∷◌, ℕ, Option, true, ap, refl, rules, subst, sym, List}
 use Rattle.std.proofs.lemmas.List.{append_assoc}
 use Rattle.std.specs.Vec.Iter.{into_iter_items}

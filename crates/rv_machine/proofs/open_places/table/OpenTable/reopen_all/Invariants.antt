@@ -1,4 +1,4 @@
--- The table is of those that were laid, and behind them stand those that are left; the clients stay, and
+-- The table is of those that were laid, and after them stand those that are left; the clients stay, and
 -- whatever the laid ones stand below is above what was made.
 use Rattle.std.proofs.Common.{◌≡◌, ◌++◌, ℕ, true, length}
 use Rattle.std.specs.Vec.Iter.{into_iter_items, into_iter_len}
