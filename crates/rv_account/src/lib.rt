@@ -1,4 +1,15 @@
 //! Accounts: what came to a book, in order, and who met whom.
+//!
+//! ```
+//! let mut account = Account::empty(alloc, epoch, opened);
+//! account.reserve(1)?;
+//! account.push(Entry {
+//!     moment,
+//!     act: Act::Arrive { key, call },
+//!     partners: Partners::none(alloc),
+//! });
+//! let call: Option<&Call> = account.call(0);
+//! ```
 #![tactic(auto)]
 
 mod account;

@@ -1,4 +1,11 @@
-//! The book: sessions and all that waits in one epoch, and the account of what happened to them.
+//! The book of one epoch: its sessions, all that waits in it, and the account of what happened to them.
+//!
+//! ```
+//! let mut book = Book::open(alloc, epoch, now)?;
+//! let verdict = book.handle(now, message);
+//! let answer: Answer = book.answer(alloc, &verdict)?;
+//! let entries = book.account().len();
+//! ```
 #![tactic(auto)]
 
 mod book;

@@ -1,5 +1,12 @@
-//! The deadlines of the requests that wait: a set of moments with places, from which the least one is taken
-//! when its moment has come.
+//! The deadlines of the requests that wait: moments with places, whose least is taken when it has come.
+//!
+//! ```
+//! let mut due = Due::new(alloc);
+//! due.add(moment, place)?;
+//! while let Some((moment, place)) = due.pop_until(now) {
+//!     time_out(moment, place);
+//! }
+//! ```
 #![tactic(auto)]
 
 mod due;

@@ -1,4 +1,16 @@
-//! Readers and writers that remember a failure and count bytes, and frames of bytes.
+//! Cuts bytes into frames and writes frames, over readers and writers that remember a failure and count
+//! bytes.
+//!
+//! ```
+//! let mut frames = Frames::new(alloc);
+//! frames.feed(piece)?;
+//! while let Some(body) = frames.next()? {
+//!     take(body);
+//! }
+//!
+//! let mut sink = Sink::new(writer);
+//! write_frame(&mut sink, body)?;
+//! ```
 #![tactic(auto)]
 
 mod frames;

@@ -1,5 +1,14 @@
-//! A body's JSON: its object's members, read and written by name, and the value that has exactly these
+//! Reads and writes the JSON of a body: an object's members by name, and the value that has exactly these
 //! members.
+//!
+//! ```
+//! let message = decode::<Message>(alloc, bytes)?;
+//!
+//! let mut text = ObjectText::new(alloc)?;
+//! text.put_whole("code", 1)?;
+//! text.put_text("kind", "refused")?;
+//! let body: String = text.finish()?;
+//! ```
 #![tactic(auto)]
 
 mod body;

@@ -1,4 +1,12 @@
-//! Lines of text: their numbers, and the lines that say an account, written and read.
+//! Reads and writes the lines of text that say an account, and the numbers in such lines.
+//!
+//! ```
+//! let account: Account = read_account(alloc, input)?;
+//! let first: String = head_line(alloc, account.epoch(), account.opened())?;
+//! if let Some(entry) = account.entry(0) {
+//!     let second: String = entry_line(alloc, entry)?;
+//! }
+//! ```
 #![tactic(auto)]
 
 mod account;

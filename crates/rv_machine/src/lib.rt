@@ -1,4 +1,10 @@
 //! The machine of a book: its tables are the state of an account, and its steps are those of the state.
+//!
+//! ```
+//! let mut machine = Machine::open(alloc, epoch, now)?;
+//! let TickMade { moment, entry: tick } = machine.elapse(now);
+//! let Heard { entry, said } = machine.hear(&Limits::book(), moment, message);
+//! ```
 #![tactic(auto)]
 
 mod cancels;

@@ -1,5 +1,10 @@
-//! All that wait for each other: 64 queues and 64 exchangers, by the side of a call, with the duties to
-//! settle the requests that wait.
+//! The 64 queues and 64 exchangers, in which requests and items wait, with the duties to settle the requests.
+//!
+//! ```
+//! let mut wait_queues = WaitQueues::empty(alloc)?;
+//! wait_queues.reserve(&call)?;
+//! let Arrived { partner, own, other } = wait_queues.arrive(&call, duty);
+//! ```
 #![tactic(auto)]
 
 mod exchangers;

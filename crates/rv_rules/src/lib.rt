@@ -1,4 +1,14 @@
-//! The rules of accounts: which are legal, what each request is told, and what one step of the book does.
+//! The rules of accounts: which ones are legal, which reply a request has, and what a step of the book does.
+//!
+//! They are definitions, which contracts cite. In memory there are only the [`Limits`] of a step.
+//!
+//! ```
+//! ghost use Rattle.rv_rules.specs.Legal.{Legal};
+//!
+//! pub fn account(&self) -> &Account
+//!     ensures same { result.now.account ≡ self.now }
+//!     ensures legal { Legal self.now }
+//! ```
 #![tactic(auto)]
 
 mod limits;

@@ -1,6 +1,18 @@
-//! The sessions of an epoch: one for each client, with what became of its last request, as places of the
-//! account or with all texts; and the duty to settle a request, which can't be copied, nor dropped unless it
-//! is laid aside.
+//! The sessions of an epoch, one for each client, and the duty to settle a request that waits.
+//!
+//! A session has what became of its client's last request: by places of the account in [`Sessions`], with all
+//! texts in [`Clients`]. A [`Duty`] can be neither copied nor dropped, unless it is laid aside.
+//!
+//! ```
+//! let mut sessions = Sessions::open(alloc, epoch);
+//! if let Greeting::Unknown = sessions.greet(client, incarnation, version) {
+//!     sessions.enter(client, incarnation, version)?;
+//! }
+//! if let Standing::Next = sessions.look(&key) {
+//!     let duty = sessions.begin(&key, place);
+//!     sessions.settle(duty, Kept::Done);
+//! }
+//! ```
 #![tactic(auto)]
 
 mod claims;

@@ -103,8 +103,7 @@ pub fn book_limits_fit()
     ensures { AreStepLimits book_limits }
 {}
 
-/// A step under some limits that isn't refused for want of room for clients or entries is a step under all
-/// that are no less.
+/// A step that isn't refused for want of room for clients or entries is one under all limits no less.
 pub fn limits_only_refuse()
     ensures { LimitsOnlyRefuse }
 {}

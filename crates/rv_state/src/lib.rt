@@ -1,4 +1,9 @@
-//! The state of an account, which is all that its future hangs on, and the laws of states.
+//! The state of an account, on which all of the account's future depends, and the laws of states.
+//!
+//! ```
+//! let state = Snapshot::from_parts(epoch, moment, length, open_places, clients)?;
+//! let may_resume = state.can_resume();
+//! ```
 #![tactic(auto)]
 
 pub mod laws;

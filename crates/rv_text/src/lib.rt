@@ -1,4 +1,14 @@
-//! The messages and answers of the rendezvous server, its calls, and the JSON bodies that carry them.
+//! The messages, answers and calls of the rendezvous server, and the JSON bodies that carry them.
+//!
+//! ```
+//! match decode_message(alloc, bytes) {
+//!     Ok(Message::Request { key, call }) => ask(key, call),
+//!     Ok(message) => hear(message),
+//!     Err(_) => write(bad_text_body()),
+//! }
+//!
+//! let body: String = encode_answer(alloc, &Answer::Replied { key, reply: Reply::Done })?;
+//! ```
 #![tactic(auto)]
 
 mod answer;
