@@ -13,12 +13,12 @@ abbrev pub PiecesJoin : Type 0
 PiecesJoin = (a b c : Stream) (first second : List ℕ) → Feeds a first b → Feeds b second c
     → Feeds a (first ++ second) c
 
--- whatever was fed and taken before: after a piece too the frames are those of the cut of all bytes
+-- whatever was fed and taken before: after a further piece the frames are those of the cut of all bytes
 abbrev pub FedIsCut : Type 0
 FedIsCut = (bytes piece : List ℕ) (taken : List (List ℕ)) (old new : Stream) → HasFed bytes taken old
     → Feeds old piece new → HasFed (bytes ++ piece) taken new
 
--- and after the oldest frame was taken
+-- and so they are after the oldest frame was taken
 abbrev pub TakenIsCut : Type 0
 TakenIsCut = (bytes body : List ℕ) (taken : List (List ℕ)) (old new : Stream) → HasFed bytes taken old
     → old.frames ≡ body ∷ new.frames → new.end ≡ old.end → HasFed bytes (taken ++ body ∷ []) new

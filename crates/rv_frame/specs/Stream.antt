@@ -30,6 +30,7 @@ FeedsAt (Bad n) old piece new = new ≡ old
 abbrev pub Feeds : Stream → List ℕ → Stream → Type 0
 Feeds old piece new = FeedsAt old.end old piece new
 
--- of all these bytes, which were fed, the frames were taken or can still be taken
+-- all these bytes were fed: the frames of their cut are those that were taken and those that can still be
+-- taken
 abbrev pub HasFed : List ℕ → List (List ℕ) → Stream → Type 0
 HasFed bytes taken stream = Cut bytes (taken ++ stream.frames) stream.end

@@ -73,7 +73,7 @@ impl Frames {
         }
     }
 
-    /// Takes a piece of the bytes in, of any length.
+    /// Takes in a piece of the bytes, of any length.
     ///
     /// `BadLength(n)` comes exactly if the cut meets the length n. The frames before it stay and can be
     /// taken, the rest is dropped; all further pieces get this answer, and leave everything as it is. After

@@ -7,11 +7,11 @@ use std::io::Write;
 use thiserror::Error;
 
 /// A write or a flush of the device failed, at this call or at an earlier one: `Sink::failed` is true from
-/// then on. Of the bytes of the call exactly the first `sent` went out; at a flush that is 0.
+/// then on. Exactly the first `sent` bytes of the call went out; none at a flush.
 #[derive(Clone, Copy, Debug, PartialEq, Eq, Error)]
 #[error("a write to the device failed after {sent} bytes")]
 pub struct WriteFault {
-    /// How many bytes of the call went out, its first.
+    /// How many bytes of the call went out: its first ones.
     pub sent: usize,
 }
 
@@ -26,7 +26,7 @@ pub struct Sink<W> {
 }
 
 impl<W> Sink<W> {
-    /// A sink over this writer, its device, of which nothing failed yet.
+    /// A sink over this writer, its device, with no failure yet.
     pub fn new(writer: W) -> Sink<W>
         ensures device { sink_device result ≡ writer }
         ensures failed { sink_failed result ≡ false }
@@ -90,8 +90,8 @@ impl<W: Write> Sink<W> {
         Ok(())
     }
 
-    /// Flushes the device, once, so that the bytes that it holds back go on. Of the bytes that it took
-    /// none is lost and none added.
+    /// Flushes the device, once, so that the bytes that it holds back go on. No byte that it took is lost,
+    /// and none is added.
     ///
     /// `WriteFault` says that this flush failed, for an error of whatever kind, or that the sink had
     /// failed before; `sent` is 0. The sink has then failed.

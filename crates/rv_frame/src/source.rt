@@ -22,7 +22,7 @@ pub struct Source<R> {
 }
 
 impl<R> Source<R> {
-    /// A source over this reader, its device, of which no read failed yet.
+    /// A source over this reader, its device, with no failed read yet.
     pub fn new(reader: R) -> Source<R>
         ensures device { source_device result ≡ reader }
         ensures failed { source_failed result ≡ false }

@@ -1,4 +1,4 @@
-//! A reader and a writer for tests, which give and take a few bytes at a time and stop as they are told.
+//! A reader and a writer for tests, which give and take a few bytes at a time and stop where the test says.
 ghost use Rattle.std.specs.Prelude.{◌≡◌, ◌<◌, Some, None, [], length, min};
 ghost use Rattle.std.specs.Prelude.{IfErr, IfOk, IsErr, IsOk, MatchResult};
 ghost use Rattle.std.specs.Io.{ReadsAtMost, WritesAtMost};
@@ -49,7 +49,7 @@ impl<'a> TestReader<'a> {
         self
     }
 
-    /// How many reads were made of it.
+    /// How often it was read.
     pub fn reads(&self) -> u64
         ensures { result ≡ reader_reads self.now }
     {
@@ -213,7 +213,7 @@ impl Write for TestWriter {
     ghost contents = { λ writer. Some writer.taken.items };
 
     /// Takes as many of the bytes as one write takes at most, and as there is room for before it stops. It
-    /// stops as it was told at the first write with no room, and never again.
+    /// stops, as the test says, at the first write with no room, and never again.
     fn write(&mut self, bytes: &[u8]) -> Result<usize>
         ensures bound { WritesAtMost result bytes.now }
         ensures bytes { WriteAppends (Some (writer_taken self.old)) (Some (writer_taken self.new))

@@ -10,7 +10,7 @@ use Rattle.rv_json.specs.Sorted.{IsSorted}
 
 -- what a body may be read as: how it is found, how many members it has, and its limits
 pub record Form (A : Type 0) : Type 1 where
-  -- with any other members beside, and no limit looked at, but that a list has 16 texts at most
+  -- found among any other members, with no limit checked but that a list has at most 16 texts
   pub found : Members → Option A
   pub size : A → ℕ
   pub Fits : A → Type 0

@@ -17,7 +17,7 @@ Reads bytes value = IsUtf8 bytes × (read bytes ≡ Some value)
 abbrev pub IsNotJson : List ℕ → Type 0
 IsNotJson bytes = (value : Data) → ¬ Reads bytes value
 
--- why bytes give no value: each fault with what it tells of them
+-- why bytes give no value: each fault with what it says of them
 abbrev pub Unread : List ℕ → TextFault → Type 0
 Unread bytes fault.NotJson = HasBodyLength bytes × IsNotJson bytes
 Unread bytes fault.NotMessage = ¬ HasBodyLength bytes

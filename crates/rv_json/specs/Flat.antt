@@ -14,7 +14,7 @@ plain_data (Whole n) = number (unsigned n)
 plain_data (Text s) = string s.now
 plain_data (Texts s) = list_of (texts_read s.now)
 
--- each of them put in: of a name that stands twice the last value counts
+-- each of them put in; if a name occurs twice, its last value counts
 abbrev pub put_each : List FlatMember → Members → Members
 put_each [] ms = ms
 put_each (f ∷ fs) ms = put_each fs (put f.name.now (plain_data f.value) ms)

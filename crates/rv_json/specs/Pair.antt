@@ -6,8 +6,8 @@ use Rattle.rv_json.specs.declared.flat.FlatMember.{FlatMember}
 use Rattle.rv_json.specs.Bodies.{Reads}
 use Rattle.rv_json.specs.Scan.{each_text, field_text, FitEach}
 
--- the bytes are read as an object of two members, and each of these texts as the value at its name; of a name
--- that is that of both the second counts
+-- the bytes are read as an object of two members, and each of these texts as the value at its name; if both
+-- have one name, the second counts
 pub record ReadsPair (bytes first one second other : List ℕ) : Type 0 where
   pub value : Data
   pub next : Data

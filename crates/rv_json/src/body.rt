@@ -24,8 +24,8 @@ const MOST_MEMBERS: usize = 9;
 pub trait Body: Drop {
     ghost form: { Form Self };
 
-    /// Reads it. Other members may stand beside, and no limit is looked at, but that of 16 texts. Items are
-    /// taken out last.
+    /// Finds it among the members. Other members don't matter, and no limit is checked but that of 16 texts.
+    /// Items are taken out last.
     fn read(alloc: Global, members: &mut Members) -> Result<Self, TextFault>
         ensures { FindsAmong members.old result form.found };
 
@@ -47,7 +47,7 @@ pub trait Body: Drop {
 #[derive(Clone, Copy)]
 struct Refused;
 
-/// The value whose members, and no others, the object has whose text the bytes are. [`TextFault::NoMemory`]
+/// Reads the value from the text of an object that has exactly the value's members. [`TextFault::NoMemory`]
 /// comes only if a growth was refused. A compact text of whole numbers, texts and lists of texts is read in
 /// one pass, with no memory but that of its items; any other as `serde_json` reads it.
 pub fn decode<B: Body>(alloc: Global, bytes: &[u8]) -> Result<B, TextFault>

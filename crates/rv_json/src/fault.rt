@@ -5,11 +5,11 @@ use thiserror::Error;
 /// A growth of memory was refused.
 pub type NoMemory = AllocError;
 
-/// The reason why bytes are not read as a message, or not as an answer or a call if that is wanted.
+/// Why bytes are not read as a message (or as an answer, or a call, if that is wanted).
 #[derive(Clone, Copy, Debug, Error)]
 pub enum TextFault {
-    /// Fault 1: the bytes have the length of a body, and `serde_json` cannot read them. They are no JSON
-    /// text (RFC 8259), or one that it does not take, such as one that is nested over 127 deep.
+    /// Fault 1: the bytes have the length of a body, and `serde_json` cannot read them. They are not a JSON
+    /// text (RFC 8259), or one that it does not take, such as one nested over 127 deep.
     #[error("the body is not JSON")]
     NotJson,
     /// Fault 2: the length is outside 1 to 65,535 bytes, or the JSON has other members, kinds or values

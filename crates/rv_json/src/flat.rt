@@ -10,7 +10,8 @@ pub enum Plain<'a> {
     Whole(u64),
     /// A text.
     Text(&'a str),
-    /// The texts that `serde_json` reads of a list's own text: none if it is no list of at most 16 texts.
+    /// The texts that `serde_json` reads from a list's own text; none if that is not a list of at most 16
+    /// texts.
     Texts(&'a str),
 }
 
@@ -31,7 +32,7 @@ impl FlatMember<'_> {
     };
 }
 
-/// The value at the name: of a name that stands twice the last.
+/// The value at the name. If the name occurs twice, the last value counts.
 pub fn find<'a>(fields: &[FlatMember<'a>], name: &str) -> Option<Plain<'a>>
     ensures { option_map plain_data result ≡ get_member name.now (flat_members fields.now) }
 {

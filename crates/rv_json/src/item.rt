@@ -15,7 +15,7 @@ pub const MAX_ITEM_BYTES: usize = 512;
 /// The text that a producer hands over. Contracts see it as the list of its bytes.
 ///
 /// An item that is read from a body has at most 512 bytes. One that a program makes may be longer;
-/// [`Item::fits`] tells.
+/// [`Item::fits`] checks that.
 #[derive(Drop)]
 pub struct Item {
     text: String,

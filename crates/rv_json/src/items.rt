@@ -14,7 +14,7 @@ pub const MAX_DRAIN: u64 = 16;
 
 /// The items that a drain took, in the order of their places. Contracts see the list of their texts.
 ///
-/// At most 16 are read from a body. A program may make more; [`Items::fits`] tells.
+/// At most 16 are read from a body. A program may make more; [`Items::fits`] checks that.
 #[derive(Drop)]
 pub struct Items {
     items: Vec<Item>,

@@ -16,7 +16,7 @@ use crate::list::read_items;
 use serde_json::{Map, Value};
 use std::alloc::Global;
 
-/// The members of a JSON object. Of a name that stood twice the last value counts.
+/// The members of a JSON object. If a name occurred twice, its last value counts.
 #[derive(Drop)]
 pub enum Members<'a> {
     /// Whole numbers, texts and lists of texts, as they stand in the body's bytes.
@@ -101,9 +101,9 @@ fn take_member(map: &mut Map<String, Value>, name: &str) -> Option<Value>
     map.remove(name)
 }
 
-/// The text of the member `item`: of flat members a copy, of others taken out. [`TextFault::NotMessage`]
-/// comes only if no text stands there; [`TextFault::NoMemory`] only if one of flat members does, and a
-/// growth was refused. Flat members stay as they are; of others all stay but `item`.
+/// The text of the member `item`: copied from flat members, taken out of others. [`TextFault::NotMessage`]
+/// comes only if no text stands there; [`TextFault::NoMemory`] only if the members are flat, a text stands
+/// there, and a growth was refused. Flat members stay as they are; others lose only `item`.
 pub fn take_item(alloc: Global, members: &mut Members) -> Result<Item, TextFault>
     ensures found { FindsAmong members.old result item_among }
     ensures sure { result ≡ Err fault.NoMemory → CopiesItem members.old }
@@ -123,10 +123,10 @@ fn copy_item(alloc: Global, text: Option<&str>) -> Result<Item, TextFault>
     Ok(Item::from_text(text))
 }
 
-/// The texts of the member `texts`: of flat members copied, of others taken out without a copy.
+/// The texts of the member `texts`: copied from flat members, taken out of others without a copy.
 /// [`TextFault::NotMessage`] comes only if no list of at most 16 texts stands there, and
 /// [`TextFault::NoMemory`] only if a growth was refused, and such a list stands there, or one of at most 16
-/// other values that aren't flat. Flat members stay as they are; of others all stay but `texts`.
+/// other values that aren't flat. Flat members stay as they are; others lose only `texts`.
 pub fn take_texts(alloc: Global, members: &mut Members) -> Result<Items, TextFault>
     ensures found { FindsAmong members.old result texts_among }
     ensures sure { result ≡ Err fault.NoMemory → TakesRoomForTexts members.old }

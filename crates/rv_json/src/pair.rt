@@ -79,10 +79,10 @@ fn scan_pair<'a>(text: &'a str, first: &str, second: &str) -> Option<(&'a str, &
     Some((one, other))
 }
 
-/// The texts of the two objects of which the bytes' object consists, the first under one name and the second
-/// under the other. `None` says nothing about the bytes: they may be anything but the compact text of just
-/// these two, in this order, each with one member or more: whole numbers below 10^19, texts with no escape
-/// and lists of at most 16 of these.
+/// The texts of the two objects that make up the bytes' object, the first under one name and the second under
+/// the other. `None` says nothing about the bytes: they may be anything but the compact text of just these
+/// two, in this order, each with one member or more: whole numbers below 10^19, texts with no escape and
+/// lists of at most 16 of these.
 pub fn two_objects<'a>(bytes: &'a [u8], first: &str, second: &str) -> Option<(&'a [u8], &'a [u8])>
     ensures { IfSome result (λ p. ReadsPair bytes.now first.now p.0.now second.now p.1.now) }
 {

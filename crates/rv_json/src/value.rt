@@ -10,9 +10,9 @@ use std::alloc::Global;
 /// The most bytes that a body has; the least is 1.
 pub const MAX_BODY_BYTES: usize = 65_535;
 
-/// The JSON value (RFC 8259) of bytes that have a body's length. The length is looked at first, without
-/// memory: [`TextFault::NotMessage`] comes only if it is outside 1 to 65,535 bytes, [`TextFault::NotJson`]
-/// only if the bytes have no reading, and [`TextFault::NoMemory`] only if a growth was refused.
+/// The JSON value (RFC 8259) of bytes that have a body's length. The length is checked first, without memory:
+/// [`TextFault::NotMessage`] comes only if it is outside 1 to 65,535 bytes, [`TextFault::NotJson`] only if
+/// the bytes have no reading, and [`TextFault::NoMemory`] only if a growth was refused.
 pub fn read_value(alloc: Global, bytes: &[u8]) -> Result<Value, TextFault>
     ensures value { IfOk result (λ value. HasBodyLength bytes.now × Reads bytes.now (view value)) }
     ensures fault { IfErr result (Unread bytes.now) }

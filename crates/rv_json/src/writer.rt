@@ -31,7 +31,7 @@ impl ObjectText {
         ObjectText::in_room(Vec::with_capacity(alloc, ROOM)?)
     }
 
-    /// The same, in the room of a buffer, whose bytes are let go.
+    /// The same, in the memory of a buffer, whose bytes are dropped.
     pub fn in_room(mut buffer: Vec<u8>) -> Result<ObjectText, NoMemory>
         ensures { IfOk result IsBlank }
     {

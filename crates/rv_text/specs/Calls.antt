@@ -1,5 +1,5 @@
--- What a call is: its word, its side, its wait, how many items it drains, and its item. All else that is said
--- of a call is said of these.
+-- What a call is: its word, its side, its wait, how many items it drains, and its item. Everything else about
+-- a call is said in terms of these.
 use Rattle.std.specs.Prelude.{ℕ, List, codes, Option, Some, None}
 use Rattle.rv_text.specs.declared.call.Wait.{Wait}
 use Rattle.rv_text.specs.declared.call.Wait.TheVariants as wait

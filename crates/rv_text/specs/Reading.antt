@@ -110,7 +110,7 @@ call_lines =
 abbrev pub call_among : Members → Option Call
 call_among members = among (codes "call") call_lines members
 
--- version 2 if its member says so, and else version 1: of another value the member is one too many
+-- version 2 if its member says so, else version 1: with another value there is one member too many
 abbrev pub version_told : Option ℕ → Version
 version_told None = One
 version_told (Some n) = if n == 2 then Two else One
@@ -183,7 +183,7 @@ reply_lines epoch =
 abbrev pub reply_among : ℕ → Members → Option Reply
 reply_among epoch members = among (codes "reply") (reply_lines epoch) members
 
--- a refusal that tells the number of this name
+-- a refusal that carries the number of this name
 abbrev pub refusal_telling : List ℕ → (ℕ → Refusal) → Members → Option Refusal
 refusal_telling name refuses members = do
   number ← whole_among name members
@@ -256,7 +256,7 @@ answer_among members = among (codes "kind") answer_lines members
 
 -- what a body may be read as: how it is found, its members and its limits
 pub record Shape (A : Type 0) : Type 1 where
-  -- with any other members beside, and no limit looked at, but that a list has 16 texts at most
+  -- found among any other members, with no limit checked but that a list has at most 16 texts
   pub found : Members → Option A
   pub row : A → List Member
   pub Fits : A → Type 0

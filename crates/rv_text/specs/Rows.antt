@@ -57,7 +57,7 @@ abbrev pub wait_row : Option Wait → List Member
 wait_row None = []
 wait_row (Some waits) = wait_time (codes "wait") waits ∷ []
 
--- a drain, which never waits, tells its greatest number in place of a wait
+-- a drain, which never waits, gives its greatest number in place of a wait
 abbrev pub max_or_wait_row : Option ℕ → Option Wait → List Member
 max_or_wait_row None waits = wait_row waits
 max_or_wait_row (Some max) waits = whole (codes "max") members.drain_numbers max ∷ []

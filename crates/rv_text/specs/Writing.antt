@@ -18,11 +18,11 @@ WritesRow row old new = Writes (map field_of row) old new
 abbrev pub Completes : List Member → ObjectText → ObjectText → Type 0
 Completes row old new = text_with no_members new ≡ text_with (members_of row) old
 
--- what is of this kind and has a key
+-- the members of a value of this kind that has a key
 abbrev pub keyed_row : List ℕ → Key → List Member
 keyed_row kind key = word (codes "kind") kind ∷ key_row key
 
--- a key but its number, in byte order
+-- a key without its number, in byte order
 abbrev pub session_row : Key → List Member
 session_row key =
     whole (codes "client") identifiers key.client ∷
@@ -41,7 +41,7 @@ word_row number told =
 abbrev pub refused_field : Field
 refused_field = (codes "kind", string (codes "refused"))
 
--- of a side, what stands before its queue and what stands there
+-- the members of a side: those of an exchanger, which come first, and those of a queue
 abbrev pub exchanger_row : Side → List Member
 exchanger_row (side.Exchanges exchanger) = side_row (side.Exchanges exchanger)
 exchanger_row _ = []

@@ -7,7 +7,7 @@ use rv_json::{Item, Items, NoMemory};
 use std::alloc::Global;
 use thiserror::Error;
 
-/// The greatest number that a count tells: as many items or consumers as an epoch can have.
+/// The greatest number that a count reports: as many items or consumers as an epoch can have.
 pub const MAX_COUNTED: u64 = 100_000;
 
 /// The outcome of a request. Once given, it stays the request's reply.
@@ -26,11 +26,11 @@ pub enum Reply {
     Item(Item),
     /// A take that does not wait, or a peek, found no item.
     Empty,
-    /// A swap got this item, for its own.
+    /// A swap got this item in exchange for its own.
     Swapped(Item),
     /// The request's wait ended, and it had met nobody.
     TimedOut,
-    /// The request was ended by a cancel, while it waited or before it came, or by its client's hello of a
+    /// The request was ended by a cancel, while it waited or before it came, or by its client's hello with a
     /// greater incarnation, while it waited.
     Cancelled,
     /// How many items wait in the queue, those of puts and of transfers, and how many consumers: within the
@@ -102,7 +102,7 @@ impl Reply {
     }
 
     /// Whether its items are at most 16 of at most 512 bytes, its counts at most 100,000, and a consumer's
-    /// numbers 1 to 2^53 - 1. The consumer's epoch may be any here: the answer says that it is its own.
+    /// numbers 1 to 2^53 - 1. The consumer's epoch may be any here; the answer checks that it is its own.
     pub fn fits(&self) -> bool
         ensures { IsTrue result ↔ FitsReply self.now }
     {
@@ -170,8 +170,8 @@ impl Refusal {
         }
     }
 
-    /// Whether the number that it tells is within its limits: 1 to 2^53 - 1, and 0 too for a
-    /// session's last number.
+    /// Whether the number that it carries is within its limits: 1 to 2^53 - 1, and 0 too for a session's last
+    /// number.
     pub fn fits(&self) -> bool
         ensures { IsTrue result ↔ FitsRefusal self.now }
     {
@@ -226,7 +226,7 @@ pub enum Answer {
         /// Its outcome.
         reply: Reply,
     },
-    /// The request of this key waits. Its outcome is told when the message is sent again.
+    /// The request of this key waits. Its outcome is the answer when the message is sent again.
     Waiting {
         /// The request that waits.
         key: Key,

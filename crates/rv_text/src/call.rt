@@ -22,12 +22,12 @@ pub enum Wait {
     Now,
     /// At most so many milliseconds, 0 to 86,400,000, as Java's timed `poll`.
     Millis(u64),
-    /// Until it is met, cancelled, or its client says hello by a greater incarnation, as Java's `take`.
+    /// Until it is met or cancelled, or its client says hello with a greater incarnation, as Java's `take`.
     Forever,
 }
 
 /// What a request asks of a queue or of an exchanger, each 0 to 63. A call has the item that it hands over,
-/// if it does, and tells how long it waits for a partner, if it may.
+/// if any, and says how long it waits for a partner, if it may wait.
 #[derive(Clone, PartialEq, Eq, Drop)]
 pub enum Call {
     /// Appends the item at the queue's tail and never waits (Java's `TransferQueue.put`).
@@ -226,8 +226,8 @@ impl Call {
         self.clone()
     }
 
-    /// Whether the queue or exchanger is 0 to 63, the wait at most 86,400,000 milliseconds and, of a swap,
-    /// not `Now`, what a drain takes at most 1 to 16, and the item has at most 512 bytes.
+    /// Whether the queue or exchanger is 0 to 63, the wait is at most 86,400,000 milliseconds (and not `Now`
+    /// for a swap), the most that a drain takes is 1 to 16, and the item has at most 512 bytes.
     pub fn fits(&self) -> bool
         ensures { IsTrue result ↔ FitsCall self.now }
     {

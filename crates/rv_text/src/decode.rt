@@ -15,10 +15,9 @@ use std::alloc::Global;
 
 /// The message whose body the bytes are.
 ///
-/// The length is looked at first, without memory. Bytes of a body's length that are no JSON give
-/// [`TextFault::NotJson`], and all other bytes that are no message's body give
-/// [`TextFault::NotMessage`]. A name that stands twice counts with its last value.
-/// [`TextFault::NoMemory`] comes only if a growth was refused.
+/// The length is checked first, without memory. Bytes of a body's length that are no JSON give
+/// [`TextFault::NotJson`], and all other bytes that are no message's body give [`TextFault::NotMessage`]. If
+/// a name occurs twice, its last value counts. [`TextFault::NoMemory`] comes only if a growth was refused.
 pub fn decode_message(alloc: Global, bytes: &[u8]) -> Result<Message, TextFault>
     ensures { Decodes Message IsMessageBody bytes.now result }
 {

@@ -18,7 +18,7 @@ use crate::version::Version;
 use rv_json::{Item, NoMemory, ObjectText};
 use std::alloc::Global;
 
-/// The body of [`Refusal::BadText`], which answers bytes that are no message's body.
+/// The body of [`Refusal::BadText`], the answer to bytes that are not a message's body.
 pub const BAD_TEXT_BODY: &str = "{\"code\":1,\"kind\":\"refused\"}";
 
 /// The body of [`Refusal::NoMemory`], for an answer whose text finds no memory.
@@ -52,8 +52,7 @@ pub fn encode_answer(alloc: Global, answer: &Answer) -> Result<String, NoMemory>
     write_answer(ObjectText::new(alloc)?, answer)
 }
 
-/// The same body, in the room of a buffer, whose bytes are let go. It takes memory only where it needs more
-/// room.
+/// The same body, in the memory of a buffer, whose bytes are dropped. It takes memory only if it needs more.
 pub fn encode_answer_in(buffer: Vec<u8>, answer: &Answer) -> Result<String, NoMemory>
     ensures text { IfOk result (λ s. string_bytes s ≡ answer_text answer.now) }
     ensures short { FitsAnswer answer.now → IfOk result (λ s. HasBodyLength (string_bytes s)) }

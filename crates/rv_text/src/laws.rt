@@ -1,4 +1,5 @@
-//! What holds of messages, answers, calls and their bodies: each contract is a law, no body does anything.
+//! What holds of messages, answers, calls and their bodies: each contract is a law, and the bodies do
+//! nothing.
 ghost use Rattle.std.specs.Prelude.{◌≡◌};
 ghost use Rattle.rv_text.specs.Bodies.{refused_text};
 ghost use Rattle.rv_text.specs.Laws.{OneMessage, WrittenBody, OneAnswer, WrittenAnswer, OneCall, WrittenCall};

@@ -8,15 +8,15 @@ use crate::version::Version;
 /// The greatest epoch, client, incarnation and request number: 2^53 - 1.
 pub const MAX_IDENTIFIER: u64 = 9_007_199_254_740_991;
 
-/// What names a request. Any numbers make a key; [`Key::fits`] tells whether they are within their limits, 1
-/// to 2^53 - 1 each. That no two requests of an epoch have the same key is the book's promise.
+/// What names a request. Any numbers make a key; [`Key::fits`] checks that they are within their limits, 1 to
+/// 2^53 - 1 each. That no two requests of an epoch have the same key is the book's promise.
 #[derive(Clone, Copy, PartialEq, Eq)]
 pub struct Key {
     /// The server's epoch.
     pub epoch: u64,
     /// The client's number.
     pub client: u64,
-    /// Which of the client's lives asks.
+    /// Which of the client's incarnations asks.
     pub incarnation: u64,
     /// The request's number in its session, from 1 on.
     pub number: u64,
@@ -26,11 +26,11 @@ pub struct Key {
 #[derive(Drop)]
 pub enum Message {
     /// Opens a session of this version, and ends the client's session of a lower incarnation, if it has one.
-    /// Said again it is welcomed again.
+    /// A repeat is welcomed again.
     Hello {
         /// The client that says hello.
         client: u64,
-        /// Which of the client's lives, greater than all before it.
+        /// Which incarnation of the client this is: a number greater than all before it.
         incarnation: u64,
         /// The version that the session is to have.
         version: Version,

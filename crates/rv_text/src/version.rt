@@ -1,14 +1,15 @@
-//! The versions of messages, of which a session has one.
+//! The versions of messages; a session has one of them.
 ghost use Rattle.std.specs.Prelude.{◌≡◌, length};
 ghost use Rattle.rv_text.specs.Versions.{number_of_version, version_of};
 ghost use Rattle.rv_text.specs.Rows.{version_row};
 
-/// What a session's replies tell. The hello that opens the session asks for it.
+/// How much a session's replies say. The hello that opens the session asks for it.
 #[derive(Clone, Copy, Debug, PartialEq, Eq)]
 pub enum Version {
-    /// Version 1, of a hello that names none: a transfer that was met is told that it was received.
+    /// Version 1, for a hello that names none: the reply of a transfer that was met says that its item was
+    /// received.
     One,
-    /// Version 2: a transfer that was met is told the key of the request that received its item.
+    /// Version 2: the reply of a transfer that was met has the key of the request that received its item.
     Two,
 }
 
