@@ -9,7 +9,7 @@ use Rattle.rv_text.specs.declared.call.Side.TheVariants.{Gives, Takes, Looks, Ex
 use Rattle.rv_text.specs.declared.call.Call.{Call}
 use Rattle.rv_text.specs.Calls.{drains_of, side_of, wait_of}
 
--- the side whose arrivals an arrival of this side meets: who exchanges meets who exchanges there too
+-- the side whose arrivals an arrival of this side meets: an exchange meets another at its exchanger
 abbrev pub opposite : Side → Option Side
 opposite (Gives queue) = Some (Takes queue)
 opposite (Takes queue) = Some (Gives queue)

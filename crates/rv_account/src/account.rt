@@ -14,7 +14,7 @@ use std::alloc::Global;
 use std::marker::Model;
 
 /// All entries of an epoch, in the order in which they were recorded. Contracts see its epoch, its opening
-/// moment and the list of its entries, and for how many entries more it has room.
+/// moment, the list of its entries, and for how many more entries it has room.
 #[derive(Drop)]
 pub struct Account {
     epoch: u64,
@@ -125,7 +125,7 @@ impl Account {
         Account::from_entries(epoch, opened, Vec::new(alloc))
     }
 
-    /// Makes room for so many entries more. Fails only if there was less room than that and memory was
+    /// Makes room for so many more entries. Fails only if there was less room than that and memory was
     /// refused. Either way the entries stay, and so does the room that was there.
     pub fn reserve(&mut self, more: usize) -> Result<(), NoMemory>
         ensures same { self.new.account ≡ self.old.account }
@@ -136,7 +136,7 @@ impl Account {
         self.entries.reserve(more)
     }
 
-    /// For how many entries more it has room.
+    /// For how many more entries it has room.
     pub fn room(&self) -> usize
         ensures { result ≡ self.now.room }
     {
@@ -148,7 +148,7 @@ impl Account {
         *self.entries.allocator()
     }
 
-    /// Records one entry more, for which there must be room. It takes no memory.
+    /// Records one more entry, for which there must be room. It takes no memory.
     pub fn push(&mut self, entry: Entry)
         requires { 0 < self.old.room }
         ensures entry { self.new.account ≡ with_entry self.old.account entry }

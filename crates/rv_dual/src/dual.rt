@@ -154,7 +154,7 @@ impl Dual {
         }
     }
 
-    /// A giver that doesn't wait arrives: it meets the consumer that waited longest, which leaves the
+    /// A giver that doesn't wait arrives: it meets the consumer that has waited longest, which leaves the
     /// queue. If there is none nothing changes, and its duty comes back.
     pub fn try_give(&mut self, giver: Duty) -> TryOutcome
         ensures { TriedGive self.old self.new giver result }
@@ -176,8 +176,8 @@ impl Dual {
         }
     }
 
-    /// The oldest item leaves the queue: its duty, None for a put's, and its place. If no item waits it is
-    /// None, and nothing changes. Consumers stay.
+    /// The oldest item leaves the queue. Returns its duty (None for a put's) and its place. If no item waits
+    /// it is None, and nothing changes. Consumers stay.
     #[tactic(auto, using(crate::proofs::Sides::dual_after_giver))]
     pub fn take_front(&mut self) -> Option<(Option<Duty>, Place)>
         ensures { TakenFront self.old self.new result }

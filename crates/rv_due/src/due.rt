@@ -11,9 +11,9 @@ pub type NoMemory = AllocError;
 /// An entry's index in the account.
 pub type Place = usize;
 
-/// The deadlines of the requests that wait, which contracts see as a set of pairs: a moment in
-/// milliseconds, and the place of the request whose time is over then. Of two deadlines the one with the
-/// lower moment is less, and at one moment that with the lower place.
+/// The deadlines of the requests that wait, which contracts see as a set of pairs: a moment in milliseconds,
+/// and the place of the request whose time is over then. The lesser of two deadlines has the lower moment, or
+/// the same moment and the lower place.
 ///
 /// Each call takes time logarithmic in their number, and `len` constant time. If none is due `pop_until`
 /// looks at the least alone.
@@ -59,7 +59,7 @@ impl Due {
         Ok(())
     }
 
-    /// Takes a deadline out, and tells whether it was there. No other changes.
+    /// Takes a deadline out, and says whether it was there. No other deadline changes.
     pub fn remove(&mut self, moment: u64, place: Place) -> bool
         ensures was_there { result ≡ contains self.old (moment, place) }
         ensures taken { self.new ≡ set.remove self.old (moment, place) }
@@ -75,7 +75,7 @@ impl Due {
         Some(*self.deadlines.first_key_value()?.0)
     }
 
-    /// Takes the least deadline out, if its moment is at most `now`, and gives it. If there is none so early
+    /// Takes the least deadline out, if its moment is at most `now`, and gives it. If none is that early,
     /// nothing changes.
     pub fn pop_until(&mut self, now: u64) -> Option<(u64, Place)>
         ensures least { IfSome result (IsLeastUntil self.old now) }

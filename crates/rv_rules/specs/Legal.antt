@@ -21,18 +21,18 @@ pub record KeepsTime (a : Account) (moment : ℕ) : Type 0 where
   pub opened : a.opened ≤ moment
   pub since : (r earlier : ℕ) → moment_at a.entries r ≡ Some earlier → earlier ≤ moment
 
--- the request that arrived at r waits, and has a limit at or below the moment
+-- the request that arrived at r waits, and has a limit at or before the moment
 pub record IsDueAt (entries : List Entry) (moment r : ℕ) : Type 0 where
   pub waits : Waiting entries r
   pub limit : ℕ
   pub has : limit_at entries r ≡ Some limit
   pub elapsed : limit ≤ moment
 
--- no waiting request has a limit at or below the moment
+-- no waiting request has a limit at or before the moment
 abbrev pub NothingDue : List Entry → ℕ → Type 0
 NothingDue entries moment = (r : ℕ) → ¬ IsDueAt entries moment r
 
--- some waiting request has
+-- some waiting request has one
 abbrev pub SomethingDue : List Entry → ℕ → Type 0
 SomethingDue entries moment = (r : ℕ) × IsDueAt entries moment r
 
@@ -43,14 +43,14 @@ KeepsLimits entries moment (Arrive key call) = NothingDue entries moment
 KeepsLimits entries moment (Cancel key) = NothingDue entries moment
 KeepsLimits entries moment Tick = SomethingDue entries moment
 
--- what an entry of this moment and act keeps of the moments
+-- the rules of moments that an entry of this moment and act keeps
 pub record KeepsMoments (a : Account) (moment : ℕ) (does : Act) : Type 0 where
   pub keeps_time : KeepsTime a moment
   pub keeps_limits : KeepsLimits a.entries moment does
 
 -- ---- numbers
 
--- of one client, each hello is of a greater incarnation than every one before it
+-- each hello of a client has a greater incarnation than every one before it
 abbrev pub RaisesIncarnation : List Entry → Act → Type 0
 RaisesIncarnation entries does = (client incarnation : ℕ) (version : Version)
     → does ≡ Hello client incarnation version
@@ -91,7 +91,7 @@ abbrev pub CancelsInTurn : List Entry → Act → Type 0
 CancelsInTurn entries does = (key : Key) → does ≡ Cancel key
     → WaitsUnder entries key ⊎ IsNextNumber entries key
 
--- what an entry of this act keeps of the numbers
+-- the rules of numbers that an entry of this act keeps
 pub record KeepsNumbers (a : Account) (does : Act) : Type 0 where
   pub raises_incarnation : RaisesIncarnation a.entries does
   pub of_session : IsOfSession a does
@@ -101,9 +101,9 @@ pub record KeepsNumbers (a : Account) (does : Act) : Type 0 where
 -- ---- pairs and swaps
 --
 -- A pair joins one that gives and one that takes (Java SE 21, `TransferQueue`; Scherer, Lea and Scott's fair
--- dual queue, PPoPP 2006). A swap joins two that exchange at one exchanger (Java SE 21,
--- `Exchanger`): each is there what the other meets, so the earlier one is open when the later comes, and
--- nobody waits where another does.
+-- dual queue, PPoPP 2006). A swap joins two that exchange at one exchanger (Java SE 21, `Exchanger`): each is
+-- what the other meets there, so the earlier one is open when the later one comes, and no two wait at one
+-- exchanger.
 
 -- only a call that may meet names a partner: an earlier place that is in no pair or swap yet
 pub record IsFreePartner (entries : List Entry) (e : Entry) (p : ℕ) : Type 0 where
@@ -141,7 +141,7 @@ abbrev pub PairsWherePossible : List Entry → Entry → Type 0
 PairsWherePossible entries e = (r : ℕ) (call : Call) → call_in e.act ≡ Some call
     → length e.partners < may_name call → IsOpenOpposite entries call r → Names e r
 
--- what an entry keeps of the pairs and swaps
+-- the rules of pairs and swaps that an entry keeps
 pub record KeepsPairs (entries : List Entry) (e : Entry) : Type 0 where
   pub names_free_partners : NamesFreePartners entries e
   pub pairs_opposites : PairsOpposites entries e

@@ -1,6 +1,6 @@
--- The reply of a request, as an account tells it: the first case that applies (Java SE 21, `TransferQueue`:
+-- The reply of a request, as an account has it: the first case that applies (Java SE 21, `TransferQueue`:
 -- `put`, `transfer`, `tryTransfer`, `take` and `poll`; `BlockingQueue`: `drainTo`; `Exchanger`: `exchange`).
--- Counts and peeks are of the account before them.
+-- A count or a peek sees the account before it.
 use Rattle.std.specs.Prelude.{◌≡◌, ◌⊎◌, ◌<◌, ℕ, zero, suc, List, Some, take}
 use Rattle.rv_text.specs.declared.version.Version.TheVariants.{Two}
 use Rattle.rv_text.specs.declared.message.Key.{Key}
@@ -38,7 +38,7 @@ pub record MeetsKey (entries : List Entry) (r : ℕ) (key : Key) : Type 0 where
   pub meet : Meet entries r place
   pub named : key_at entries place ≡ Some key
 
--- what the transfer at r that was met is told: in a session of version 2 the key of its consumer, else that
+-- the reply of the transfer at r, which was met: in a session of version 2 the key of its consumer, else that
 -- its item was received
 abbrev pub RepliesMet : List Entry → ℕ → Reply → Type 0
 RepliesMet entries r told =
@@ -50,22 +50,21 @@ pub record FirstStop (entries : List Entry) (r s : ℕ) : Type 0 where
   pub stops : StoppedAt entries r s
   pub first : (earlier : ℕ) → earlier < s → ¬ StoppedAt entries r earlier
 
--- what a request is told that such an act stopped
+-- the reply of a request that such an act stopped
 abbrev pub told_by : Act → Reply
 told_by (Hello client incarnation version) = reply.Cancelled
 told_by (Arrive key call) = reply.Cancelled
 told_by (Cancel key) = reply.Cancelled
 told_by Tick = reply.TimedOut
 
--- the request that arrived at r was stopped, and is told by what stopped it first
+-- the request that arrived at r was stopped, and its reply follows from what stopped it first
 pub record ToldStopped (entries : List Entry) (r : ℕ) (told : Reply) : Type 0 where
   pub place : ℕ
   pub stop : FirstStop entries r place
   pub is : told ≡ told_by stop.stops.stopper.act
 
--- what the unmet request that arrived at r is told, by its wait: at once this reply, or that its time is
--- over;
--- or, once it was stopped, by what stopped it
+-- the reply of the unmet request that arrived at r, by its wait: at once this one, or that its time is over;
+-- or, once it was stopped, the reply that follows from what stopped it
 abbrev pub RepliesUnmet : List Entry → ℕ → Wait → Reply → Reply → Type 0
 RepliesUnmet entries r Now at_once told = told ≡ at_once
 RepliesUnmet entries r (Millis zero) at_once told = told ≡ reply.TimedOut
@@ -124,8 +123,8 @@ pub record CancelledFirst (entries : List Entry) (key : Key) : Type 0 where
   pub cancelled : act_at entries place ≡ Some (Cancel key)
   pub not_arrived : (r : ℕ) (call : Call) → act_at entries r ≡ Some (Arrive key call) → ⊥
 
--- the reply of the request with this key: what its arrival has; or, where it was cancelled before it came,
--- that
+-- the reply of the request with this key: that of its arrival; or, where it was cancelled before it came,
+-- that it was cancelled
 abbrev pub HasReply : List Entry → Key → Reply → Type 0
 HasReply entries key told =
     RepliesToArrival entries key told ⊎ (CancelledFirst entries key × (told ≡ reply.Cancelled))

@@ -4,7 +4,7 @@ use Rattle.rv_text.specs.declared.answer.Answer.{Answer}
 use Rattle.rv_text.specs.declared.answer.Answer.TheVariants.{Refused}
 use Rattle.rv_text.specs.declared.answer.Refusal.TheVariants.{NoMemory}
 
--- where there are so many after its step: all of them, but want of memory rests on none
+-- where there are so many after its step: all of them; a refusal for want of memory rests on none
 abbrev pub rests_on : Answer → ℕ → ℕ
 rests_on (Refused NoMemory) entries = 0
 rests_on _ entries = entries

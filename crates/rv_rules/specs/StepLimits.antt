@@ -24,7 +24,7 @@ book_limits = record { entries = max_entries; clients = max_clients; open_places
 abbrev pub most_clients : ℕ
 most_clients = 65536
 
--- the most open places of a step's limits, so that a reply can tell how many there are
+-- the most open places of a step's limits, so that a reply can say how many there are
 abbrev pub most_open_places : ℕ
 most_open_places = 100000
 

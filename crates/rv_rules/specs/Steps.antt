@@ -79,7 +79,7 @@ pub record OtherCallDue (a : Account) (key : Key) (call : Call) (refusal : Refus
   pub differs : other ≢ call
   pub is : refusal ≡ OtherCall
 
--- a request of the session waits, whatever the key's number is; the refusal tells the session's last number
+-- a request of the session waits, whatever the key's number is; the refusal carries the session's last number
 pub record BusyDue (a : Account) (key : Key) (refusal : Refusal) : Type 0 where
   pub last : ℕ
   pub is_last : LastNumber a.entries key.client last
@@ -110,7 +110,7 @@ pub record EpochFullDueUnder (limits : StepLimits) (a : Account) (need : ℕ) (r
   pub full : limits.entries < length a.entries + waiting + need
   pub is : refusal ≡ EpochFull
 
--- an arrival with this call would stay: its call does, and nobody is there whom it would meet
+-- an arrival with this call would stay: its call does, and there is nobody that it would meet
 pub record WouldStay (entries : List Entry) (call : Call) : Type 0 where
   pub stays : Stays call
   pub alone : (p : ℕ) → ¬ IsOpenOpposite entries call p
@@ -231,7 +231,7 @@ abbrev pub Answers : Account → Key → Answer → Type 0
 Answers b key said =
     Replies b key said ⊎ (WaitsUnder b.entries key × (said ≡ answer.TheVariants.Waiting key))
 
--- the account stays, and the answer is what the request with this key is told, and nothing else
+-- the account stays, and the answer is the only one that the request with this key has
 pub record Repeats (a b : Account) (key : Key) (answer : Answer) : Type 0 where
   pub account : b ≡ a
   pub answers : Answers a key answer

@@ -31,7 +31,7 @@ abbrev pub HasElapsed : Option ℕ → ℕ → Type 0
 HasElapsed None moment = ⊥
 HasElapsed (Some limit) moment = limit ≤ moment
 
--- an act of a moment ends the wait of the request with this key and this limit
+-- an act at a moment ends the wait of the request with this key and this limit
 abbrev pub EndsWait : Act → ℕ → Key → Option ℕ → Type 0
 EndsWait (Hello client incarnation version) moment key limit = client ≡ key.client
 EndsWait (Arrive other call) moment key limit = ⊥

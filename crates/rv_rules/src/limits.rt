@@ -58,8 +58,8 @@ impl Limits {
         }
     }
 
-    /// Limits of one's own, if a step may have them: at most 2^53 - 1 entries, 65,536 clients and 100,000
-    /// open places; these are unbounded only where entries are at most 100,000.
+    /// These limits, if a step may have them: at most 2^53 - 1 entries, 65,536 clients and 100,000 open
+    /// places; these are unbounded only where entries are at most 100,000.
     pub fn new(entries: usize, clients: usize, open_places: Option<usize>) -> Option<Limits>
         ensures some { IfSome result (λ limits. limits ≡ step_limits entries clients open_places) }
         ensures exact { IsSome result ↔ AreStepLimits (step_limits entries clients open_places) }
@@ -75,7 +75,7 @@ impl Limits {
         })
     }
 
-    /// Past all that a state to resume from has: under these no entry is refused that was written before.
+    /// Beyond all that a state to resume from has: under these no entry that was written before is refused.
     pub fn widest() -> Limits
         ensures { result ≡ widest }
     {
@@ -86,7 +86,7 @@ impl Limits {
         }
     }
 
-    /// How many entries there may be, with those that end what waits.
+    /// How many entries there may be, including those that end what waits.
     pub fn entries(&self) -> usize
         ensures exact { result ≡ self.now.entries }
         ensures bounded { result ≤ most_counted }

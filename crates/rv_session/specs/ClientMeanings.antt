@@ -1,5 +1,5 @@
--- What each greeting and each standing says of a table of clients: what a caller learns from the one that it
--- got.
+-- What each greeting and each standing means for a table of clients: what a caller learns from the one that
+-- it got.
 use Rattle.std.specs.Prelude.{◌≡◌, ◌≢◌, ◌⊎◌, ◌+◌, ◌<◌, ◌≤◌, ℕ, Option, Some, None}
 use Rattle.std.specs.FinMap.{get, len}
 use Rattle.rv_text.specs.declared.version.Version.{Version}
@@ -68,7 +68,7 @@ pub record IsOfState (t : ClientStates) (key : Key) (state : ClientState) : Type
   pub there : get t.clients key.client ≡ Some state
   pub incarnation : state.incarnation ≡ key.incarnation
 
--- the key has its session's last number, and this is what stands of it
+-- the key has its session's last number, and this became of it
 pub record AsksLast (t : ClientStates) (key : Key) (request : LastRequest) : Type 0 where
   pub state : ClientState
   pub of_key : IsOfState t key state

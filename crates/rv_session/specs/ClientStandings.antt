@@ -38,14 +38,14 @@ abbrev pub greeting_from : Option ClientState → ℕ → ℕ → ℕ → Versio
 greeting_from None count most incarnation version = unknown_greeting count most
 greeting_from (Some state) count most incarnation version = client_greeting state incarnation version
 
--- what the hello of an incarnation and a version of the client is to the table
+-- what a client's hello with an incarnation and a version means to the table
 abbrev pub hello_greeting : ClientStates → ℕ → ℕ → Version → Greeting
 hello_greeting t client incarnation version =
     greeting_from (get t.clients client) (len t.clients) t.most incarnation version
 
 -- ---- a key
 
--- what stands of a key: it is refused; its request waits at this place with this call; it was replied to; it
+-- what a key can mean: it is refused; its request waits at this place with this call; it was replied to; it
 -- was cancelled before it came; or it is the next
 pub data Stands : Type 0 where
   IsRefused : Refusal → Stands
@@ -54,7 +54,7 @@ pub data Stands : Type 0 where
   WasCancelled : Stands
   IsNext : Stands
 
--- what is lent, as what it is now
+-- a lent meaning, as what it is now
 abbrev pub stands_as : KeyStanding → Stands
 stands_as (standing.Refused refusal) = IsRefused refusal
 stands_as (standing.Waits place call) = WaitsThere place call.now
@@ -84,7 +84,7 @@ abbrev pub standing_from : Option ClientState → Key → Stands
 standing_from None key = IsRefused NoSession
 standing_from (Some state) key = client_standing state key
 
--- what stands of the key in the table
+-- what the key means to the table
 abbrev pub key_standing : ClientStates → Key → Stands
 key_standing t key =
     if key.epoch == t.epoch then standing_from (get t.clients key.client) key

@@ -1,11 +1,11 @@
--- What a session is told of a reply, by its version.
+-- The reply as a session gets it, by its version.
 use Rattle.std.specs.Prelude.{ℕ}
 use Rattle.rv_text.specs.declared.version.Version.{Version}
 use Rattle.rv_text.specs.declared.version.Version.TheVariants.{One, Two}
 use Rattle.rv_session.specs.declared.kept.Kept.{Kept}
 use Rattle.rv_session.specs.declared.kept.Kept.TheVariants as kept
 
--- that an item was received by the consumer that arrived at a place, and in version 1 not by whom
+-- an item was received by the consumer that arrived at this place; version 1 leaves the consumer out
 abbrev pub receipt : Version → ℕ → Kept
 receipt One place = kept.Received
 receipt Two place = kept.ReceivedBy place

@@ -1,4 +1,4 @@
--- What each greeting and each standing says of the table: what a caller learns from the one that it got.
+-- What each greeting and each standing means for the table: what a caller learns from the one that it got.
 use Rattle.std.specs.Prelude.{◌≡◌, ◌≢◌, ◌⊎◌, ◌+◌, ◌<◌, ◌≤◌, ℕ, Option, Some, None}
 use Rattle.rv_text.specs.declared.version.Version.{Version}
 use Rattle.rv_text.specs.declared.message.Key.{Key}
@@ -67,7 +67,7 @@ pub record OfSession (t : Table) (key : Key) (session : Session) : Type 0 where
   pub there : session_of t key.client ≡ Some session
   pub incarnation : session.incarnation ≡ key.incarnation
 
--- the key has its session's last number, and this is what stands of it
+-- the key has its session's last number, and this became of it
 pub record HasLast (t : Table) (key : Key) (stands : RequestState) : Type 0 where
   pub session : Session
   pub of_key : OfSession t key session

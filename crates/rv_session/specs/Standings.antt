@@ -43,12 +43,12 @@ abbrev pub greeting_for : Option Session → ℕ → ℕ → Version → Greetin
 greeting_for None count incarnation version = greeting_new count
 greeting_for (Some session) count incarnation version = greeting_in session incarnation version
 
--- what the hello of an incarnation and a version of the client is to the table
+-- what a client's hello with an incarnation and a version means to the table
 abbrev pub greeting_of : Table → ℕ → ℕ → Version → Greeting
 greeting_of t client incarnation version =
     greeting_for (session_of t client) (session_count t) incarnation version
 
--- the hello opens a session: of a new client, where there is room, or of a greater incarnation, where
+-- the hello opens a session: for a new client, where there is room, or for a greater incarnation, where
 -- nothing waits
 abbrev pub Enters : Greeting → Type 0
 Enters greeting = (greeting ≡ Unknown) ⊎ (greeting ≡ Newer None)
@@ -79,7 +79,7 @@ abbrev pub standing_for : Option Session → Key → Standing
 standing_for None key = Refused NoSession
 standing_for (Some session) key = standing_in session key
 
--- what stands of the key in the table
+-- what the key means to the table
 abbrev pub standing_of : Table → Key → Standing
 standing_of t key =
     if key.epoch == t.epoch then standing_for (session_of t key.client) key else Refused (OtherEpoch t.epoch)

@@ -52,7 +52,7 @@ abbrev pub fresh : ℕ → Version → Session
 fresh incarnation version =
     record { incarnation = incarnation; version = version; last = 0; state = Fresh }
 
--- the session of this version with the key's number as its last, of which this stands
+-- the session of this version with the key's number as its last, which is in this state
 abbrev pub session_for : Key → Version → RequestState → Session
 session_for key version stands =
     record { incarnation = key.incarnation; version = version; last = key.number; state = stands }
@@ -77,7 +77,7 @@ pub record SameSessions (old new : Table) : Type 0 where
   pub sessions : new.sessions ≡ old.sessions
   pub room : old.room ≤ new.room
 
--- the new table has this session of the client, and else it is the old one; only a new client takes room
+-- the new table has this session for the client, and is the old one otherwise; only a new client takes room
 pub record OnlySets (old new : Table) (client : ℕ) (session : Session) : Type 0 where
   pub epoch : new.epoch ≡ old.epoch
   pub own : session_of new client ≡ Some session
@@ -86,14 +86,14 @@ pub record OnlySets (old new : Table) (client : ℕ) (session : Session) : Type 
   pub unknown : session_of old client ≡ None → session_count new ≡ session_count old + 1
   pub room : IsSome (session_of old client) → new.room ≡ old.room
 
--- the key's number is the last of its session, and of it stands this; the session's version stays, and so
--- does all else
+-- the key's number is the last of its session, and is in this state; the session's version stays, and so does
+-- all else
 pub record OnlyAdvances (old new : Table) (key : Key) (stands : RequestState) : Type 0 where
   pub version : Version
   pub was : version_in old key.client ≡ Some version
   pub sets : OnlySets old new key.client (session_for key version stands)
 
--- the client's session is settled with this, all else of it stays, and so do the other sessions
+-- the client's session is settled with this; the rest of it stays, and so do the other sessions
 pub record OnlySettles (old new : Table) (client place : ℕ) (kept : Kept) : Type 0 where
   pub session : Session
   pub there : session_of old client ≡ Some session

@@ -13,8 +13,8 @@ use rv_text::NoMemory;
 use std::alloc::Global;
 use std::marker::Model;
 
-/// The clients of an epoch that came back from their states, of whose duties none was made yet. Contracts see
-/// the table.
+/// The clients of an epoch that came back from their states, with none of their duties made yet. Contracts
+/// see the table.
 #[derive(Drop)]
 pub struct ReturnedClients {
     clients: Clients,
@@ -32,7 +32,8 @@ impl Model for ReturnedClients {
 }
 
 /// The same clients while the duties that they are owed are made, in the order of the places at which their
-/// requests wait. So each is made once at most: once made, none of its place or of one before is made again.
+/// requests wait. So each is made at most once: once a duty is made, none at its place or at one before is
+/// made again.
 #[derive(Drop)]
 pub struct Claims {
     clients: Clients,

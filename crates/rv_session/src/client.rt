@@ -1,4 +1,4 @@
-//! What an epoch keeps of a client: its session, its last number, and what became of the request with that.
+//! What an epoch keeps of a client: its session, its last number, and what became of that request.
 ghost use Rattle.std.specs.Prelude.{◌≡◌, IfOk};
 
 use crate::kept::Place;
@@ -17,7 +17,7 @@ pub enum LastRequest {
     /// It came with this call and has this reply. The call stays, since a request of that number with another
     /// call is refused.
     RepliedTo { call: Call, reply: Reply },
-    /// It was cancelled before it came, so that its call isn't known.
+    /// It was cancelled before it came, so its call isn't known.
     CancelledUnseen,
 }
 

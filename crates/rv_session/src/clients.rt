@@ -1,4 +1,4 @@
-//! The table of clients: of each its session, its last number, and the texts of its last request.
+//! The table of clients: for each its session, its last number, and the texts of its last request.
 ghost use Rattle.std.specs.Prelude.{◌≡◌, ◌<◌, ◌≤◌, ◌++◌, ◌∷◌, [], ℕ, Some, None, IfOk, IsSome, OnErr, OnOk};
 ghost use Rattle.std.specs.Prelude.{length};
 ghost use Rattle.std.specs.FinMap.{entries, get, insert, len};
@@ -143,8 +143,8 @@ impl Clients {
         self.clients.get(&client)
     }
 
-    /// The client of the least number above `after`, or of the least of all, with its state. So a caller can
-    /// read all clients, in the order of their numbers.
+    /// The client with the least number above `after`, or with the least of all, and its state. So a caller
+    /// can read all clients, in the order of their numbers.
     pub fn next(&self, after: Option<u64>) -> Option<(u64, &ClientState)>
         ensures { option_map (λ p. (p.0, p.1.now)) result ≡ next_client self.now.clients after }
     {
@@ -167,7 +167,7 @@ impl Clients {
         Ok(states)
     }
 
-    /// What the hello of an incarnation and a version of a client is to the table.
+    /// What a client's hello with an incarnation and a version means to the table.
     pub fn greet(&self, client: u64, incarnation: u64, version: Version) -> Greeting
         ensures greeting { result ≡ hello_greeting self.now client incarnation version }
         ensures means { GreetingSays self.now client incarnation version result }
@@ -197,8 +197,8 @@ impl Clients {
         }
     }
 
-    /// Opens the session of an incarnation and a version of a client that isn't known, in which nothing was
-    /// asked yet. There must be fewer clients than there can be. It fails only if memory was refused, and
+    /// Opens a session with this incarnation and version, in which nothing was asked yet, for a client that
+    /// isn't known. There must be fewer clients than there can be. It fails only if memory was refused, and
     /// then nothing changes.
     pub fn admit(&mut self, client: u64, incarnation: u64, version: Version) -> Result<(), NoMemory>
         requires unknown { get self.old.clients client ≡ None }
@@ -212,8 +212,8 @@ impl Clients {
         Ok(())
     }
 
-    /// Opens the session of an incarnation and a version of a client that is known, in which nothing was
-    /// asked yet, in place of the one that it has. It takes no memory.
+    /// Opens a session with this incarnation and version, in which nothing was asked yet, for a client that
+    /// is known. It replaces the session that the client has. It takes no memory.
     pub fn renew(&mut self, client: u64, incarnation: u64, version: Version)
         requires known { IsSome (get self.old.clients client) }
         ensures { self.new ≡ with_clients self.old
@@ -246,8 +246,8 @@ impl Clients {
         self.clients.get_mut(&client).unwrap().answer(reply);
     }
 
-    /// Makes a key's number its client's last, whose request arrived at a place with this call and waits
-    /// there, and gives the duty to settle it and the version of its session. The client must be known. All
+    /// Makes a key's number the last of its client. Its request arrived at a place with this call and waits
+    /// there. Returns the duty to settle it, and the version of its session. The client must be known. All
     /// else stays.
     pub fn begin(&mut self, key: &Key, place: Place, call: Call) -> (Duty, Version)
         requires { IsSome (get self.old.clients key.now.client) }
@@ -270,8 +270,8 @@ impl Clients {
         self.tell(client, reply);
     }
 
-    /// Makes a key's number its client's last, which was cancelled before a request came with it. The client
-    /// must be known. All else stays.
+    /// Makes a key's number the last of its client: it was cancelled before a request came with it. The
+    /// client must be known. All else stays.
     pub fn bury(&mut self, key: &Key)
         requires { IsSome (get self.old.clients key.now.client) }
         ensures { self.new ≡ with_clients self.old
@@ -280,7 +280,7 @@ impl Clients {
         self.advance(key, LastRequest::CancelledUnseen);
     }
 
-    /// Makes a key's number its client's last, whose request came with this call and was answered at once.
+    /// Makes a key's number the last of its client. Its request came with this call and was answered at once.
     /// The client must be known. All else stays.
     pub fn conclude(&mut self, key: &Key, call: Call, reply: Reply)
         requires { IsSome (get self.old.clients key.now.client) }

@@ -6,9 +6,9 @@ use std::marker::Model;
 
 /// The one right and duty to settle a request that waits. It can be neither copied nor dropped. Only
 /// [`Sessions::begin`](crate::Sessions::begin) and [`Clients::begin`](crate::Clients::begin) make one, and
-/// once each [`Claims::claim`](crate::Claims::claim), where a table came back from its states. [`Parked`]
-/// lays it aside and gives it back, and the `settle` of the same table spends it. Contracts see the place of
-/// the request and the client whose session waits there.
+/// [`Claims::claim`](crate::Claims::claim), once for each, where a table came back from its states.
+/// [`Parked`] lays it aside and gives it back, and the `settle` of the same table spends it. Contracts see
+/// the place of the request and the client whose session waits there.
 pub struct Duty {
     place: Place,
     client: u64,

@@ -22,11 +22,11 @@ pub enum Kept {
     Nobody,
     /// A take got the item that arrived at this place.
     Item(Place),
-    /// A take that doesn't wait found no item, or a peek none.
+    /// A take that doesn't wait, or a peek, found no item.
     Empty,
-    /// A swap got the object that arrived at this place.
+    /// A swap got the item that arrived at this place.
     Swapped(Place),
-    /// The request's time was over first.
+    /// The request's wait ended, and it had met nobody.
     TimedOut,
     /// The request was cancelled.
     Cancelled,
@@ -39,8 +39,7 @@ pub enum Kept {
 }
 
 impl Kept {
-    /// The reply that a session of this version is told: the first version isn't told which consumer received
-    /// an item.
+    /// The reply as a session of this version gets it: version 1 doesn't say which consumer received an item.
     pub fn told_in(self, version: Version) -> Kept
         ensures { result ≡ told_in version self }
     {

@@ -5,12 +5,12 @@ use crate::kept::Place;
 use rv_text::{Item, Key, NoMemory, Side};
 use std::alloc::Global;
 
-/// Who waits at an open place.
+/// The request that waits at an open place.
 #[derive(Clone, Copy)]
 pub struct Waiter {
     /// The key of the request.
     pub key: Key,
-    /// The moment of its arrival, in milliseconds, which no step asks for.
+    /// The moment of its arrival, in milliseconds, which no step uses.
     pub since: u64,
 }
 
@@ -21,11 +21,11 @@ pub struct OpenPlace {
     pub place: Place,
     /// Its side of a queue or of an exchanger.
     pub side: Side,
-    /// The item that it hands over, if it does.
+    /// The item that it hands over, if any.
     pub item: Option<Item>,
     /// The moment at which its wait ends, in milliseconds, if it has such a limit.
     pub limit: Option<u64>,
-    /// Who waits there; nobody where it is a put's item.
+    /// The request that waits there; none where it is a put's item.
     pub waiter: Option<Waiter>,
 }
 

@@ -1,4 +1,4 @@
-//! A client's session: its incarnation, its last number and what stands of it.
+//! A client's session: its incarnation, its last number and what became of that.
 ghost use Rattle.std.specs.Prelude.{◌≡◌};
 ghost use Rattle.rv_session.specs.Table.{fresh, session_for, settled_session, waiting_place};
 ghost use Rattle.rv_session.specs.Standings.{greeting_in, standing_in, standing_last};
@@ -7,7 +7,7 @@ use crate::kept::{Kept, Place};
 use crate::standing::{Greeting, Standing};
 use rv_text::{Key, Refusal, Version};
 
-/// What stands of a session's last number.
+/// What became of a session's last number.
 #[derive(Clone, Copy)]
 pub enum RequestState {
     /// Nothing was asked yet.
@@ -27,7 +27,7 @@ pub struct Session {
     pub version: Version,
     /// The last number; 0 before the first.
     pub last: u64,
-    /// What stands of the last number.
+    /// What became of the last number.
     pub state: RequestState,
 }
 
@@ -43,7 +43,7 @@ impl RequestState {
         }
     }
 
-    // What stands of the last number. No request has the number 0 of a fresh session.
+    // What became of the last number. No request has the number 0 of a fresh session.
     fn standing(&self, last: u64) -> Standing
         ensures { result ≡ standing_last last self.now }
     {

@@ -1,4 +1,4 @@
-//! The table of sessions: for each client its incarnation, version, last number and what stands of it.
+//! The table of sessions: for each client its incarnation, version, last number and what became of that.
 ghost use Rattle.std.specs.Prelude.{◌≡◌, ◌<◌, Some, None, IsSome, OnOk, OnErr};
 ghost use Rattle.rv_session.specs.Table.{fresh};
 
@@ -107,7 +107,7 @@ impl Sessions {
         }
     }
 
-    /// What the hello of an incarnation and a version of a client is to the table.
+    /// What a client's hello with an incarnation and a version means to the table.
     pub fn greet(&self, client: u64, incarnation: u64, version: Version) -> Greeting
         ensures greeting { result ≡ greeting_of self.now client incarnation version }
         ensures means { GreetingMeans self.now client incarnation version result }
@@ -121,7 +121,7 @@ impl Sessions {
         }
     }
 
-    /// Opens the session of an incarnation and a version of a client, in which nothing was asked yet. The
+    /// Opens a client's session with this incarnation and version, in which nothing was asked yet. The
     /// client's [`greet`](Sessions::greet) must give `Unknown`, or `Newer` with nothing that waits. For a
     /// client that has a session it takes no memory and succeeds, as it does if there is room for one more.
     /// Otherwise it fails only if memory was refused, and then all sessions stay.
@@ -160,8 +160,8 @@ impl Sessions {
         self.set(key.client, Session::of(key, session.version, state));
     }
 
-    /// Makes the next number of a key's session its last, whose request arrived at a place and waits there,
-    /// and gives the duty to settle it. The key's [`look`](Sessions::look) must give `Next`.
+    /// Makes the next number of a key's session its last. Its request arrived at a place and waits there.
+    /// Returns the duty to settle it. The key's [`look`](Sessions::look) must give `Next`.
     pub fn begin(&mut self, key: &Key, place: Place) -> Duty
         requires { standing_of self.old key.now ≡ Next }
         ensures duty { result ≡ record { place = place; client = key.now.client } }

@@ -1,8 +1,8 @@
-//! What a table of sessions says to a hello and to a key.
+//! What a hello and a key mean to a table of sessions.
 use crate::kept::{Kept, Place};
 use rv_text::{Call, Refusal, Reply, Version};
 
-/// What a hello of an incarnation and a version is to the table.
+/// What a hello with an incarnation and a version means to the table.
 #[derive(Clone, Copy)]
 pub enum Greeting {
     /// The client's session has this incarnation and this version already.
@@ -11,7 +11,7 @@ pub enum Greeting {
     Unknown,
     /// The client has no session, and there are as many sessions as an epoch can have.
     Full,
-    /// The client's session has a lower incarnation; where its last request still waits, at which place.
+    /// The client's session has a lower incarnation; and the place of its last request, if that still waits.
     Newer { waiting: Option<Place> },
     /// The client's session has a greater incarnation, which is given.
     Older(u64),
@@ -34,7 +34,7 @@ pub enum Standing {
     Next,
 }
 
-/// What stands of a key in a table of [`Clients`](crate::Clients). Calls and replies are lent by the table.
+/// What a key means to a table of [`Clients`](crate::Clients). Calls and replies are lent by the table.
 #[derive(Clone, Copy)]
 pub enum KeyStanding<'a> {
     /// The key is refused: for another epoch, no session, an old incarnation, an old number, a request

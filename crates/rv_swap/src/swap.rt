@@ -49,7 +49,7 @@ impl Swap {
         Swap { waiting: None }
     }
 
-    /// A duty arrives. It meets the one that waits, which leaves. If none waits it waits itself.
+    /// A duty arrives. It meets the one that waits, which leaves. If none waits, the new one waits.
     pub fn arrive(&mut self, duty: Duty) -> SwapOutcome
         ensures { ArrivesToSwap self.old duty self.new result }
     {
@@ -73,7 +73,7 @@ impl Swap {
         }
     }
 
-    /// Takes the duty of a place out, if it is the one that waits. Otherwise nothing changes.
+    /// Takes out the duty of a place, if it is the one that waits. Otherwise nothing changes.
     pub fn withdraw(&mut self, place: Place) -> Option<Duty>
         ensures taken { IfSome result (LeavesExchanger self.old place self.new) }
         ensures not_there { IfNone result (NotWaiting self.old place) }
