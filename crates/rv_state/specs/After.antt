@@ -1,4 +1,5 @@
--- What an entry makes of a state that it may follow: the state after it, whom it settles, and its own reply.
+-- What an entry makes of a state that it may follow: the state after it, which requests it settles, and its
+-- own reply.
 use Rattle.std.specs.Prelude.{ℕ, zero, suc, ◌+◌, Bool, true, false, cond, not, ◌&&◌, List, [], ◌∷◌, ◌++◌, map}
 use Rattle.std.specs.Prelude.{filter}
 use Rattle.std.specs.Prelude.{filter_map, fold, length, take, nat_eq, nat_lt, Option, Some, None, is_some}
@@ -30,13 +31,13 @@ use Rattle.rv_session.specs.declared.client.LastRequest.TheVariants.{Fresh, Wait
 -- a request that waited, which has its reply; and a client with another last request
 pub use Rattle.rv_session.specs.Clients.{answered, with_request}
 
--- a key that waited, and what its request is told
+-- a key that waited, and the reply of its request
 pub record Settled : Type 0 where
   pub key : Key
   pub reply : Reply
 
--- what an entry makes of a state: the state after it; whom it settles, in their order; and the reply of its
--- own key, where it has one
+-- what an entry makes of a state: the state after it; the requests that it settles, in their order; and the
+-- reply of its own key, if it has one
 pub record Following : Type 0 where
   pub after : State
   pub settles : List Settled
@@ -50,7 +51,7 @@ insert_told clients settled None = clients
 insert_told clients settled (Some client) =
     insert clients settled.key.client (with_request client (answered settled.reply client.request))
 
--- the client of a key that waited is told
+-- the client of a key that waited gets the reply
 abbrev pub tell : FinMap nat_cmp ClientState → Settled → FinMap nat_cmp ClientState
 tell clients settled = insert_told clients settled (get clients settled.key.client)
 
@@ -59,11 +60,11 @@ tell_all clients settles = fold tell clients settles
 
 -- ---- closing
 
--- the open places but those
+-- the open places without those
 abbrev pub but : List OpenPlace → List OpenPlace → List OpenPlace
 but all gone = filter (λ o. not (list_any (λ other. nat_eq other.place o.place) gone)) all
 
--- who waits at an open place is settled by its reply, if that is there
+-- the request that waits at an open place is settled with its reply, if there is one
 abbrev pub settled_at : (OpenPlace → Key → Option Reply) → OpenPlace → Option Settled
 settled_at told there =
     option_and_then (λ w. option_map (λ r. record { key = w.key; reply = r }) (told there w.key)) there.waiter
@@ -71,7 +72,7 @@ settled_at told there =
 abbrev pub settled_all : (OpenPlace → Key → Option Reply) → List OpenPlace → List Settled
 settled_all told gone = filter_map (settled_at told) gone
 
--- those places are open no longer, and who waited there was told
+-- those places are open no longer, and these requests have their replies
 abbrev pub closed : State → List OpenPlace → List Settled → State
 closed s gone settles =
     record {
@@ -82,7 +83,7 @@ closed s gone settles =
       clients = tell_all s.clients settles;
     }
 
--- what is stopped at those places is told this
+-- the requests that wait at those places are stopped, with this reply
 abbrev pub stopped : State → List OpenPlace → Reply → Following
 stopped s gone told =
     let settles : List Settled = settled_all (λ there key. Some told) gone in
@@ -97,7 +98,7 @@ deadline_of_place there = option_map (λ limit. (limit, there.place)) there.limi
 abbrev pub limits_of : State → FinMap by_moment (Unit {0})
 limits_of s = from_entries (map (λ deadline. (deadline, tt)) (filter_map deadline_of_place s.open_places))
 
--- the open places whose limit is at or below a moment, by limit and then place
+-- the open places whose limit is at or before a moment, by limit and then place
 abbrev pub due_at : State → ℕ → List OpenPlace
 due_at s moment =
     filter_map (λ deadline. open_at s deadline.1)
@@ -140,7 +141,7 @@ with_last s key request (Some client) =
 abbrev pub asked : State → Key → LastRequest → State
 asked s key request = with_last s key request (client_at s key.client)
 
--- a cancel ends what waits, or is told of a number before a request of it came
+-- a cancel ends what waits, or settles a number before its request came
 abbrev pub cancelled : State → Key → Option OpenPlace → Following
 cancelled s key None =
     record { after = asked s key CancelledUnseen; settles = []; reply = Some reply.Cancelled }
@@ -150,7 +151,7 @@ cancelled s key (Some there) =
 
 -- ---- replies
 
--- what a transfer that was met is told, by its session's version
+-- the reply of a transfer that was met, by its session's version
 abbrev pub receipt_of : Version → Option Key → Option Reply
 receipt_of One taker = Some reply.Received
 receipt_of Two taker = option_map (λ key. reply.ReceivedBy key) taker
@@ -158,8 +159,8 @@ receipt_of Two taker = option_map (λ key. reply.ReceivedBy key) taker
 abbrev pub session_version : State → Key → Option Version
 session_version s key = option_map (λ client. client.version) (client_at s key.client)
 
--- what a transfer, a take or a swap with this key is told that meets one with this key and item. A put and a
--- drain are told otherwise, and a count and a peek meet nobody
+-- the reply of a transfer, a take or a swap with the first key, which meets one with the other key and this
+-- item. A put and a drain get other replies, and a count and a peek meet nobody
 abbrev pub told_met : State → Key → Call → Option Key → Option (List ℕ) → Option Reply
 told_met s key (call.Put queue item) other gets = None
 told_met s key (call.Transfer queue item wait) other gets =
@@ -170,14 +171,14 @@ told_met s key (call.Count queue) other gets = None
 told_met s key (call.Peek queue) other gets = None
 told_met s key (call.Drain queue max) other gets = None
 
--- what a request that meets nobody is told when it comes, by its wait
+-- the reply that a request that meets nobody has when it comes, by its wait; none if it goes on waiting
 abbrev pub told_unmet : Wait → Reply → Option Reply
 told_unmet Now at_once = Some at_once
 told_unmet (Millis zero) at_once = Some reply.TimedOut
 told_unmet (Millis (suc n)) at_once = None
 told_unmet Forever at_once = None
 
--- what a peek is told of the queue's items
+-- the reply of a peek, by the queue's items
 abbrev pub told_front : List OpenPlace → Option Reply
 told_front [] = Some reply.Empty
 told_front (front ∷ others) = option_map (λ item. reply.Peeked item) front.item
@@ -199,8 +200,8 @@ key_of_waiter there = option_map (λ w. w.key) there.waiter
 abbrev pub told_first : State → Key → Call → OpenPlace → Option Reply
 told_first s key call first = told_met s key call (key_of_waiter first) first.item
 
--- the same of one that meets these, by its call: a put is done, a drain gets all items, and any other call
--- meets one
+-- the reply of an arrival that meets these, by its call: a put is done, a drain gets all items, and any other
+-- call meets one
 abbrev pub told_with : State → Key → Call → OpenPlace → List OpenPlace → Option Reply
 told_with s key (call.Put queue item) first others = Some reply.Done
 told_with s key (call.Transfer queue item wait) first others =
@@ -217,7 +218,7 @@ abbrev pub told_own : State → Key → Call → List OpenPlace → Option Reply
 told_own s key call [] = told_alone s call
 told_own s key call (first ∷ others) = told_with s key call first others
 
--- what is told who waits at a place that an arrival with this key and call meets
+-- the reply of the request that waits at a place that an arrival with this key and call meets
 abbrev pub told_partner : State → Key → Call → OpenPlace → Key → Option Reply
 told_partner s key call there waits =
     option_and_then (λ its. told_met s waits its (Some key) (item_of call))
@@ -225,7 +226,7 @@ told_partner s key call there waits =
 
 -- ---- arrivals
 
--- those that an arrival with this call meets: of those that it might meet the oldest, as many as it may name
+-- those that an arrival with this call meets: the oldest of those that it might meet, as many as it may name
 abbrev pub met_by : State → Call → List OpenPlace
 met_by s call = take (may_name call) (opposites s call)
 
@@ -241,7 +242,7 @@ abbrev pub stays_open : Call → List OpenPlace → Bool
 stays_open call [] = is_some (opposite (side_of call)) && lasts_by (wait_of call)
 stays_open call (first ∷ others) = false
 
--- who waits at an arrival: nobody at a put
+-- the request that waits at an arrival; none for a put
 abbrev pub waiter_of : Key → ℕ → Option Wait → Option Waiter
 waiter_of key moment None = None
 waiter_of key moment (Some wait) = Some (record { key = key; since = moment })
@@ -274,7 +275,7 @@ abbrev pub request_after : ℕ → Call → Option Reply → LastRequest
 request_after place call None = Waits place call
 request_after place call (Some reply) = RepliedTo call reply
 
--- an arrival meets those that it names, who are told so, or it is open where it stays
+-- an arrival meets those that it names, which get their replies; or it meets none, and is open if it stays
 abbrev pub arrived : State → ℕ → Key → Call → Following
 arrived s moment key call =
     let met : List OpenPlace = met_by s call in
@@ -285,7 +286,7 @@ arrived s moment key call =
 
 -- ---- an entry
 
--- what an act of a moment makes of a state, but for the moment and the number of entries
+-- what an act at a moment makes of a state, apart from the moment and the number of entries
 abbrev pub acted : State → ℕ → Act → Following
 acted s moment (Hello client incarnation version) =
     greeted s client
@@ -294,7 +295,7 @@ acted s moment (Arrive key call) = arrived s moment key call
 acted s moment (Cancel key) = cancelled s key (client_waits s key.client)
 acted s moment Tick = stopped s (due_at s moment) reply.TimedOut
 
--- one entry more, of this moment
+-- one more entry, of this moment
 abbrev pub advanced : State → ℕ → State
 advanced s moment =
     record {

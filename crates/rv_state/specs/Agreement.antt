@@ -1,4 +1,4 @@
--- What a state says of an account, part by part, in the formulas over its places.
+-- What a state says of an account, part by part, by formulas over the account's places.
 use Rattle.std.specs.Prelude.{◌≡◌, ◌↔◌, ℕ, List, Option, Some, None, IsSome, slice_get}
 use Rattle.std.specs.FinMap.{len}
 use Rattle.rv_text.specs.declared.message.Key.{Key}
@@ -21,7 +21,8 @@ use Rattle.rv_state.specs.State.{place_list, waiting_count}
 use Rattle.rv_session.specs.declared.client.LastRequest.TheVariants.{Fresh, Waits, RepliedTo, CancelledUnseen}
 use Rattle.rv_state.specs.After.{due_at, waiter_of}
 
--- the open place is that of an arrival that stands there, with its side, item and limit, and who waits
+-- the open place is that of an arrival that stands there, with its side, item, limit, and the request that
+-- waits
 pub record IsArrival (entries : List Entry) (there : OpenPlace) : Type 0 where
   pub key : Key
   pub call : Call
@@ -90,7 +91,7 @@ pub record ClientWaitsAt (entries : List Entry) (client place : ℕ) : Type 0 wh
 abbrev pub SaysWaits : State → ℕ → ℕ → Type 0
 SaysWaits s client place = (there : OpenPlace) × (client_waits s client ≡ Some there) × (there.place ≡ place)
 
--- and so it tells the line of each side, which open places wait, of which clients, what is due, and how many
+-- and so it gives the line of each side, which open places wait, for which clients, what is due, and how many
 -- wait or said hello
 pub record TellsWaiting (a : Account) (s : State) : Type 0 where
   pub lines : (side : Side) → IsLine a.entries side (place_list (line s side))

@@ -59,7 +59,7 @@ NumberFits s Tick = Unit {0}
 
 -- ---- pairs and swaps
 
--- the places that an act's entry names: of those that an arrival might meet the oldest, as many as it may
+-- the places that an act's entry names: the oldest of those that an arrival might meet, as many as it may
 -- name
 abbrev pub partners_of : State → Act → List ℕ
 partners_of s (Hello client incarnation version) = []

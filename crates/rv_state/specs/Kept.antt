@@ -21,7 +21,7 @@ HelloRises s (Arrive key call) = Unit {0}
 HelloRises s (Cancel key) = Unit {0}
 HelloRises s Tick = Unit {0}
 
--- the key that an act names is of the session that its client has
+-- the key that an act names belongs to the session that its client has
 abbrev pub KeyInSession : State → Act → Type 0
 KeyInSession s does = (key : Key) → key_in does ≡ Some key → (session : ClientState) × InSession s key session
 
@@ -58,14 +58,14 @@ NamesOldest s e = (p r : ℕ) (call : Call) → call_in e.act ≡ Some call → 
     → r < p
     → Names e r
 
--- with fewer than it may name it names all that it might meet
+-- an entry with fewer than it may name names all that it might meet
 abbrev pub NamesAll : State → Entry → Type 0
 NamesAll s e = (r : ℕ) (call : Call) → call_in e.act ≡ Some call → length e.partners < may_name call
     → IsOpposite s call r → Names e r
 
 -- a rule of a legal account is kept exactly if it is kept by the state, as long as those before it are kept.
--- One thing isn't told by a state: an entry that names well, but a place that is open nowhere, breaks the
--- rule of opposites; whether it breaks that of free partners too, which comes first, hangs on whether that
+-- A state leaves one thing open: an entry that names well, except for a place that isn't open, breaks the
+-- rule of opposites; whether it also breaks that of free partners, which comes first, depends on whether that
 -- place was met or named before
 pub record RulesAgree (a : Account) (s : State) (e : Entry) : Type 0 where
   pub time : KeepsTime a e.moment ↔ (s.moment ≤ e.moment)

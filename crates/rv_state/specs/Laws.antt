@@ -25,7 +25,7 @@ use Rattle.rv_state.specs.Settling.{SettlesEach, SettlesAt, ToldOwn}
 abbrev pub StatesAgree : Type 0
 StatesAgree = (a : Account) → Legal a → IsStateOf a (state_of a)
 
--- and so it tells which open places wait, of which clients, what is due, and how many there are
+-- and so it gives which open places wait, for which clients, what is due, and how many there are
 abbrev pub StatesTellWaiting : Type 0
 StatesTellWaiting = (a : Account) → Legal a → TellsWaiting a (state_of a)
 
@@ -33,13 +33,12 @@ StatesTellWaiting = (a : Account) → Legal a → TellsWaiting a (state_of a)
 abbrev pub StatesFollow : Type 0
 StatesFollow = (a : Account) (e : Entry) → Legal a → MayFollow a e ↔ FollowsState (state_of a) e
 
--- and so with each of the rules by itself, but for which is the first that is broken where a named place
--- isn't open
+-- and so for each rule by itself, except for which one is broken first where a named place isn't open
 abbrev pub StatesKeepRules : Type 0
 StatesKeepRules = (a : Account) (e : Entry) → Legal a → RulesAgree a (state_of a) e
 
--- what the state says of an entry that follows is what the account with it says: its state, whom it settles,
--- and what its own request is told
+-- what the state says of an entry that follows is what the account with it says: its state, the requests that
+-- it settles, and its own request's reply, or that it waits
 pub record SaysOfEntry (a : Account) (e : Entry) (made : Following) : Type 0 where
   pub state : state_of (with_entry a e) ≡ made.after
   pub settles : SettlesAt a.entries e made.settles
@@ -50,8 +49,8 @@ abbrev pub StatesSettle : Type 0
 StatesSettle = (a : Account) (e : Entry) → Legal a → MayFollow a e
     → SaysOfEntry a e (following (state_of a) e.moment e.act)
 
--- the second account is the first with the entries of a move, and legal; its state and whom they settle are
--- those of the move
+-- the second account is the first with the entries of a move, and legal; its state and the requests that they
+-- settle are those of the move
 pub record IsMoveTo (a b : Account) (move : Move) : Type 0 where
   pub epoch : b.epoch ≡ a.epoch
   pub opened : b.opened ≡ a.opened
@@ -73,7 +72,7 @@ abbrev pub StepsMoveUnder : StepLimits → Type 0
 StepsMoveUnder limits = (a b : Account) (now : ℕ) (m : Message) (answer : Answer) → Legal a
     → NextUnder limits a now m b answer → MovesToUnder limits a b now m answer
 
--- a move of the account's state is a step of the account, which so has one
+-- a move of the account's state is a step of the account, so the account has one
 pub record StepsToUnder (limits : StepLimits) (a : Account) (now : ℕ) (m : Message) (move : Move) : Type 0
   where
     pub after : Account
@@ -91,11 +90,11 @@ pub record HasMoveUnder (limits : StepLimits) (s : State) (now : ℕ) (m : Messa
   pub moves : StateNextUnder limits s now m move
   pub in_memory : move.answer ≢ Refused NoMemory
 
--- each state has, for each moment and message
+-- each state has one, for each moment and message
 abbrev pub MovesExistUnder : StepLimits → Type 0
 MovesExistUnder limits = (s : State) (now : ℕ) (m : Message) → HasMoveUnder limits s now m
 
--- of two legal accounts with one state, an entry may follow the one exactly where it may follow the other
+-- an entry may follow one of two legal accounts with one state exactly where it may follow the other
 abbrev pub OneFuture : Type 0
 OneFuture = (a b : Account) (e : Entry) → Legal a → Legal b → state_of a ≡ state_of b
     → MayFollow a e ↔ MayFollow b e
@@ -136,8 +135,8 @@ StepsAlike = StepsAlikeUnder book_limits
 
 -- ---- time-outs alone
 
--- the second account is the first with the entries of time-outs, and legal; its state and whom they settle
--- are theirs
+-- the second account is the first with the entries of time-outs, and legal; its state and the requests that
+-- they settle are theirs
 pub record IsTickedTo (a b : Account) (made : Ticked) : Type 0 where
   pub epoch : b.epoch ≡ a.epoch
   pub opened : b.opened ≡ a.opened
@@ -151,7 +150,7 @@ abbrev pub TicksMove : Type 0
 TicksMove = (a b : Account) (moment : ℕ) → Legal a → own_moment a ≤ moment → Ticks a moment b
     → IsTickedTo a b (ticked_at (state_of a) moment)
 
--- and those of its state are time-outs of the account, which so has some
+-- and those of its state are time-outs of the account, so the account has some
 pub record TicksTo (a : Account) (moment : ℕ) : Type 0 where
   pub after : Account
   pub ticks : Ticks a moment after

@@ -61,7 +61,7 @@ pub record NumberOld (s : State) (key : Key) (refusal : Refusal) : Type 0 where
   pub old : (key.number < session.last) ⊎ (key.number ≡ 0)
   pub is : refusal ≡ OldNumber session.last
 
--- the call of a request that came
+-- the call of a request, if it came
 abbrev pub call_asked : LastRequest → Option Call
 call_asked Fresh = None
 call_asked (Waits place call) = Some call
@@ -192,8 +192,8 @@ StateHelloLines = StateHelloLinesUnder book_limits
 
 -- ---- what a step makes
 
--- the entries that a step makes; its answer; whom it settles, those of its tick first, by limit and then
--- place, then those of its message's entry by place; and the state after
+-- the entries that a step makes; its answer; the requests that it settles: those of its tick first, by limit
+-- and then place, then those of its message's entry, by place; and the state after
 pub record Move : Type 0 where
   pub entries : List Entry
   pub answer : Answer
@@ -218,26 +218,26 @@ entering s moment does said =
       after = made.after;
     }
 
--- what a request of this key that was told this is answered
+-- the answer to a request with this key: its reply, or that it waits
 abbrev pub answer_told : Key → Option Reply → Answer
 answer_told key None = answer.Waiting key
 answer_told key (Some reply) = Replied key reply
 
--- what the request of a session's last number is told. A session that asked nothing isn't asked: number 0 is
--- old
+-- the reply of a session's last request, if it has one. It is never asked of a session with no request yet,
+-- since number 0 is old
 abbrev pub told_again : LastRequest → Option Reply
 told_again Fresh = None
 told_again (Waits place call) = None
 told_again (RepliedTo call reply) = Some reply
 told_again CancelledUnseen = Some Cancelled
 
--- no entry, and the answer that the request of the session's last number was told
+-- no entry, and the answer to a repeat of the session's last request: its reply, or that it waits
 pub record RepeatsMove (s : State) (key : Key) (move : Move) : Type 0 where
   pub session : ClientState
   pub there : client_at s key.client ≡ Some session
   pub is : move ≡ staying s (answer_told key (told_again session.request))
 
--- where a growth was refused no entry, else the message's own
+-- no entry where a growth was refused, else the message's own
 abbrev pub EntersMove : State → ℕ → Act → Move → Answer → Type 0
 EntersMove s moment does move said =
     RefusesMove s move NoMemory ⊎ (move ≡ entering s moment does said)
@@ -267,7 +267,7 @@ StateNextAtUnder limits s moment (Cancel key) move =
 abbrev pub state_moment : State → ℕ → ℕ
 state_moment s now = max s.moment (capped_moment now)
 
--- the time-outs of a step: their entry, whom they settle, and the state after them
+-- the time-outs of a step: their entry, the requests that they settle, and the state after them
 pub record Ticked : Type 0 where
   pub entries : List Entry
   pub settles : List Settled

@@ -1,4 +1,5 @@
--- Whom an entry settles, over accounts: who waited before it and waits no more, with their replies, in order.
+-- Which requests an entry settles, over accounts: those that waited before it and wait no more, with their
+-- replies, in order.
 use Rattle.std.specs.Prelude.{◌≡◌, ◌⊎◌, ◌<◌, ◌∷◌, [], ◌++◌, ℕ, List, Option, Some, None, slice_get}
 use Rattle.rv_text.specs.declared.message.Key.{Key}
 use Rattle.rv_text.specs.declared.call.Call.{Call}
@@ -55,7 +56,7 @@ pub record SettlesAt (entries : List Entry) (e : Entry) (settles : List Settled)
       → WaitsThere entries one.key p call → WaitsThere entries other.key q called
       → SettlesBefore entries e.act p q
 
--- these are settled by some entries, one after the other; each entry comes after the given ones and those
+-- these are settled by some entries, one after the other; each comes after the given ones and after those
 -- before it
 abbrev pub SettlesEach : List Entry → List Entry → List Settled → Type 0
 SettlesEach before [] settles = settles ≡ []
@@ -64,7 +65,7 @@ SettlesEach before (e ∷ more) settles =
     × SettlesEach (before ++ e ∷ []) more rest
     × (settles ≡ first ++ rest)
 
--- what the request with an entry's own key is told: this reply, or that it waits
+-- the request with an entry's own key has this reply, or waits
 abbrev pub ToldOwn : List Entry → Key → Option Reply → Type 0
 ToldOwn entries key None = WaitsUnder entries key
 ToldOwn entries key (Some reply) = HasReply entries key reply

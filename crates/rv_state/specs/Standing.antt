@@ -24,8 +24,8 @@ pub record IsLastOf (epoch : ℕ) (there : OpenPlace) (w : Waiter) (session : Cl
   pub waits : session.request ≡ Waits there.place call
   pub stands : StandsFor there w.since call
 
--- an item lies at the open place, which a put gave to a queue: both are within their limits, and it lies
--- there without a limit of time
+-- an item that a put gave to a queue lies at the open place: both are within their limits, and it has no time
+-- limit
 pub record LiesOpen (there : OpenPlace) : Type 0 where
   pub queue : ℕ
   pub side : there.side ≡ Gives queue

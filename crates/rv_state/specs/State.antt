@@ -1,4 +1,4 @@
--- The state of an account: all that its future hangs on, without its entries.
+-- The state of an account: all that its future depends on, without its entries.
 use Rattle.std.specs.Prelude.{ℕ, Bool, false, List, [], map, find, filter, length, nat_eq, Option, Some, None}
 use Rattle.std.specs.Prelude.{is_some, option_and_then}
 use Rattle.std.specs.FinMap.{FinMap, empty, get}
@@ -10,10 +10,10 @@ use Rattle.rv_text.specs.Calls.{side_of}
 use Rattle.rv_account.specs.Calls.{opposite}
 -- ---- what is open, and clients
 
--- who waits at a place, and the moment of its arrival, which no step asks for
+-- the request that waits at a place, and the moment of its arrival, which no step uses
 pub use Rattle.rv_session.specs.declared.open.Waiter.{Waiter}
 -- an open arrival: its place, its side of a queue or exchanger, its item and its limit if it has them, and
--- who waits there; nobody where it is an item that lies there
+-- the request that waits there; none where an item lies there
 pub use Rattle.rv_session.specs.declared.open.OpenPlace.{OpenPlace}
 -- the last request of a session: none yet; waiting at a place; replied to; or cancelled before it came. The
 -- whole call stays, since a request of that number with another call is refused
@@ -76,7 +76,7 @@ open_at s place = find (λ o. nat_eq o.place place) s.open_places
 abbrev pub client_at : State → ℕ → Option ClientState
 client_at s client = get s.clients client
 
--- the open place at which the client waits, if it does
+-- the open place at which the client's request waits, if one does
 abbrev pub client_waits : State → ℕ → Option OpenPlace
 client_waits s client =
     option_and_then (open_at s)

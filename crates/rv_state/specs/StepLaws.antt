@@ -1,5 +1,5 @@
--- The laws of steps of accounts under whatever limits, and of time-outs alone: they only add and leave no
--- choice, and what isn't refused can enter.
+-- The laws of steps of accounts under any limits, and of time-outs alone: they only add and leave no choice,
+-- and what isn't refused can enter.
 use Rattle.std.specs.Prelude.{◌≡◌, ◌≢◌, ℕ}
 use Rattle.rv_text.specs.declared.version.Version.{Version}
 use Rattle.rv_text.specs.declared.message.Key.{Key}
@@ -38,8 +38,8 @@ OneTicked = (a b c : Account) (moment : ℕ) → Ticks a moment b → Ticks a mo
 
 -- ---- what can enter
 
--- a legal account exists in which the request's entry stands, and with it what the request is told: its
--- reply, or that it waits
+-- a legal account exists with the request's entry, and with the answer to the request: its reply, or that it
+-- waits
 pub record CanEnter (a : Account) (moment : ℕ) (key : Key) (call : Call) : Type 0 where
   pub after : Account
   pub answer : Answer

@@ -13,7 +13,7 @@ pub fn states_agree()
     ensures { StatesAgree }
 {}
 
-/// The state of a legal account tells the line of each side, which open places wait, of which clients, what
+/// The state of a legal account gives the line of each side, which open places wait, for which clients, what
 /// is due, and how many wait or said hello.
 pub fn states_tell_waiting()
     ensures { StatesTellWaiting }
@@ -24,13 +24,13 @@ pub fn states_follow()
     ensures { StatesFollow }
 {}
 
-/// A rule of a legal account is kept exactly if it is kept by the state, as long as those before it are; that
-/// of free partners where what is named is open.
+/// A rule of a legal account is kept exactly if it is kept by the state, as long as those before it are; the
+/// rule of free partners, where what is named is open.
 pub fn states_keep_rules()
     ensures { StatesKeepRules }
 {}
 
-/// The state after an entry, whom it settles and in which order, and the reply of its own request are read
+/// The state after an entry, which requests it settles in which order, and its own request's reply are read
 /// off the state before it.
 pub fn states_settle()
     ensures { StatesSettle }
@@ -42,8 +42,7 @@ pub fn steps_move()
     ensures { StepsMove }
 {}
 
-/// Each move of the state of a legal account is a step of the account: what can come next is read off the
-/// state.
+/// Each move of the state of a legal account is a step of the account: the state gives what can come next.
 pub fn moves_step()
     ensures { MovesStep }
 {}
@@ -64,19 +63,19 @@ pub fn moves_exist()
     ensures { MovesExist }
 {}
 
-/// Under whatever limits each step of a legal account is a move of its state, with the same entries, answer,
+/// Under any limits, each step of a legal account is a move of its state, with the same entries, answer,
 /// settled requests and state after.
 pub fn steps_move_under()
     ensures { (limits : StepLimits) → StepsMoveUnder limits }
 {}
 
-/// Under whatever limits each move of the state of a legal account is a step of the account.
+/// Under any limits, each move of the state of a legal account is a step of the account.
 pub fn moves_step_under()
     ensures { (limits : StepLimits) → MovesStepUnder limits }
 {}
 
-/// Under whatever limits each step of one of two legal accounts with one state is a step of the other, with
-/// the same answer, entries, settled requests and state after.
+/// Under any limits, each step of one of two legal accounts with one state is a step of the other, with the
+/// same answer, entries, settled requests and state after.
 pub fn steps_alike_under()
     ensures { (limits : StepLimits) → StepsAlikeUnder limits }
 {}
@@ -103,7 +102,7 @@ pub fn book_limits_fit()
     ensures { AreStepLimits book_limits }
 {}
 
-/// A step that isn't refused for want of room for clients or entries is one under all limits no less.
+/// A step that isn't refused for lack of room for clients or entries is one under any limits no lower.
 pub fn limits_only_refuse()
     ensures { LimitsOnlyRefuse }
 {}
@@ -113,7 +112,7 @@ pub fn limits_hold()
     ensures { LimitsHold }
 {}
 
-/// Under whatever limits a step only adds to the account.
+/// Under any limits, a step only adds to the account.
 pub fn steps_extend_under()
     ensures { (limits : StepLimits) → StepsExtendUnder limits }
 {}
@@ -123,31 +122,31 @@ pub fn ticks_extend()
     ensures { TicksExtend }
 {}
 
-/// Under whatever limits, by one moment and message a step leads to one account and one answer, want of
-/// memory aside.
+/// Under any limits, a step of a moment and message leads to one account and one answer, want of memory
+/// aside.
 pub fn one_next_under()
     ensures { (limits : StepLimits) → OneNextUnder limits }
 {}
 
-/// By one moment the time-outs of an account lead to one account.
+/// The time-outs of an account at a moment lead to one account.
 pub fn one_ticked()
     ensures { OneTicked }
 {}
 
-/// Under whatever limits, after a step's time-outs a request for which no refusal is due has its answer here
-/// or in a next account.
+/// Under any limits, after a step's time-outs a request for which no refusal is due has its answer here or in
+/// a next account.
 pub fn requests_can_enter_under()
     ensures { (limits : StepLimits) → RequestsCanEnterUnder limits }
 {}
 
-/// Under whatever limits, after a step's time-outs a cancel for which no refusal is due has its reply here or
-/// in a next account.
+/// Under any limits, after a step's time-outs a cancel for which no refusal is due has its reply here or in a
+/// next account.
 pub fn cancels_can_enter_under()
     ensures { (limits : StepLimits) → CancelsCanEnterUnder limits }
 {}
 
-/// Under whatever limits, after the time-outs of a step a hello that is no repeat can enter, if no refusal of
-/// it is due.
+/// Under any limits, after a step's time-outs a hello that is no repeat can enter, if no refusal of it is
+/// due.
 pub fn hellos_can_enter_under()
     ensures { (limits : StepLimits) → HellosCanEnterUnder limits }
 {}

@@ -61,7 +61,8 @@ pub fn is_last_of(epoch: u64, there: &OpenPlace, waiter: Waiter, session: &Clien
     }
 }
 
-/// Whether the place has an item that was given to a queue, with no limit: where nobody waits, that of a put.
+/// Whether the place has an item that was given to a queue, with no limit. Where nobody waits, that is a
+/// put's.
 pub fn lies_open(there: &OpenPlace) -> bool
     ensures { IsTrue result ↔ LiesOpen there.now }
 {

@@ -39,7 +39,8 @@ state_by epoch moment length opens clients =
       clients = map_of clients;
     }
 
--- the client of who waits at the open place is known, and that request is the last of its session
+-- the client of the request that waits at the open place is known, and that request is the last of its
+-- session
 pub record IsLastAmong (epoch : ℕ) (clients : List (ℕ × ClientState)) (there : OpenPlace) (w : Waiter) :
     Type 0
   where
@@ -48,7 +49,7 @@ pub record IsLastAmong (epoch : ℕ) (clients : List (ℕ × ClientState)) (ther
     pub known : slice_get clients i ≡ Some (w.key.client, session)
     pub last : IsLastOf epoch there w session
 
--- all that a state to resume from has at one open place, but for what the others are
+-- all that a state to resume from has at one open place, apart from the other places
 pub record StandsWell (epoch moment length : ℕ) (clients : List (ℕ × ClientState)) (there : OpenPlace) :
     Type 0
   where

@@ -1,5 +1,5 @@
 -- Which replies a call may get in a session of a version: by Java's calls, as `told_alone` and `told_with`
--- tell them, whatever else there is.
+-- give them, whatever else there is.
 use Rattle.std.specs.Prelude.{◌≡◌, ◌⊎◌, ◌≤◌, ℕ, zero, suc, List, length}
 use Rattle.rv_text.specs.declared.answer.Reply.{Reply}
 use Rattle.rv_text.specs.declared.answer.Reply.TheVariants as reply
@@ -11,19 +11,19 @@ use Rattle.rv_text.specs.declared.message.Key.{Key}
 use Rattle.rv_text.specs.declared.version.Version.{Version}
 use Rattle.rv_text.specs.declared.version.Version.TheVariants.{One, Two}
 
--- a transfer that was met is told this, by its session's version
+-- a transfer that was met may have this reply, by its session's version
 abbrev pub TellsReceipt : Version → Reply → Type 0
 TellsReceipt One told = told ≡ reply.Received
 TellsReceipt Two told = (taker : Key) × (told ≡ reply.ReceivedBy taker)
 
--- a request that met nobody is told this, by its wait and by what it is told at once
+-- a request that met nobody may have this reply, by its wait and by the reply that it gets at once
 abbrev pub EndsUnmet : Wait → Reply → Reply → Type 0
 EndsUnmet Now at_once told = told ≡ at_once
 EndsUnmet (Millis zero) at_once told = told ≡ reply.TimedOut
 EndsUnmet (Millis (suc n)) at_once told = (told ≡ reply.TimedOut) ⊎ (told ≡ reply.Cancelled)
 EndsUnmet Forever at_once told = told ≡ reply.Cancelled
 
--- a request with this call may be told this in a session of this version
+-- a request with this call may have this reply in a session of this version
 abbrev pub SuitsCall : Version → Call → Reply → Type 0
 SuitsCall version (call.Put queue item) told = told ≡ reply.Done
 SuitsCall version (call.Transfer queue item wait) told =

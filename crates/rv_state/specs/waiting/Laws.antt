@@ -14,7 +14,7 @@ use Rattle.rv_state.specs.resume.Resuming.{CanResume}
 use Rattle.rv_state.specs.waiting.Waiting.{SettlesJust, WaitsOn}
 
 -- a machine can resume from the state after, which is no later than the moment, and in which nothing is due
--- then; and of those that waited just these wait no longer
+-- then; and of those that waited exactly these wait no longer
 pub record LeavesNoneDue (s : State) (moment : ℕ) (after : State) (settles : List Settled) : Type 0 where
   pub resumes : CanResume after
   pub in_time : after.moment ≤ moment
@@ -37,7 +37,7 @@ HoldsOfMoves Holds = (limits : StepLimits) (s : State) (moment : ℕ) (m : Messa
 abbrev pub MovesLast : Type 0
 MovesLast = HoldsOfMoves (λ s moment move. LeavesNoneDue s moment move.after move.settles)
 
--- the move's answer is within the limits, and whoever it tells to wait does so
+-- the move's answer is within the limits, and if it says that a request waits, the request does
 pub record AnswersWell (move : Move) : Type 0 where
   pub fits : FitsAnswer move.answer
   pub waits : (key : Key) → move.answer ≡ answer.Waiting key → WaitsOn move.after key
@@ -45,18 +45,18 @@ pub record AnswersWell (move : Move) : Type 0 where
 abbrev pub MovesAnswer : Type 0
 MovesAnswer = HoldsOfMoves (λ s moment move. AnswersWell move)
 
--- what a session's last request is told again is within the limits
+-- the answer to a repeat of a session's last request is within the limits
 abbrev pub ToldFits : Type 0
 ToldFits = (s : State) (key : Key) (session : ClientState) → CanResume s
     → client_at s key.client ≡ Some session → key.epoch ≡ s.epoch → FitsIdentifier key.number
     → session.incarnation ≡ key.incarnation → session.last ≡ key.number
     → FitsAnswer (answer_told key (told_again session.request))
 
--- so is that the session has a greater incarnation
+-- so is the refusal that names the session's greater incarnation
 abbrev pub OldFits : Type 0
 OldFits = (s : State) (client : ℕ) (session : ClientState) → CanResume s → client_at s client ≡ Some session
     → FitsAnswer (answer.Refused (OldIncarnation session.incarnation))
 
--- and so is the key of whoever waits
+-- and so is the key of each request that waits
 abbrev pub WaitingFits : Type 0
 WaitingFits = (s : State) (key : Key) → CanResume s → WaitsOn s key → FitsKey key

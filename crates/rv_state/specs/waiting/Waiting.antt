@@ -31,7 +31,7 @@ pub record IsOver (s : State) (key : Key) : Type 0 where
 abbrev pub IsListed : List Settled → Key → Type 0
 IsListed settles key = (i : ℕ) × (slice_get (map (λ x. x.key) settles) i ≡ Some key)
 
--- of those that waited, just these wait no longer
+-- of those that waited, exactly these wait no longer
 pub record SettlesJust (s after : State) (settles : List Settled) : Type 0 where
   pub waits : (key : Key) → WaitsOn s key
       → WaitsOn after key ⊎ (IsOver after key × IsListed settles key)

@@ -17,8 +17,8 @@ pub fn steps_resume()
     ensures { StepsResume }
 {}
 
-/// The state of a legal account within its limits, which has had room after each of its entries, is one to
-/// resume from.
+/// The state of a legal account within its limits, if it had room after each of its entries, is one to resume
+/// from.
 pub fn accounts_resume()
     ensures { AccountsResume }
 {}

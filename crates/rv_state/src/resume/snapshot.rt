@@ -73,7 +73,8 @@ impl Model for Snapshot {
 }
 
 impl Snapshot {
-    /// The state of these parts; none exactly if the clients aren't in the order of their numbers, each once.
+    /// The state with these parts; none exactly if the clients aren't in the order of their numbers, each
+    /// once.
     pub fn from_parts(
         epoch: u64,
         moment: u64,
@@ -113,8 +114,8 @@ impl Snapshot {
 
     /// Whether a machine can resume from it.
     ///
-    /// It takes no memory, and time linear in the number of open places and that of clients, but for a
-    /// binary search for each in the other list.
+    /// It takes no memory. Its time is linear in the numbers of open places and clients, apart from a binary
+    /// search for each in the other list.
     pub fn can_resume(&self) -> bool
         ensures { IsTrue result ↔ CanResume self.now }
     {

@@ -44,7 +44,7 @@ fn ends_unmet(wait: Wait, at_once: bool, reply: &Reply) -> bool
     }
 }
 
-/// Whether a request with this call may be told this in a session of this version.
+/// Whether a request with this call may have this reply in a session of this version.
 pub fn suits_call(version: Version, call: &Call, reply: &Reply) -> bool
     ensures { IsTrue result ↔ SuitsCall version call.now reply.now }
 {

@@ -2,8 +2,8 @@
 ghost use Rattle.rv_state.specs.waiting.Laws.{MovesAnswer, MovesLast, OldFits, TicksLast, ToldFits};
 ghost use Rattle.rv_state.specs.waiting.Laws.{WaitingFits};
 
-/// The time-outs of a moment lead to a state to resume from, in which nothing is due then; of those that
-/// waited just whom they settle waits no longer.
+/// The time-outs of a moment lead to a state to resume from, in which nothing is due then; of the requests
+/// that waited, exactly those that they settle wait no longer.
 pub fn ticks_last()
     ensures { TicksLast }
 {}
@@ -13,22 +13,22 @@ pub fn moves_last()
     ensures { MovesLast }
 {}
 
-/// Its answer is within the limits, and whoever it tells to wait does so.
+/// Its answer is within the limits, and if it says that a request waits, the request does.
 pub fn moves_answer()
     ensures { MovesAnswer }
 {}
 
-/// What a session's last request is told again is within the limits.
+/// The answer to a repeat of a session's last request is within the limits.
 pub fn told_fits()
     ensures { ToldFits }
 {}
 
-/// So is that the session has a greater incarnation.
+/// So is the refusal that names the session's greater incarnation.
 pub fn old_fits()
     ensures { OldFits }
 {}
 
-/// And so is the key of whoever waits.
+/// And so is the key of each request that waits.
 pub fn waiting_fits()
     ensures { WaitingFits }
 {}
