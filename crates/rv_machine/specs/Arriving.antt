@@ -29,8 +29,8 @@ pub record MayArrive (m : Holdings) (moment : ℕ) (key : Key) (call : Call) : T
   pub next : NumberIsNext (state_in m) key
   pub space : m.length + count_waiting m.table + need_of call ≤ most_counted
 
--- it arrived: the state is what its entry makes of the one before, whom that settles is listed, and its
--- session has what the entry's own reply is
+-- it arrived: the state is what its entry makes of the one before, the keys that this settles are listed, and
+-- its session has the entry's own reply
 pub record Arrives (old new : Holdings) (moment : ℕ) (key : Key) (call : Call) (made : Entry) :
     Type 0 where
   pub made_is : made ≡ entry moment (Arrive key call) (partners_of (state_in old) (Arrive key call))
@@ -46,7 +46,7 @@ pub record IsAsBefore (old new : Holdings) : Type 0 where
   pub state : state_in new ≡ state_in old
   pub settled : new.settled.items ≡ old.settled.items
 
--- the clients where a put, whose own duty came back, was told that it is done
+-- the clients where a put, whose own duty came back, has the reply that it is done
 abbrev pub after_put : ClientStates → Option OwedDuty → ClientStates
 after_put clients None = clients
 after_put clients (Some duty) = with_clients clients (clients_told clients.clients duty.client Done)

@@ -7,8 +7,7 @@ use Rattle.rv_machine.specs.declared.tables.Holdings.{Holdings}
 use Rattle.rv_machine.specs.Machines.{state_in}
 use Rattle.rv_machine.specs.open_places.OpenMap.{found_at}
 
--- the wait of the request at a place is over, which has this reply: its place is closed, its client told, and
--- its key listed
+-- the wait of the request at a place is over: it has this reply, its place is closed, and its key is listed
 pub record EndsWaiting (old new : Holdings) (place : ℕ) (reply : Reply) : Type 0 where
   pub there : OpenPlace
   pub found : found_at old.table place ≡ Some there
@@ -18,7 +17,7 @@ pub record EndsWaiting (old new : Holdings) (place : ℕ) (reply : Reply) : Type
       ∷ [])
   pub listed : new.settled.items ≡ old.settled.items ++ waiter.key ∷ []
 
--- one entry more of a moment was counted; the tables stay
+-- one more entry, of a moment, was counted; the tables stay
 abbrev pub counted : Holdings → ℕ → Holdings
 counted m moment =
     record {

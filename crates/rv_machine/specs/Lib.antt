@@ -1,4 +1,4 @@
--- The state that a machine holds, and what a step of it tells.
+-- The state that a machine holds, and what a step of it reports.
 pub mod Limiting
 pub mod Machines
 pub mod Ending

@@ -1,4 +1,4 @@
--- The state that a machine holds, what always holds of it, and what a step tells.
+-- The state that a machine holds, what always holds of it, and what a step reports.
 use Rattle.std.specs.Prelude.{◌≡◌, ◌+◌, ◌≤◌, ◌++◌, [], ℕ, List, map, Option, Some, None, IsSome}
 use Rattle.std.specs.Prelude.{option_to_list, slice_get}
 use Rattle.std.specs.Prelude.{vec_capacity, vec_len}
@@ -54,7 +54,7 @@ last_key_in s client session =
 abbrev pub WaitsLong : Call → Type 0
 WaitsLong call = IsSome (wait_of call) × Lasts (wait_of call)
 
--- who waits at an open place is its client's last request, with the side and the item of its call
+-- the request that waits at an open place is its client's last, with the side and the item of its call
 pub record IsWaiter (s : State) (there : OpenPlace) (w : Waiter) : Type 0 where
   pub session : ClientState
   pub known : client_at s w.key.client ≡ Some session
@@ -80,9 +80,9 @@ pub record LiesThere (there : OpenPlace) : Type 0 where
   pub item : List ℕ
   pub has : there.item ≡ Some item
 
--- the open places rise, all below the number of entries; who waits and the clients that wait are the same,
--- and where nobody waits a put's item lies; the moment, and the entries with one for each that waits, are
--- within their limits
+-- the open places rise, all below the number of entries; the requests that wait there are those that the
+-- clients wait for, and where none waits a put's item lies; the moment, and the entries with one for each
+-- that waits, are within their limits
 pub record IsConsistent (s : State) : Type 0 where
   pub rise : PlacesRise s.open_places
   pub below : StandBelow s.open_places s.length
@@ -95,8 +95,8 @@ pub record IsConsistent (s : State) : Type 0 where
   pub time : s.moment ≤ max_moment
   pub space : s.length + count_waiting s.open_places ≤ most_counted
 
--- the machine's state is so, the most clients are those of a state to resume from, and there is room to list
--- whoever waits among those that a step settles
+-- the machine's state is consistent, its most clients are those of a state to resume from, and there is room
+-- to list all that wait among those that a step settles
 pub record IsWhole (m : Holdings) : Type 0 where
   pub consistent : IsConsistent (state_in m)
   pub most : m.clients.most ≡ most_known
@@ -112,7 +112,7 @@ SameListRoom old new = vec_capacity new.settled ≡ vec_capacity old.settled
 abbrev pub keys_settled : List Settled → List Key
 keys_settled settles = map (λ x. x.key) settles
 
--- what is said of a step, with what the session of a key has as its reply in the state after it
+-- the answer that is said of a step, with the reply that the session of a key has in the state after it
 abbrev pub Says : State → Said → Answer → Type 0
 Says s (said.Welcome epoch client incarnation version) a = a ≡ answer.Welcome epoch client incarnation version
 Says s (said.Told key) a =

@@ -1,4 +1,4 @@
--- What it is to do again what an entry did that was written before.
+-- What it is to redo what an entry did that was written before.
 use Rattle.std.specs.Prelude.{◌≡◌, ◌≢◌, ◌<◌, [], ℕ}
 use Rattle.rv_account.specs.declared.entry.Act.{Act}
 use Rattle.rv_account.specs.declared.entry.Act.TheVariants.{Hello, Arrive, Cancel, Tick}
@@ -9,7 +9,7 @@ use Rattle.rv_state.specs.resume.Resuming.{CanResume, StaysInRoom}
 use Rattle.rv_machine.specs.declared.tables.Holdings.{Holdings}
 use Rattle.rv_machine.specs.Machines.{keys_settled, state_in}
 
--- the state is what the act makes of the one before, and just whom that settles is listed
+-- the state is what the act makes of the one before, and exactly the keys that this settles are listed
 pub record IsRedone (old new : Holdings) (moment : ℕ) (does : Act) : Type 0 where
   pub after : state_in new ≡ (following (state_in old) moment does).after
   pub settles : new.settled.items ≡ keys_settled (following (state_in old) moment does).settles

@@ -12,8 +12,8 @@ use Rattle.rv_machine.specs.declared.steps.Heard.{Heard}
 use Rattle.rv_machine.specs.declared.steps.TickMade.{TickMade}
 use Rattle.rv_machine.specs.Machines.{Says, keys_settled, state_in}
 
--- the tick of a step, whose moment it gives: it made this entry, just these keys are listed as settled, and
--- the entry takes the place of a wait that ended
+-- the tick of a step, whose moment it gives: it made this entry, exactly these keys are listed as settled,
+-- and the entry takes the place of a wait that ended
 pub record IsTick (old new : Holdings) (made : TickMade) : Type 0 where
   pub makes : option_to_list made.entry ≡ (ticked_at (state_in old) made.moment).entries
   pub settles : new.settled.items ≡ keys_settled (ticked_at (state_in old) made.moment).settles
@@ -26,13 +26,13 @@ IsNoRequest (Hello client incarnation version) = Unit {0}
 IsNoRequest (Request key call) = ⊥
 IsNoRequest (Cancel key) = Unit {0}
 
--- nothing came of a message, and not for want of memory: it repeats what was told, or is refused
+-- a message made no entry, and not for want of memory: it is a repeat, or is refused
 pub record MadeNothing (made : Heard) : Type 0 where
   pub none : made.entry ≡ None
   pub in_memory : made.said ≢ Refused NoMemory
 
--- one move of the state for a message at a moment, under limits: it made this entry, this is said, and just
--- these keys are listed as settled
+-- one move of the state for a message at a moment, under limits: it made this entry, this is said, and
+-- exactly these keys are listed as settled
 pub record IsHearing (limits : StepLimits) (old new : Holdings) (moment : ℕ) (m : Message) (made :
     Heard) :
     Type 0

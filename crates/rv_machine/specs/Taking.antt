@@ -10,20 +10,20 @@ use Rattle.rv_machine.specs.declared.tables.Holdings.{Holdings}
 use Rattle.rv_machine.specs.Machines.{keys_settled, state_in}
 use Rattle.rv_machine.specs.open_places.OpenMap.{line_in, count_waiting}
 
--- what is told who gives what the request of this key takes, by its session's version
+-- the reply of a giver whose item the request with this key takes, by the giver's session's version
 abbrev pub told_taken : State → Key → OpenPlace → Key → Option Reply
 told_taken s taker there waits =
     option_and_then (λ version. receipt_of version (Some taker)) (session_version s waits)
 
--- whom it settles that the request of this key takes these
+-- the requests that are settled when the request with this key takes these
 abbrev pub settled_taken : State → Key → List OpenPlace → List Settled
 settled_taken s taker gone = settled_all (told_taken s taker) gone
 
--- the state without these, which the request of this key took
+-- the state without these, which the request with this key took
 abbrev pub without_taken : State → Key → List OpenPlace → State
 without_taken s taker gone = closed s gone (settled_taken s taker gone)
 
--- the oldest item of a queue was taken by the request of this key
+-- the oldest item of a queue was taken by the request with this key
 pub record TakesOne (old new : Holdings) (queue : ℕ) (taker : Key) (there : OpenPlace) : Type 0 where
   pub first : line_in old.table (Gives queue) ≡ there ∷ line_in new.table (Gives queue)
   pub has : IsSome there.item
@@ -36,7 +36,7 @@ pub record TakesOne (old new : Holdings) (queue : ℕ) (taker : Key) (there : Op
 abbrev pub items_of : List OpenPlace → List (List ℕ)
 items_of gone = filter_map (λ o. o.item) gone
 
--- so many of a queue's oldest items were, which are these with these places
+-- so many of a queue's oldest items were taken: these, with these places
 pub record TakesAll (old new : Holdings) (queue : ℕ) (taker : Key) (count : ℕ) (items : List (List ℕ))
     (places : List ℕ) : Type 0 where
   pub gone : List OpenPlace

@@ -1,4 +1,4 @@
--- What those who meet are told, by side and version.
+-- The replies of those that meet, by side and version.
 use Rattle.std.specs.Prelude.{◌≡◌, ◌<◌, ◌+◌, ◌++◌, ◌∷◌, [], ℕ, List, Option, Some, None, option_map}
 use Rattle.std.specs.Prelude.{vec_capacity, vec_len}
 use Rattle.std.specs.FinMap.{get}
@@ -17,20 +17,21 @@ use Rattle.rv_state.specs.State.{Waiter}
 use Rattle.rv_state.specs.After.{receipt_of}
 use Rattle.rv_machine.specs.declared.tables.Holdings.{Holdings}
 
--- what a request that waits, or that doesn't wait long, is told of the one that it meets, which has this key
--- and item: a giver who took its item, by its session's version, a taker the item, and who swaps the other's
+-- the reply of a request, other than a put or a drain, that meets one with this key and item: for a giver
+-- that its item was received, by its session's version; for a taker the item; and for a swap the other's item
 abbrev pub told_on_side : Side → Version → Option Key → Option (List ℕ) → Option Reply
 told_on_side (Gives queue) version other gets = receipt_of version other
 told_on_side (Takes queue) version other gets = option_map (λ item. reply.Item item) gets
 told_on_side (Exchanges exchanger) version other gets = option_map (λ item. reply.Swapped item) gets
 told_on_side (Looks queue) version other gets = None
 
--- an arrival with this wait is told so too; a put is done
+-- an arrival with this wait has the same reply; a put is done
 abbrev pub told_arriving : Option Wait → Side → Version → Option Key → Option (List ℕ) → Option Reply
 told_arriving None side version other gets = Some reply.Done
 told_arriving (Some wait) side version other gets = told_on_side side version other gets
 
--- who waits with a duty has its session, its reply by that session's version, and room in the list
+-- the request that waits with a duty has its session, its reply by that session's version, and room in the
+-- list
 pub record MayTell (m : Holdings) (duty : OwedDuty) (waiter : Option Waiter) (side : Side) (key : Key)
     (gift : Option (List ℕ)) : Type 0 where
   pub who : Waiter
@@ -48,7 +49,7 @@ abbrev pub TellsWaiter : Holdings → Option OwedDuty → Option Waiter → Side
 TellsWaiter m None waiter side key gift = Unit {0}
 TellsWaiter m (Some duty) waiter side key gift = MayTell m duty waiter side key gift
 
--- the machine where one who waited was told a reply
+-- the machine where a request that waited has this reply
 abbrev pub machine_told : Holdings → Waiter → Reply → Vec Key → Holdings
 machine_told m who reply settled =
     record {
@@ -59,7 +60,7 @@ machine_told m who reply settled =
       settled = settled;
     }
 
--- it was told so, and its key listed
+-- it has its reply, and its key is listed
 pub record WasTold (old new : Holdings) (waiter : Option Waiter) (side : Side) (key : Key)
     (gift : Option (List ℕ)) : Type 0 where
   pub who : Waiter

@@ -1,4 +1,4 @@
--- What the tables say of what is open.
+-- What the tables of open places say.
 pub mod OpenMap
 pub mod Indexed
 pub mod Reopening

@@ -16,7 +16,7 @@ use rv_session::{KeyStanding, Place};
 use rv_text::{Key, Refusal, Reply};
 
 impl Holdings {
-    /// A cancel: it ends what waits, tells what has its reply, and settles what did not come yet.
+    /// A cancel: it ends what waits, repeats the reply of what is settled, and settles what did not come yet.
     pub(crate) fn cancel(
         &mut self,
         limits: &Limits,

@@ -64,7 +64,7 @@ impl Machine {
         self.tables.table.get(place)
     }
 
-    /// How many requests wait. With the entries that there were they are at most 2^54.
+    /// How many requests wait. Together with the entries that there were, they are at most 2^54.
     pub fn waiting(&self) -> usize
         ensures count { result ≡ waiting_count (state_in self.now) }
         ensures space { (state_in self.now).length + result ≤ most_counted }
@@ -98,7 +98,7 @@ impl Machine {
         self.tables.table.behind(side, after)
     }
 
-    /// The client of the least number above another, or of all, with its state. So clients are read in the
+    /// The client with the least number above another, or of all, and its state. So clients are read in the
     /// order of their numbers, without a copy.
     pub fn next_client(&self, after: Option<u64>) -> Option<(u64, &ClientState)>
         ensures { option_map (λ p. (p.0, p.1.now)) result ≡ next_client (state_in self.now).clients after }

@@ -1,4 +1,4 @@
-//! The machine of a book: the state of an account in tables, of which always holds what its steps rest on.
+//! The machine of a book: the state of an account, in tables that always keep what its steps rest on.
 use crate::tables::Holdings;
 use rv_text::{Key, Refusal, Version};
 use std::marker::Model;
@@ -15,8 +15,7 @@ pub enum Said {
 }
 
 /// The machine: the state of an account, without its entries. Each step is handed its limits. Contracts see
-/// its tables, of which always holds that they fit each other and a state, and that there is room to list
-/// whoever waits.
+/// its tables. They always fit each other and a state, and there is always room to list all that wait.
 #[derive(Drop)]
 pub struct Machine {
     pub(crate) tables: Holdings,

@@ -1,4 +1,4 @@
-//! Requests that meet one who was there.
+//! Requests that meet one that was there.
 ghost use Rattle.std.specs.Prelude.{◌≡◌, ◌<◌, [], None, Some, IfOk, IsSome, OnErr, length, option_map};
 ghost use Rattle.std.specs.Prelude.{vec_capacity};
 ghost use Rattle.std.specs.FinMap.{get};
@@ -16,7 +16,7 @@ use rv_account::{Act, Entry, Partners};
 use rv_session::{Duty, OpenPlace, Place, Waiter};
 use rv_text::{Call, Item, Key, NoMemory, Reply, Side, Version, Wait};
 
-/// What a giver is told whose item was taken by the request of a key.
+/// The reply of a giver whose item was taken by the request with a key.
 pub(crate) fn receipt(version: Version, taker: Option<Key>) -> Reply
     requires { IsSome (receipt_of version taker) }
     ensures { receipt_of version taker ≡ Some result }
@@ -65,8 +65,8 @@ fn arriving(
 }
 
 impl Holdings {
-    /// A request meets the oldest that it can meet, which there must be. Fails only if memory was refused,
-    /// and then the state stays.
+    /// A request meets the oldest that it can meet; there must be one. Fails only if memory was refused, and
+    /// then the state stays.
     pub(crate) fn meet(&mut self, moment: u64, key: Key, call: Call) -> Result<Entry, NoMemory>
         requires may { MayArrive self.old moment key call }
         requires some { 0 < length (opposed_in self.old.table (side_of call)) }

@@ -1,4 +1,4 @@
-//! Entries that were written before: what one did is done again.
+//! Redoes what an entry did that was written before.
 ghost use Rattle.std.specs.Prelude.{◌≡◌, ◌≤◌, [], true, false};
 ghost use Rattle.rv_text.specs.Limits.{FitsMessage};
 ghost use Rattle.rv_account.specs.Limits.{FitsAct};
@@ -76,9 +76,10 @@ impl Holdings {
 }
 
 impl Machine {
-    /// Does again what an entry did that was written before, of this moment and act, whatever limits its step
-    /// had, and lists whom it settles. Tells whether it was done: only want of memory keeps it from that, and
-    /// then the state stays and nobody is listed. A tick, and a cancel of what waits, take none.
+    /// Redoes what an entry with this moment and act did that was written before, whatever the limits of its
+    /// step, and lists the keys that it settles. Says whether it was done: it fails only if memory was
+    /// refused, and then the state stays and no key is listed. A tick, and a cancel of what waits, take no
+    /// memory.
     pub fn redo(&mut self, moment: u64, act: Act) -> bool
         requires time { moment ≤ max_moment }
         requires fits { FitsAct act }

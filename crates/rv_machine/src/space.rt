@@ -17,7 +17,7 @@ use rv_rules::Limits;
 use rv_session::{Greeting, KeyStanding};
 use rv_text::{Call, Message};
 
-/// How many entries a message may come to need: its own, and for a request that waits one that ends its wait.
+/// How many entries a message may need: its own, and for a request that waits one that ends its wait.
 pub fn message_need(message: &Message) -> usize
     ensures exact { result ≡ message_need message.now }
     ensures small { result ≤ 2 }
@@ -30,7 +30,7 @@ pub fn message_need(message: &Message) -> usize
 }
 
 impl Holdings {
-    /// Whether there is no space for so many entries more, beside those that what waits may come to need.
+    /// Whether there is no space for so many more entries, besides those that what waits may need.
     pub(crate) fn is_full(&self, limits: &Limits, need: usize) -> bool
         requires ready { IsWhole self.now }
         requires small { need ≤ max_entries }
@@ -43,7 +43,7 @@ impl Holdings {
         self.length + self.table.waiting() + need > limits.entries()
     }
 
-    /// Whether an arrival with this call would stay, where no place more may stand open.
+    /// Whether an arrival with this call would stay although no more places may stand open.
     pub(crate) fn lacks_place(&self, limits: &Limits, call: &Call) -> bool
         requires fits { FitsCall call.now }
         ensures { IsTrue result ↔ LacksPlace limits.now.open_places (state_in self.now) call.now }
@@ -107,7 +107,7 @@ impl Holdings {
 
 impl Machine {
     /// Whether the message, heard now under limits, would get an entry of its own for which room must be
-    /// made: no line of the step comes before, and it is no cancel of what waits.
+    /// made: no earlier line of the step applies, and it is no cancel of what waits.
     pub fn enters(&self, limits: &Limits, message: &Message) -> bool
         requires fits { FitsMessage message.now }
         ensures yes { result ≡ true → MayLackMemory limits.now (state_in self.now) message.now }

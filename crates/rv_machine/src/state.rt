@@ -35,8 +35,8 @@ impl Machine {
         Ok(Snapshot::from_parts(epoch, self.tables.moment, length, places, clients).unwrap())
     }
 
-    /// The machine of a state to resume from, whatever account made that: it goes on as a machine does that
-    /// came to it, and has settled nothing yet. It takes time as [`Snapshot::can_resume`] does.
+    /// The machine of a state to resume from, whatever account led to it. It goes on as a machine that came
+    /// to this state does, and has settled nothing yet. It takes time as [`Snapshot::can_resume`] does.
     pub fn resume(alloc: Global, state: Snapshot) -> Result<Machine, NoMachine>
         ensures state { IfOk result (λ m. state_in m ≡ state) }
         ensures settled { IfOk result (λ m. m.settled.items ≡ []) }

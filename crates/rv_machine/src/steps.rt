@@ -132,9 +132,9 @@ impl Machine {
         Ok(Machine { tables })
     }
 
-    /// The first half of a step, or time that passes alone: all that is due at its moment is ended, and its
-    /// keys are listed; where nothing is due the state stays. The moment is the one handed in, at most 2^62,
-    /// or the last one if that is later. It takes no memory.
+    /// The first half of a step, or time that passes alone: all that is due at its moment is ended, and the
+    /// keys are listed; if nothing is due, the state stays. The moment is the one handed in, at most 2^62, or
+    /// the last one if that is later. It takes no memory.
     pub fn elapse(&mut self, now: u64) -> TickMade
         ensures exact { result.moment ≡ state_moment (state_in self.old) now }
         ensures later { self.new.moment ≤ result.moment }
@@ -146,7 +146,7 @@ impl Machine {
     }
 
     /// The second half of a step: a message is heard at its moment under limits, and the keys that it settles
-    /// are listed. Limits only refuse: a machine goes on under any.
+    /// are listed. Limits only refuse: a machine works under any.
     pub fn hear(&mut self, limits: &Limits, moment: u64, message: Message) -> Heard
         requires later { self.old.moment ≤ moment }
         requires time { moment ≤ max_moment }

@@ -26,7 +26,7 @@ pub struct Holdings {
 }
 
 impl Holdings {
-    /// Ends the wait of the request at a place, which has this reply now, and lists its key.
+    /// Ends the wait of the request at a place with this reply, and lists its key.
     pub(crate) fn end(&mut self, place: Place, reply: Reply)
         requires ready { IsWhole self.old }
         requires waits { WaitsIn self.old.table place }
@@ -39,7 +39,7 @@ impl Holdings {
         self.clients.settle(duty, reply);
     }
 
-    /// Counts one entry more, of a moment, and gives it. What is whole stays so if there is space for it.
+    /// Counts one more entry, of a moment, and gives it. Whole tables stay whole if there is space for it.
     pub(crate) fn record(&mut self, moment: u64, act: Act, partners: Partners) -> Entry
         requires { self.old.length < most_counted }
         ensures entry { result ≡ entry moment act partners }

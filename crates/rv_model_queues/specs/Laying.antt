@@ -9,8 +9,8 @@ use Rattle.rv_model_queues.specs.Meeting.{StartsToWait}
 use Rattle.rv_model_queues.specs.Parked.{AreParked}
 use Rattle.rv_model_queues.specs.Views.{WaitQueues}
 
--- who waits on the side at the place may have this duty: a request that of its place, the item of a put none;
--- who looks never waits
+-- what waits on the side at the place may have this duty: a request that of its place, a put's item none;
+-- what looks never waits
 abbrev pub MayWaitBy : Side → ℕ → Option OwedDuty → Type 0
 MayWaitBy (Gives queue) place None = Unit {0}
 MayWaitBy (Gives queue) place (Some duty) = duty.place ≡ place
@@ -25,8 +25,8 @@ abbrev pub offer_with : ℕ → Option OwedDuty → Offer
 offer_with place None = Put place
 offer_with place (Some duty) = Waits duty
 
--- one more waits on the side, after all others there, with its duty, if it has one; whatever duties are
--- owed, those that are parked after it are owed too, where those before and this one are
+-- one more waits on the side, after all others there, with its duty, if it has one; for any owed duties, if
+-- those parked before and this one are owed, so are those parked after it
 pub record LaidOn (old new : WaitQueues) (side : Side) (place : ℕ) (duty : Option OwedDuty) : Type 0 where
   pub waits : StartsToWait old new side place
   pub parked : (owed : ℕ → Option OwedDuty) → AreParked owed old → owed place ≡ duty → AreParked owed new

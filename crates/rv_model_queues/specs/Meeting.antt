@@ -1,4 +1,4 @@
--- What an arrival does to those who wait, by its side and its wait.
+-- What an arrival does to those that wait, by its side and its wait.
 use Rattle.std.specs.Prelude.{◌≡◌, ◌≢◌, ◌⊎◌, ◌<◌, ◌≤◌, ◌==◌, ℕ, [], ◌∷◌, ◌++◌, length, min}
 use Rattle.std.specs.Prelude.{not, Option, Some, None, IsSome, option_and_then, slice_get}
 use Rattle.std.specs.Global.{Vec}
@@ -84,11 +84,11 @@ pub record TookNothing (old new : Queue) (duty : OwedDuty) (result : Arrived) : 
   pub memory : SameMemory old new
   pub is : result ≡ record { partner = None; own = Some duty; other = None }
 
--- who gives with this wait has room for its item, where it will lie there
+-- a giver with this wait has room for its item, if it will stay there
 abbrev pub HasRoomToGive : Queue → Option Wait → Type 0
 HasRoomToGive q wait = Lasts wait → q.takers ≡ [] → 0 < q.giver_room.spare
 
--- and so has who takes, where it will wait
+-- and so has a taker, if it will wait
 abbrev pub HasRoomToTake : Queue → Option Wait → Type 0
 HasRoomToTake q wait = Lasts wait → q.givers ≡ [] → 0 < q.taker_room.spare
 
@@ -103,7 +103,7 @@ pub record GrowsTakers (old new : Queue) : Type 0 where
   pub own : GrowsRoom old.taker_room new.taker_room
   pub other : new.giver_room ≡ old.giver_room
 
--- where nobody of the other side is there, by the wait: it stays, or it goes
+-- if nobody of the other side is there, by the wait: it stays, or it goes
 abbrev pub ByWait : Option Wait → Type 0 → Type 0 → Type 0
 ByWait wait stays goes = (Lasts wait × stays) ⊎ ((¬ Lasts wait) × goes)
 
@@ -178,14 +178,14 @@ MeetsOrWaits old new side wait place None =
     (StaysBy side wait × StartsToWait old new side place)
     ⊎ ((¬ StaysBy side wait) × FindsNobody old side × SameWaitQueues old new)
 
--- its own duty comes back, but where it is a request that waits now
+-- its own duty comes back, unless it is a request that waits now
 abbrev pub OwnDuty : Side → Option Wait → Option ℕ → OwedDuty → Option OwedDuty → Type 0
 OwnDuty side wait partner duty None = (partner ≡ None) × StaysBy side wait × IsSome wait
 OwnDuty side wait partner duty (Some own) =
     (own ≡ duty) × ((partner ≡ None) → StaysBy side wait → wait ≡ None)
 
--- how many requests start to wait with an arrival whose own duty is this, and how many stop with one that met
--- the request of this duty
+-- how many requests start to wait with an arrival that gives back this own duty, and how many stop with one
+-- that met the request of this duty
 abbrev pub starts_waiting : Option OwedDuty → ℕ
 starts_waiting None = 1
 starts_waiting (Some own) = 0
@@ -199,8 +199,8 @@ abbrev pub PartnersDuty : (ℕ → Option OwedDuty) → Option ℕ → Option Ow
 PartnersDuty owed None other = other ≡ None
 PartnersDuty owed (Some partner) other = other ≡ owed partner
 
--- what the arrival of a request with this duty did; whatever duties are owed, those that are parked after it
--- are owed too, where those before and this one are
+-- what the arrival of a request with this duty did; for any owed duties, if those parked before and this one
+-- are owed, so are those parked after it
 pub record ArrivedOn (old new : WaitQueues) (side : Side) (wait : Option Wait) (duty : OwedDuty)
     (result : Arrived) : Type 0 where
   pub meets : MeetsOrWaits old new side wait duty.place result.partner
@@ -221,7 +221,7 @@ pub record LeavesSide (old new : WaitQueues) (side : Side) (duty : OwedDuty) (re
   pub parked : (owed : ℕ → Option OwedDuty) → AreParked owed old → AreParked owed new
 
 -- the first that waits on the side left it, and its duty came out, if it is a request; the duties of those
--- who stay are parked as they were
+-- that stay are parked as they were
 pub record LeavesFirst (old new : WaitQueues) (side : Side) (duty : Option OwedDuty) (place : ℕ) :
     Type 0 where
   pub first : waiting_on old side ≡ place ∷ waiting_on new side
@@ -229,7 +229,7 @@ pub record LeavesFirst (old new : WaitQueues) (side : Side) (duty : Option OwedD
   pub duty_is : (owed : ℕ → Option OwedDuty) → AreParked owed old → duty ≡ owed place
   pub parked : (owed : ℕ → Option OwedDuty) → AreParked owed old → AreParked owed new
 
--- the first that waits on the side, if one does, left it; where none does all that wait stay
+-- the first that waits on the side, if any, left it; if none does, all that wait stay
 abbrev pub LeftFront : WaitQueues → WaitQueues → Side → Option (Option OwedDuty × ℕ) → Type 0
 LeftFront old new side (Some (duty, place)) = LeavesFirst old new side duty place
 LeftFront old new side None = (waiting_on old side ≡ []) × SameWaitQueues old new
@@ -247,30 +247,30 @@ pub record StandsOn (wait_queues : WaitQueues) (side : Side) (place : ℕ) : Typ
   pub there : slice_get (waiting_on wait_queues side) i ≡ Some place
   pub only : (other : Side) (j : ℕ) → slice_get (waiting_on wait_queues other) j ≡ Some place → other ≡ side
 
--- whose duty is parked at the place, by whatever duties are owed, left its side
+-- the request whose duty is parked at the place, for any owed duties, left its side
 abbrev pub Withdrew : WaitQueues → WaitQueues → Side → ℕ → Option OwedDuty → Type 0
 Withdrew old new side place result = (owed : ℕ → Option OwedDuty) (duty : OwedDuty) → AreParked owed old
     → StandsOn old side place → owed place ≡ Some duty → LeavesSide old new side duty result
 
 -- ---- room
 
--- the room of a side; who looks waits nowhere, and an exchanger has its own
+-- the room of a side; what looks waits nowhere, and an exchanger has its own
 abbrev pub room_on : WaitQueues → Side → Room
 room_on wait_queues (Gives queue) = (queue_at wait_queues.queues queue).giver_room
 room_on wait_queues (Takes queue) = (queue_at wait_queues.queues queue).taker_room
 room_on wait_queues (Looks queue) = record { spare = 1; capacity = 1 }
 room_on wait_queues (Exchanges exchanger) = record { spare = 1; capacity = 1 }
 
--- how many wait on this side, which an arrival meets, if it meets any
+-- how many wait on the side that an arrival meets, if it meets any
 abbrev pub opposed_by : WaitQueues → Option Side → ℕ
 opposed_by wait_queues None = 0
 opposed_by wait_queues (Some other) = length (waiting_on wait_queues other)
 
--- who comes to the side with this wait lasts, and nobody is there whom it meets
+-- an arrival of the side with this wait lasts, and nobody is there that it meets
 abbrev pub StaysAlone : WaitQueues → Side → Option Wait → Type 0
 StaysAlone wait_queues side wait = Lasts wait × (opposed_by wait_queues (opposite side) ≡ 0)
 
--- an arrival of the side with this wait parks: it stays, and nobody is there whom it meets
+-- an arrival of the side with this wait parks: it stays, and nobody is there that it meets
 pub record ParksOn (wait_queues : WaitQueues) (side : Side) (wait : Option Wait) : Type 0 where
   pub stays : StaysBy side wait
   pub nobody : FindsNobody wait_queues side
@@ -283,7 +283,7 @@ HasRoomOn wait_queues side wait = ParksOn wait_queues side wait → 0 < (room_on
 abbrev pub LacksRoomOn : WaitQueues → Side → Option Wait → Type 0
 LacksRoomOn wait_queues side wait = ParksOn wait_queues side wait × ((room_on wait_queues side).spare ≡ 0)
 
--- room was made on one side alone; who looks needs none
+-- room was made on one side alone; what looks needs none
 pub record MakesRoomOn (old new : WaitQueues) (side : Side) : Type 0 where
   pub same : SameWaitQueues old new
   pub own : GrowsRoom (room_on old side) (room_on new side)

@@ -1,4 +1,4 @@
--- Whose duties are parked: what those who wait are to the duties that are owed.
+-- Whose duties are parked: how those that wait stand to the duties that are owed.
 use Rattle.std.specs.Prelude.{◌≡◌, ℕ, Option, Some, slice_get}
 use Rattle.rv_session.specs.OwedDuty.{OwedDuty}
 use Rattle.rv_dual.specs.Offers.{duty_of, place_of}
@@ -6,8 +6,8 @@ use Rattle.rv_dual.specs.Queue.{Queue}
 use Rattle.rv_dual.specs.declared.giver.Offer.{Offer}
 use Rattle.rv_model_queues.specs.Views.{WaitQueues, exchanger_at, queue_at}
 
--- Below, `owed` says for each place the duty to settle what arrived there, if one is owed; a put needs none.
--- What is said here is said of whatever function tells this.
+-- Below, `owed` gives for each place the duty to settle what arrived there, if one is owed; a put needs none.
+-- What is said here is said of any such function.
 
 -- the duties that are parked in a queue are those that are owed at their places
 pub record IsParked (owed : ℕ → Option OwedDuty) (q : Queue) : Type 0 where

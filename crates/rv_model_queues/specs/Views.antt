@@ -1,4 +1,4 @@
--- What contracts see of who waits: the queues and the exchangers, and for each side the places on it.
+-- What contracts see of those that wait: the queues and the exchangers, and for each side the places on it.
 use Rattle.std.specs.Prelude.{◌≡◌, ◌≢◌, ◌<◌, ℕ, List, [], ◌∷◌, Option, Some, None, unwrap_or, slice_get}
 use Rattle.rv_text.specs.declared.call.Side.{Side}
 use Rattle.rv_text.specs.declared.call.Side.TheVariants.{Gives, Takes, Looks, Exchanges}
@@ -79,7 +79,7 @@ pub record NobodyWaits (wait_queues : WaitQueues) : Type 0 where
   pub queues : AllEmpty wait_queues.queues
   pub exchangers : AllFree wait_queues.exchangers
 
--- whoever waits, waits at a place below this one
+-- all that wait do so at places below this one
 abbrev pub AreBelow : WaitQueues → ℕ → Type 0
 AreBelow wait_queues place =
     (side : Side) (i r : ℕ) → slice_get (waiting_on wait_queues side) i ≡ Some r → r < place

@@ -107,7 +107,8 @@ impl Exchangers {
         is_above(after, place).then_some(place)
     }
 
-    /// An arrival meets the one that waits at the exchanger, which leaves. Alone it waits, if its wait lasts.
+    /// An arrival meets the one that waits at the exchanger, which leaves. If none does, it waits, if its
+    /// wait lasts.
     pub(crate) fn exchange(&mut self, exchanger: u64, wait: Wait, duty: Duty) -> Arrived
         requires { FitsSide (Exchanges exchanger) }
         ensures exchanged { Exchanged (exchanger_at self.old exchanger) (exchanger_at self.new exchanger) wait
@@ -117,7 +118,7 @@ impl Exchangers {
         exchange(&mut self.exchangers[exchanger as usize], wait, duty)
     }
 
-    /// A request is laid at an exchanger where none waits.
+    /// Adds a request at an exchanger where none waits.
     pub(crate) fn lay(&mut self, exchanger: u64, duty: Duty)
         requires fits { FitsSide (Exchanges exchanger) }
         requires free { exchanger_at self.old exchanger ≡ None }
@@ -127,7 +128,8 @@ impl Exchangers {
         lay(&mut self.exchangers[exchanger as usize], duty)
     }
 
-    /// The request that waits at an exchanger, if it is of this place, leaves it, and its duty comes back.
+    /// The request that waits at an exchanger leaves it, if it arrived at this place, and its duty comes
+    /// back.
     pub(crate) fn withdraw(&mut self, exchanger: u64, place: Place) -> Option<Duty>
         requires { FitsSide (Exchanges exchanger) }
         ensures left { LeftExchanger (exchanger_at self.old exchanger) (exchanger_at self.new exchanger) place

@@ -189,7 +189,7 @@ impl Queues {
         (dual.items(), dual.consumers())
     }
 
-    /// Makes room for one more item in a queue. All that wait stay, also if memory is refused.
+    /// Makes room for one more item in a queue. All that wait stay, even if memory is refused.
     pub(crate) fn reserve_giver(&mut self, queue: u64) -> Result<(), NoMemory>
         requires { FitsQueue queue }
         ensures makes { GrowsGivers (queue_at self.old queue) (queue_at self.new queue) }
@@ -211,7 +211,8 @@ impl Queues {
         self.queues[queue as usize].reserve_taker()
     }
 
-    /// A giver meets the queue's oldest consumer, which leaves. Alone it waits last, if its wait lasts.
+    /// A giver meets the queue's oldest consumer, which leaves. If there is none, it waits last, if its wait
+    /// lasts.
     pub(crate) fn give(&mut self, queue: u64, wait: Option<Wait>, duty: Duty) -> Arrived
         requires fits { FitsQueue queue }
         requires room { HasRoomToGive (queue_at self.old queue) wait }
@@ -226,7 +227,8 @@ impl Queues {
         }
     }
 
-    /// A taker meets the queue's oldest item, which leaves. Alone it waits last, if its wait lasts.
+    /// A taker meets the queue's oldest item, which leaves. If there is none, it waits last, if its wait
+    /// lasts.
     pub(crate) fn receive(&mut self, queue: u64, wait: Wait, duty: Duty) -> Arrived
         requires fits { FitsQueue queue }
         requires room { HasRoomToTake (queue_at self.old queue) (Some wait) }

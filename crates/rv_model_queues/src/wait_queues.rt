@@ -33,9 +33,9 @@ fn giver_of(place: Place, duty: Option<Duty>) -> Giver
 }
 
 /// All that wait, in 64 queues and at 64 exchangers, numbered from 0: in a queue items or consumers, the
-/// oldest first, and at an exchanger one request at most. Each waits by the place at which it arrived, a
+/// oldest first, and at an exchanger one request at most. Each waits by the place at which it arrived: a
 /// request with the duty to settle it, a put with none. Contracts see the places that wait on each side, and
-/// of the duties that they are the owed ones, whoever says which are owed.
+/// that the parked duties are the owed ones, for any function that says which are owed.
 #[derive(Drop)]
 pub struct WaitQueues {
     queues: Queues,
@@ -68,8 +68,8 @@ impl WaitQueues {
         self.queues.front(queue)
     }
 
-    /// The place of the first who waits on a side above another place, or of the oldest there; nobody waits
-    /// on one that looks.
+    /// The first place that waits on a side above another place, or the oldest there; nothing waits on a side
+    /// that looks.
     pub fn behind(&self, side: Side, after: Option<Place>) -> Option<Place>
         requires { FitsSide side }
         ensures { result ≡ first_above after (waiting_on self.now side) }
@@ -91,7 +91,7 @@ impl WaitQueues {
         self.queues.count(queue)
     }
 
-    /// How many wait that an arrival of this side can meet; none for one that looks.
+    /// How many wait that an arrival of this side can meet; none if it looks.
     pub fn opposed(&self, side: Side) -> usize
         requires { FitsSide side }
         ensures { result ≡ opposed_by self.now (opposite side) }
@@ -141,9 +141,9 @@ impl WaitQueues {
         self.reserve_on(call.side())
     }
 
-    /// Adds one who waited before as the last of its side: a request with its duty, a put's item with none.
-    /// Nobody may face it, its place must be above those of all that wait, and its side must have room. All
-    /// others stay.
+    /// Adds one that waited before as the last of its side: a request with its duty, a put's item with none.
+    /// None may wait on the other side, its place must be above those of all that wait, and its side must
+    /// have room. All others stay.
     pub fn lay(&mut self, side: Side, place: Place, duty: Option<Duty>)
         requires fits { FitsSide side }
         requires owed { MayWaitBy side place duty }
@@ -160,9 +160,9 @@ impl WaitQueues {
         }
     }
 
-    /// A request meets the oldest of the other side, which leaves. Alone it waits last, if its wait lasts;
-    /// else it goes, and all that wait stay. Its place is to be above theirs, and its side is to have room if
-    /// it parks.
+    /// A request meets the oldest of the other side, which leaves. If there is none, it waits last, if its
+    /// wait lasts; otherwise it goes, and all that wait stay. Its place must be above theirs, and its side
+    /// must have room if it parks.
     pub fn arrive(&mut self, call: &Call, duty: Duty) -> Arrived
         requires fits { FitsSide (side_of call.now) }
         requires room { HasRoomOn self.old (side_of call.now) (wait_of call.now) }
@@ -180,8 +180,8 @@ impl WaitQueues {
         }
     }
 
-    /// The oldest item that a side takes, if there is one, leaves: its duty, None for a put's, and its place.
-    /// All others stay, in their order.
+    /// The oldest item that a side takes leaves, if there is one. Returns its duty (None for a put's) and its
+    /// place. All others stay, in their order.
     pub fn take_front(&mut self, side: Side) -> Option<(Option<Duty>, Place)>
         requires { FitsSide side }
         ensures { TakenFor self.old self.new side result }

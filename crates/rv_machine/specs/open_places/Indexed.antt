@@ -20,7 +20,7 @@ use Rattle.rv_machine.specs.open_places.OpenMap.{PlacesRise, due_in, duty_at, fa
 use Rattle.rv_machine.specs.open_places.OpenMap.{line_in, StandBelow, most_counted, opposed_in, owed_among}
 use Rattle.rv_machine.specs.open_places.OpenMap.{count_waiting, all_but}
 
--- the places rise, each is of a side that there is, and whoever has a limit waits; the tables have just these
+-- the places rise, each is of a side that exists, and what has a limit waits; the tables have exactly these
 pub record AreIndexed (all : List OpenPlace) (wait_queues : WaitQueues) (waiting : ℕ) (due : Deadlines) :
     Type 0
   where
@@ -39,7 +39,8 @@ pub record WaitsIn (all : List OpenPlace) (place : ℕ) : Type 0 where
   pub found : found_at all place ≡ Some there
   pub waits : IsSome there.waiter
 
--- what stood at a place is closed: it comes out, with the duty to settle who waited there, and all else stays
+-- what stood at a place is closed: it comes out, with the duty to settle the request that waited there, and
+-- all else stays
 pub record ClosesPlace (old new : List OpenPlace) (place : ℕ) (there : OpenPlace) (duty : Option OwedDuty) :
     Type 0
   where

@@ -53,7 +53,7 @@ opposed_in all side = facing all (opposite side)
 abbrev pub count_waiting : List OpenPlace → ℕ
 count_waiting all = length (filter (λ o. is_some o.waiter) all)
 
--- the duty that is owed to who waits at an open place
+-- the duty that is owed to the request that waits at an open place
 abbrev pub duty_at : OpenPlace → Option OwedDuty
 duty_at there = option_map (λ w. record { place = there.place; client = w.key.client }) there.waiter
 
@@ -73,7 +73,7 @@ marked list = map (λ deadline. (deadline, tt)) list
 abbrev pub limits_map : List OpenPlace → FinMap by_moment (Unit {0})
 limits_map all = from_entries (marked (filter_map deadline_of_place all))
 
--- the places whose limit is at or below a moment, by limit and then place
+-- the places whose limit is at or before a moment, by limit and then place
 abbrev pub due_in : List OpenPlace → ℕ → List OpenPlace
 due_in all moment =
     filter_map (λ deadline. found_at all deadline.1)

@@ -52,7 +52,7 @@ pub record MayReopen (all : List OpenPlace) (one : OpenPlace) (claims : Claiming
   pub alone : opposed_in all one.side ≡ []
   pub unclaimed : is_above claims.last one.place ≡ true
 
--- the duty of who waits, if somebody does, can still be made
+-- the duty of the request that waits, if one does, can still be made
 abbrev pub CanBeClaimed : Claiming → Option Waiter → Type 0
 CanBeClaimed claims None = Unit {0}
 CanBeClaimed claims (Some w) =

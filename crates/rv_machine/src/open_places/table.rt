@@ -1,4 +1,5 @@
-//! What is open, with the tables by which it is found: who waits on each side, how many, and until when.
+//! What is open, with the tables by which it is found: what waits on each side, how many wait, and until
+//! when.
 ghost use Rattle.std.specs.Prelude.{◌≡◌, ◌<◌, [], ◌∷◌, ◌++◌, None, Some, IsSome, IfOk, IfSome, IfNone, OnOk};
 ghost use Rattle.std.specs.Prelude.{OnErr, cond, is_some, length, option_map, slice_get};
 ghost use Rattle.std.specs.FinMap.{get};
@@ -41,7 +42,7 @@ pub struct MetPlace {
     pub there: OpenPlace,
     /// Its own duty.
     pub own: Duty,
-    /// The duty to settle who waited there, if somebody did.
+    /// The duty to settle the request that waited there, if one did.
     pub other: Option<Duty>,
 }
 
@@ -268,7 +269,7 @@ impl OpenTable {
         (there, duty)
     }
 
-    /// Closes the place of the request whose limit comes first, if that is at or below a moment. If none is,
+    /// Closes the place of the request whose limit comes first, if that is at or before a moment. If none is,
     /// nothing changes.
     pub fn close_due(&mut self, moment: u64) -> Option<(OpenPlace, Duty)>
         ensures some { IfSome result (λ out. ClosesDue self.old self.new moment out.0 out.1) }
@@ -323,8 +324,8 @@ impl OpenTable {
         self.wait_queues.opposed(side)
     }
 
-    /// Closes the place of a queue's oldest item, and gives the duty to settle who waited with it; a put's
-    /// owes none. If there is no item nothing changes.
+    /// Closes the place of a queue's oldest item, and gives the duty to settle the request that waited with
+    /// it; a put has none. If there is no item, nothing changes.
     pub fn take_front(&mut self, queue: u64) -> Option<(OpenPlace, Option<Duty>)>
         requires { FitsQueue queue }
         ensures some { IfSome result (λ out. ClosesFirst self.old self.new (Some (Gives queue)) out.0 out.1) }
@@ -338,7 +339,7 @@ impl OpenTable {
         Some((there, duty))
     }
 
-    /// An arrival with a call meets the oldest that it can meet, which there must be. Its place must be above
+    /// An arrival with a call meets the oldest that it can meet; there must be one. Its place must be above
     /// all that are open.
     pub fn meet(&mut self, call: &Call, duty: Duty) -> MetPlace
         requires fits { FitsSide (side_of call.now) }
