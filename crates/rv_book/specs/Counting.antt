@@ -1,2 +1,2 @@
--- Handed on from below: how many places have a property.
+-- Re-exported from rv_rules: how many places have a property.
 pub use Rattle.rv_rules.specs.Counting.{NumberOf}

@@ -18,7 +18,7 @@ RepliesStay = (a b : Account) (key : Key) (reply : Reply) → Legal a → Legal 
     → HasReply a.entries key reply
     → HasReply b.entries key reply × ((other : Reply) → HasReply b.entries key other → other ≡ reply)
 
--- in each legal account the time-outs of a step lead to one, which is legal
+-- in each legal account the time-outs of a step lead to an account, which is legal
 abbrev pub TicksCanEnter : Type 0
 TicksCanEnter = (a : Account) (now : ℕ) → Legal a
     → (b : Account) × Ticks a (step_moment a now) b × Legal b

@@ -33,7 +33,7 @@ use Rattle.rv_book.specs.Tables.{IsSound, account_of, state_of_machine}
 abbrev pub Kepts : Type 0
 Kepts = FinMap nat_cmp (Option Kept)
 
--- what is kept of what a client's last request was told, of which a place has the text or the consumer
+-- what is kept of the reply of a client's last request, whose text or consumer is at a place
 abbrev pub kept_in : State → ℕ → ℕ → Option Kept
 kept_in s place client = option_and_then (λ c. kept_again place c.request) (client_at s client)
 
@@ -41,26 +41,28 @@ kept_in s place client = option_and_then (λ c. kept_again place c.request) (cli
 abbrev pub keeping : State → ℕ → Kepts → ℕ → Kepts
 keeping s place kepts client = insert kepts client (kept_in s place client)
 
--- that of the clients of these keys is kept
+-- it is kept for the clients of these keys
 abbrev pub keeping_all : State → ℕ → Kepts → List Key → Kepts
 keeping_all s place kepts keys = fold (λ all key. keeping s place all key.client) kepts keys
 
--- each of these keys is of a client that is known, and of which something is kept
+-- each of these keys is of a client that is known, and for which something is kept
 pub record AreKnown (s : State) (kepts : Kepts) (keys : List Key) : Type 0 where
   pub sessions : (i : ℕ) (key : Key) → slice_get keys i ≡ Some key → IsSome (client_at s key.client)
   pub kept : (i : ℕ) (key : Key) → slice_get keys i ≡ Some key → IsSome (get kepts key.client)
 
--- that of a client is kept, if there is one
+-- it is kept for a client, if there is one
 abbrev pub keeping_own : Option ℕ → State → ℕ → Kepts → Kepts
 keeping_own None s place kepts = kepts
 keeping_own (Some client) s place kepts = keeping s place kepts client
 
--- what an entry at a place told is kept: that of those whom it settled, and that of its own client
+-- the replies of an entry at a place are kept: those of the requests that it settled, and that of its own
+-- client
 abbrev pub kept_after : State → ℕ → Entry → List Key → Kepts → Kepts
 kept_after s place e keys kepts =
     keeping_own (client_of e.act) s (source_of place (front_of s e.act) e) (keeping_all s place kepts keys)
 
--- the machine knows all whom the entry told, and of each something is kept, or there is room for it
+-- the machine knows all clients that get a reply by the entry, and for each something is kept, or there is
+-- room for it
 pub record MayKeep (m : Machine) (kept : KeptTable) (e : Entry) : Type 0 where
   pub fits : FitsAct e.act
   pub settled : AreKnown (state_in m) kept.replies m.settled.items
@@ -105,7 +107,7 @@ pub record IsSame (old new : BookState) : Type 0 where
 
 -- ---- what became of a message
 
--- a moment comes to a sound book, at which nothing is due
+-- a moment at which nothing is due comes to a sound book
 pub record IsQuiet (book : BookState) (moment : ℕ) : Type 0 where
   pub sound : IsSound book
   pub not_before : (state_of_machine book).moment ≤ moment

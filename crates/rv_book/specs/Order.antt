@@ -1,2 +1,2 @@
--- Handed on from below: items leave each queue in their order of arrival.
+-- Re-exported from rv_rules: items leave each queue in their order of arrival.
 pub use Rattle.rv_rules.specs.Order.{PairAt, MayTakeSeveral, TakesInTurn, InOrder}

@@ -1,4 +1,4 @@
--- What the book's private words for an answer stand for, and the stamp that a verdict shows of them.
+-- What the book's private words for an answer stand for, and the stamp that a verdict shows for them.
 use Rattle.std.specs.Prelude.{List, Option, Some, None, length, option_map, unwrap_or}
 use Rattle.rv_text.specs.declared.message.Key.{Key}
 use Rattle.rv_text.specs.declared.message.Message.{Message}
@@ -25,7 +25,7 @@ answer_of entries (Replied key kept) = option_map (answer.TheVariants.Replied ke
 answer_of entries (Waiting key) = Some (answer.TheVariants.Waiting key)
 answer_of entries (Refused refusal) = Some (answer.TheVariants.Refused refusal)
 
--- the same; the refusal stands only where there is none, as for no verdict
+-- the same; the refusal stands only where there is no answer, which is so for no verdict
 abbrev pub said_in : Account → KeptAnswer → Answer
 said_in a said = unwrap_or (answer_of a.entries said) (answer.TheVariants.Refused refusal.NoMemory)
 

@@ -1,4 +1,4 @@
--- Handed on from below: one step of the book: the answer to a message, and the accounts after it.
+-- Re-exported from rv_rules: one step of the book, with the answer to a message and the accounts after it.
 pub use Rattle.rv_rules.specs.Steps.{capped_moment, step_moment, OtherEpochDue, NoSessionDue}
 pub use Rattle.rv_rules.specs.Steps.{OldIncarnationDue, OtherVersionDue, OldNumberDue, OtherCallDue}
 pub use Rattle.rv_rules.specs.Steps.{BusyDue, GapDue, ClientsFullDue, max_entries, EpochFullDue, RefusesDue}

@@ -17,8 +17,8 @@ account_of book = book.account.account
 abbrev pub state_of_machine : BookState → State
 state_of_machine book = state_in book.machine
 
--- the account is legal and within the limits, and the machine holds its state; of each client is kept what
--- its last request was told; and there is room for an entry of each request that waits
+-- the account is legal and within the limits, and the machine holds its state; for each client the reply of
+-- its last request is kept; and there is room for an entry of each request that waits
 pub record IsSound (book : BookState) : Type 0 where
   pub legal : Legal (account_of book)
   pub fits : FitsAccount (account_of book)

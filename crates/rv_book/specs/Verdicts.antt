@@ -12,14 +12,15 @@ pub use Rattle.rv_book.specs.reply_cache.Keeping.{ReplyHasText, reply_of}
 use Rattle.rv_book.specs.Legal.{Legal, before}
 use Rattle.rv_book.specs.Steps.{Next}
 
--- an answer that hands over a reply is as the account has what is kept of it; of all others nothing is kept
+-- an answer with a reply has the one that the account gives for what is kept; for all other answers nothing
+-- is kept
 abbrev pub IsAsKept : List Entry → Option Kept → Answer → Type 0
 IsAsKept entries (Some kept) (answer.TheVariants.Replied key told) = reply_of entries kept ≡ Some told
 IsAsKept entries None (answer.TheVariants.Replied key told) = ⊥
 IsAsKept entries (Some kept) _ = ⊥
 IsAsKept entries None _ = Unit {0}
 
--- the answer is such a reply
+-- the answer is a reply that carries texts
 abbrev pub HasText : Answer → Type 0
 HasText (answer.TheVariants.Replied key told) = ReplyHasText told
 HasText _ = ⊥
@@ -33,7 +34,7 @@ pub record VerdictView : Type 0 where
   pub length : ℕ
   pub kept : Option Kept
 
--- the stamp is of a step from some legal account
+-- the stamp is that of a step from some legal account
 pub record IsOfStep (v : VerdictView) : Type 0 where
   pub account : Account
   pub legal : Legal account

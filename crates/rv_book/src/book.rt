@@ -58,12 +58,12 @@ impl Book {
 
     /// Takes one step with a message that came at a moment in milliseconds, which counts as no less than the
     /// book's own and at most 2^62. First one tick times out all that is due, if anything is, without memory.
-    /// Then the message is recorded. Or it is refused, or repeats one that was answered and is told the same
-    /// again, and then the account stays as the tick left it. If memory for it was refused the verdict is
-    /// refusal 11, and the account stays so too.
+    /// Then the message is recorded, unless it is refused, or repeats one that was answered and gets the same
+    /// answer again; in both cases the account stays as the tick left it. If memory for the message was
+    /// refused, the verdict is refusal 11, and the account also stays as the tick left it.
     ///
-    /// The cost grows neither with the entries nor with the clients, on average: a wait that ends by a tick,
-    /// cancel or hello is searched for in its queue, and a limit among the limits, in logarithmic time.
+    /// On average the cost grows neither with the entries nor with the clients. A wait that ends by a tick,
+    /// cancel or hello is looked up in its queue, and a limit among the limits, in logarithmic time.
     pub fn handle(&mut self, now: u64, message: Message) -> Verdict
         requires { FitsMessage message }
         ensures step { Next self.old now message self.new result.said }

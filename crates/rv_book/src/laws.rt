@@ -45,12 +45,12 @@ pub fn verdicts_stay()
     ensures { VerdictsStay }
 {}
 
-/// By one moment and message a step leads to one account and one answer, want of memory aside.
+/// A step of a moment and message leads to one account and one answer, want of memory aside.
 pub fn one_next()
     ensures { OneNext }
 {}
 
-/// Each verdict is of a step from some legal account of its length before, with its answer and length.
+/// Each verdict is that of a step from some legal account of its length before, with its answer and length.
 pub fn verdict_is_of_a_step(verdict: &Verdict)
     ensures { IsOfStep verdict.now }
 {

@@ -20,7 +20,7 @@ use std::alloc::Global;
 /// The most entries of an epoch.
 pub const MAX_ENTRIES: usize = 100_000;
 
-/// The greatest moment, in milliseconds: 2^62. One above it counts as this one.
+/// The greatest moment, in milliseconds: 2^62. A greater one counts as this one.
 pub const MAX_MOMENT: u64 = 4_611_686_018_427_387_904;
 
 #[derive(Drop)]

@@ -29,8 +29,8 @@ impl KeptAnswer {
     }
 }
 
-/// What [`Book::handle`](crate::Book::handle) said to a message, by places, with no texts. Contracts see the
-/// message, the answer, the account's number of entries before and after, and what is kept of a reply.
+/// What [`Book::handle`](crate::Book::handle) answered to a message, by places, with no texts. Contracts see
+/// the message, the answer, the account's number of entries before and after, and what is kept of a reply.
 #[derive(Drop)]
 pub struct Verdict {
     pub(crate) said: KeptAnswer,

@@ -8,8 +8,8 @@ abbrev pub IsNoNext : LineLimits → ℕ → List ℕ → Type 0
 IsNoNext limits before line =
     (limits.most_entries ≤ before) ⊎ ((e : Entry) → ¬ ReadsEntryUpTo limits.greatest_place line e)
 
--- the lines before this one are read as entries, and this one as none more; it is the line of this number
--- where one line stands before all of them
+-- the lines before this one are read as entries, and this one is not read as another; it is the line of this
+-- number if one line stands before all of them
 pub record StopsAtLine (limits : LineLimits) (lines : List (List ℕ)) (n : ℕ) : Type 0 where
   pub front : List (List ℕ)
   pub line : List ℕ

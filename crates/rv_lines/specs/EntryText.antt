@@ -54,7 +54,7 @@ max_partners = 16
 abbrev pub FitPlaces : Entry → Type 0
 FitPlaces e = (p : ℕ) → Names e p → p ≤ max_partner
 
--- the entry's partners are within both, and its line is short
+-- the entry's partners are within both limits, which bound its line
 pub record FitPartners (e : Entry) : Type 0 where
   pub places : FitPlaces e
   pub few : length e.partners ≤ max_partners

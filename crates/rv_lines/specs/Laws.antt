@@ -20,8 +20,8 @@ WrittenAccount = (a : Account) → Legal a → FitsAccount a → IsReadBack a
 abbrev pub WrittenLines : Type 0
 WrittenLines = (a : Account) → FitsLines a → IsReadBack a
 
--- a legal account within its limits is within those of lines, and so are the partners of each entry, by which
--- its line is short
+-- a legal account within its limits is within those of lines, and so are the partners of each entry, so its
+-- line is short
 abbrev pub BookFitsLines : Type 0
 BookFitsLines = (a : Account) → Legal a → FitsAccount a
     → FitsLines a × ((r : ℕ) (e : Entry) → slice_get a.entries r ≡ Some e → FitPartners e)

@@ -1,7 +1,7 @@
 -- The lines of an input, and texts printed as lines.
 use Rattle.std.specs.Prelude.{ℕ, List, [], ◌∷◌, ◌++◌, ◌==◌, ◌≡◌, ◌≢◌, ◌⊎◌, if◌then◌else◌}
 use Rattle.std.specs.List.{All, onto_first}
--- Handed on from below: the text is short.
+-- Re-exported: the text is short.
 pub use Rattle.rv_lines.specs.EntryText.{IsShort}
 
 -- the bytes before each LF (10), and those after the last LF if there are any

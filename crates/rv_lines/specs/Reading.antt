@@ -89,7 +89,7 @@ pub record ReadsAccountUnder (limits : LineLimits) (lines : List (List ℕ)) (a 
   pub says_entries : ReadsEntriesUnder limits rest a.entries
 
 -- the line of this number, counted from 1, is the first bad one: the lines before it, if there are any, are
--- read as an account, and with it they are read as none; of no lines that is line 1
+-- read as an account, and with it they are not; with no lines it is line 1
 pub record FirstBadLineUnder (limits : LineLimits) (lines : List (List ℕ)) (n : ℕ) : Type 0 where
   pub from_one : 1 ≤ n
   pub read_before : (n ≡ 1) ⊎ ((a : Account) × ReadsAccountUnder limits (take (n - 1) lines) a)

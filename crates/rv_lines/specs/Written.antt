@@ -5,7 +5,7 @@ use Rattle.rv_account.specs.declared.entry.Entry.{Entry}
 use Rattle.rv_account.specs.Account.{Account}
 use Rattle.rv_book.specs.Limits.{FitEntries}
 use Rattle.rv_book.specs.Steps.{max_entries, max_moment}
--- Handed on from below: the line of an entry, and the first.
+-- Re-exported: the line of an entry, and the first line.
 pub use Rattle.rv_lines.specs.EntryText.{FitPartners, FitPlaces, entry_text, head_text, max_partner}
 pub use Rattle.rv_lines.specs.EntryText.{max_partners, message_in, partners_text, places_text, said_text}
 

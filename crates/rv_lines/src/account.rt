@@ -18,7 +18,7 @@ use std::alloc::Global;
 // The greatest place of a partner.
 const MAX_PARTNER: u64 = 99_999;
 
-/// The account that the lines of an input say, legal or not. Lines end by LF, which the last one may lack.
+/// The account that the lines of an input say, legal or not. Lines end with LF, which the last one may lack.
 ///
 /// The first line is `epoch E opened T`. Each other one is the line of an entry, and there are at most
 /// 100,000 of them. Numbers have no leading zeros; moments are at most 2^62, and the places of partners

@@ -15,8 +15,8 @@ use rv_book::{Act, Entry, MAX_MOMENT, Partners, Place};
 use rv_text::{Message, NoMemory, decode_message};
 use std::alloc::Global;
 
-/// The entry that a line says by its three fields, which one space parts: the moment, the places of the
-/// partners with commas between, each at most the greatest, or `-`, and a body of the message or the word
+/// The entry that a line says by its three fields, separated by one space: the moment; the places of the
+/// partners with commas between, each at most the greatest, or `-`; and a body of the message, or the word
 /// `tick`.
 pub fn read_entry(alloc: Global, line: &[u8], greatest_place: u64) -> Result<Entry, LineFault>
     ensures reads { IfOk result (ReadsEntryUpTo greatest_place line.now) }

@@ -1,4 +1,4 @@
-//! What holds of the lines of accounts as such: each contract is a law, and no body does anything.
+//! What holds of the lines of accounts as such: each contract is a law, and the bodies do nothing.
 ghost use Rattle.rv_lines.specs.Laws.{BookFitsLines, NoBadLine, OneAccount, OneBadLine};
 ghost use Rattle.rv_lines.specs.Laws.{WrittenAccount, WrittenLines};
 
@@ -13,7 +13,7 @@ pub fn written_lines()
 {}
 
 /// A legal account within its limits, as each book's is, is within those of lines, and so are the partners of
-/// each entry, by which its line is short.
+/// each entry, so its line is short.
 pub fn book_fits_lines()
     ensures { BookFitsLines }
 {}

@@ -8,8 +8,8 @@ use rv_text::MAX_IDENTIFIER;
 // The most digits of a number. Every number of so many digits fits a `u64`.
 const MOST_DIGITS: usize = 19;
 
-/// The number that `text` writes in decimal: 1 to 19 ASCII digits, leading zeros allowed, and
-/// nothing else. Every other text has none, one with a sign or a space too.
+/// The number that `text` writes in decimal: 1 to 19 ASCII digits, leading zeros allowed, and nothing else.
+/// Every other text has none, such as one with a sign or a space.
 pub fn read_number(text: &[u8]) -> Option<u64>
     ensures some { IsSome result ↔ IsDigits text.now }
     ensures value { IfSome result (λ n. n ≡ value_of_digits text.now) }

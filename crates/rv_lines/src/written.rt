@@ -9,8 +9,8 @@ use rv_account::{Act, Entry, Partners, Place};
 use rv_text::{Message, NoMemory, encode_message};
 use std::alloc::Global;
 
-/// The first line of an account, with no LF: `epoch E opened T`. It is short, of less than 65,727 bytes.
-/// Fails only if memory was refused.
+/// The first line of an account, with no LF: `epoch E opened T`. It is shorter than 65,727 bytes. Fails only
+/// if memory was refused.
 pub fn head_line(alloc: Global, epoch: u64, opened: u64) -> Result<String, NoMemory>
     ensures text { IfOk result (λ s. string_bytes s ≡ head_text epoch opened) }
     ensures short { IfOk result (λ s. IsShort (string_bytes s)) }
@@ -18,9 +18,9 @@ pub fn head_line(alloc: Global, epoch: u64, opened: u64) -> Result<String, NoMem
     format!(in alloc; "epoch {epoch} opened {opened}")
 }
 
-/// The line of an entry, with no LF: three fields, which one space parts. They are the moment, the places of
-/// the partners with commas between, or `-`, and the written body of the message or the word `tick`. It is
-/// short, of less than 65,727 bytes, if the act is within its limits, and names at most 16 partners, at
+/// The line of an entry, with no LF: three fields, separated by one space. They are the moment; the places of
+/// the partners with commas between, or `-`; and the written body of the message, or the word `tick`. It is
+/// shorter than 65,727 bytes if the act is within its limits and the entry names at most 16 partners, at
 /// places up to 99,999. Fails only if memory was refused.
 pub fn entry_line(alloc: Global, entry: &Entry) -> Result<String, NoMemory>
     ensures text { IfOk result (λ s. string_bytes s ≡ entry_text entry.now) }

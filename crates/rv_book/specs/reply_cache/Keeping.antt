@@ -16,12 +16,12 @@ use Rattle.rv_account.specs.declared.entry.Act.{Act}
 use Rattle.rv_account.specs.declared.entry.Act.TheVariants.{Hello, Arrive, Cancel, Tick}
 use Rattle.rv_state.specs.State.{State, line, place_list}
 use Rattle.rv_state.specs.Moves.{told_again}
--- Handed on from below: from what is kept to the reply.
+-- Re-exported from Recalling: from what is kept to the reply.
 pub use Rattle.rv_book.specs.reply_cache.Recalling.{ReplyHasText, reply_of}
 
 -- ---- from the reply to what is kept
 
--- what is kept of a reply, of which this place has the text, the texts or the consumer
+-- what is kept of a reply whose text, texts or consumer are at this place
 abbrev pub kept_from : ℕ → Reply → Kept
 kept_from place reply.TheVariants.Done = kept.TheVariants.Done
 kept_from place reply.TheVariants.Received = kept.TheVariants.Received
@@ -36,26 +36,26 @@ kept_from place (reply.TheVariants.Counted items consumers) = kept.TheVariants.C
 kept_from place (reply.TheVariants.Peeked text) = kept.TheVariants.Peeked place
 kept_from place (reply.TheVariants.Drained texts) = kept.TheVariants.Drained place
 
--- what is kept of what a last request is told again
+-- what is kept of the reply that a repeat of a last request gets
 abbrev pub kept_again : ℕ → LastRequest → Option Kept
 kept_again place request = option_map (kept_from place) (told_again request)
 
 -- ---- that it is kept
 
--- a reply is as the entries have what is kept of it; where there is none, nothing is kept
+-- the reply is the one that the entries give for what is kept; where there is none, nothing is kept
 abbrev pub IsKeptAs : List Entry → Option Kept → Option Reply → Type 0
 IsKeptAs entries (Some kept) (Some reply) = reply_of entries kept ≡ Some reply
 IsKeptAs entries None None = Unit {0}
 IsKeptAs entries _ _ = ⊥
 
--- what is kept of the client's reply is what its request is told again
+-- what is kept for the client gives the reply that a repeat of its request gets
 pub record IsKept (entries : List Entry) (kepts : FinMap nat_cmp (Option Kept)) (client : ℕ)
     (request : LastRequest) : Type 0 where
   pub kept : Option Kept
   pub there : get kepts client ≡ Some kept
   pub stands : IsKeptAs entries kept (told_again request)
 
--- of each client
+-- for each client
 abbrev pub AreKept : List Entry → FinMap nat_cmp ClientState → FinMap nat_cmp (Option Kept) → Type 0
 AreKept entries clients kepts = (client : ℕ) (session : ClientState) → get clients client ≡ Some session
     → IsKept entries kepts client session.request
@@ -88,7 +88,7 @@ abbrev pub first_source : ℕ → Option ℕ → List ℕ → ℕ
 first_source place front [] = unwrap_or front place
 first_source place front (partner ∷ others) = partner
 
--- a drain's texts are had by its own place, whoever it names
+-- a drain's texts are found by its own place, whatever it names
 abbrev pub source_named : ℕ → Option ℕ → List ℕ → Option ℕ → ℕ
 source_named place front partners None = first_source place front partners
 source_named place front partners (Some max) = place

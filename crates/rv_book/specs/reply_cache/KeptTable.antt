@@ -7,7 +7,7 @@ use Rattle.std.specs.FinMap as map
 use Rattle.rv_session.specs.declared.kept.Kept.{Kept}
 
 pub record KeptTable : Type 0 where
-  -- of each client what is kept of its last request's reply, if that has one
+  -- for each client what is kept of its last request's reply, if it has one
   pub replies : FinMap nat_cmp (Option Kept)
   -- how many more clients can enter before the table takes memory
   pub room : ℕ

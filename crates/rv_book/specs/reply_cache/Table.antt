@@ -1,2 +1,2 @@
--- Handed on from below: the table of what is kept of each client's reply.
+-- Re-exported from KeptTable: the table of what is kept of each client's reply.
 pub use Rattle.rv_book.specs.reply_cache.KeptTable.{KeptTable, kept_code}

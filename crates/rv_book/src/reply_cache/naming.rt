@@ -68,9 +68,9 @@ fn source_named(
     }
 }
 
-/// Where the text, the texts or the consumer of the own reply of an entry stand, by the entry's place and the
-/// place of the item in front of the queue at which it looks, if it looks at one: at its own place for a
-/// drain; else at the first that it names, or else at that front.
+/// Where the text, the texts or the consumer of an entry's own reply stand, by the entry's place and the
+/// place of the front item of the queue that it looks at, if it looks at one: at its own place for a drain;
+/// else at the first place that it names, or else at that front.
 pub fn source(entry: &Entry, place: Place, front: Option<Place>) -> Place
     ensures { result ≡ source_of place front entry.now }
 {

@@ -8,8 +8,8 @@ use rv_text::NoMemory;
 use std::alloc::Global;
 use std::marker::Model;
 
-/// Of each client what is kept of its last request's reply, which contracts see as a map, beside for how many
-/// more clients there is room.
+/// For each client what is kept of its last request's reply, which contracts see as a map, with the number of
+/// further clients that there is room for.
 ///
 /// Only [`reserve`](KeptReplies::reserve) takes memory. `get` and `keep` look a client up in a hash table,
 /// once unless it is new, and search nothing else: they take constant time on average.
@@ -46,7 +46,7 @@ impl KeptReplies {
         KeptReplies { replies }
     }
 
-    /// What is kept of the client's reply; nothing of a client that isn't known.
+    /// What is kept of the client's reply; nothing for a client that isn't known.
     pub fn get(&self, client: u64) -> Option<Kept>
         ensures { result ≡ option_and_then (λ k. k) (get self.now.replies client) }
     {
@@ -56,8 +56,8 @@ impl KeptReplies {
         }
     }
 
-    /// Makes room for one client more, if there is none. It fails only if memory is refused. What is kept
-    /// stays, and there is no less room, also where it fails.
+    /// Makes room for one more client, if there is none. It fails only if memory is refused. What is kept
+    /// stays, and there is no less room, even if it fails.
     pub fn reserve(&mut self) -> Result<(), NoMemory>
         ensures ok { OnOk result (0 < self.new.room) }
         ensures succeeds { 0 < self.old.room → IsOk result }
@@ -92,8 +92,8 @@ impl KeptReplies {
         self.replies.insert(client, kept).unwrap();
     }
 
-    /// Keeps this of the client's reply, in the place of what was kept of it. The client must be known, or
-    /// there must be room for it. It takes no memory; a client that is known leaves the room as it was.
+    /// Keeps this of the client's reply, in place of what was kept of it. The client must be known, or there
+    /// must be room for it. It takes no memory; a client that is known leaves the room as it was.
     pub fn keep(&mut self, client: u64, kept: Option<Kept>)
         requires room { get self.old.replies client ≡ None → 0 < self.old.room }
         ensures replies { self.new.replies ≡ insert self.old.replies client kept }
