@@ -15,7 +15,7 @@ pub record Account : Type 0 where
   pub opened : ℕ
   pub entries : List Entry
 
--- an account as it lies in memory: beside what it is, how many more entries it has room for
+-- an account as it lies in memory: with how many more entries it has room for
 pub record Stored : Type 0 where
   pub account : Account
   pub room : ℕ
@@ -23,7 +23,7 @@ pub record Stored : Type 0 where
 abbrev pub entry : ℕ → Act → List ℕ → Entry
 entry moment does partners = record { moment = moment; act = does; partners = partners }
 
--- the account with one entry more
+-- the account with one more entry
 abbrev pub with_entry : Account → Entry → Account
 with_entry a e = record { epoch = a.epoch; opened = a.opened; entries = a.entries ++ e ∷ [] }
 

@@ -1,5 +1,5 @@
--- What is said of a call by its side and its wait: whom it meets and how long it stays
--- (Java SE 21, `TransferQueue` and `Exchanger`).
+-- What follows for a call from its side and its wait: what it meets and how long it stays (Java SE 21,
+-- `TransferQueue` and `Exchanger`).
 use Rattle.std.specs.Prelude.{◌≡◌, ◌<◌, ◌+◌, ℕ, zero, suc, Option, Some, None, IsSome, option_and_then}
 use Rattle.std.specs.Prelude.{unwrap_or}
 use Rattle.rv_text.specs.declared.call.Wait.{Wait}

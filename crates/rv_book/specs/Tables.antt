@@ -1,4 +1,4 @@
--- What the book holds beside its account, and what that says of it.
+-- What the book holds besides its account, and what must hold of it.
 use Rattle.std.specs.Prelude.{◌≤◌}
 use Rattle.rv_account.specs.Account.{Account}
 use Rattle.rv_book.specs.reply_cache.Keeping.{AreKept}

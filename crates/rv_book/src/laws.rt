@@ -25,7 +25,7 @@ pub fn cancels_can_enter()
     ensures { CancelsCanEnter }
 {}
 
-/// After the time-outs of a step a hello that is no repeat can enter, if no refusal of it is due.
+/// After a step's time-outs a hello that is no repeat can enter, if no refusal of it is due.
 pub fn hellos_can_enter()
     ensures { HellosCanEnter }
 {}

@@ -21,7 +21,7 @@ pub record UsesRoom (old new : Room) : Type 0 where
   pub spare : old.spare ≡ new.spare + 1
   pub capacity : new.capacity ≡ old.capacity
 
--- memory was taken, or none: there is as much more room as the whole grew
+-- memory was taken, or none: the room grew by as much as the whole
 pub record GrowsRoom (old new : Room) : Type 0 where
   pub spare : old.spare ≤ new.spare
   pub capacity : new.capacity + old.spare ≡ old.capacity + new.spare

@@ -1,4 +1,4 @@
--- A line of slots: those who wait, in rising order, and marks where somebody was withdrawn.
+-- A line of slots: those that wait, in rising order, and marks where one was withdrawn.
 use Rattle.std.specs.Prelude.{◌≡◌, ◌≢◌, ◌+◌, ◌-◌, ◌<◌, ◌≤◌, ℕ, Bool, true, false, List}
 use Rattle.std.specs.Prelude.{map, length, slice_get, Option, Some, None}
 use Rattle.std.specs.List.{All, AllPairs, filter_map}
@@ -6,13 +6,13 @@ use Rattle.rv_dual.specs.Room.{Room}
 use Rattle.rv_dual.specs.declared.slot.Slot.{Slot}
 use Rattle.rv_dual.specs.declared.slot.Slot.TheVariants.{Holds, Withdrawn}
 
--- what callers see of a line: those who wait, the oldest first, and its room
+-- what callers see of a line: those that wait, the oldest first, and its room
 pub record WaitingLine (X : Type 0) : Type 0 where
   pub waiting : List X
   pub room : Room
 
 module _ {X : Type 0} where
-  -- who waits in the slot; nobody where it is marked
+  -- what waits in the slot; nothing where it is marked
   abbrev pub holder : Slot X → Option X
   holder (Holds x) = Some x
   holder (Withdrawn place) = None
@@ -20,7 +20,7 @@ module _ {X : Type 0} where
   abbrev pub waiting_in : List (Slot X) → List X
   waiting_in slots = filter_map holder slots
 
-  -- whether somebody waits in the slot
+  -- whether something waits in the slot
   abbrev pub is_held : Slot X → Bool
   is_held (Holds x) = true
   is_held (Withdrawn place) = false
@@ -31,12 +31,12 @@ module _ {X : Type 0} where
   is_marked (Some (Holds x)) = false
   is_marked (Some (Withdrawn place)) = true
 
-  -- whether who waits in the slot passes a test
+  -- whether what waits in the slot passes a test
   abbrev pub passes_in : (X → Bool) → Slot X → Bool
   passes_in test (Holds x) = test x
   passes_in test (Withdrawn place) = false
 
-  -- the place of who waits there, or waited
+  -- the place of what waits there, or waited
   abbrev pub slot_place : (X → ℕ) → Slot X → ℕ
   slot_place place_of (Holds x) = place_of x
   slot_place place_of (Withdrawn place) = place
@@ -67,7 +67,7 @@ module _ {X : Type 0} where
   abbrev pub NoSlotAt : (X → ℕ) → ℕ → List (Slot X) → Type 0
   NoSlotAt place_of place slots = All (λ k. k ≢ place) (slot_places place_of slots)
 
-  -- a line whose places rise, with a mark at neither end and no more marks than there are who wait, and the
+  -- a line whose places rise, with a mark at neither end and no more marks than those that wait, and the
   -- number of these
   pub record IsSlotLine (place_of : X → ℕ) (slots : List (Slot X)) (count : ℕ) : Type 0 where
     pub rises : Rises place_of slots

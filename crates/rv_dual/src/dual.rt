@@ -18,11 +18,11 @@ use std::marker::Model;
 /// more, and for how many in all. Only [`reserve`](Dual::reserve) and its two halves take memory, and nothing
 /// gives it back.
 ///
-/// Places arrive in rising order, so a place stands at most once. [`withdraw`](Dual::withdraw) finds it in
+/// Places arrive in rising order, so a place occurs at most once. [`withdraw`](Dual::withdraw) finds it in
 /// time logarithmic in the slots between the oldest that waits and the newest, of which at most half were
-/// left by a withdrawal. So do [`giver_behind`](Dual::giver_behind) and [`taker_behind`](Dual::taker_behind),
-/// and pass over such slots, each once in a walk of a line. All else takes constant time, on average over
-/// the calls so far.
+/// left by a withdrawal. [`giver_behind`](Dual::giver_behind) and [`taker_behind`](Dual::taker_behind) take
+/// the same time, and pass over such slots: over each one once in a walk of a line. Everything else takes
+/// constant time, on average over the calls so far.
 #[derive(Drop)]
 pub struct Dual {
     givers: SlotLine<Offer>,

@@ -1,4 +1,4 @@
-//! A line of those who wait, the oldest first, in which a withdrawn place is marked.
+//! A line of those that wait, the oldest first, in which a withdrawn place is marked.
 ghost use Rattle.std.specs.Prelude.{◌≡◌, ◌<◌, [], ◌∷◌, ◌++◌, true, length, Some, IfNone, IfSome};
 ghost use Rattle.std.specs.Prelude.{◌≤◌, drop, map, option_and_then, option_to_list, slice_get, slice_set};
 ghost use Rattle.rv_dual.specs.Above.{first_above};
@@ -16,11 +16,11 @@ use std::collections::VecDeque;
 use std::marker::Model;
 use std::mem;
 
-/// Those who wait, the oldest first, which contracts see as their list and its room.
-/// A withdrawn place is marked where it stands, and neither end is ever marked: so the places rise, marks
-/// included, whatever place above those that wait comes next, and a line in which nobody waits is empty.
-/// There are never more marks than there are who wait: before there would be, all go at once, in a time that
-/// is constant on average over the withdrawals that made them.
+/// Those that wait, the oldest first, which contracts see as a list and its room. A withdrawn place is marked
+/// where it is, and neither end is ever marked. So the places rise, marks included, whatever place above
+/// those that wait comes next, and a line in which nobody waits is empty. There are never more marks than
+/// there are places that wait: before there would be, all marks go at once, in a time that is constant on
+/// average over the withdrawals that made them.
 #[derive(Drop)]
 pub(crate) struct SlotLine<T: StandsInLine> {
     slots: VecDeque<Slot<T>>,

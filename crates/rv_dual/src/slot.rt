@@ -1,11 +1,11 @@
-//! A slot of a line: who waits there, or the mark of who was withdrawn.
+//! A slot of a line: what waits there, or the mark of what was withdrawn.
 ghost use Rattle.std.specs.Prelude.{◌≡◌, true, ℕ, Bool, option_map};
 ghost use Rattle.rv_dual.specs.Slots.{holder, is_held, passes_in, slot_place};
 
 use crate::giver::Offer;
 use rv_session::{Parked, Place};
 
-/// Whoever stands in a line.
+/// What can wait in a line.
 pub(crate) trait StandsInLine: Drop {
     ghost place_of: { Self → ℕ };
 
@@ -25,7 +25,7 @@ pub(crate) trait StandsInLine: Drop {
 /// A slot of a line.
 #[derive(Drop)]
 pub(crate) enum Slot<T> {
-    /// Who waits.
+    /// What waits.
     Holds(T),
     /// The mark of a place that was withdrawn.
     Withdrawn(Place),

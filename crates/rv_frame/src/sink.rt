@@ -93,8 +93,8 @@ impl<W: Write> Sink<W> {
     /// Flushes the device, once, so that the bytes that it holds back go on. No byte that it took is lost,
     /// and none is added.
     ///
-    /// `WriteFault` says that this flush failed, for an error of whatever kind, or that the sink had
-    /// failed before; `sent` is 0. The sink has then failed.
+    /// `WriteFault` says that this flush failed, for an error of any kind, or that the sink had failed
+    /// before; `sent` is 0. The sink has then failed.
     pub fn flush(&mut self) -> Result<(), WriteFault>
         ensures bytes { SinkTakes W.contents self.old self.new [] }
         ensures none { IfErr result (λ fault. fault.sent ≡ 0) }

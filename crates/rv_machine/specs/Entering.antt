@@ -13,7 +13,7 @@ use Rattle.rv_machine.specs.declared.tables.Holdings.{Holdings}
 use Rattle.rv_machine.specs.Machines.{state_in}
 use Rattle.rv_machine.specs.open_places.OpenMap.{count_waiting}
 
--- so many entries more can be made, beside those that end what waits
+-- so many more entries can be made, besides those that end what waits
 abbrev pub HasSpaceFor : StepLimits → Holdings → ℕ → Type 0
 HasSpaceFor limits m need = m.length + count_waiting m.table + need ≤ limits.entries
 

@@ -7,7 +7,7 @@ use Rattle.rv_text.specs.declared.answer.Refusal.TheVariants.{EpochFull}
 use Rattle.rv_state.specs.Moves.{NoPlaceMore}
 use Rattle.rv_state.specs.State.{State}
 
--- under a bound on open places an arrival with this call would stay, where there is no place for it
+-- under a bound on open places, an arrival with this call would stay although there is no place for it
 abbrev pub LacksPlace : Option ℕ → State → Call → Type 0
 LacksPlace None s call = ⊥
 LacksPlace (Some most) s call = NoPlaceMore most s call EpochFull

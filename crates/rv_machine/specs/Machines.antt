@@ -106,7 +106,7 @@ pub record IsWhole (m : Holdings) : Type 0 where
 abbrev pub SameListRoom : Holdings → Holdings → Type 0
 SameListRoom old new = vec_capacity new.settled ≡ vec_capacity old.settled
 
--- ---- what a step tells
+-- ---- what a step reports
 
 -- the keys of those that were settled
 abbrev pub keys_settled : List Settled → List Key

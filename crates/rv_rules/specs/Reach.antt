@@ -6,7 +6,7 @@ use Rattle.rv_rules.specs.StepLimits.{StepLimits}
 abbrev pub most_counted : ℕ
 most_counted = 18014398509481984
 
--- the most clients that a machine knows, whatever limits its steps are made under
+-- the most clients that a machine knows, whatever the limits of its steps
 abbrev pub most_known : ℕ
 most_known = 100000
 

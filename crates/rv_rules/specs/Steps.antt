@@ -212,7 +212,7 @@ HelloLines = HelloLinesUnder book_limits
 abbrev pub Refuses : Account → Account → Answer → Refusal → Type 0
 Refuses a b answer refusal = (b ≡ a) × (answer ≡ Refused refusal)
 
--- the second account is legal, and it is the first with one entry more, of this moment and act
+-- the second account is legal, and it is the first with one more entry, of this moment and act
 pub record Adds (a : Account) (moment : ℕ) (does : Act) (b : Account) : Type 0 where
   pub entry : Entry
   pub moment_is : entry.moment ≡ moment
@@ -261,8 +261,8 @@ NextAtUnder limits a moment (Cancel key) b answer =
     (EntersOrNoMemory a moment (act.TheVariants.Cancel key) b answer
     (Replies b key answer))
 
--- the account after the time-outs of a step: where something is due at its moment, with one tick of that
--- moment more, which ends all that is due; else the same
+-- the account after the time-outs of a step: where something is due at its moment, with one more tick of that
+-- moment, which ends all that is due; else the same
 abbrev pub Ticks : Account → ℕ → Account → Type 0
 Ticks a moment b = WhereElse (SomethingDue a.entries moment) (Adds a moment act.TheVariants.Tick b) (b ≡ a)
 

@@ -17,8 +17,8 @@ use std::collections::BTreeMap;
 use std::marker::Model;
 use std::ops::Bound;
 
-/// The clients of an epoch, which contracts see as a map from clients to their [`ClientState`]s, beside the
-/// most that there can be.
+/// The clients of an epoch, which contracts see as a map from clients to their [`ClientState`]s, and the most
+/// that there can be.
 ///
 /// Only [`admit`](Clients::admit), [`states`](Clients::states) and
 /// [`from_states`](crate::ReturnedClients::from_states) take memory, and what a call replaces is freed.
@@ -84,8 +84,8 @@ impl Clients {
     ghost use Rattle.rv_session.specs.ClientOrder.{ClientsRise, next_client};
     ghost use Rattle.rv_session.specs.Entries.{map_of};
 
-    /// The table of an epoch, whatever its number, with no client, for at most so many clients. It takes no
-    /// memory yet.
+    /// The table of an epoch of any number, with no client, for at most so many clients. It takes no memory
+    /// yet.
     pub fn open(alloc: Global, epoch: u64, most: usize) -> Clients
         ensures epoch { result.epoch ≡ epoch }
         ensures most { result.most ≡ most }

@@ -55,7 +55,7 @@ impl Sessions {
     ghost use Rattle.rv_session.specs.Meanings.{GreetingMeans, StandingMeans};
     ghost use Rattle.rv_session.specs.Standings.{MayEnter, greeting_of, max_clients, standing_of};
 
-    /// The table of an epoch, whatever its number, with no session. It takes no memory yet.
+    /// The table of an epoch of any number, with no session. It takes no memory yet.
     pub fn open(alloc: Global, epoch: u64) -> Sessions
         ensures { IsOpened result epoch }
     {

@@ -43,7 +43,7 @@ pub record Following : Type 0 where
   pub settles : List Settled
   pub reply : Option Reply
 
--- ---- telling
+-- ---- replies to those that waited
 
 abbrev pub insert_told : FinMap nat_cmp ClientState → Settled → Option ClientState
     → FinMap nat_cmp ClientState

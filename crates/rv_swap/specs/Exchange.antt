@@ -1,4 +1,4 @@
--- What comes of a duty that arrives at an exchanger, and of a place that is withdrawn.
+-- What becomes of a duty that arrives at an exchanger, and of a place that is withdrawn.
 use Rattle.std.specs.Prelude.{◌≡◌, ◌≢◌, ℕ, Option, Some, None}
 use Rattle.rv_session.specs.OwedDuty.{OwedDuty}
 use Rattle.rv_swap.specs.declared.swap.SwapOutcome.{SwapOutcome}

@@ -126,7 +126,7 @@ WithinEach (member ∷ row) = WithinFrom member row
 abbrev pub AllWithin : List Member → Type 0
 AllWithin row = WithinEach (limited_members row)
 
--- the object with these members beside its own, each name once and in byte order, as `serde_json` keeps them
+-- the object with these members besides its own, each name once and in byte order, as `serde_json` keeps them
 abbrev pub with_fields : List Field → Members → Members
 with_fields [] members = members
 with_fields (field ∷ fields) members = with_fields fields (put field.0 field.1 members)

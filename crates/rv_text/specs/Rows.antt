@@ -136,7 +136,7 @@ code_of refusal.EpochFull = 10
 code_of refusal.NoMemory = 11
 code_of (refusal.OtherVersion current) = 12
 
--- what a refusal says beside its code
+-- what a refusal says besides its code
 abbrev pub detail_row : Refusal → List Member
 detail_row refusal.BadText = []
 detail_row (refusal.OtherEpoch current) = identifier (codes "current") current ∷ []

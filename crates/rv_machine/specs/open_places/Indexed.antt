@@ -60,7 +60,7 @@ pub record ClosesFirst (old new : List OpenPlace) (line : Option Side) (there : 
   pub closes : ClosesPlace old new there.place there duty
   pub first : facing old line ≡ there ∷ facing new line
 
--- ---- who arrives and stays
+-- ---- an arrival that stays
 
 -- the duty that comes back to an arrival that stays: a put's own, since it waits for nobody
 abbrev pub own_duty : Option Wait → OwedDuty → Option OwedDuty

@@ -1,4 +1,4 @@
--- From which open places the tables can be made again, one place after the other.
+-- From which open places the tables can be rebuilt, one place after the other.
 use Rattle.std.specs.Prelude.{◌≡◌, ◌≢◌, ◌<◌, ◌≤◌, ℕ, List, [], Option, Some, None, IsSome, length, option_map}
 use Rattle.std.specs.Prelude.{slice_get, true}
 use Rattle.std.specs.FinMap.{FinMap}
