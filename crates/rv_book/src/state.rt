@@ -28,11 +28,11 @@ pub(crate) struct BookState {
     account: Account,
     // The account's state.
     machine: Machine,
-    // Of each client the reply of its last request, by places of the account.
+    // The reply of each client's last request, by places of the account.
     kept: KeptReplies,
 }
 
-// Keeps what a client's last request was told, of which a place has the text or the consumer.
+// Keeps the reply of a client's last request, whose text or consumer is at a place.
 fn keep(machine: &Machine, kept: &mut KeptReplies, client: u64, place: Place)
     requires known { IsSome (client_at (state_in machine.now) client) }
     requires room { get kept.old.replies client ≡ None → 0 < kept.old.room }
@@ -44,7 +44,7 @@ fn keep(machine: &Machine, kept: &mut KeptReplies, client: u64, place: Place)
     kept.keep(client, kept_again(&session.request, place));
 }
 
-// Keeps what those were told whom the entry at a place settled.
+// Keeps the replies of the requests that the entry at a place settled.
 fn keep_settled(machine: &Machine, kept: &mut KeptReplies, place: Place)
     requires { AreKnown (state_in machine.now) kept.old.replies machine.now.settled.items }
     ensures keeps { kept.new.replies
@@ -86,7 +86,8 @@ fn front(machine: &Machine, act: &Act) -> Option<Place>
     }
 }
 
-// Keeps what an entry at a place told: those whom it settled, and its own client.
+// Keeps the replies of an entry at a place: those of the requests that it settled, and that of its own
+// client.
 fn keep_told(machine: &Machine, kept: &mut KeptReplies, entry: &Entry, place: Place)
     requires { MayKeep machine.now kept.old entry.now }
     ensures { kept.new.replies
@@ -252,7 +253,7 @@ impl BookState {
         self.grow(message)
     }
 
-    // Records an entry that the machine made, and keeps what it told. There must be room for it.
+    // Records an entry that the machine made, and keeps its replies. There must be room for it.
     fn record(&mut self, entry: Entry)
         requires { IsAhead self.old entry }
         ensures sound { IsSound self.new }

@@ -53,7 +53,7 @@ fn back_is_marked<T>(slots: &VecDeque<Slot<T>>) -> bool
     matches!(slots.back(), Some(Slot::Withdrawn(_)))
 }
 
-// Lays who arrives behind the others, where there is room.
+// Adds an arrival after the others, where there is room.
 fn append<T>(slots: &mut VecDeque<Slot<T>>, arrival: T)
     requires { 0 < (room_in slots.old).spare }
     ensures last { slots.new.items ≡ slots.old.items ++ Holds arrival ∷ [] }
@@ -90,7 +90,7 @@ fn trim_back<T: StandsInLine>(slots: &mut VecDeque<Slot<T>>)
     }
 }
 
-// Takes all marks out of a line where they are more than those who wait.
+// Takes all marks out of a line where they are more than those that wait.
 fn sweep<T: StandsInLine>(slots: &mut VecDeque<Slot<T>>, count: usize)
     requires rises { Rises T.place_of slots.old.items }
     requires first { FirstHolds slots.old.items }
@@ -105,7 +105,7 @@ fn sweep<T: StandsInLine>(slots: &mut VecDeque<Slot<T>>, count: usize)
     }
 }
 
-// Takes the marks off both ends, and all of them where they are more than those who wait.
+// Takes the marks off both ends, and all of them where they are more than those that wait.
 fn trim<T: StandsInLine>(slots: &mut VecDeque<Slot<T>>, count: usize)
     requires rises { Rises T.place_of slots.old.items }
     requires counted { count ≡ length (waiting_in slots.old.items) }
@@ -137,7 +137,7 @@ fn index_of<T: StandsInLine>(slots: &VecDeque<Slot<T>>, place: Place) -> Option<
     slots[index].waits_at(place).then_some(index)
 }
 
-// Marks the slot at an index, and gives who waited there.
+// Marks the slot at an index, and gives what waited there.
 fn mark<T: StandsInLine>(slots: &mut VecDeque<Slot<T>>, index: usize, place: Place) -> Option<T>
     requires { index < length slots.old.items }
     ensures out { result ≡ option_and_then holder (slice_get slots.old.items index) }
@@ -147,7 +147,7 @@ fn mark<T: StandsInLine>(slots: &mut VecDeque<Slot<T>>, index: usize, place: Pla
     mem::replace(&mut slots[index], Slot::Withdrawn(place)).into_holder()
 }
 
-// The index behind all slots up to a place.
+// The index after all slots up to a place.
 fn index_above<T: StandsInLine>(slots: &VecDeque<Slot<T>>, after: Option<Place>) -> usize
     requires { Rises T.place_of slots.now.items }
     ensures within { result ≤ length slots.now.items }
@@ -160,7 +160,7 @@ fn index_above<T: StandsInLine>(slots: &VecDeque<Slot<T>>, after: Option<Place>)
     }
 }
 
-// The place of the first who waits in a slot from an index on.
+// The place of the first one that waits in a slot from an index on.
 fn first_from<T: StandsInLine>(slots: &VecDeque<Slot<T>>, start: usize) -> Option<Place>
     requires { start ≤ length slots.now.items }
     ensures { result ≡ slice_get (map T.place_of (waiting_in (drop start slots.now.items))) 0 }
@@ -199,7 +199,7 @@ impl<T: StandsInLine> SlotLine<T> {
         self.slots.reserve(1)
     }
 
-    // One more waits, behind the others.
+    // One more waits, after the others.
     pub(crate) fn push(&mut self, arrival: T)
         requires room { 0 < self.old.room.spare }
         requires above { All (λ x. T.place_of x < T.place_of arrival) self.old.waiting }
@@ -246,7 +246,7 @@ impl<T: StandsInLine> SlotLine<T> {
         self.slots.front().map(Slot::place)
     }
 
-    // The place of the first who waits above another place, or of the oldest.
+    // The place of the first one that waits above another place, or of the oldest.
     pub(crate) fn behind(&self, after: Option<Place>) -> Option<Place>
         ensures { result ≡ first_above after (map T.place_of self.now.waiting) }
     {

@@ -32,7 +32,7 @@ pub(crate) enum Slot<T> {
 }
 
 impl<T: StandsInLine> Slot<T> {
-    // The place of who waits there, or waited.
+    // The place of what waits there, or waited.
     pub(crate) fn place(&self) -> Place
         ensures { result ≡ slot_place T.place_of self.now }
     {
@@ -59,7 +59,7 @@ impl<T: StandsInLine> Slot<T> {
         matches!(self, Slot::Holds(_))
     }
 
-    // The place of who waits there.
+    // The place of what waits there.
     pub(crate) fn waiting_place(&self) -> Option<Place>
         ensures { result ≡ option_map T.place_of (holder self.now) }
     {

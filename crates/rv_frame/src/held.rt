@@ -66,7 +66,7 @@ impl Held {
         }
     }
 
-    // Finds the frames that begin behind the whole ones, up to an end or a bad length.
+    // Finds the frames that begin after the whole ones, up to an end or a bad length.
     fn cut_on(&mut self)
         requires front { FrontIsRow self.old.bytes.items self.old.whole }
         requires open { self.old.bad ≡ None }

@@ -91,7 +91,7 @@ impl Read for TestReader<'_> {
         ensures only { IfErr result (λ error.
             reader_fault self.old ≡ Some (reader_reads self.new, error_kind error)) }
 
-        // What it was told stays.
+        // Its settings stay.
         ensures most { reader_most self.new ≡ reader_most self.old }
         ensures fault { reader_fault self.new ≡ reader_fault self.old }
     {

@@ -64,7 +64,7 @@ fn push_each(alloc: Global, text: &str, items: &mut Items) -> Result<bool, NoMem
     Ok(false)
 }
 
-// Puts an item behind the others, whose text is a copy of this one.
+// Appends an item whose text is a copy of this one.
 fn push_copy(alloc: Global, items: &mut Items, text: &str) -> Result<(), NoMemory>
     ensures { OnOk result (items.new ≡ items.old ++ text.now ∷ []) }
 {

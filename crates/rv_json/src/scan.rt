@@ -77,7 +77,7 @@ fn scan_whole(bytes: &[u8], at: usize) -> Option<(u64, usize)>
 }
 
 // The text of a list that stands at the place, whether it is the list's last, and the place after the mark
-// that stands behind it: a comma, or the closing bracket after the last.
+// that follows it: a comma, or the closing bracket after the last.
 pub(crate) fn scan_element<'a>(text: &'a str, at: usize) -> Option<(&'a str, bool, usize)>
     ensures text { IfSome result
         (λ p. drop at text.now ≡ quoted p.0.now ++ (mark_after p.1 ∷ drop p.2 text.now)) }

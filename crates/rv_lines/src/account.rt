@@ -59,7 +59,7 @@ fn read_epoch(field: &[u8]) -> Option<u64>
     if n == 0 { None } else { Some(n) }
 }
 
-// The bytes behind a text that they begin with.
+// The bytes after a text that they begin with.
 fn behind<'a>(text: &[u8], bytes: &'a [u8]) -> Option<&'a [u8]>
     ensures some { IfSome result (λ rest. bytes.now ≡ text.now ++ rest.now) }
     ensures none { result ≡ None → (rest : List ℕ) → ¬ (bytes.now ≡ text.now ++ rest) }
@@ -67,7 +67,7 @@ fn behind<'a>(text: &[u8], bytes: &'a [u8]) -> Option<&'a [u8]>
     bytes.strip_prefix(text)
 }
 
-// The entries that the lines behind the first say.
+// The entries that the lines after the first say.
 fn read_entries(alloc: Global, input: &[u8]) -> Result<Vec<Entry>, AccountFault>
     ensures entries { IfOk result (λ entries. ReadsEntries (lines input.now) entries.items) }
     ensures bad { (n : ℕ) → result ≡ Err (AccountFault.BadLine n)
@@ -83,7 +83,7 @@ fn read_entries(alloc: Global, input: &[u8]) -> Result<Vec<Entry>, AccountFault>
     Ok(entries)
 }
 
-// The entry that a line says behind so many others, of which there is the head's line before.
+// The entry that a line says after so many others, which come after the head's line.
 fn next_entry(alloc: Global, line: &[u8], before: usize) -> Result<Entry, AccountFault>
     requires { before ≤ 100000 }
     ensures entry { IfOk result (ReadsEntry line.now) }

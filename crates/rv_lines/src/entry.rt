@@ -33,7 +33,7 @@ pub fn read_entry(alloc: Global, line: &[u8], greatest_place: u64) -> Result<Ent
     })
 }
 
-// The moment of a line, its partners' field, and all bytes behind the space after that.
+// The moment of a line, its partners' field, and all bytes after the next space.
 fn cut_fields(line: &[u8]) -> Option<(u64, &[u8], &[u8])>
     ensures some { IfSome result (λ f. CutsFields line.now f.0 f.1.now f.2.now) }
     ensures none { result ≡ None → (moment : ℕ) (partners field : List ℕ)

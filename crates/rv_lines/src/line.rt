@@ -35,7 +35,7 @@ pub fn cut_at(byte: u8, bytes: &[u8]) -> Option<(&[u8], &[u8])>
     Some((&bytes[..bytes.len() - after.len() - 1], after))
 }
 
-// The bytes behind whole pieces in which no byte is `byte`. If a whole piece is left, it has such a byte.
+// The bytes after whole pieces in which no byte is `byte`. If a whole piece is left, it has such a byte.
 fn behind_pieces(byte: u8, bytes: &[u8]) -> &[u8]
     ensures { BehindLacking byte bytes.now result.now }
 {

@@ -43,7 +43,7 @@ fn partners_field(alloc: Global, partners: &Partners) -> Result<String, NoMemory
     }
 }
 
-// A place and those behind it, with commas between.
+// A place and those after it, with commas between.
 fn places_field(alloc: Global, first: Place, more: &[Place]) -> Result<String, NoMemory>
     ensures { IfOk result (λ s. string_bytes s ≡ places_text first more.now) }
 {

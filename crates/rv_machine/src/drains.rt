@@ -101,8 +101,8 @@ impl Holdings {
         }
     }
 
-    // Takes the oldest item of a queue for the request of this key, which there must be: who waited with it
-    // is told so.
+    // Takes the oldest item of a queue, which there must be, for the request with this key. The request that
+    // waited with it gets its reply.
     fn take_item(&mut self, queue: u64, taker: Key) -> OpenPlace
         requires ready { IsWhole self.old }
         requires fits { FitsQueue queue }

@@ -19,7 +19,7 @@ use rv_session::OpenPlace;
 use rv_text::{Call, Items, Key, NoMemory, Reply, Wait};
 use std::alloc::Global;
 
-// What a request is told that meets nobody and doesn't wait, if this says that nobody was there.
+// The reply of a request that meets nobody and doesn't wait, if this one says that nobody was there.
 fn unmet(wait: Wait, nobody: Reply) -> Reply
     requires { ¬ Lasts (Some wait) }
     ensures { told_unmet wait nobody ≡ Some result }
@@ -31,7 +31,7 @@ fn unmet(wait: Wait, nobody: Reply) -> Reply
     }
 }
 
-// What a peek is told of a queue's oldest item.
+// The reply of a peek, by a queue's oldest item.
 fn peeked(front: &OpenPlace, alloc: Global) -> Result<Reply, NoMemory>
     requires { IsSome front.now.item }
     ensures { IfOk result (λ told. option_map (λ item. reply.Peeked item) front.now.item ≡ Some told) }
@@ -58,7 +58,7 @@ impl Holdings {
         Ok(self.record(moment, act, Partners::none(alloc)))
     }
 
-    // What a request is told that finds nobody and doesn't stay.
+    // The reply of a request that finds nobody and doesn't stay.
     fn reply_alone(&self, call: &Call, alloc: Global) -> Result<Reply, NoMemory>
         requires ready { IsWhole self.now }
         requires fits { FitsCall call.now }
@@ -88,7 +88,7 @@ impl Holdings {
         }
     }
 
-    // What a peek at a queue is told.
+    // The reply of a peek at a queue.
     fn peek(&self, queue: u64, alloc: Global) -> Result<Reply, NoMemory>
         requires ready { IsWhole self.now }
         requires fits { FitsQueue queue }

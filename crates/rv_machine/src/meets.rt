@@ -27,7 +27,7 @@ pub(crate) fn receipt(version: Version, taker: Option<Key>) -> Reply
     }
 }
 
-// What one who meets is told, by its side and its session's version.
+// The reply of one that meets, by its side and its session's version.
 fn met(side: Side, version: Version, other: Option<Key>, gets: Option<Item>) -> Reply
     requires gives { IsSome (told_on_side side version other gets) }
     ensures { told_on_side side version other gets ≡ Some result }
@@ -40,14 +40,14 @@ fn met(side: Side, version: Version, other: Option<Key>, gets: Option<Item>) -> 
     }
 }
 
-// The key of who waits, if somebody does.
+// The key of the request that waits, if one does.
 fn key_of(waiter: Option<Waiter>) -> Option<Key>
     ensures { result ≡ option_map (λ w. w.key) waiter }
 {
     Some(waiter?.key)
 }
 
-// What an arrival is told that met one, by its wait: a put is done.
+// The reply of an arrival that met one, by its wait: a put is done.
 fn arriving(
     wait: Option<Wait>,
     side: Side,
@@ -128,7 +128,7 @@ impl Holdings {
         self.clients.get(client).unwrap().version
     }
 
-    // Tells who waited at a place that the request of a key met it, if somebody did, and lists its key.
+    // Settles the request that waited at a place, if one did: a key's request met it. Lists its own key.
     fn tell(
         &mut self,
         duty: Option<Duty>,

@@ -99,7 +99,7 @@ fn receive(queue: &mut Dual, wait: Wait, duty: Duty) -> Arrived
     }
 }
 
-// Lays an item behind the others, where no consumer waits.
+// Adds an item after the others, where no consumer waits.
 fn lay_giver(queue: &mut Dual, giver: Giver)
     requires nobody { queue.old.takers ≡ [] }
     requires room { 0 < queue.old.giver_room.spare }
@@ -112,7 +112,7 @@ fn lay_giver(queue: &mut Dual, giver: Giver)
     }
 }
 
-// Lays a consumer behind the others, where no item waits.
+// Adds a consumer after the others, where no item waits.
 fn lay_taker(queue: &mut Dual, duty: Duty)
     requires nobody { queue.old.givers ≡ [] }
     requires room { 0 < queue.old.taker_room.spare }

@@ -29,7 +29,7 @@ pub struct Clients {
     epoch: u64,
     // The most clients that there can be.
     most: usize,
-    // Of each client its state.
+    // The state of each client.
     clients: BTreeMap<u64, ClientState>,
 }
 

@@ -22,7 +22,7 @@ pub const MAX_CLIENTS: usize = 1_024;
 #[derive(Drop)]
 pub struct Sessions {
     epoch: u64,
-    // Of each client its session.
+    // The session of each client.
     sessions: IndexMap<u64, Session>,
 }
 

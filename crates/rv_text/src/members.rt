@@ -96,7 +96,7 @@ pub(crate) fn read_version(members: &Members) -> Version
     }
 }
 
-// The reply to a transfer that was received, with the consumer's key if it is told. The consumer is of this
+// The reply to a transfer that was received, with the consumer's key if there is one. The consumer is of this
 // epoch.
 fn read_received(members: &Members, epoch: u64) -> Result<Reply, TextFault>
     ensures { FindsAmong members.now result (received_among epoch) }

@@ -134,7 +134,7 @@ fn owing(duty: &Option<Duty>) -> usize
     usize::from(duty.is_some())
 }
 
-// The duty that is owed to who waits, if somebody does.
+// The duty that is owed to the request that waits, if one does.
 fn owed(claims: &mut Claims, waiter: Option<Waiter>) -> Option<Duty>
     requires { CanBeClaimed claims.old waiter }
     ensures duty { result ≡ duty_of_waiter claims.old.table.clients waiter }
@@ -212,7 +212,7 @@ impl OpenTable {
         Ok(())
     }
 
-    // One more that was open before is open, behind all others. Fails only if memory was refused.
+    // One more that was open before is open, after all others. Fails only if memory was refused.
     fn reopen(&mut self, claims: &mut Claims, opened: OpenPlace) -> Result<(), NoMemory>
         requires { MayReopen self.old opened claims.old }
         ensures ok { OnOk result (self.new ≡ self.old ++ opened ∷ []) }

@@ -21,7 +21,7 @@ const MAX_RESUMED_CLIENTS: usize = 100_000;
 // The most open places of a state.
 const MAX_OPEN_PLACES: usize = 100_000;
 
-// Whether who waits at an open place is the last request of its client's session.
+// Whether the request that waits at an open place is the last of its client's session.
 fn is_last_among(
     epoch: u64,
     clients: &[(u64, ClientState)],

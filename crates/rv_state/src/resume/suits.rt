@@ -6,7 +6,7 @@ ghost use Rattle.rv_state.specs.resume.Suiting.{EndsUnmet, SuitsCall, TellsRecei
 
 use rv_text::{Call, Reply, Version, Wait};
 
-// Whether a transfer that was met is told this in a session of the version.
+// Whether a transfer that was met may have this reply in a session of the version.
 fn is_receipt(version: Version, reply: &Reply) -> bool
     ensures { IsTrue result ↔ TellsReceipt version reply.now }
 {
@@ -31,7 +31,7 @@ fn is_cancelled(reply: &Reply) -> bool
     matches!(reply, Reply::Cancelled)
 }
 
-// Whether a request that met nobody is told this, by its wait and by whether it is what it is told at once.
+// Whether a request that met nobody may have this reply, by its wait and by whether it is its reply at once.
 fn ends_unmet(wait: Wait, at_once: bool, reply: &Reply) -> bool
     ensures { (its : Reply) → (IsTrue at_once ↔ (reply.now ≡ its))
         → IsTrue result ↔ EndsUnmet wait its reply.now }
