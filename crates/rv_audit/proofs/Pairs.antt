@@ -66,7 +66,7 @@ pub true_or_false : (b : Bool) → (IsTrue b → ⊥) → b ≡ false
 true_or_false true = λ no. absurd (no refl)
 true_or_false false = λ no. refl
 
--- ---- behind a place
+-- ---- after a place
 
 abbrev RangeBehind : BTreeSet Pair → ℕ → Option ℕ → List Pair → Type 0
 RangeBehind s n last r = IsKeyRangeOf pair_cmp (bound_behind n last) Unbounded s r

@@ -1,4 +1,4 @@
--- An entry that may follow those of a legal account breaks no rule behind them: of each rule what keeps it.
+-- An entry that may follow those of a legal account breaks no rule after them: for each rule, what keeps it.
 use Rattle.rv_audit.proofs.Words.{◌≡◌, ◌≢◌, ◌⊎◌, ◌<◌, ◌≤◌, ◌∙◌, inl, inr, ℕ, List, length, Some, IsSome}
 use Rattle.rv_audit.proofs.Words.{refl, ap, subst, arith, Key, Call, Side, Entry, Act, Hello, Arrive}
 use Rattle.rv_audit.proofs.Words.{Cancel, Tick, Account, call_in, may_name, opposite, Met, IsNextNumber}

@@ -1,4 +1,4 @@
--- An entry that breaks no rule behind those of a legal account may follow them: of each rule what it gives.
+-- An entry that breaks no rule after those of a legal account may follow them: for each rule, what it gives.
 use Rattle.rv_audit.proofs.Words.{nat_tests}
 use Rattle.rv_audit.proofs.Words.{◌≡◌, ◌≢◌, ◌⊎◌, ◌+◌, ◌<◌, ◌∷◌, ◌∙◌, inl, inr, ℕ, List, [], length}
 use Rattle.rv_audit.proofs.Words.{Option, Some, None, IsSome, refl, sym, ap, subst, arith, slice_get}

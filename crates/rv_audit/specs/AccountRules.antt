@@ -1,9 +1,9 @@
 -- What breaks each rule of an audit at a place, and which rule an entry breaks first.
 --
--- An entry is looked at behind the account of those before it, in the words in which rv_rules says which
--- entry may stand where. Of each rule is said what breaks it, whether another is broken there or not. Who is
--- open is said by pairs and swaps, which only arrivals that may meet make; in a legal account no others name
--- partners.
+-- An entry is checked after the entries before it, in the words in which rv_rules says which entry may stand
+-- where. Each rule has its own condition for being broken, whether or not another is broken there. What is
+-- open is defined by pairs and swaps, which only arrivals that may meet make; in a legal account nothing else
+-- names partners.
 use Rattle.std.specs.Prelude.{◌≡◌, ◌≢◌, ◌⊎◌, ◌<◌, ◌≤◌, ◌+◌, ℕ, List, length, Some, codes}
 use Rattle.std.specs.List.Sorted.{IsStrictlyIncreasing}
 use Rattle.rv_text.specs.declared.version.Version.{Version}
@@ -169,7 +169,7 @@ pub record MissesPartner (Is : Side → Type 0) (entries : List Entry) (e : Entr
 
 -- ---- the rules
 
--- an entry behind those of an account breaks the rule
+-- an entry breaks the rule after the entries of an account
 abbrev pub BreaksBehind : Rule → Account → Entry → Type 0
 BreaksBehind M1 a e = FallsBack a e
 BreaksBehind M2 a e = PassesLimit a.entries e

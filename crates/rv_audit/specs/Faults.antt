@@ -8,7 +8,7 @@ use Rattle.rv_audit.specs.AccountRules.{BreaksBehind, rank_of}
 use Rattle.rv_audit.specs.declared.outcome.Audit.{Audit}
 use Rattle.rv_audit.specs.declared.outcome.Audit.TheVariants as tells
 
--- the entry at the place breaks the rule, behind those before it
+-- the entry at the place breaks the rule, after those before it
 pub record Breaks (rule : Rule) (a : Account) (place : ℕ) : Type 0 where
   pub entry : Entry
   pub there : slice_get a.entries place ≡ Some entry

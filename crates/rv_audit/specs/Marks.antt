@@ -26,7 +26,7 @@ pub record Loses (old new : Marks) (number place : ℕ) : Type 0 where
   pub own : is_marked_under new number place ≡ false
   pub others : (n p : ℕ) → (n ≢ number) ⊎ (p ≢ place) → is_marked_under new n p ≡ is_marked_under old n p
 
--- the place stands behind another, if one is handed in
+-- the place comes after another, if one is given
 abbrev pub IsBehind : Option ℕ → ℕ → Type 0
 IsBehind None place = Unit {0}
 IsBehind (Some last) place = last < place

@@ -1,4 +1,4 @@
--- Lines of fronts of entries, one behind another.
+-- Lines of the first of some entries, one gathering after another.
 use Rattle.std.proofs.Common.{◌≡◌, ◌<◌, ◌≤◌, ◌+◌, ◌-◌, ◌∙◌, ℕ, List, [], ◌∷◌, ◌++◌, Bool, true, false}
 use Rattle.std.proofs.Common.{append-nil, ap, arith}
 use Rattle.std.proofs.Common.{append_assoc, drop, get_or, length, refl, subst, suc, sym, take, zero}
@@ -52,7 +52,7 @@ gathers_none left before lines none same = record {
   gathered = same ∙ sym (append-nil before);
 }
 
--- ---- one behind another
+-- ---- one after another
 
 pub gathers_then : (entries more left later : List Entry) (before lines after : List ℕ)
     → GathersFront entries before left lines → GathersFront (left ++ more) lines later after
@@ -67,7 +67,7 @@ gathers_then entries more left later before lines after first second = record {
       ∙ ap (λ (l : List ℕ). before ++ l) (sym (lines_append first.front second.front));
 }
 
--- the same behind other lines
+-- the same after other lines
 pub gathers_shift : (entries left : List Entry) (bytes before lines : List ℕ)
     → GathersFront entries before left lines → GathersFront entries (bytes ++ before) left (bytes ++ lines)
 gathers_shift entries left bytes before lines is = record {
@@ -118,7 +118,7 @@ drop_add (e ∷ entries) (suc g) count =
     let next : suc g + count ≡ suc (g + count) = omega arith in
     ap (λ (n : ℕ). drop n (e ∷ entries)) next ∙ drop_add entries g count
 
--- so many more of those behind some are gathered
+-- so many more of those after some are gathered
 pub gathers_rest : (entries same : List Entry) (g count : ℕ) (before lines : List ℕ) → same ≡ entries
     → lines ≡ before ++ entry_lines (take count (take (length same - g) (drop g same)))
     → GathersFront (drop g entries) before (drop (g + count) entries) lines

@@ -21,7 +21,7 @@ use Rattle.rv_engine.proofs.Gathered.{gathers_all, gathers_behind, lines_append}
 use Rattle.rv_engine.proofs.Running.{longer}
 use Rattle.rv_engine.proofs.Telling.{told_within}
 
--- these entries have the lines that are gathered, behind those that are stored
+-- these entries have the lines that are gathered, after those that are stored
 record IsHalfway (s : EngineState) (gathered : List Entry) : Type 0 where
   pub lines : s.lines ≡ entry_lines gathered
   pub count : s.hub.book.length ≡ s.stored + (length gathered + length s.left)

@@ -172,7 +172,7 @@ own_within terms (event.Written entries) number s t stored (mid, does, same) tel
 own_within terms event.Passed number s t stored same tells within =
     subst (λ (n : ℕ). n ≤ stored) (sym (ap (λ (u : DispatcherState). u.open_wires.written) same)) within
 
--- with a journal no more is written behind an event than is stored
+-- with a journal no more is written after an event than is stored
 pub told_within : (terms : DispatcherTerms) (s : DispatcherState) (handed : ℕ) (what : HubEvent) (made :
     List Entry)
     (given : ℕ) (t : DispatcherState) (stored : ℕ) → TakesEvent true terms s handed what made given t

@@ -1,4 +1,4 @@
--- An event that is handed on behind a gathering.
+-- An event that is handed on after a gathering.
 use Rattle.std.proofs.Common.{◌≡◌, ◌∙◌, ◌++◌, ℕ, List, [], Bool, ap, append_assoc, arith, length}
 use Rattle.std.proofs.Common.{length-append}
 use Rattle.std.proofs.Common.{drop, subst, sym}

@@ -1,4 +1,4 @@
--- Lines that are written behind a gathering.
+-- Lines that are written after a gathering.
 use Rattle.std.proofs.Common.{◌≡◌, ◌∙◌, ◌-◌, ℕ, List, [], ap, append-nil, arith, length, refl, subst}
 use Rattle.std.proofs.Common.{drop, sym}
 use Rattle.std.proofs.lemmas.List.{length-drop}

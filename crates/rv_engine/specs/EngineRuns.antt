@@ -78,9 +78,9 @@ bytes_written (GatheredLines ∷ effects) = bytes_written effects
 bytes_written (StoredLines bytes entries ∷ effects) = bytes ++ bytes_written effects
 bytes_written (Looked ∷ effects) = bytes_written effects
 
--- the hub behind a run is that of the events that were handed on, in order; and of the entries that were left
--- before and those that these made, where an account is kept, a front has its lines written or gathered, in
--- order, and the others are left
+-- After a run the hub is that of the events that were handed on, in order. Take the entries that were left
+-- before and those that these events made, where an account is kept: the first of them have their lines
+-- written or gathered, in order, and the others are left.
 pub record IsEngineRun (journal : Bool) (terms : DispatcherTerms) (s : EngineState) (effects :
     List EngineEffect)
     (t : EngineState) : Type 0
@@ -109,8 +109,8 @@ WrittenAreCounted = (terms : DispatcherTerms) (effects : List EngineEffect) (s t
     → RunsEngine true terms s effects t → IsAllWritten s
     → AreCounted s (made_in (answers_in effects)) (bytes_written effects) t
 
--- behind the lines of a legal account, what is written and what isn't yet are those of a legal account, of
--- which the hub has the state
+-- after the lines of a legal account, the written lines and those still unwritten are those of a legal
+-- account, whose state the hub has
 pub record KeepsAccount (a : Account) (bytes : List ℕ) (t : EngineState) (made : List Entry) : Type 0 where
   pub after : Account
   pub adds : AddsEntries a made after

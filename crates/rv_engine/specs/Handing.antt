@@ -63,7 +63,7 @@ abbrev pub entries_kept : Bool → List Entry → List Entry
 entries_kept true made = made
 entries_kept false made = []
 
--- the lines of a front of the entries are gathered behind those that were, and the other entries are left
+-- the lines of the first of these entries are gathered after those that were, and the other entries are left
 pub record GathersFront (entries : List Entry) (before : List ℕ) (left : List Entry) (lines : List ℕ) :
     Type 0
   where

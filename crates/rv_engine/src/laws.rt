@@ -13,7 +13,8 @@ pub fn written_are_counted()
     ensures { WrittenAreCounted }
 {}
 
-/// Behind the lines of a legal account, what is written and what isn't yet are those of a legal account.
+/// After the lines of a legal account, the written lines and those still unwritten are those of a legal
+/// account.
 pub fn accounts_are_kept()
     ensures { AccountsAreKept }
 {}

@@ -246,7 +246,7 @@ answered_account terms a s t connection body (answer.Refused refusal) does is =
     same_account a s t (ap (λ (u : DispatcherState). u.book) does.answers.rest)
     (ap (λ (u : DispatcherState). u.now) does.answers.rest) is
 
--- the account is as it was behind the step
+-- the account is as it was after the step
 behind : (a : Account) (made : List Entry) (m t : DispatcherState) → LeadsToAccount a made m
     → ((b : Account) → IsHubAccount b m → IsHubAccount b t) → LeadsToAccount a made t
 behind a made m t leads goes = record {

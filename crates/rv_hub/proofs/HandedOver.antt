@@ -158,7 +158,7 @@ asked_answers terms s t a n body step said limits time is does =
 
 -- ---- each effect
 
--- the answers behind an effect, if it is of this connection
+-- the answers after an effect, if it is of this connection
 Behind : Account → Past → ℕ → Effect → Type 0
 Behind a past count effect =
     All (IsPublic (a.entries ++ entries_of_effect effect)) (past_by past count effect).answers

@@ -37,7 +37,7 @@ rest_begun journal s rest = record {
   all_written = rest.all_written;
 }
 
--- behind an event that is refused
+-- after an event that is refused
 pub rest_same : (journal : Bool) (s t : DispatcherState) → t ≡ begun s → IsAtRest journal s
     → IsAtRest journal t
 rest_same journal s t same rest = subst (IsAtRest journal) (sym same) (rest_begun journal s rest)

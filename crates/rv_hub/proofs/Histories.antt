@@ -250,7 +250,7 @@ released_past before written past (Some old) (Some after) rises releases has wir
 
 -- ---- each effect
 
--- the past behind an effect, where the account has so many entries
+-- the past after an effect, where the account has so many entries
 abbrev Behind : DispatcherState → ℕ → Past → ℕ → Effect → Type 0
 Behind t n past entries effect = HasPast t n (cond (is_effect_of n effect) (past_by past entries effect) past)
 
@@ -347,7 +347,7 @@ pasts_kept terms (effect ∷ effects) s t (mid, does, more) n past has =
     (pasts_kept terms effects mid t more n (cond (is_effect_of n effect) (past_by past entries effect) past)
     there_now)
 
--- a past through two lists of effects, one behind the other
+-- a past through two lists of effects, one after the other
 pub past_on : (n : ℕ) (past : Past) (entries : ℕ) (xs ys : List Effect)
     → past_after n past entries (xs ++ ys)
     ≡ past_after n (past_after n past entries xs) (entries + length (flat_map entries_of_effect xs)) ys

@@ -1,4 +1,4 @@
--- Behind an event's own effect each connection has stopped, but for the one that goes on.
+-- After an event's own effect each connection has stopped, but for the one that goes on.
 use Rattle.std.proofs.Common.{inl, inr, ◌≡◌, ◌≢◌, ◌≤◌, ◌+◌, ◌∙◌, ◌∷◌, ◌⊎◌, ℕ, [], None}
 use Rattle.std.proofs.Common.{Option, Some, refl, sym, ap, subst, arith}
 use Rattle.std.proofs.Common.{false, true, length, option_to_list}

@@ -153,7 +153,7 @@ released_open written None after wire releases is = absurd (none-some wire is)
 released_open written (Some old) None wire releases is = absurd releases
 released_open written (Some old) (Some w) wire releases is = (w, refl)
 
--- ---- one connection behind an effect
+-- ---- one connection after an effect
 
 module _ (limits : StepLimits) (a b : Account) (made : List Entry) (adds : AddsEntries a made b)
     (s t : DispatcherState) (n : ℕ) (past : Past) (is : InPairs limits a s n past.frames past.answers)

@@ -1,4 +1,4 @@
--- What holds behind an event.
+-- What holds after an event.
 use Rattle.std.proofs.Common.{inl, inr, ◌≡◌, ◌<◌, ◌∙◌, ◌⊎◌, ℕ, [], None, Option, Some}
 use Rattle.std.proofs.Common.{refl, sym, ap, subst, arith}
 use Rattle.std.proofs.Common.{Bool, false, true, length}
@@ -48,7 +48,7 @@ cannot_begun s (event.Took connection count) why cannot = cannot
 cannot_begun s (event.Written entries) why cannot = cannot
 cannot_begun s event.Passed why cannot = absurd cannot
 
--- ---- behind time and turns
+-- ---- after time and turns
 
 pub ready_behind : (d : Dispatcher) → IsSteady d → d.freed.items ≡ [] → IsDispatcherReady d
 ready_behind d steady none = record {

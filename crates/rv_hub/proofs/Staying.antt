@@ -1,4 +1,4 @@
--- While one connection goes on, of each other either its bytes stay, or it is to go on behind.
+-- While one connection goes on, each other either keeps its bytes or is to go on afterwards.
 use Rattle.std.proofs.Common.{inl, inr, ◌≡◌, ◌≢◌, ◌<◌, ◌≤◌, ◌++◌, ◌∷◌, ◌⊎◌, ℕ, List, [], None}
 use Rattle.std.proofs.Common.{Option, Some, sym, ap, subst, arith}
 use Rattle.std.proofs.Common.{cond, drop, length, nat_eq, true, false}

@@ -23,12 +23,12 @@ no_turns terms s t offer same = record {
   count_is = refl;
 }
 
--- a state, and then those behind it
+-- a state, and then those after it
 abbrev state_first : DispatcherState → (ℕ → DispatcherState) → ℕ → DispatcherState
 state_first s states zero = s
 state_first s states (suc place) = states place
 
--- those that are to go on behind one turn and further effects
+-- those that are to go on after one turn and further effects
 row_behind : (connection : ℕ) (row : List ℕ) (effects more : List Effect)
     → (connection ∷ row) ++ told_in_effects (effects ++ more)
     ≡ connection ∷ ((row ++ told_in_effects effects) ++ told_in_effects more)

@@ -1,4 +1,4 @@
--- Time goes on, and behind it those go on whom it told.
+-- Time goes on, and after it those that it told go on.
 use Rattle.std.proofs.Common.{inl, inr, ◌≡◌, ◌<◌, ◌∙◌, ◌++◌, ◌∷◌, ◌⊎◌, ℕ, List, [], Option}
 use Rattle.std.proofs.Common.{refl, sym, ap, subst, arith}
 use Rattle.std.proofs.Common.{length, option_to_list}

@@ -8,7 +8,7 @@ use Rattle.rv_hub.specs.declared.events.HubEvent.{HubEvent}
 use Rattle.rv_hub.specs.Turns.{EventGoesOn, TakesEvent, last_effects, own_effects}
 pub use Rattle.rv_hub.specs.Turns.{all_effects}
 
--- the effects of what goes on behind an event's own
+-- the effects of what goes on after an event's own
 abbrev pub goes_effects : (terms : DispatcherTerms) (s : DispatcherState) (handed : ℕ) (what : HubEvent)
     (made : List Entry)
     (taken : ℕ) (t : DispatcherState) → EventGoesOn terms s handed what made taken t → List Effect

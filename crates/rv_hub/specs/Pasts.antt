@@ -34,7 +34,7 @@ with_answer past entries said = record past {
   answers = past.answers ++ (record { body = answer_text said; rests_on = entries }) ∷ [];
 }
 
--- the answer to a step, unless its request waits; the account has so many entries behind it
+-- the answer to a step, unless its request waits; after it the account has so many entries
 abbrev pub with_said : Past → ℕ → Answer → Past
 with_said past entries (answer.Waiting key) = past
 with_said past entries (answer.Replied key reply) = with_answer past entries (answer.Replied key reply)
@@ -58,7 +58,7 @@ is_effect_of n (Lost connection body step) = nat_eq n connection
 is_effect_of n (Told connection key said) = nat_eq n connection
 is_effect_of n (Closed connection) = nat_eq n connection
 
--- what such an effect adds; the account has so many entries behind it
+-- what such an effect adds; after it the account has so many entries
 abbrev pub past_by : Past → ℕ → Effect → Past
 past_by past entries (Elapsed moment made settled) = past
 past_by past entries (Opened connection) = no_past

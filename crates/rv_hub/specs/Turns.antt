@@ -27,13 +27,13 @@ pub record Offered : Type 0 where
 abbrev pub offered_to : Offered → ℕ → List ℕ
 offered_to offer connection = cond (nat_eq offer.connection connection) offer.piece []
 
--- and what is offered to it behind effects which took bytes of the piece
+-- and what is offered to it after effects that took bytes of the piece
 abbrev pub offered_behind : Offered → List Effect → ℕ → List ℕ
 offered_behind offer effects connection =
     cond (nat_eq offer.connection connection) (left_behind offer.piece effects) []
 
--- a connection goes on until it stops: behind its turn nothing is to be answered now, and where bytes of its
--- piece are left it takes no more
+-- a connection goes on until it stops: after its turn nothing is to be answered now, and if bytes of its
+-- piece are left, it takes no more
 pub record IsWholeTurn (terms : DispatcherTerms) (old : DispatcherState) (connection : ℕ) (piece : List ℕ)
     (effects : List Effect) (count : ℕ) (new : DispatcherState) : Type 0
   where
@@ -45,9 +45,8 @@ pub record IsWholeTurn (terms : DispatcherTerms) (old : DispatcherState) (connec
 abbrev pub all_effects : List (List Effect) → List Effect
 all_effects turns = flat_map (λ effects. effects) turns
 
--- the turn at a place, behind the effects of those before it: it is of the connection at that place of the
--- row,
--- behind which stand those that were told so far, in the order in which they were told
+-- the turn at a place, after the effects of those before it: it belongs to the connection at that place of
+-- the row, after which come those that were told so far, in the order in which they were told
 pub record HasTurn (terms : DispatcherTerms) (states : ℕ → DispatcherState) (offer : Offered) (row : List ℕ)
     (before effects : List Effect) (place : ℕ) : Type 0
   where
@@ -61,7 +60,7 @@ pub record HasTurn (terms : DispatcherTerms) (states : ℕ → DispatcherState) 
 pub record RunsTurns (terms : DispatcherTerms) (old : DispatcherState) (offer : Offered) (row : List ℕ)
     (turns : List (List Effect)) (count : ℕ) (new : DispatcherState) : Type 0
   where
-    -- the states before each turn, and behind the last
+    -- the states before each turn, and after the last
     pub states : ℕ → DispatcherState
     pub begins : states 0 ≡ old
     pub ends : states (length turns) ≡ new
@@ -94,7 +93,7 @@ own_effects (event.Took connection count) number = Left connection count ∷ []
 own_effects (event.Written entries) number = Wrote entries ∷ []
 own_effects event.Passed number = []
 
--- the connection that goes on behind time, before those that were freed
+-- the connection that goes on after time, before those that were freed
 abbrev pub goes_on_first : HubEvent → Option ℕ
 goes_on_first event.Opened = None
 goes_on_first (event.Came connection piece) = Some connection
@@ -135,7 +134,7 @@ pub record EventGoesOn (terms : DispatcherTerms) (old : DispatcherState) (handed
         new
     pub made_is : made ≡ entries ++ made_by turns
 
--- the whole event: no connection has changed yet; then its own effect, then all that goes on behind it, and
+-- the whole event: no connection has changed yet; then come its own effect and all that goes on after it, and
 -- without a journal all is written
 pub record TakesEvent (journal : Bool) (terms : DispatcherTerms) (old : DispatcherState) (handed : ℕ) (what :
     HubEvent)
@@ -160,13 +159,13 @@ abbrev pub CanTakeNone : Traffic → Type 0
 CanTakeNone wire =
     (IsWholeFrame wire.unread × ((wire.owes ≡ true) ⊎ (most_held < held_count wire))) ⊎ IsBad wire.unread
 
--- fewer bytes than came are taken only where, behind the event, the connection takes no more, or is closed
+-- fewer bytes than came are taken only if, after the event, the connection takes no more or is closed
 abbrev pub TakesPiece : HubEvent → ℕ → DispatcherState → Type 0
 TakesPiece (event.Came connection piece) count new = count < length piece.now
     → (wire : Traffic) → new.open_wires.wires connection ≡ Some wire → CanTakeNone wire
 TakesPiece what count new = Unit {0}
 
--- what holds behind each event
+-- what holds after each event
 pub record IsAtRest (journal : Bool) (s : DispatcherState) : Type 0 where
   -- no whole frame is to be answered now, and of each open connection something is left to do
   pub stopped : (connection : ℕ) → HasComeToStop s connection

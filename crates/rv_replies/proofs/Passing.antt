@@ -65,7 +65,7 @@ module _ (a : Account) (e : Entry) (before : Legal a) (legal : Legal (with_entry
 
   -- ---- whom it settles
 
-  -- behind whom it settled this is so; a key that nothing named may be the entry's own
+  -- after those that it settled this is so; a key that nothing named may be the entry's own
   abbrev IsMid : Key → Fate → Type 0
   IsMid key Unnamed = NamesNowhere a.entries key
   IsMid key (Waits call) = IsFateOf es key (Waits call)
@@ -263,7 +263,7 @@ module _ (a : Account) (e : Entry) (before : Legal a) (legal : Legal (with_entry
   passed old mid new about ends notes =
       new_is mid new (λ key. mid_is old mid ends key about) e.act refl notes
 
--- ---- by the machine behind it
+-- ---- by the machine after it
 
 pub passes : (machine : Machine) (a : Account) (e : Entry) (old mid new : Fates) → HasPassedBy machine a e
     → IsAbout old a → EndsEach old mid machine.settled.items (told_now (state_in machine) e.act)

@@ -31,8 +31,8 @@ pub record AsksAbout (old new : Fates) (key : Key) : Type 0 where
   pub own : fate_in new key ≡ Some (unwrap_or (fate_in old key) Unnamed)
   pub others : (other : Key) → (other ≡ key → ⊥) → fate_in new other ≡ fate_in old other
 
--- the entry stands behind a legal account, which is legal with it; the machine holds the state of that, and
--- lists whom the entry settled
+-- the entry comes after a legal account, which is legal with it; the machine holds the state of that, and
+-- lists the requests that the entry settled
 pub record HasPassedBy (machine : Machine) (a : Account) (e : Entry) : Type 0 where
   pub before : Legal a
   pub legal : Legal (with_entry a e)

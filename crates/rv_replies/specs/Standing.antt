@@ -18,7 +18,7 @@ abbrev pub IsRecordLine : List ℕ → Line → Type 0
 IsRecordLine text (line.Told told) = ReadsTold text told
 IsRecordLine text (line.Flawed flaw) = (told : Told) → ReadsTold text told → ⊥
 
--- the text is read behind the other lines
+-- the text is read, and its line comes after the others
 pub record AddsLine (old new : Records) (text : List ℕ) : Type 0 where
   pub line : Line
   pub is : IsRecordLine text line

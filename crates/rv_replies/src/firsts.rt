@@ -37,7 +37,7 @@ impl Firsts {
         self.get(key).is_some()
     }
 
-    /// Notes a line of the key behind all others. Fails only if memory was refused.
+    /// Notes a line of the key, after all others. Fails only if memory was refused.
     pub(crate) fn note(&mut self, key: &Key, line: usize) -> Result<(), NoMemory>
         ensures { OnOk result (NotesFirst self.old self.new key.now line) }
     {

@@ -19,7 +19,7 @@ use Rattle.rv_server_connections.proofs.Marks.{added_alone}
 use Rattle.rv_server_connections.proofs.Freeing.{answered_behind, answered_first, answered_free, mark_of_none}
 use Rattle.rv_server_connections.proofs.Sound.{same_Some, same_counted, stands_at}
 
--- the mark fits what the bytes behind rest on
+-- the mark fits what the held-back bytes rest on
 pub record MarkFits (written : ℕ) (mark : Option ℕ) (wire : Traffic) : Type 0 where
   pub marked : (e : ℕ) → first_rests_on wire.behind ≡ Some e → unwrap_or mark (e + 1) ≤ e
   pub unmarked : first_rests_on wire.behind ≡ None → mark ≡ None

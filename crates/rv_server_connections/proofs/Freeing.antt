@@ -1,4 +1,4 @@
--- What the first of the bytes that may not leave rests on, before and behind those that are let go.
+-- What the first of the bytes that may not leave rests on, before and after those that are let go.
 use Rattle.std.proofs.Common.{◌≡◌, ◌<◌, ◌≤◌, ◌+◌, ◌∷◌, ◌++◌, ◌∙◌, ℕ, List, [], Option, None, Some, arith}
 use Rattle.std.proofs.Common.{refl, sym}
 use Rattle.std.proofs.Common.{ap, subst, length, length-append, IsSome, unwrap_or, append-nil}
@@ -30,7 +30,7 @@ pub none_behind : (behind : List AnswerByte) → first_rests_on behind ≡ None 
 none_behind [] none = refl
 none_behind (b ∷ behind) none = absurd (some_none b.rests_on none)
 
--- what stands first goes on to, with more behind it
+-- what stands first still does, with more after it
 first_more : (behind more : List AnswerByte) (e : ℕ) → first_rests_on behind ≡ Some e
     → first_rests_on (behind ++ more) ≡ Some e
 first_more [] more e first = absurd (some_none e (sym first))
@@ -52,7 +52,7 @@ answer_first : (entries : ℕ) (body : List ℕ) → first_rests_on (resting ent
     entries
 answer_first entries body = refl
 
--- behind what may not leave, it stands behind
+-- after what may not leave, it is held back too
 pub answered_behind : (written entries e : ℕ) (old new : Traffic) (body : List ℕ)
     → AnswersBy written old entries body new → first_rests_on old.behind ≡ Some e → written < e
     → first_rests_on new.behind ≡ Some e

@@ -37,7 +37,7 @@ stands_at s indexed c slot there e = indexed.indexed e c ∙ ap (λ (o : Option 
 
 -- ---- one slot
 
--- a slot whose bytes behind stay
+-- a slot whose held-back bytes stay
 pub same_slot : (slot : WireSlot) (wire : Traffic) → IsSoundSlot slot → wire.behind ≡ slot.wire.behind
     → held_count wire ≤ 131071 → IsSoundSlot (record { wire = wire; mark = slot.mark })
 same_slot slot wire sound behind short = record {
@@ -56,7 +56,7 @@ fresh_slot wire fresh = subst (λ (t : Traffic). IsSoundSlot (record { wire = t;
 
 -- ---- all slots
 
--- one slot has other bytes, with as many or fewer of answers, and what is behind stays
+-- one slot has other bytes, with as many or fewer of answers, and what is held back stays
 pub kept_sound : (s : Slots) (c : ℕ) (slot : WireSlot) (wire : Traffic) (held : ℕ) → IsSoundSlots s
     → get s.slots c ≡ Some slot → wire.behind ≡ slot.wire.behind → held_count wire ≤ held_count slot.wire
     → held + held_count slot.wire ≡ s.held + held_count wire

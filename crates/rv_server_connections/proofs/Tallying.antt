@@ -177,7 +177,7 @@ all_held_back n noted c wire is =
     same_some : (x y : Traffic) → Some x ≡ Some y → x ≡ y
     same_some x y is = cc
 
--- ---- at first, and behind a refusal
+-- ---- at first, and after a refusal
 
 pub empty_noted : (s : Slots) (c : ChangeList) (written : ℕ) → IsSoundSlots s → IsChanges c
     → slots_state s ≡ none_open written → IsNoted (record { slots = s; changes = c })

@@ -130,7 +130,7 @@ pub record NotesReleased (old : WiresState) (before : Tally) (written : ℕ) (af
       ↔ (Contains before.changed connection ⊎ IsReleased old written connection)
   pub unread : after.unread ≡ before.unread
 
--- what is behind in each open connection begins with what isn't written
+-- the held-back bytes of each open connection begin with what isn't written
 abbrev pub AllHeldBack : WiresState → Type 0
 AllHeldBack s = (connection : ℕ) (wire : Traffic) → s.wires connection ≡ Some wire → HoldsBack s.written
     wire.behind

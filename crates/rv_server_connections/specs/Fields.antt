@@ -26,8 +26,8 @@ slots_state s = record {
 
 -- ---- one slot
 
--- a connection that holds something back has a mark that is at most what its first byte behind rests on, and
--- any other has none
+-- a connection that holds something back has a mark, at most what its first held-back byte rests on, and any
+-- other has none
 pub record IsSoundSlot (slot : WireSlot) : Type 0 where
   pub marked : (entries : ℕ) → first_rests_on slot.wire.behind ≡ Some entries
       → unwrap_or slot.mark (entries + 1) ≤ entries

@@ -7,10 +7,10 @@ use Rattle.rv_server_connections.specs.contracts.table.WireSlot as slot
 use Rattle.rv_server_connections.specs.contracts.table.WireTable as table
 use Rattle.rv_server_connections.specs.Table.{TableState, with_slot}
 
--- a place ends with the last connection behind r
+-- a place ends with the final value of r
 abbrev pub LendsSlotAt : MutBor (Option WireSlot) → MutBor WireSlot → Fml
 LendsSlotAt place r = option_follows_value slot.the_row place r
 
--- a table ends with the last connection behind r under this number
+-- a table ends with the final value of r under this number
 abbrev pub LendsSlot : MutBor TableState → ℕ → MutBor WireSlot → Fml
 LendsSlot t number r = Lends table.the_row slot.the_row t r (with_slot t.now number)

@@ -91,7 +91,7 @@ impl Wire {
         self.buffers.take_frame()
     }
 
-    /// Gives the answer that is owed, by its body, behind all that is held. It rests on so many entries, and
+    /// Gives the answer that is owed, by its body, after all that is held. It rests on so many entries, and
     /// so many are written. If memory for it is refused nothing changes.
     pub fn answer(&mut self, written: u64, entries: u64, body: &[u8]) -> Result<(), NoMemory>
         requires owes { self.old.owes ≡ true }

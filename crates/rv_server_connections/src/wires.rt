@@ -131,8 +131,8 @@ impl Wires {
         self.unread -= gone as u128;
     }
 
-    /// Gives the answer that a connection is owed, by its body, behind all that is held for it. It rests on
-    /// so many entries. If memory for it is refused nothing changes.
+    /// Gives the answer that a connection is owed, by its body, after all that is held for it. It rests on so
+    /// many entries. If memory for it is refused nothing changes.
     pub fn answer(
         &mut self,
         connection: ConnectionNumber,

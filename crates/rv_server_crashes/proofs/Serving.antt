@@ -146,7 +146,7 @@ held_for server body message said count total is held same = inr (inr (
   },
 ))
 
--- ---- the past of one connection behind an effect
+-- ---- the past of one connection after an effect
 
 abbrev HeldPast : Server → Past → Type 0
 HeldPast server past = AreHeldAtServer server past.frames past.answers

@@ -1,4 +1,4 @@
--- A call is a run of the engine, and so are calls one behind another.
+-- A call is a run of the engine, and so are calls one after another.
 use Rattle.std.proofs.Common.{ℕ, ◌≡◌, ◌∷◌, ◌++◌, ◌∙◌, Bool, List, [], None, Option, Some, ap, append-nil}
 use Rattle.std.proofs.Common.{append_assoc, arith, false, inl}
 use Rattle.std.proofs.Common.{inr, refl, subst, sym, true}
@@ -69,7 +69,7 @@ none_run : (journal : Bool) (terms : DispatcherTerms) (s t : EngineState) → t 
     → RunsBehind journal terms s [] t
 none_run journal terms s t same = record { effects = []; runs = same; bytes_are = refl }
 
--- ---- one behind another
+-- ---- one after another
 
 runs_then : (journal : Bool) (terms : DispatcherTerms) (first second : List EngineEffect) (s t u :
     EngineState)

@@ -1,4 +1,4 @@
--- Runs over one device, one behind another.
+-- Runs over one device, one after another.
 use Rattle.std.proofs.Common.{◌∷◌, ◌≡◌, ◌∙◌, ◌++◌, ℕ, Bool, List, [], None, Option, Some, ap, append-nil}
 use Rattle.std.proofs.Common.{append_assoc, drop, false, inl, inr, refl, subst, sym, take, true, ◌⊎◌}
 use Rattle.std.proofs.KnownBytes.{Appends-trans}

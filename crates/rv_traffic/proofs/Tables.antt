@@ -27,7 +27,7 @@ pub keeps_same : (known : Option (List ℕ)) → Keeps known known
 keeps_same None = tt
 keeps_same (Some bytes) = refl
 
--- an event behind a gathering
+-- an event after a gathering
 pub hands_through : (first hub : HubParts) (old mid : EngineState) (now : ℕ) (what : HubEvent)
     (made : List Entry) (given : ℕ) (new : EngineState) → Gathers old mid → hub ≡ first
     → HandsOn hub.has_journal (hub_terms hub) mid now what made given new
@@ -57,7 +57,7 @@ module _ {S : Type 0} where
   none_changed old new n changes same =
       changes ∙ ap (λ (o : Option (Socket S)). slice_set old n o) same ∙ set-get_or old n None
 
-  -- a connection is given up behind another call of its number
+  -- a connection is given up after another call of its number
   pub gives_up_then : (journal : Bool) (terms : DispatcherTerms) (now n : ℕ) (old mid new : TrafficState S)
       → mid.engine ≡ old.engine → ChangesOne old.table n mid.table → GivesUp journal terms now n mid new
       → GivesUp journal terms now n old new

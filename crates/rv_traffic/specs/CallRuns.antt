@@ -1,5 +1,5 @@
--- What calls do to the engine is a run of it, one behind another too, so that the laws of an engine's runs,
--- and of a hub's, hold of a whole turn of a server.
+-- What calls do to the engine is a run of it, and so are several calls in a row, so that the laws of an
+-- engine's runs, and of a hub's, hold for a whole turn of a server.
 use Rattle.std.specs.Prelude.{ℕ, ◌≡◌, ◌++◌, Bool, List, [], None, Option, Some, false, true}
 use Rattle.rv_account.specs.declared.entry.Entry.{Entry}
 use Rattle.rv_hub.specs.dispatcher.View.{DispatcherTerms}
@@ -18,7 +18,7 @@ use Rattle.rv_traffic.specs.Rounds.{ReadsRound, SharesOut, WritesRound}
 use Rattle.rv_traffic.specs.declared.traffic.Switchboard.{Switchboard}
 use Rattle.rv_traffic.specs.Views.{SameTerms, TrafficState}
 
--- one engine is behind some effects of the other, in which the device took these lines
+-- one engine comes of some effects on the other, in which the device took these lines
 pub record RunsBehind (journal : Bool) (terms : DispatcherTerms) (s : EngineState) (bytes : List ℕ)
     (t : EngineState) : Type 0
   where
@@ -32,7 +32,7 @@ pub record OnlyCalls {S : Type 0} (old new : Switchboard S) : Type 0 where
   pub runs : RunsBehind old.engine.hub.has_journal (hub_terms old.engine.hub) (engine_state old.engine) []
       (engine_state new.engine)
 
--- calls one behind another are one run
+-- calls one after another are one run
 abbrev pub RunsAreJoined : Type 0
 RunsAreJoined = (journal : Bool) (terms : DispatcherTerms) (s t u : EngineState) (first second : List ℕ)
     → RunsBehind journal terms s first t → RunsBehind journal terms t second u
@@ -104,7 +104,7 @@ abbrev pub OthersAreOver : {W : Type 0} → (W → Option (List ℕ)) → Type 0
 OthersAreOver {W} contents = (journal : Bool) (terms : DispatcherTerms) (s t : EngineState) (sink : Sink W)
     → RunsBehind journal terms s [] t → RunsOver contents journal terms s sink t sink
 
--- runs over one device, one behind another, are one
+-- runs over one device, one after another, are one
 abbrev pub OversAreJoined : {W : Type 0} → (W → Option (List ℕ)) → Type 0
 OversAreJoined {W} contents = (journal : Bool) (terms : DispatcherTerms) (s t u : EngineState)
     (before between after : Sink W)

@@ -37,7 +37,7 @@ none_some x same = cc
 abbrev pub NoneMet : List ℕ → List Entry → ℕ → Type 0
 NoneMet named es i = (r : ℕ) (x : Entry) → r < i → slice_get es r ≡ Some x → ¬ MeetsOne named r x.partners
 
--- the others are read of the lines of the rest, behind which another line stands
+-- the others are read of the lines of the rest, after which another line stands
 pub record Again (named : List ℕ) (es : List Entry) (i : ℕ) (left : Option (List ℕ)) : Type 0 where
   pub rest : List ℕ
   pub is_left : left ≡ Some rest
@@ -66,7 +66,7 @@ last_one : (piece : List ℕ) → IsPiece piece → lines piece ≡ piece ∷ []
 last_one [] is = absurd (is.some refl)
 last_one (x ∷ xs) is = lines_last x xs is.no_lf
 
--- what stands behind the first
+-- what comes after the first
 behind_first : (line : List ℕ) (others : List (List ℕ)) (k : ℕ)
     → slice_get (line ∷ others) (k + 1) ≡ slice_get others k
 behind_first line others k = ap (slice_get (line ∷ others)) (plus_one k)

@@ -90,7 +90,7 @@ pub record Reached (bytes : List ℕ) (o : OngoingAudit) (r : Records) : Type 0 
   pub parts : bytes ≡ whole ++ o.piece.items
   pub read : HasReadPart (lines whole) o r
 
--- so they are behind a reading to the end
+-- so they are after a reading to the end
 pub reached : (begun bytes : List ℕ) (o : OngoingAudit) (r : Records) (left : Option (List ℕ)) (why : Pause)
     → begun ≡ [] → why ≡ pause.End → HasGoneOn far.End [] (begun ++ bytes) o r left why → Reached bytes o r
 reached begun bytes o r left why none ends went =

@@ -20,7 +20,7 @@ use Rattle.rv_follow.specs.state_rules.Ruling.{IsOnNamed, NamesClosed}
 use Rattle.rv_verify.specs.Naming.{HaveMet, rule_by_side}
 use Rattle.rv_verify.specs.Verdicts.{AuditTells}
 
--- an entry that was met breaks P1 behind the others, and one that names well breaks it only so
+-- an entry that was met breaks P1 after the others, and one that names well breaks it only so
 met_breaks : (entries : List Entry) (e : Entry) → HaveMet entries e.partners → NamesWrongly entries e
 met_breaks entries e met = elim met.meets.meets [
   | inl named ↦ inl (record {

@@ -1,4 +1,4 @@
--- A verifier behind the first line of an account.
+-- A verifier after the first line of an account.
 use Rattle.std.proofs.Common.{◌≡◌, ◌≤◌, ◌∷◌, ◌∙◌, ℕ, zero, suc, List, [], None, Some, refl, sym, ap, subst}
 use Rattle.std.proofs.Common.{arith}
 use Rattle.std.proofs.Common.{slice_get, take}

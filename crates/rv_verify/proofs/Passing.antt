@@ -1,4 +1,4 @@
--- What passed with one entry more, and where a verifier stands behind one line more.
+-- What passed with one entry more, and where a verifier stands after one line more.
 use Rattle.std.proofs.Common.{◌≡◌, ◌<◌, ◌+◌, ◌∷◌, ◌++◌, ◌∙◌, ℕ, List, [], Option, None, Some, inl, inr}
 use Rattle.std.proofs.Common.{IsSome, length, take, refl, sym, ap, subst, arith, append_assoc}
 use Rattle.std.proofs.Common.{length-append}
@@ -76,8 +76,8 @@ module _ (a : Account) (e : Entry) where
 
 -- ---- where a verifier stands
 
--- a machine holds what passed of an account, which the record has noted, and the rest of which stands behind
--- this reason to stop
+-- a machine holds the part of an account that passed, which the record has noted; that is all of the account,
+-- or it stopped there for this reason
 pub record Stood (m : Machine) (r : Records) (account : Account) (reason : Option StopReason) : Type 0 where
   pub passed : Account
   pub holds : HoldsPassed m passed
@@ -137,7 +137,7 @@ module _ (m m' : Machine) (r r' : Records) (passed : Account) (e : Entry) (holds
       (went.0.fails, went.1)
   stood (Some stop.BeyondLimits) fits went same = stopped stop.BeyondLimits went.stays same went.fails
 
--- behind one that stopped the entry is only read
+-- after one that stopped, the entry is only read
 read_alone : (m m' : Machine) (r r' : Records) (passed account : Account) (e : Entry) (reason : StopReason)
     → HoldsPassed m passed → HasNoted r passed
     → StandsAt passed account (Some reason) → m' ≡ m → r' ≡ r

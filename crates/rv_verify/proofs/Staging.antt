@@ -1,4 +1,4 @@
--- What a stage is to the lines that were read, behind one more, and what it tells of them.
+-- What a stage is to the lines that were read, after one more, and what it tells of them.
 use Rattle.std.proofs.Common.{◌≡◌, ◌≢◌, ◌+◌, ◌-◌, ◌∷◌, ◌++◌, ◌∙◌, ℕ, zero, suc, List, [], Option, None, Some}
 use Rattle.std.proofs.Common.{ap, arith, false, is_some, IsSome, length, length-append, refl, subst, sym}
 use Rattle.std.proofs.Common.{take}
@@ -63,7 +63,7 @@ bad_more lines line n bad = record {
   bad = bad_kept long_limits lines (line ∷ []) n bad.among bad.bad;
 }
 
--- behind a bad line a line is only counted
+-- after a bad line, a line is only counted
 pub stays_bad : (lines : List (List ℕ)) (line : List ℕ) (o : Option Verifier) (bad : Option ℕ) (r : Records)
     → IsSome bad → StandsBehind lines o bad r → StandsBehind (lines ++ line ∷ []) o bad r
 stays_bad lines line o None r some stands = absurd (cc)

@@ -55,7 +55,7 @@ cut_or_not (x ∷ xs) = elim (cases_order x 10) [
       ]
 ]
 
--- behind these bytes, which have no LF, what is taken through the next LF gives a line, a last piece or none
+-- after these bytes, which have no LF, what is taken through the next LF gives a line, a last piece or none
 module _ (old xs read : List ℕ) (begun : Lacks 10 old) (is : read ≡ old ++ take_through 10 xs) where
   cut_there : (cut : Cut xs) → read ≡ (old ++ cut.front) ++ 10 ∷ []
   cut_there cut = is ∙ ap (λ l. old ++ l) cut.taken ∙ sym (append_assoc old cut.front (10 ∷ []))

@@ -16,7 +16,7 @@ pub record EndsWithPiece (bytes whole piece : List ℕ) : Type 0 where
   pub are_whole : AreWholeLines whole
   pub no_lf : All (λ byte. byte ≢ 10) piece
 
--- behind these lines a last piece, which lacks its LF, is torn: it would be the first line, or is read as no
+-- after these lines a last piece, which lacks its LF, is torn: it would be the first line, or is read as no
 -- entry
 pub record IsTornBehind (before : List (List ℕ)) (piece : List ℕ) : Type 0 where
   pub some : piece ≢ []

@@ -24,7 +24,7 @@ pub record HasReadPart (lines : List (List ℕ)) (o : OngoingAudit) (r : Records
   pub read : HasReadLines lines o.stage r
   pub no_lf : All (λ byte. byte ≢ 10) o.piece.items
 
--- behind some lines whole lines of the bytes were read, and so many bytes are left
+-- after some lines, whole lines of the bytes were read, and so many bytes are left
 pub record HasRun (before : List (List ℕ)) (bytes : List ℕ) (s : Stage) (r : Records) (rest : List ℕ) : Type 0
   where
     pub more : List ℕ
@@ -32,7 +32,8 @@ pub record HasRun (before : List (List ℕ)) (bytes : List ℕ) (s : Stage) (r :
     pub are_whole : AreWholeLines more
     pub read : HasReadLines (before ++ lines more) s r
 
--- the lines up to so many are legal accounts whose states have had room, from behind so many on
+-- the first n lines, for each n after the one count and up to the other, are legal accounts whose states have
+-- had room
 abbrev pub AreLegalUpTo : List (List ℕ) → ℕ → ℕ → Type 0
 AreLegalUpTo lines from to = (n : ℕ) → from < n → n ≤ to → TellsLegalAccount (take n lines)
 

@@ -42,7 +42,7 @@ IsStopped old new e (Some (stop.Breaks rule)) = HasBroken old new e (λ s x. IsF
 IsStopped old new e (Some (stop.NotOpen entry)) = HasBroken old new e NamesClosed × (entry ≡ e)
 IsStopped old new e (Some stop.BeyondLimits) = HasBroken old new e PassesRoom
 
--- behind one that stopped nothing is followed; else the entry is
+-- once the verifier has stopped, nothing is followed; otherwise the entry is
 abbrev pub FollowsUnlessStopped : Option StopReason → Verifier → Verifier → Entry → Type 0
 FollowsUnlessStopped None old new e = IsStopped old.machine new.machine e new.stop
 FollowsUnlessStopped (Some reason) old new e = (new.machine ≡ old.machine) × (new.stop ≡ Some reason)
@@ -54,7 +54,7 @@ pub record ReadsOneMore (old new : Verifier) (line : List ℕ) : Type 0 where
   pub counted : new.entries ≡ old.entries + 1
   pub went : FollowsUnlessStopped old.stop old new entry
 
--- the record has noted the entry behind which the machine stands; of one that stopped it nothing
+-- the record has noted the entry after which the machine stands, and nothing of one that stopped it
 abbrev pub NotesUnlessStopped : Machine → Records → Records → Entry → Option StopReason → Type 0
 NotesUnlessStopped m old new e None = (a : Account) → HasPassedBy m a e → HasNoted old a
     → HasNoted new (with_entry a e)

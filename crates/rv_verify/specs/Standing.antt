@@ -34,7 +34,7 @@ pub record StopsBehind (passed account : Account) (reason : StopReason) : Type 0
   pub entries : account.entries ≡ passed.entries ++ entry ∷ more
   pub is_stop : IsStopAt (state_of passed) entry reason
 
--- all of the account passed, or the verifier stopped behind a part of it
+-- all of the account passed, or the verifier stopped after a part of it
 abbrev pub StandsAt : Account → Account → Option StopReason → Type 0
 StandsAt passed account None = account ≡ passed
 StandsAt passed account (Some reason) = StopsBehind passed account reason

@@ -19,8 +19,8 @@ use std::alloc::Global;
 use std::io::BufRead;
 
 /// The rule that the entry at a place breaks first, if the verdict on an account is that it names a closed
-/// place. The reader begins with the lines of the same account, and ends behind that of the entry at the
-/// earliest; `None` tells that it doesn't.
+/// place. The reader begins with the lines of the same account, and ends no earlier than after that entry's
+/// line; `None` means that it doesn't.
 pub fn rule_at<B: BufRead>(
     alloc: Global,
     reader: &mut B,

@@ -53,7 +53,7 @@ pub(crate) struct Verifier {
 }
 
 impl Verifier {
-    /// Behind the first line of an account, which says its epoch and its opening moment.
+    /// A verifier that has read the first line of an account, which says its epoch and its opening moment.
     pub(crate) fn open(alloc: Global, epoch: u64, opened: u64) -> Result<Verifier, NoMemory>
         requires epoch { FitsIdentifier epoch }
         requires opened { opened ≤ max_moment }

@@ -1,4 +1,4 @@
--- An entry that keeps all rules behind a state to resume from follows it.
+-- An entry that keeps all rules after a state to resume from follows it.
 use Rattle.std.proofs.Common.{◌≡◌, ◌≢◌, ◌<◌, ◌≤◌, ◌∷◌, ◌∙◌, ℕ, zero, suc, List, [], length, take}
 use Rattle.std.proofs.Common.{Option, Some, None, IsSome, refl, sym, ap, subst, arith, inl, inr}
 use Rattle.std.proofs.lemmas.List.{take-map}

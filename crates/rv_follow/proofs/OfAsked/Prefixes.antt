@@ -12,7 +12,7 @@ use Rattle.rv_rules.proofs.Counting.{later_is_greater}
 use Rattle.rv_rules.proofs.Places.{within}
 use Rattle.rv_follow.specs.state_rules.Walking.{AgreeBefore, LeadsLine, first_above, is_above}
 
--- each of them is below those behind it
+-- each of them is below those after it
 abbrev pub Rise : List ℕ → Type 0
 Rise places = (i j p q : ℕ) → i < j → slice_get places i ≡ Some p → slice_get places j ≡ Some q → p < q
 
@@ -62,7 +62,7 @@ pub first_of_all : (line : List ℕ) → first_above None line ≡ slice_get lin
 first_of_all [] = refl
 first_of_all (x ∷ rest) = refl
 
--- what comes behind the first so many, where these are a line's
+-- what comes after the first so many, where these are a line's
 pub next_at : (places line : List ℕ) (n : ℕ) (before : Option ℕ) → Rise line → AgreeBefore places line n
     → n ≤ length places
     → (n ≡ 0 → before ≡ None) → ((k : ℕ) → n ≡ suc k → before ≡ slice_get places k)

@@ -50,7 +50,7 @@ module _ (a : Account) (e : Entry) (legal : Legal a) where
   agree : RulesAgree a (state_of a) e
   agree = rules_agree a (state_of a) e legal (agreed a legal)
 
-  -- what breaks a rule at the end of the account does so behind the others
+  -- what breaks a rule at the end of the account does so after the others
   at_last : (rule : Rule) (x : Entry) (place : ℕ) → place ≡ length a.entries → e ≡ x
       → BreaksBehind rule (before (with_entry a e) place) x → BreaksBehind rule a e
   at_last rule x place is same breaks =

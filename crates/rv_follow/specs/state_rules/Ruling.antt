@@ -21,7 +21,7 @@ use Rattle.rv_audit.specs.declared.rule.Rule.TheVariants.{M1, M2, M3, N1, N2, N3
 abbrev pub IfArrives : (Side → Type 0) → Entry → Type 0 → Type 0
 IfArrives Is e Holds = (call : Call) → ArrivesAs Is e call → Holds
 
--- the entry keeps the rule behind the state
+-- after the state, the entry keeps the rule
 abbrev pub KeepsRule : Rule → State → Entry → Type 0
 KeepsRule M1 s e = s.moment ≤ e.moment
 KeepsRule M2 s e = e.act ≢ Tick → DueOnlyAtTick s e.moment e.act
@@ -40,7 +40,8 @@ KeepsRule S2 s e = IfArrives IsSwapped e (NamesAll s e)
 abbrev pub KeepsUpTo : ℕ → State → Entry → Type 0
 KeepsUpTo n s e = (other : Rule) → rank_of other < n → KeepsRule other s e
 
--- the entry breaks this rule and none before it; and behind P1 each place that it names is open
+-- the entry breaks this rule and none before it; and if the rule comes after P1, each place that it names is
+-- open
 pub record IsFirstBroken (s : State) (e : Entry) (rule : Rule) : Type 0 where
   pub broken : ¬ KeepsRule rule s e
   pub first : KeepsUpTo (rank_of rule) s e

@@ -1,4 +1,4 @@
--- Behind a telling nobody waits any longer who was to be told, and nobody begins to.
+-- After a telling, nobody that was to be told still waits, and nobody begins to wait.
 use Rattle.std.proofs.Common.{◌≡◌, ◌∙◌, ℕ, zero, suc, List, [], ◌∷◌, Some, sym, ap, subst, arith}
 use Rattle.std.specs.Prelude.{Contains, slice_get}
 use Rattle.rv_text.specs.declared.message.Key.{Key}

@@ -37,7 +37,7 @@ late_none s in_time = record {
 some_same : {X : Type 0} → (x y : X) → Some x ≡ Some y → x ≡ y
 some_same x y same = cc
 
--- a later one of those that are left comes behind the first
+-- a later one of those that are left comes after the first
 comes_behind : (s : DispatcherState) (after : WhoHears) (connection : ℕ) (subscription : Subscription)
     (other : ℕ)
     (its : Subscription)

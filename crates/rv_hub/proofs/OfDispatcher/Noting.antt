@@ -12,7 +12,7 @@ use Rattle.rv_hub.specs.dispatcher.Going.{NotesOne, unread_of, unread_total}
 pub is_some_of : {X : Type 0} → (o : Option X) (x : X) → o ≡ Some x → IsSome o
 is_some_of o x is = subst (λ q. IsSome q) (sym is) refl
 
--- one that was open is so behind a call that changed nothing
+-- one that was open still is, after a call that changed nothing
 pub still_open : (a b : WiresState) (connection : ℕ) (wire : Traffic) → b ≡ a → a.wires connection ≡ Some wire
     → IsSome (b.wires connection)
 still_open a b connection wire same there =
@@ -40,7 +40,7 @@ lists_again a b c connection first second n = (
   ],
 )
 
--- behind a call that changed nothing
+-- after a call that changed nothing
 pub notes_behind : (a b c : Wires) (connection : ℕ) → wires_in b ≡ wires_in a → tally_in b ≡ tally_in a
     → NotesOne b connection c → NotesOne a connection c
 notes_behind a b c connection wires tally noted =

@@ -43,7 +43,7 @@ stays_answering terms old new connection body (answer.Refused refusal) does = (
       does.answers.rest,
 )
 
--- the causes of an effect, and the run that goes on behind it
+-- the causes of an effect, and the run that goes on after it
 Runs : DispatcherTerms → DispatcherState → DispatcherState → List Entry → Type 0
 Runs terms old new entries =
     (causes : List Cause) × RunsBook terms.limits old.now old.book causes entries new.now new.book

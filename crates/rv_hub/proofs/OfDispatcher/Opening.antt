@@ -151,7 +151,7 @@ left_it d wires connection count ready has leaves noted =
 
 -- ---- so many entries are written
 
--- what owes an answer behind a release did before
+-- what owes an answer after a release did so before
 owes_before : (written : ℕ) (was now : Option Traffic) (wire : Traffic) → ReleasesOpen written was now
     → now ≡ Some wire → (t : Traffic) × (was ≡ Some t) × (wire.owes ≡ t.owes)
 owes_before written None now wire none is = absurd (none-some wire (sym none ∙ is))

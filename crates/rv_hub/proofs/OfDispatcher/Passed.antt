@@ -193,7 +193,7 @@ passed d0 d1 d2 d3 handed ready begun elapses still tells waits2 sound late in_t
       },
     )
 
--- whoever waits behind does so for a request that waits
+-- whoever waits afterwards does so for a request that waits
 pub passed_waits : (d0 d1 d2 : Dispatcher) (handed : ℕ) → ElapsesIt d0 handed d1 → StillGoes d0 d1
     → TellsThem d1 d1.machine.settled.items d2 → SubscribersWait (dispatcher_state d2)
 passed_waits d0 d1 d2 handed elapses still tells =

@@ -38,7 +38,7 @@ row_nobody who client none = record {
   all = λ connection hears. absurd (none connection hears);
 }
 
--- who waits behind, waited before
+-- whoever waits afterwards waited before
 heard_before : (who after : WhoHears) (client connection other : ℕ)
     → SetsSubscription who connection None after
     → SubscribesTo after client other → SubscribesTo who client other × (other ≢ connection)
@@ -103,7 +103,7 @@ row_first who after client connection row first sets rest = record {
   all = λ other. found who after client connection row other first sets rest.all;
 }
 
--- ---- behind those of one key, those of the others
+-- ---- after those of one key, those of the others
 
 pairs_append : {X : Type 0} (R : X → X → Type 0) (xs ys : List X) → AllPairs R xs → AllPairs R ys
     → ((i j : ℕ) (d : X) → i < length xs → j < length ys → R (slice_index_or xs i d) (slice_index_or ys j d))
@@ -127,7 +127,7 @@ at_first who key keys n hears = record {
   first = λ sooner other less at. absurd (let l = less in omega arith);
 }
 
--- what holds of those that wait behind the tellings of the first key
+-- what holds of those that wait after the tellings of the first key
 record Behind (who after : WhoHears) (client : ℕ) (first : List ℕ) : Type 0 where
   fewer : (n : ℕ) (subscription : Subscription) → after n ≡ Some subscription → who n ≡ Some subscription
   nobody : (n : ℕ) → ¬ SubscribesTo after client n

@@ -22,7 +22,7 @@ use Rattle.rv_hub.specs.dispatcher.Going.{IsAmongKeys, StepsIt, StillGoes}
 use Rattle.rv_state.specs.waiting.Laws.{LeavesNoneDue}
 use Rattle.rv_state.proofs.OfWaiting.WaitingLaws.{moves_answer, moves_last, waiting_fits}
 
--- a request that waited can be told behind the step
+-- a request that waited can be told after the step
 pub tellable_after : (s after : State) (settles : List Settled) (moment : ℕ) (key : Key) → CanResume s
     → LeavesNoneDue s moment after settles → WaitsOn s key → IsTellable after key
 tellable_after s after settles moment key resumes last waits =

@@ -1,4 +1,4 @@
--- A frame is answered, and behind it all are told whom it settled.
+-- A frame is answered, and then all that it settled are told.
 use Rattle.std.proofs.Common.{inl, inr, ◌≡◌, ◌+◌, ◌<◌, ◌≤◌, ◌∙◌, ◌++◌, ◌∷◌, ◌⊎◌, ℕ, List, [], None, Some}
 use Rattle.std.proofs.Common.{refl, sym, ap, subst, arith, Err, Ok, Result}
 use Rattle.std.specs.Prelude.{flat_map, vec_capacity}
@@ -41,9 +41,9 @@ use Rattle.rv_hub.proofs.OfDispatcher.Quiet.{keys_quiet, keys_unread}
 use Rattle.rv_hub.proofs.OfDispatcher.Tellings.{goes_none}
 use Rattle.rv_hub.proofs.OfDispatcher.ToldOne.{fewer_hear}
 
--- ---- who waits behind an answer
+-- ---- who waits after an answer
 
--- each that waits behind waited before, or is the one, with this
+-- each that waits afterwards waited before, or is the one, with this
 abbrev AllHear : (ℕ → Subscription → Type 0) → WhoHears → Type 0
 AllHear P who = (connection : ℕ) (subscription : Subscription) → who connection ≡ Some subscription
     → P connection subscription
@@ -71,7 +71,7 @@ hear_more P was now one own sets is all connection subscription there =
       | inr apart ↦ all connection subscription (sym (sets.others connection apart) ∙ there)
     ]
 
--- behind what is said of a step
+-- after what is said of a step
 said_hear : (P : ℕ → Subscription → Type 0) (terms : DispatcherTerms) (s t : DispatcherState) (connection : ℕ)
     (body : List ℕ)
     (a : Answer)
@@ -119,7 +119,7 @@ behind_both d1 d2 d3 r2 r3 =
           d3.freed;
     }) r2
 
--- who waits behind what is said, waits for a request that waits, or is listed
+-- whoever waits after what is said waits for a request that waits, or is listed
 waiting_on : (d1 d2 : Dispatcher) (connection : ℕ) (body : List ℕ) (a : Answer)
     → d2 ≡ record d1 { wires = d2.wires; subscribers = d2.subscribers }
     → SaysOrLacks (dispatcher_terms d1) (dispatcher_state d1) connection body a (dispatcher_state d2)

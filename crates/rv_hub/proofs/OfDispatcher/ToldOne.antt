@@ -97,7 +97,7 @@ may_give old subscribers connection subscription sound there = record {
   resumes = sound.book.resumes;
 }
 
--- the subscribers behind a change of wires and of those that are freed
+-- the subscribers after a change of wires and of those that are freed
 rest_of : (old new : Dispatcher) (subscribers : Subscribers)
     → new ≡ record old { subscribers = subscribers; wires = new.wires; freed = new.freed }
     → new ≡ record old { wires = new.wires; subscribers = new.subscribers; freed = new.freed }
@@ -105,7 +105,7 @@ rest_of old new subscribers rest =
     rest ∙ ap (λ (h : Subscribers). record old { wires = new.wires; subscribers = h; freed = new.freed })
     (sym (ap (λ (d : Dispatcher). d.subscribers) rest))
 
--- it waits no more, and its answer stands behind all that is held
+-- it no longer waits, and its answer comes after all that is held
 pub told_it : (old new : Dispatcher) (subscribers : Subscribers) (connection : ℕ) (subscription :
     Subscription) → IsDispatcherSound old
     → subscribers_of old.subscribers connection ≡ Some subscription

@@ -297,7 +297,7 @@ left_taken : (taken : ℕ) (piece : List ℕ) (effects : List Effect) → taken 
 left_taken taken piece effects within bytes =
     ap (λ n. drop n piece) (ap length bytes ∙ length-take-le taken piece within)
 
--- strides, and behind them others, of which the dispatcher's terms are those before
+-- strides, and others after them, whose dispatcher's terms are those before
 further : (old now new : Dispatcher) (connection taken : ℕ) (piece : List ℕ) (xs ys :
     List (Effect × List Effect))
     → taken ≤ length piece → bytes_in (effects_of xs) ≡ take taken piece → Goes old (effects_of xs) now
@@ -437,7 +437,7 @@ turn_ended old now new connection piece taken far finishes =
           }
     ]
 
--- less is unread, of the connection and of the piece, behind a frame and more bytes
+-- less is unread, of the connection and of the piece, after a frame and more bytes
 pub smaller : (now mid new : Dispatcher) (connection : ℕ) (piece : List ℕ) (taken count : ℕ)
     → Strides now connection mid
     → FeedsPiece mid connection (drop taken piece) count new

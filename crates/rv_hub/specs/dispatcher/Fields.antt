@@ -50,7 +50,7 @@ pub record IsDispatcherReady (d : Dispatcher) : Type 0 where
   pub room : 1 ≤ vec_capacity d.entries
   pub none_freed : d.freed.items ≡ []
 
--- within an event, behind its time: nothing is due, and nobody has waited as long as it may
+-- within an event, after its time: nothing is due, and nobody has waited as long as it may
 pub record IsSteady (d : Dispatcher) : Type 0 where
   pub sound : IsDispatcherSound d
   pub waits : SubscribersWait (dispatcher_state d)

@@ -269,7 +269,7 @@ pub record StillGoes (old new : Dispatcher) : Type 0 where
 
 -- ---- going on
 
--- a frame was answered, and behind it all were told whom it settled
+-- a frame was answered, and then all that it settled were told
 pub record Strides (old : Dispatcher) (connection : ℕ) (new : Dispatcher) : Type 0 where
   pub effect : Effect
   pub tells : List Effect

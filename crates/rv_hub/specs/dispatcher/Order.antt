@@ -38,7 +38,7 @@ pub record TellsKeys (terms : DispatcherTerms) (old : DispatcherState) (keys : L
     pub each : TellsEach row effects
     pub does : DoesAll terms old effects new
 
--- an effect, and behind it all are told whom it settled
+-- an effect, and then the tellings of all that it settled
 pub record IsStride (terms : DispatcherTerms) (old : DispatcherState) (effect : Effect) (tells : List Effect)
     (new : DispatcherState) :
     Type 0

@@ -1,4 +1,4 @@
--- What holds of a dispatcher behind each effect, and where a connection stops.
+-- What holds of a dispatcher after each effect, and where a connection stops.
 use Rattle.std.specs.Prelude.{ℕ, ◌≡◌, ◌<◌, ◌≤◌, ◌⊎◌, [], true, IsSome, Some}
 use Rattle.rv_state.specs.After.{due_at}
 use Rattle.rv_server_connections.specs.connection.Traffic.{IsBad, IsDue, IsFinished, IsWholeFrame, Traffic}

@@ -64,8 +64,8 @@ impl Dispatcher {
         }
     }
 
-    /// A connection goes on until it stops: its frames are answered one by one, and bytes of a piece taken
-    /// behind them. It gives how many bytes were taken.
+    /// A connection goes on until it stops: its frames are answered one by one, and bytes of a piece are
+    /// taken in after them. It gives how many bytes were taken.
     pub fn turn(&mut self, connection: ConnectionNumber, piece: &[u8]) -> usize
         requires { IsSteady self.old }
         ensures steady { IsSteady self.new }

@@ -26,7 +26,7 @@ still_free before written front later free k d within =
     let at = free k d within in
     omega arith
 
--- what is freed of what stays and of what is new goes behind what was freed before
+-- what is freed of what stays and of what is new goes after what was freed before
 pub frees_on : (before written : ℕ) (held front rest new more last : List AnswerByte) → before ≤ written
     → Frees before held front rest → Frees written (rest ++ new) more last
     → Frees written (held ++ new) (front ++ more) last

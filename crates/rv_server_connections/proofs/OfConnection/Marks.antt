@@ -1,4 +1,4 @@
--- The bytes behind those that may leave: an answer more, and the first one less.
+-- The bytes after those that may leave: one answer more, and the first one less.
 use Rattle.std.proofs.Common.{◌≡◌, ◌<◌, ◌≤◌, ◌+◌, ◌∙◌, ℕ, List, [], ◌∷◌, ◌++◌, refl, sym, ap, subst}
 use Rattle.std.proofs.Common.{append-nil, append_assoc, arith, drop, length, length-append, length-drop, take}
 use Rattle.std.proofs.Common.{Bool, None, Some, false, get_or, inl, inr, not, suc, true, zero, ◌==◌, ◌⊎◌}
@@ -66,13 +66,13 @@ marked_pushed (n ∷ marks) m rest frame all long =
     ∙ sym (append_assoc (resting n.entries (take n.bytes rest)) (marked_bytes marks (drop n.bytes rest))
     (resting m.entries frame))
 
--- what is held back stays so with more behind it
+-- what is held back stays so with more after it
 pub holds_more : (written : ℕ) (held more : List AnswerByte) → 0 < length held → HoldsBack written held
     → HoldsBack written (held ++ more)
 holds_more written [] more some held_back = absurd (omega arith)
 holds_more written (b ∷ held) more some held_back = held_back
 
--- the bytes behind are as many as the marks tell
+-- the held-back bytes are as many as the marks tell
 pub marked_long : (marks : List Mark) (rest : List ℕ) → marked_count marks ≡ length rest
     → length (marked_bytes marks rest) ≡ length rest
 marked_long [] rest all = all
@@ -141,7 +141,7 @@ freed_twice written held front more rest last first second = first ∙ ap (λ l.
 
 -- ---- what the calls do
 
--- the marks tell how many bytes are behind
+-- the marks tell how many bytes are held back
 pub rest_long : (a : Outgoing) → IsSoundOutgoing a
     → marked_count a.marks.items ≡ length (drop a.ready a.bytes.items)
 rest_long a sound = omega (arith, sound.all, length-drop a.ready a.bytes.items)
@@ -162,7 +162,7 @@ holds_first written m marks more rest same none all later =
     subst (λ (l : List Mark). HoldsBack written (marked_bytes l rest)) (sym same)
     (first_held written m more rest (subst NoneEmpty same none) (sym (ap marked_count same) ∙ all) later)
 
--- a frame that stands behind
+-- a frame that is held back
 still_held : (written entries : ℕ) (marks : List Mark) (rest frame : List ℕ) → NoneEmpty marks
     → marked_count marks ≡ length rest → 0 < length frame → HoldsBack written (marked_bytes marks rest)
     → (written < entries) ⊎ (0 < length marks)
@@ -253,7 +253,7 @@ pushed_ready old new written entries body sound few none bytes ready marks =
       longer = long ∙ omega arith;
     }
 
--- the first that is behind goes
+-- the first that is held back goes
 pub freed_more : (written : ℕ) (first old new : Outgoing) → IsSoundOutgoing old → FreesSome written first old
     → FreesFirst written old new → FreesSome written first new
 freed_more written first old new sound before frees =
@@ -309,7 +309,7 @@ pub none_left : (a : Outgoing) → IsSoundOutgoing a → length a.bytes.items �
 none_left a sound none =
     (omega (arith, sound.all, none), no_marks a.marks.items sound.none_empty (omega (arith, sound.all, none)))
 
--- the bytes that may leave and those behind are all
+-- the bytes that may leave and those held back are all
 pub held_is : (a : Outgoing) → IsSoundOutgoing a
     → length a.bytes.items ≡ length (ready_in a) + length (behind_in a)
 held_is a sound =

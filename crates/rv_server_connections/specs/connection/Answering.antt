@@ -30,13 +30,13 @@ pub record FreesSome (written : ℕ) (old new : Outgoing) : Type 0 where
   pub ready : ready_in new ≡ ready_in old ++ bytes_of front
   pub bytes : new.bytes.items ≡ old.bytes.items
 
--- of these bytes, which stand behind those that may leave, all go that may
+-- of these bytes, which come after those that may leave, all go that may
 pub record PassesOn (written : ℕ) (old : Outgoing) (held : List AnswerByte) (new : Outgoing) : Type 0 where
   pub front : List AnswerByte
   pub frees : Frees written held front (behind_in new)
   pub ready : ready_in new ≡ ready_in old ++ bytes_of front
 
--- a body's frame stands behind all
+-- a body's frame comes after all
 pub record Pushes (written : ℕ) (old : Outgoing) (entries : ℕ) (body : List ℕ) (new : Outgoing) : Type 0 where
   pub goes : PassesOn written old (behind_in old ++ resting entries (frame_bytes body)) new
   pub longer : length new.bytes.items ≡ length old.bytes.items + length body + 2

@@ -34,9 +34,9 @@ abbrev pub owed_count : Bool → ℕ
 owed_count false = 0
 owed_count true = 1
 
--- what came are the frames and the unread bytes behind them; each frame has its answer, but for the last,
--- where that is owed; what left, and then what may leave, are of the answers' bytes exactly those before the
--- first answer that rests on more entries than are written
+-- what came is the frames, and then the unread bytes; each frame has its answer, but for the last, where that
+-- is owed; what left, and then what may leave, are exactly the bytes of the answers before the first answer
+-- that rests on more entries than are written
 pub record IsHistory (written : ℕ) (h : History) (t : Traffic) : Type 0 where
   pub input : h.came ≡ row_bytes h.frames ++ t.unread
   pub whole : All IsFrameBody h.frames

@@ -33,7 +33,7 @@ pub record Releases (written : ℕ) (old new : Traffic) : Type 0 where
   pub frees : Frees written old.behind front new.behind
   pub goes : new ≡ record old { ready = old.ready ++ bytes_of front; behind = new.behind }
 
--- the owed answer is this body's frame, which rests on so many entries; it stands behind all that is held
+-- the owed answer is this body's frame, which rests on so many entries; it comes after all that is held
 pub record AnswersBy (written : ℕ) (old : Traffic) (entries : ℕ) (body : List ℕ) (new : Traffic) :
     Type 0 where
   pub front : List AnswerByte

@@ -17,7 +17,7 @@ pub record Traffic : Type 0 where
   pub owes : Bool
   -- the bytes of answers that may leave, in order
   pub ready : List ℕ
-  -- those behind them
+  -- those after them
   pub behind : List AnswerByte
   -- the input ended
   pub ended : Bool

@@ -47,7 +47,7 @@ module _ {S : Type 0} where
   few_ones (Some link ∷ table) (suc n) within none =
       omega (arith, sum_by-cons one_at (Some link) table, few_ones table n (omega (arith, within)) none)
 
--- what is behind some bytes is no longer than all
+-- what comes after some bytes is no longer than all
 pub rest_le : (bytes : List ℕ) (taken : ℕ)
     → length (take (length bytes - taken) (drop taken bytes)) ≤ length bytes
 rest_le bytes taken = omega (arith, ap length (take_rest bytes taken), length-drop taken bytes)

@@ -36,7 +36,7 @@ GivesInput remaining old input.Nothing bytes new = (bytes ≡ [])
 GivesInput remaining old input.Broken bytes new = (bytes ≡ []) × (old.is_readable ≡ true)
     × Keeps (remaining old.stream) (remaining new.stream)
 
--- when bytes of a socket last came, behind a read at a moment
+-- when bytes of a socket last came, after a read at a moment
 abbrev pub heard_after : ℕ → ℕ → ReadOutcome → ℕ
 heard_after now before input.Piece = now
 heard_after now before input.End = before

@@ -20,7 +20,7 @@ TakesOutput contents old ready output.Nothing new = Keeps (contents old.stream) 
 TakesOutput contents old ready output.Broken new = (old.is_writable ≡ true)
     × Keeps (contents old.stream) (contents new.stream)
 
--- when bytes last left to a socket, or also none were there to leave, behind a write at a moment
+-- when bytes last left to a socket, or none were there to leave, after a write at a moment
 abbrev pub moved_after : ℕ → ℕ → WriteOutcome → ℕ
 moved_after now before (output.Took count) = now
 moved_after now before output.Nothing = before

@@ -28,7 +28,7 @@ arrival_of (Hello client incarnation version) key call is = absurd (let no : ⊥
 arrival_of (Request other own) key call is = cc
 arrival_of (Cancel other) key call is = absurd (let no : ⊥ = cc in no)
 
--- an arrival behind one entry more was there before, or is that entry
+-- an arrival after one entry more was there before, or is that entry
 added_arrives : (a b : Account) (moment : ℕ) (does : Act) (r : ℕ) (key : Key) (call : Call)
     → Adds a moment does b
     → act_at b.entries r ≡ Some (act.Arrive key call) → (act_at a.entries r ≡ Some (act.Arrive key call))
@@ -101,7 +101,7 @@ answers_tell m b own key x told asks epoch (inr waits) is = absurd (waiting_no_r
 
 -- ---- the lines of a step
 
--- what each line for a key leads to; behind the first the key is of the account's epoch
+-- what each line for a key leads to; after the first the key is of the account's epoch
 pub key_lines : (R : Refusal → Type 0) (L G T : Type 0) (a : Account) (key : Key)
     → ((refusal : Refusal) → R refusal → T) → (key.epoch ≡ a.epoch → L → T) → (key.epoch ≡ a.epoch → G → T)
     → KeyLines a key R L G → T

@@ -435,7 +435,7 @@ one_passed w x moment u v same first second =
 
 -- ---- whatever happens
 
--- an event before others had memory, where no answer behind them tells that it lacked
+-- an event before others had memory, where no answer after them tells that it lacked
 had_memory : (w u v : World) (happenings : List Happening) (s : Seen) → RunsAnyhow u happenings v
     → NeverLacked v → HadMemory w u (Ok s)
 had_memory w u v happenings s runs never = record {

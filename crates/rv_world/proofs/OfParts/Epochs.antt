@@ -15,7 +15,7 @@ abbrev pub Rises : List Account → Type 0
 Rises list = (i j : ℕ) (a b : Account) → slice_get list i ≡ Some a → slice_get list j ≡ Some b → i < j
     → a.epoch < b.epoch
 
--- with a greater one behind them
+-- with a greater one after them
 pub rises_push : (list : List Account) (x : Account) → Rises list
     → ((a : Account) → Contains list a → a.epoch < x.epoch) → Rises (list ++ x ∷ [])
 rises_push list x rises above i j a b there also less = elim (get-append_cases list x b j also) [

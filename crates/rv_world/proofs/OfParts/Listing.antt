@@ -21,7 +21,7 @@ still_contains xs ys x grows there = subst (λ list. Contains list x) (sym grows
 pub once_none : {X : Type 0} → HasEachKeyOnce {X = X} []
 once_none i j key one other there also = absurd (none-some (key, one) there)
 
--- a new key behind keys of their own
+-- a new key after keys that each occur once
 pub once_push : {X : Type 0} (list : List (Key × X)) (new : Key) (value : X) → HasEachKeyOnce list
     → ((other : X) → Contains list (new, other) → ⊥) → HasEachKeyOnce (list ++ (new, value) ∷ [])
 once_push list new value once fresh i j key one other there also = elim (get-append_cases list (new, value)

@@ -33,7 +33,7 @@ own_moment_fits a fits = by_last (slice_get a.entries (length a.entries - 1)) re
 step_moment_fits : (a : Account) (now : ℕ) → FitsAccount a → step_moment a now ≤ max_moment
 step_moment_fits a now fits = let own : own_moment a ≤ max_moment = own_moment_fits a fits in omega arith
 
--- with one entry more that fits, behind which there is room and are not too many clients
+-- with one entry more that fits, after which there is room and not too many clients
 added_fits : (a b : Account) (moment : ℕ) (does : Act) (added : Adds a moment does b) → FitsAccount a
     → moment ≤ max_moment → FitsAct does → RoomAtMost max_entries b.entries
     → ClientsAtMost max_clients b.entries → FitsAccount b

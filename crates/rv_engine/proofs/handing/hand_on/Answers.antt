@@ -1,4 +1,4 @@
--- What is handed over behind a gathering is handed on.
+-- What is handed over after a gathering is handed on.
 use Rattle.std.proofs.Common.{subst}
 use Rattle.std.proofs.lemmas.Result.{IfOk-weaker}
 use Rattle.rv_hub.specs.declared.parts.HubParts.{HubParts}

@@ -1,4 +1,4 @@
--- What is written behind a gathering.
+-- What is written after a gathering.
 use Rattle.std.proofs.Common.{◌≡◌, ◌∙◌, ℕ, List, [], ap, arith, length, subst, sym}
 use Rattle.rv_frame.specs.Sink.{SinkTakes}
 use Rattle.rv_hub.specs.declared.parts.HubParts.{HubParts}

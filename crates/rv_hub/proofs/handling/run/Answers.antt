@@ -1,4 +1,4 @@
--- Whoever was told as time went on goes on behind the event's connection.
+-- Whoever was told as time went on goes on after the event's connection.
 use Rattle.std.proofs.Common.{◌++◌, ℕ, Option, option_to_list, subst, sym}
 use Rattle.rv_hub.specs.dispatcher.Fields.{dispatcher_state}
 use Rattle.rv_hub.specs.Steps.{IsGoing, IsOffering, TurnsOn}

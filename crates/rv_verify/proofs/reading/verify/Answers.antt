@@ -1,4 +1,4 @@
--- An audit that begins behind no line reads to the end.
+-- An audit that begins after no line reads to the end.
 use Rattle.std.proofs.lemmas.Result.{IfOk-weaker}
 use Rattle.rv_verify.specs.Ends.{IsToldOfBytes}
 use Rattle.rv_verify.specs.Noting.{IsNotedOfBytes}

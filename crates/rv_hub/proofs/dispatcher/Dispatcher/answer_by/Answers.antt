@@ -1,4 +1,4 @@
--- The frame is taken, and its answer stands behind all, or the connection is closed.
+-- The frame is taken, and its answer comes after all, or the connection is closed.
 use Rattle.rv_hub.proofs.OfDispatcher.Answering.{answered_it, not_answered}
 use Rattle.rv_hub.proofs.OfDispatcher.Noting.{still_open}
 use Rattle.rv_hub.proofs.dispatcher.Dispatcher.answer_by.Goals as goal

@@ -1,4 +1,4 @@
--- The line that was read stands behind the others, and its key is known.
+-- The line that was read comes after the others, and its key is known.
 use Rattle.std.proofs.Common.{Err, ap, ◌∙◌}
 use Rattle.std.proofs.lemmas.Result.{on_ok_weaker}
 use Rattle.rv_replies.specs.declared.records.Line.TheVariants as line

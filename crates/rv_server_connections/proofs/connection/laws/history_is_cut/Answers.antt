@@ -1,4 +1,4 @@
--- Frames in a row, and what ends none behind them.
+-- Frames in a row, and after them bytes that end no frame.
 use Rattle.rv_server_connections.proofs.OfConnection.Kept as kept
 use Rattle.rv_server_connections.proofs.connection.laws.history_is_cut.Goals as goal
 

@@ -1,4 +1,4 @@
--- What is freed later goes behind what was freed before.
+-- What is freed later goes after what was freed before.
 use Rattle.rv_server_connections.proofs.OfConnection.Kept as kept
 use Rattle.rv_server_connections.proofs.connection.laws.history_is_kept.Goals as goal
 

@@ -1,4 +1,4 @@
--- Behind a bad line a line is only counted; else the verifier reads it; or it is the first.
+-- After a bad line, a line is only counted; else the verifier reads it; or it is the first.
 use Rattle.std.proofs.Common.{rules}
 use Rattle.rv_verify.proofs.Staging.{stays_bad}
 use Rattle.rv_verify.proofs.stage.Stage.line.Goals as goal

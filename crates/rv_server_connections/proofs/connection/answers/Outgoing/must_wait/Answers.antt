@@ -1,4 +1,4 @@
--- Nothing is behind where no mark is.
+-- Nothing is held back where no mark is.
 use Rattle.std.proofs.Common.{length, rules, ◌==◌, ◌≡◌}
 use Rattle.rv_server_connections.proofs.OfConnection.Marks.{may_leave}
 use Rattle.rv_server_connections.proofs.connection.answers.Outgoing.must_wait.Goals as goal

@@ -1,4 +1,4 @@
--- The frame stands behind all, or all may leave, and it too.
+-- The frame comes after all, or all may leave, and it too.
 use Rattle.std.proofs.Common.{◌+◌, ◌∙◌, ◌++◌, ◌∷◌, [], ap, length, rules}
 use Rattle.rv_frame.specs.Cut.{frame_bytes}
 use Rattle.rv_server_connections.specs.declared.connection.answers.Mark.{Mark}

@@ -1,4 +1,4 @@
--- What goes in a pass goes behind what went before.
+-- What goes in a pass goes after what went before.
 use Rattle.rv_server_connections.proofs.OfConnection.Marks.{freed_more}
 use Rattle.rv_server_connections.proofs.connection.answers.Outgoing.release.Goals as goal
 

@@ -1,4 +1,4 @@
--- Some of what was behind may leave, and each pass lets an answer go.
+-- Some of what was held back may leave, and each pass lets an answer go.
 use Rattle.std.proofs.Common.{length}
 use Rattle.rv_server_connections.specs.connection.Answering.{FreesSome}
 use Rattle.rv_server_connections.specs.connection.Fields.{IsSoundOutgoing}

@@ -1,4 +1,4 @@
--- The first mark is that of the first byte behind.
+-- The first mark is that of the first held-back byte.
 use Rattle.std.proofs.Common.{arith, rules}
 use Rattle.rv_server_connections.proofs.OfConnection.Marks.{count_first, holds_first, is_first, rest_long}
 use Rattle.rv_server_connections.proofs.connection.answers.Outgoing.release_first.Goals as goal

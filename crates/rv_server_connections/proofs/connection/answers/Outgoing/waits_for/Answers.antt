@@ -1,4 +1,4 @@
--- The first mark tells what the first byte behind rests on.
+-- The first mark tells what the first held-back byte rests on.
 use Rattle.std.proofs.Common.{drop, rules, sym}
 use Rattle.rv_server_connections.proofs.OfConnection.Marks.{is_first, rest_long, waits_first, waits_none}
 use Rattle.rv_server_connections.proofs.connection.answers.Outgoing.waits_for.Goals as goal

@@ -1,4 +1,4 @@
--- The marks tell how many bytes are behind.
+-- The marks tell how many bytes are held back.
 use Rattle.std.proofs.Common.{◌∙◌}
 use Rattle.rv_server_connections.proofs.OfConnection.Marks.{held_is}
 use Rattle.rv_server_connections.proofs.connection.buffers.Buffers.held.Goals as goal

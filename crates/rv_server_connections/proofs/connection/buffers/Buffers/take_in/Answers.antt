@@ -1,4 +1,4 @@
--- The bytes behind the unread ones are one frame with them at most.
+-- The bytes after the unread ones are one frame with them at most.
 use Rattle.std.proofs.Common.{List, ℕ, rules, subst}
 use Rattle.rv_server_connections.specs.connection.Fields.{LeavesOne, traffic_of}
 use Rattle.rv_server_connections.proofs.OfConnection.Sizes.{taken_in}
