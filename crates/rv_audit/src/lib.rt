@@ -1,5 +1,13 @@
-//! The auditor: it says whether an account is legal, and if not, the first place at which a rule is broken,
-//! and which. Each entry is checked after those before it have passed.
+//! Audits an account: whether it is legal, and if not, which rule is broken first, and at which entry.
+//!
+//! Each entry is checked after those before it have passed.
+//!
+//! ```rust
+//! match audit(alloc, &account)? {
+//!     Audit::Legal => println!("legal"),
+//!     Audit::Fault { place, rule } => println!("entry {place} breaks {}", rule.name()),
+//! }
+//! ```
 #![tactic(auto)]
 
 mod auditing;

@@ -1,5 +1,18 @@
-//! What is between a hub and its sockets: it hands on events, gathers the lines of the entries that they make
-//! for the account, and lists the connections to look at. No socket is in it.
+//! Runs a hub with its account: it hands on events, gathers and writes lines, and lists connections to look
+//! at.
+//!
+//! No socket is in it.
+//!
+//! ```rust
+//! let mut engine = Engine::new(alloc, machine, limits, patience, has_account, room)?;
+//! let connection = engine.tell(now, LinkEvent::Opened)?;
+//! let taken = engine.tell(now, LinkEvent::Came(connection, piece))?;
+//! engine.write_lines(now, &mut file)?;
+//! engine.begin_round();
+//! while let Some(connection) = engine.next_look() {
+//!     let ready = engine.hub().wire(connection).map(|wire| wire.ready());
+//! }
+//! ```
 #![tactic(auto)]
 
 mod calls;

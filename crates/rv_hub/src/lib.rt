@@ -1,5 +1,13 @@
-//! The engine of a server with many connections: a machine, the bytes of each connection, and who waits for
-//! what. No thread, lock, socket or clock is in it.
+//! Serves many connections over one machine: it takes events, answers frames, and tells those that waited.
+//!
+//! No thread, lock, socket or clock is in it.
+//!
+//! ```rust
+//! let mut hub = Hub::new(alloc, machine, limits, DEFAULT_PATIENCE, has_journal)?;
+//! let connection = hub.handle(now, HubEvent::Opened)?;
+//! let taken = hub.handle(now, HubEvent::Came(connection, piece))?;
+//! let ready = hub.wire(connection).map(|wire| wire.ready());
+//! ```
 #![tactic(auto)]
 
 mod checks;

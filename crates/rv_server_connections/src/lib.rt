@@ -1,5 +1,16 @@
-//! The connections of a hub, each under a number, and which of them have bytes that wait for entries to be
-//! written.
+//! Keeps a hub's connections: their input, their answers and when these may leave, and what each waits for.
+//!
+//! An answer that rests on entries is held back until they are written.
+//!
+//! ```rust
+//! let mut wires = Wires::new(alloc, written);
+//! let connection = wires.open()?;
+//! let taken = wires.take_in(connection, piece)?;
+//! wires.take_frame(connection);
+//! wires.answer(connection, entries, body)?;
+//! wires.release(entries);
+//! let bytes = wires.get(connection).map(|wire| wire.ready());
+//! ```
 #![tactic(auto)]
 
 mod changes;

@@ -1,5 +1,16 @@
-//! An engine over the sockets of its connections: what is read from each is handed on, and what leaves is
-//! reported.
+//! Connects an engine to its sockets: it reads from each, hands on what came, and writes what may leave.
+//!
+//! Long input waits, and is handed on in shares, so that no connection holds up the others.
+//!
+//! ```rust
+//! let mut switchboard = Switchboard::new(engine, links, waits);
+//! let opened = switchboard.open(now)?;
+//! let has_room = switchboard.attach(now, opened, stream);
+//! let faults = switchboard.read_round(room, now);
+//! switchboard.share_out(room, now);
+//! switchboard.write_lines(now, &mut file)?;
+//! let broken = switchboard.write_round(now);
+//! ```
 #![tactic(auto)]
 
 mod accepting;

@@ -1,4 +1,18 @@
-//! Audits an account of any length as it is read, line by line, in memory of what is open and of clients.
+//! Audits an account of any length as it is read, line by line, and checks a record of replies against it.
+//!
+//! Memory holds what is open, the clients, the record, and one line at a time.
+//!
+//! ```rust
+//! let mut records = read_records(alloc, &mut record)?;
+//! let found = verify(alloc, &mut account, &mut records)?;
+//! match found.verdict {
+//!     AccountVerdict::Legal => println!("legal"),
+//!     AccountVerdict::Fault { place, rule } => println!("entry {place} breaks {}", rule.name()),
+//!     AccountVerdict::NotOpen { .. } => println!("an entry names a place where nothing is open"),
+//!     AccountVerdict::BadLine(line) => println!("line {line} is bad"),
+//!     AccountVerdict::BeyondLimits(_) => println!("beyond limits"),
+//! }
+//! ```
 #![tactic(auto)]
 
 mod fault;
