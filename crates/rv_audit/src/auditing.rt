@@ -11,14 +11,14 @@ use rv_account::Account;
 use rv_text::NoMemory;
 use std::alloc::Global;
 
-/// Audits any account. It tells that the account is legal, or else the first place at which a rule is broken,
-/// and the first rule that is broken there, in the order of the rules. Fails only if memory was refused. The
-/// account stays as it is.
+/// Audits any account. The result is that the account is legal, or else the first place at which a rule is
+/// broken, with the first rule that is broken there, in the order of the rules. Fails only if memory was
+/// refused. The account stays as it is.
 ///
 /// An entry takes time logarithmic in the number of entries before it: for itself, for each of its partners,
-/// and for each request whose wait it ends. To see whether an open arrival is left beside its partners, two
-/// rising lists are merged, once for P3 and once for P4. By then P1 and P2 hold, so that the partners rise
-/// and are of one side.
+/// and for each request whose wait it ends. To see whether an open arrival is left that isn't among its
+/// partners, two rising lists are merged, once for P3 and once for P4. By then P1 and P2 hold, so the
+/// partners rise and are all on one side.
 pub fn audit(alloc: Global, account: &Account) -> Result<Audit, NoMemory>
     ensures told { IfOk result (IsToldOf account.now.account) }
     ensures legal { IfOk result (λ told. (told ≡ tells.Legal) ↔ Legal account.now.account) }

@@ -16,7 +16,7 @@ use rv_account::{Account, Act, Entry, Place};
 use rv_text::{Call, Key, NoMemory, Side};
 use std::alloc::{AllocError, Global};
 
-/// The entries that an audit has passed, as far as it has come: a legal account.
+/// The entries that an audit has passed so far: a legal account.
 #[derive(Drop)]
 pub struct Front<'a> {
     account: &'a Account,
@@ -55,7 +55,7 @@ fn flag(taken: &mut Vec<bool>, partners: &[Place]) -> Result<(), NoMemory>
 }
 
 impl<'a> Front<'a> {
-    /// Nothing was passed yet. It takes no memory yet.
+    /// A front that has passed no entry. It takes no memory yet.
     pub fn empty(alloc: Global, account: &'a Account) -> Front<'a>
         ensures account { result.account.now ≡ account.now }
         ensures front { IsFront result }
@@ -226,7 +226,7 @@ impl<'a> Front<'a> {
         Ok(())
     }
 
-    /// Passes the next entry, which breaks no rule. If memory is refused the front is of no more use.
+    /// Passes the next entry, which breaks no rule. If memory is refused, the front is of no further use.
     pub fn pass(&mut self, entry: &Entry) -> Result<(), NoMemory>
         requires front { IsFront self.old }
         requires may { MayPass self.old entry.now }

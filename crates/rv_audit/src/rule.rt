@@ -2,8 +2,8 @@
 ghost use Rattle.std.specs.Prelude.{◌≡◌};
 ghost use Rattle.rv_audit.specs.AccountRules.{name_of};
 
-/// A rule of accounts. An entry keeps or breaks it by itself and by the entries before it. At one place an
-/// audit asks the rules in this order.
+/// A rule of accounts. Whether an entry keeps it depends on that entry and on those before it. At one place
+/// an audit checks the rules in this order.
 #[derive(Clone, Copy)]
 pub enum Rule {
     /// Time never falls: an entry's moment is at least that of the entry before it, and the first entry's at
@@ -15,10 +15,10 @@ pub enum Rule {
     M3,
     /// A client starts again only in a greater incarnation.
     N1,
-    /// The key of a request or a cancel is of this epoch and of the incarnation in which its client stands.
+    /// The key of a request or a cancel has this epoch and its client's present incarnation.
     N2,
-    /// A session numbers its requests one by one, and at most one of them waits. A cancel is of that one, or
-    /// of the next.
+    /// A session numbers its requests one by one, and at most one of them waits. A cancel is for that one, or
+    /// for the next.
     N3,
     /// Only an arrival that gives, takes or exchanges has partners. They are earlier places that were not
     /// named and name none, they rise, and they are no more than its call may name.

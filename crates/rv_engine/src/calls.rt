@@ -5,7 +5,7 @@ ghost use Rattle.rv_engine.specs.Calls.{CountsMore, call_place, counted_at};
 use rv_account::{Act, Entry};
 use rv_text::Call;
 
-/// How many calls there are.
+/// How many kinds of calls there are.
 pub const CALLS: usize = 7;
 
 /// How many requests of each call were recorded, in the byte order of the calls' words: count, drain, peek,
@@ -48,7 +48,7 @@ fn note_entry(counts: &mut CallCounts, entry: &Entry)
     }
 }
 
-/// Of these entries each is counted that is a request which arrived.
+/// Counts each of these entries that is the arrival of a request.
 pub(crate) fn note_arrivals(counts: &mut CallCounts, entries: &[Entry])
     ensures { CountsMore counts.old entries.now counts.new }
 {

@@ -1,4 +1,4 @@
-//! The engine: what a shell tells it, and what is asked of it.
+//! The engine: what a shell hands to it, and what can be read off it.
 ghost use Rattle.std.specs.Prelude.{◌≡◌};
 
 use crate::calls::{CALLS, CallCounts};
@@ -16,8 +16,8 @@ use std::alloc::Global;
 use std::io::Write;
 use std::marker::Model;
 
-/// A hub with what is to be written of its account, if one is kept, and the connections that are to be looked
-/// at. Contracts see its parts, of which always holds what holds between two calls.
+/// A hub with the lines of its account that are to be written, if one is kept, and the connections that are
+/// to be looked at. Contracts see its parts, which always are as they must be between two calls.
 #[derive(Drop)]
 pub struct Engine {
     parts: EngineParts,
@@ -55,7 +55,7 @@ impl Engine {
     ghost use Rattle.rv_engine.specs.Handing.{Gathers, HandsOn, HasWorked, IsNoOpening, IsNotTold, IsRefused};
     ghost use Rattle.rv_engine.specs.Handing.{LooksAt, TellsWritten, all_gone, told_hub, unwritten};
 
-    /// An engine over a machine, with the limits of each step. A request that waits is told so when it has
+    /// An engine over a machine, with the limits of each step. A waiting request is told so when it has
     /// waited `patience` milliseconds for a frame, at least 1. Only connections below `room` are listed.
     pub fn new(
         alloc: Global,
@@ -108,9 +108,9 @@ impl Engine {
         })
     }
 
-    /// Hands an event on that came at a moment in milliseconds, once all lines of earlier entries are
-    /// gathered. It gives the number of a connection that was opened, or how many bytes of a piece were
-    /// taken, else 0.
+    /// Hands on an event that came at a moment in milliseconds, once all lines of earlier entries are
+    /// gathered. Gives the number of a connection that was opened, or how many bytes of a piece were taken,
+    /// else 0.
     pub fn tell(&mut self, now: u64, event: LinkEvent<'_>) -> Result<usize, EngineFault>
         ensures takes { IfOk result (λ given. HandsOn self.old.hub.has_journal (hub_terms self.old.hub)
             (engine_state self.old) now (told_hub event.entry) self.new.hub.dispatcher.entries.items given
@@ -126,8 +126,8 @@ impl Engine {
         handing::hand_on(&mut self.parts, now, hub_event(event))
     }
 
-    /// Hands on an event that can be, where no entry is left: then it isn't refused. It gives what
-    /// `tell` does.
+    /// Hands on an event that can be, while no entry is left, so that it isn't refused. Gives what `tell`
+    /// gives.
     pub fn hand(&mut self, now: u64, event: LinkEvent<'_>) -> usize
         requires none_left { (engine_state self.old).left ≡ [] }
         requires can { EventCan (engine_state self.old).hub (told_hub event) }
@@ -141,10 +141,10 @@ impl Engine {
         handing::hand_sure(&mut self.parts, now, hub_event(event))
     }
 
-    /// Writes all lines that aren't written, and tells the hub that all entries are, where it knows of fewer:
-    /// then it gives what the hub does.
-    /// Where the device doesn't take all lines that are gathered, they are gathered still; where memory is
-    /// refused to some, those before them are written. Then the hub isn't told.
+    /// Writes all lines that aren't written. If the hub knows of fewer entries as written, tells it that all
+    /// are, and gives what the hub gives. If the device doesn't take all lines that are gathered, they stay
+    /// gathered; if memory for some is refused, those before them are written. In both cases the hub isn't
+    /// told.
     pub fn write_lines<W: Write>(
         &mut self,
         now: u64,
@@ -174,8 +174,8 @@ impl Engine {
         &self.parts.lines
     }
 
-    /// Gathers the lines of entries that are left since memory was refused, as far as memory allows now. It
-    /// gives whether none is left: then the next event is handed on.
+    /// Gathers the lines of entries that were left when memory was refused, as far as memory allows now.
+    /// Gives whether none is left, so that the next event is handed on.
     pub fn catch_up(&mut self) -> bool
         ensures gathers { Gathers (engine_state self.old) (engine_state self.new) }
         ensures hub { self.new.hub ≡ self.old.hub }
@@ -198,8 +198,8 @@ impl Engine {
         handing::look_at(&mut self.parts, number);
     }
 
-    /// Those that are to be looked at become the round, each once. Those of the last round that are left are
-    /// to be looked at in the next one.
+    /// The connections that are to be looked at become the round, each once. Any that are left of the last
+    /// round are to be looked at in the next one.
     pub fn begin_round(&mut self)
         ensures once { AllPairs (λ one other. one ≢ other) (engine_state self.old).looks }
         ensures round { engine_state self.new ≡ record (engine_state self.old) {
@@ -226,14 +226,14 @@ impl Engine {
         self.parts.round.pop()
     }
 
-    /// Whether nobody is to be looked at in the next round.
+    /// Whether no connection is to be looked at in the next round.
     pub fn is_quiet(&self) -> bool
         ensures { IsTrue result ↔ ((engine_state self.now).looks ≡ []) }
     {
         self.parts.looks.is_empty()
     }
 
-    /// How many requests of each call the entries record that its events made.
+    /// How many requests of each call are recorded in the entries that its events made.
     pub fn calls(&self) -> CallCounts
         ensures { result ≡ self.now.calls }
     {

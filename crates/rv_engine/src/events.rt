@@ -1,4 +1,4 @@
-//! What a shell tells an engine, and why an event isn't taken.
+//! The events that a shell hands to an engine, and why one isn't taken.
 ghost use Rattle.std.specs.Prelude.{◌≡◌, ℕ};
 ghost use Rattle.rv_engine.specs.Handing.{TellsStored, told_hub};
 
@@ -7,8 +7,8 @@ use rv_hub::{EventRefusal, HubEvent};
 use rv_server_connections::subscribers::ConnectionNumber;
 use thiserror::Error;
 
-/// What happened to a connection, or that time went on. That entries are written is no such event: the engine
-/// itself tells the hub so.
+/// What happened to a connection, or that time went on. That entries are written isn't among these events:
+/// the engine itself tells the hub so.
 #[derive(Clone, Copy)]
 pub enum LinkEvent<'a> {
     /// A connection was opened.
@@ -31,7 +31,7 @@ pub enum EngineFault {
     /// The hub refused the event.
     #[error("the hub refused an event: {0}")]
     Refused(EventRefusal),
-    /// Memory was refused to the lines of entries that were made before: no event was handed on.
+    /// Memory was refused for the lines of entries that were made before: no event was handed on.
     #[error("out of memory")]
     NoMemory,
     /// The account's device didn't take all lines: no event was handed on.

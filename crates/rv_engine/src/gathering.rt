@@ -20,7 +20,7 @@ fn add_line(lines: &mut String, alloc: Global, entry: &Entry) -> Result<(), NoMe
     lines.push_str(&line)
 }
 
-/// Adds the lines of entries, in order, until memory is refused. It gives of how many.
+/// Adds the lines of entries, in order, until memory is refused, and gives how many entries' lines it added.
 pub(crate) fn gather(lines: &mut String, alloc: Global, entries: &[Entry]) -> usize
     ensures within { result ≤ length entries.now }
     ensures lines { string_bytes lines.new
@@ -36,7 +36,7 @@ pub(crate) fn gather(lines: &mut String, alloc: Global, entries: &[Entry]) -> us
     count
 }
 
-/// The same, where an account is kept; else nothing is added, and none is left.
+/// The same if an account is kept; else nothing is added, and no entry is left.
 pub(crate) fn gather_kept(
     lines: &mut String,
     alloc: Global,

@@ -84,7 +84,7 @@ fn hand_over(parts: &mut EngineParts, now: u64, event: HubEvent<'_>) -> Result<u
     }
 }
 
-/// Hands on an event that can be, where no entry is left: then it isn't refused.
+/// Hands on an event that can be, while no entry is left, so that it isn't refused.
 pub(crate) fn hand_sure(parts: &mut EngineParts, now: u64, event: HubEvent<'_>) -> usize
     requires sound { IsEngine parts.old }
     requires none_left { (engine_state parts.old).left ≡ [] }

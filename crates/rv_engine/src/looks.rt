@@ -17,7 +17,7 @@ pub struct LookList {
 }
 
 impl LookList {
-    /// None is listed, and all below this number may be.
+    /// An empty list, which has room for all numbers below this one.
     pub fn new(alloc: Global, most: usize) -> Result<LookList, AllocError>
         ensures sound { IfOk result IsLooks }
         ensures none { IfOk result (λ list. list.numbers.items ≡ []) }
@@ -31,7 +31,7 @@ impl LookList {
         Ok(list)
     }
 
-    /// Whether none is.
+    /// Whether no number is listed.
     pub fn is_empty(&self) -> bool
         ensures { IsTrue result ↔ (self.now.numbers.items ≡ []) }
     {
@@ -68,7 +68,7 @@ impl LookList {
         self.numbers.push_reserved(number);
     }
 
-    /// A number is listed, if it may be and isn't yet.
+    /// Lists a number, if it has room and isn't listed yet.
     pub fn add(&mut self, number: ConnectionNumber)
         requires { IsLooks self.old }
         ensures sound { IsLooks self.new }
@@ -81,7 +81,7 @@ impl LookList {
         }
     }
 
-    /// So are these.
+    /// Lists these numbers likewise.
     pub(crate) fn add_all(&mut self, numbers: &[ConnectionNumber])
         requires { IsLooks self.old }
         ensures sound { IsLooks self.new }
@@ -94,7 +94,7 @@ impl LookList {
         }
     }
 
-    /// The last that is listed, which is listed no longer.
+    /// Takes the last number off the list.
     pub fn pop(&mut self) -> Option<ConnectionNumber>
         requires { IsLooks self.old }
         ensures sound { IsLooks self.new }

@@ -1,10 +1,11 @@
-//! What an engine is made of.
+//! The parts of an engine.
 use crate::calls::CallCounts;
 use crate::looks::LookList;
 use rv_hub::Hub;
 use std::alloc::Global;
 
-/// A hub, with what is to be written of its account, and whom to look at: contracts see an engine so.
+/// A hub, with what is to be written of its account and which connections to look at. Contracts see an engine
+/// this way.
 #[derive(Drop)]
 pub struct EngineParts {
     pub(crate) alloc: Global,

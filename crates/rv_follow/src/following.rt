@@ -1,4 +1,4 @@
-//! An entry that was written before is followed by a machine, or it is told why not.
+//! A machine follows an entry that was written before, or says why it doesn't.
 ghost use Rattle.rv_account.specs.Limits.{FitsEntry};
 ghost use Rattle.rv_machine.specs.Machines.{state_in};
 ghost use Rattle.rv_state.specs.resume.Resuming.{CanResume};
@@ -11,14 +11,14 @@ use rv_account::Entry;
 use rv_audit::Rule;
 use rv_machine::Machine;
 
-/// What became of an entry that was written before.
+/// The outcome for an entry that was written before.
 #[derive(Clone, Copy)]
 pub enum Followed {
     /// It follows, and the machine holds the state after it.
     Done,
     /// It breaks this rule first, in the order of an audit.
     Breaks(Rule),
-    /// It names a place that is open nowhere, and breaks no rule before P1: it breaks P1, P2 or S1.
+    /// It names a place where nothing is open, and breaks no rule before P1: it breaks P1, P2 or S1.
     NotOpen,
     /// It follows, but the state after it would have no room.
     BeyondLimits,
@@ -26,9 +26,10 @@ pub enum Followed {
     NoMemory,
 }
 
-/// Follows an entry that was written before, whatever limits its step had, and lists whom it settles. Unless
-/// it is done, the state stays; and all stays where memory wasn't refused, else nobody is listed. A tick, and
-/// a cancel of what waits, take no memory. [`Entry::fits`] tells whether the entry is within its limits.
+/// Follows an entry that was written before, whatever limits its step had, and lists the requests that it
+/// settles. Unless the result is `Done`, the state stays as it was. If memory was refused, the list is empty;
+/// after any other failure nothing at all has changed. A tick, and a cancel of a request that waits, take no
+/// memory. [`Entry::fits`] says whether the entry is within its limits.
 pub fn follow(machine: &mut Machine, entry: Entry) -> Followed
     requires resumes { CanResume (state_in machine.old) }
     requires fits { FitsEntry entry }

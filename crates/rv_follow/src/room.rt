@@ -1,4 +1,4 @@
-//! Whether the state after an entry that follows has room, told before anything is done.
+//! Whether the state after an entry that follows has room, checked before anything is done.
 ghost use Rattle.std.specs.Prelude.{◌≡◌, ◌↔◌, ◌⊎◌, ◌<◌, ◌≤◌, [], ℕ, IfNone, IfSome};
 ghost use Rattle.std.specs.Prelude.{IsTrue, None, Some, length};
 ghost use Rattle.std.specs.Prelude.{true, false};

@@ -1,4 +1,5 @@
-//! What a machine tells of an entry before anything is done: that it follows, or which rule it breaks first.
+//! What a machine's state says of an entry before anything is done: that it follows, or which rule it breaks
+//! first.
 ghost use Rattle.std.specs.Prelude.{◌≡◌, ◌↔◌, IfNone, IfSome, IsTrue};
 ghost use Rattle.rv_account.specs.Limits.{FitsEntry};
 ghost use Rattle.rv_audit.specs.AccountRules.{rank_of};
@@ -15,14 +16,14 @@ use rv_account::Entry;
 use rv_audit::Rule;
 use rv_machine::Machine;
 
-/// What the state that a machine holds tells of an entry.
+/// What the state that a machine holds says of an entry.
 #[derive(Clone, Copy)]
 pub(crate) enum Ruling {
     /// It follows.
     Follows,
     /// It breaks this rule first.
     Breaks(Rule),
-    /// It names well, but a place that is open nowhere.
+    /// It names well, except for a place where nothing is open.
     NotOpen,
 }
 
@@ -68,7 +69,7 @@ fn first_misnamed(machine: &Machine, entry: &Entry) -> Option<Rule>
     None
 }
 
-/// What the state tells of an entry.
+/// What the state says of an entry.
 pub(crate) fn rule_on(machine: &Machine, entry: &Entry) -> Ruling
     requires resumes { CanResume (state_in machine.now) }
     requires fits { FitsEntry entry.now }

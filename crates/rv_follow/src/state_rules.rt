@@ -1,4 +1,4 @@
-//! The rules of an audit, each asked of the state that a machine holds: whether an entry keeps it.
+//! The rules of an audit, each checked against the state that a machine holds: whether an entry keeps it.
 
 mod keeping;
 pub mod laws;

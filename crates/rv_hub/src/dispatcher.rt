@@ -1,5 +1,5 @@
 //! The dispatcher of a hub: a machine, the bytes of each connection, and who waits for what. A connection
-//! goes on until it stops, and after each step all whom it settled are told.
+//! goes on until it stops, and after each step all connections that it settled are told.
 ghost use Rattle.std.specs.Prelude.{◌≡◌, ◌+◌, ◌≤◌, ◌↔◌, [], ℕ, None, Some, true, false, length, max};
 ghost use Rattle.std.specs.Prelude.{option_map, IfErr, IfNone, IfOk, IfSome, IsSome, IsTrue, OnErr, OnOk};
 ghost use Rattle.rv_rules.specs.StepLimits.{AreStepLimits};
@@ -35,7 +35,7 @@ use rv_text::NoMemory;
 use std::alloc::Global;
 use std::collections::VecDeque;
 
-/// A machine with the connections that ask it, and which of them wait for what.
+/// A machine with the connections that send it requests, and which of them wait for what.
 #[derive(Drop)]
 pub struct Dispatcher {
     pub(crate) alloc: Global,
@@ -67,9 +67,9 @@ fn is_waiting(request: &LastRequest) -> bool
 }
 
 impl Dispatcher {
-    /// A dispatcher with no connection over a machine, with the limits of each step. A request that waits is
+    /// A dispatcher with no connection over a machine, with the limits of each step. A waiting request is
     /// told so when it has waited `patience` milliseconds for a frame. The machine's entries so far are
-    /// written, and none was made since.
+    /// written, and none has been made since.
     pub fn new(
         alloc: Global,
         machine: Machine,
@@ -140,7 +140,7 @@ impl Dispatcher {
         &self.entries
     }
 
-    /// Whether a request of the client waits for which no connection does. It takes time logarithmic in the
+    /// Whether a client has a waiting request for which no connection waits. It takes time logarithmic in the
     /// number of clients.
     pub fn is_unheard(&self, client: u64) -> bool
         ensures { IsTrue result ↔ IsUnheard (state_in self.now.machine) (subscribers_of self.now.subscribers)
@@ -152,7 +152,7 @@ impl Dispatcher {
         }
     }
 
-    /// How many requests wait for which no connection does. It takes constant time.
+    /// How many requests wait for which no connection waits. It takes constant time.
     pub fn unheard(&self) -> usize
         requires { IsDispatcherReady self.now }
         ensures { CountsUnheard (state_in self.now.machine) (subscribers_of self.now.subscribers) result }
@@ -160,8 +160,8 @@ impl Dispatcher {
         self.machine.waiting() - self.subscribers.clients_heard()
     }
 
-    /// The next moment at which time has to go on, if there is one: the least of the machine's limits and of
-    /// those up to which a connection waits.
+    /// The next moment at which time must go on, if there is one: the earliest of the machine's limits and of
+    /// the moments up to which a connection waits.
     pub fn next_moment(&self) -> Option<u64>
         ensures some { IfSome result (IsNextMoment (dispatcher_state self.now)) }
         ensures none { IfNone result ((moment : ℕ) → ¬ IsNextMoment (dispatcher_state self.now) moment) }
@@ -177,7 +177,7 @@ impl Dispatcher {
         }
     }
 
-    /// Lets go of the entries, and of which connections changed.
+    /// Lets go of the entries, and of the list of changed connections.
     pub fn begin(&mut self)
         requires { IsDispatcherReady self.old }
         ensures ready { IsDispatcherReady self.new }
@@ -213,7 +213,7 @@ impl Dispatcher {
         self.wires.end_input(connection);
     }
 
-    /// So many of the bytes that may leave of an open connection have left.
+    /// So many of an open connection's bytes that may leave have left.
     pub fn took(&mut self, connection: ConnectionNumber, count: usize)
         requires ready { IsDispatcherReady self.old }
         requires offered { HasWire (wires_in self.old.wires) connection (λ wire. count ≤ length wire.ready) }

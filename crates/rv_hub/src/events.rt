@@ -2,7 +2,7 @@
 use rv_server_connections::subscribers::ConnectionNumber;
 use thiserror::Error;
 
-/// An event of a hub. Each is handed over with its moment.
+/// An event of a hub. Each is handed in with its moment.
 #[derive(Clone, Copy)]
 pub enum HubEvent<'a> {
     /// A connection was opened.

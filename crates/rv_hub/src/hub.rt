@@ -1,4 +1,4 @@
-//! The hub: what is asked of it, and its events.
+//! The hub: its events, and what can be read off it.
 ghost use Rattle.std.specs.Prelude.{◌≡◌};
 
 use crate::dispatcher::Dispatcher;
@@ -14,11 +14,11 @@ use rv_text::NoMemory;
 use std::alloc::Global;
 use std::marker::Model;
 
-/// After how many milliseconds a request that waits is told so, where nobody wishes otherwise: ten seconds.
+/// The default number of milliseconds after which a waiting request is told so: ten seconds.
 pub const DEFAULT_PATIENCE: u32 = 10_000;
 
-/// The engine of a server: thousands of connections over one machine. Contracts see its parts, of which
-/// always holds what holds between two events.
+/// The engine of a server: thousands of connections over one machine. Contracts see its parts, which always
+/// are as they must be between two events.
 #[derive(Drop)]
 pub struct Hub {
     parts: HubParts,
@@ -56,10 +56,10 @@ impl Hub {
     ghost use Rattle.rv_hub.specs.Hubs.{IsHub, hub_state, hub_terms};
     ghost use Rattle.rv_hub.specs.Turns.{EventRefused, TakesEvent, TakesPiece};
 
-    /// A hub over a machine, with the limits of each step. A request that waits is told so when it has
-    /// waited `patience` milliseconds for a frame, at least 1 ([`DEFAULT_PATIENCE`] is meant to be usual).
-    /// The machine's entries so far count as written. From then on, where a journal is kept, `Written` tells
-    /// what is written; else all is.
+    /// A hub over a machine, with the limits of each step. A waiting request is told so when it has waited
+    /// `patience` milliseconds for a frame, at least 1 (usually [`DEFAULT_PATIENCE`]). The machine's entries
+    /// so far count as written. From then on, if a journal is kept, `Written` says what is written; else all
+    /// is.
     pub fn new(
         alloc: Global,
         machine: Machine,
@@ -90,10 +90,10 @@ impl Hub {
         })
     }
 
-    /// Takes an event that came at a moment in milliseconds: one above 2^62 counts as that, one below the
-    /// greatest before as that. It gives the number of a connection that was opened, or how many bytes of a
-    /// piece were taken, else 0. A refused event changes nothing but `entries` and `changed`, which are
-    /// empty then.
+    /// Takes an event that came at a moment in milliseconds: one above 2^62 counts as that, and one below the
+    /// greatest so far counts as that. Gives the number of a connection that was opened, or how many bytes of
+    /// a piece were taken, else 0. A refused event changes nothing but `entries` and `changed`, which are
+    /// then empty.
     pub fn handle(&mut self, now: u64, event: HubEvent<'_>) -> Result<usize, EventRefusal>
         ensures hub { IsHub self.new }
         ensures takes { IfOk result (λ given. TakesEvent self.old.has_journal (hub_terms self.old)
@@ -115,15 +115,15 @@ impl Hub {
         )
     }
 
-    /// The entries that the last event made, in order; none where it was refused.
+    /// The entries that the last event made, in order; none if it was refused.
     pub fn entries(&self) -> &[Entry]
         ensures { result.now ≡ self.now.dispatcher.entries.items }
     {
         self.parts.dispatcher.entries()
     }
 
-    /// The connections that the last event changed, each once: those that were opened or closed, that have an
-    /// answer more, whose input ended, and those of which bytes came, left, or may leave now.
+    /// The connections that the last event changed, each once: those that were opened or closed, got an
+    /// answer, or whose input ended, and those whose bytes came, left, or may leave now.
     pub fn changed(&self) -> &[ConnectionNumber]
         ensures all { result.now ≡ (hub_state self.now).changed }
         ensures once { AllPairs (λ one other. one ≢ other) result.now }
@@ -131,9 +131,9 @@ impl Hub {
         self.parts.dispatcher.wires().changed()
     }
 
-    /// The connection of a number, if it is open. It tells whether an answer is owed, so whether it waits;
-    /// its unread, held and ready bytes; whether it may offer more. What may not leave of any begins with
-    /// an answer that rests on an entry which isn't written.
+    /// The connection of a number, if it is open: whether it is owed an answer, and so waits; its unread,
+    /// held and ready bytes; and whether it may offer more. The bytes that may not leave begin with an answer
+    /// that rests on an unwritten entry.
     pub fn wire(&self, connection: ConnectionNumber) -> Option<&Wire>
         ensures wire { option_copied result ≡ (hub_state self.now).open_wires.wires connection }
         ensures held_back { AllHeldBack (hub_state self.now).open_wires }
@@ -148,7 +148,7 @@ impl Hub {
         self.parts.dispatcher.wires().held()
     }
 
-    /// How many bytes of all connections are unread.
+    /// How many bytes are unread, over all connections.
     pub fn unread_count(&self) -> u128
         ensures { IsTotalUnread (hub_state self.now).open_wires.wires result }
     {
@@ -176,22 +176,22 @@ impl Hub {
         self.parts.dispatcher.machine()
     }
 
-    /// Whether a request of the client waits for which no connection does.
+    /// Whether a client has a waiting request for which no connection waits.
     pub fn is_unheard(&self, client: u64) -> bool
         ensures { IsTrue result ↔ IsUnheard (hub_state self.now).book (hub_state self.now).hears client }
     {
         self.parts.dispatcher.is_unheard(client)
     }
 
-    /// How many requests wait for which no connection does.
+    /// How many requests wait for which no connection waits.
     pub fn unheard(&self) -> usize
         ensures { CountsUnheard (hub_state self.now).book (hub_state self.now).hears result }
     {
         self.parts.dispatcher.unheard()
     }
 
-    /// The next moment at which time has to go on, if there is one: the least of the machine's limits and
-    /// of the moments up to which a connection waits.
+    /// The next moment at which time must go on, if there is one: the earliest of the machine's limits and of
+    /// the moments up to which a connection waits.
     pub fn next_moment(&self) -> Option<u64>
         ensures some { IfSome result (IsNextMoment (hub_state self.now)) }
         ensures none { IfNone result ((moment : ℕ) → ¬ IsNextMoment (hub_state self.now) moment) }

@@ -1,7 +1,7 @@
-//! What a hub is made of.
+//! The parts of a hub.
 use crate::dispatcher::Dispatcher;
 
-/// A dispatcher, and whether a journal is kept: contracts see a hub so.
+/// A dispatcher, and whether a journal is kept. Contracts see a hub this way.
 #[derive(Drop)]
 pub struct HubParts {
     pub(crate) dispatcher: Dispatcher,

@@ -1,4 +1,4 @@
-//! Connections go on until nobody is to go on any more.
+//! Connections go on until none is left to go on.
 ghost use Rattle.std.specs.Prelude.{◌<◌, length, [], option_to_list, ◌++◌};
 ghost use Rattle.rv_hub.specs.dispatcher.Fields.{IsSteady, dispatcher_state};
 ghost use Rattle.rv_hub.specs.dispatcher.Rest.{HasComeToStop, TakesNoMore};

@@ -1,4 +1,4 @@
-//! What an entry makes of what became of a request.
+//! How an entry changes what became of a request.
 ghost use Rattle.std.specs.Prelude.{◌≡◌};
 ghost use Rattle.rv_replies.specs.Ending.{buried, changed, ended, own_fate};
 

@@ -14,10 +14,10 @@ use rv_machine::Machine;
 use rv_text::{Call, Key, NoMemory};
 use std::alloc::Global;
 
-/// Of some keys what became of their requests.
+/// What became of the requests with some keys.
 ///
-/// A call looks a key up in a hash table, and `pass` the key of the entry and those that it settles. Only
-/// what is known takes more than that.
+/// A call looks one key up in a hash table; `pass` looks up the entry's key and those that it settles. Only
+/// keys that are known take more work than that.
 #[derive(Drop)]
 pub(crate) struct Fates {
     fates: IndexMap<Name, Fate>,
@@ -140,7 +140,7 @@ impl Fates {
         }
     }
 
-    /// Notes what an entry tells of the keys that are known, by the machine that has followed it. Fails only
+    /// Notes what an entry says of the keys that are known, by the machine that has followed it. Fails only
     /// if memory was refused; then it is of no further use.
     pub(crate) fn pass(
         &mut self,

@@ -1,4 +1,4 @@
-//! What is found of an account, and of a reply that a client was told, by what became of its request.
+//! Findings on an account, and on a reply that a client got, by what became of its request.
 ghost use Rattle.std.specs.Prelude.{◌≡◌, ◌↔◌, IsTrue};
 ghost use Rattle.rv_account.specs.Account.{Account};
 ghost use Rattle.rv_rules.specs.Legal.{Legal};
@@ -25,28 +25,28 @@ pub use status::status_of;
 pub use tally::{are_kept, count_of};
 pub use verdict::{AccountFinding, AccountVerdict};
 
-/// A reply that a client was told.
+/// A reply that a client got.
 #[derive(Drop)]
 pub struct Told {
     /// The key of its request.
     pub key: Key,
-    /// What it had asked for.
+    /// The call that the request made.
     pub call: Call,
-    /// What it was told.
+    /// The reply itself.
     pub reply: Reply,
 }
 
-/// What an account says of it.
+/// What an account says of such a reply.
 #[derive(Clone, Copy, PartialEq, Eq)]
 pub enum Finding {
     /// The account gives the key that reply, and its request came with that call.
     Kept,
-    /// The account gives the key that reply, by a cancel that came before its request: with which call it
-    /// would have come, the account doesn't tell.
+    /// The account gives the key that reply, by a cancel that came before its request. With which call the
+    /// request would have come, the account doesn't say.
     KeptUnseen,
     /// The key is of another epoch.
     OtherEpoch,
-    /// No request with that call is ever told that.
+    /// No request with that call ever gets that reply.
     Impossible,
     /// The account gives the key another reply.
     OtherReply,
@@ -56,12 +56,12 @@ pub enum Finding {
     Waiting,
     /// The account names the key nowhere.
     NoRequest,
-    /// The line is no record of a reply.
+    /// The line isn't a record of a reply.
     NoRecord,
 }
 
 impl Finding {
-    /// Whether it tells of a reply that the account gives.
+    /// Whether the account gives the reply.
     pub fn is_kept(self) -> bool
         ensures { IsTrue result ↔ IsKeptFinding self }
     {
@@ -170,7 +170,7 @@ fn instead(told: &Told, fate: &Fate) -> Finding
     }
 }
 
-/// What an account of an epoch, in which this became of the key's request, says of the reply.
+/// What an account says of the reply, by its epoch and by what became of the key's request in it.
 pub fn judge(told: &Told, epoch: u64, fate: &Fate) -> Finding
     ensures { (a : Account) → Legal a → a.epoch ≡ epoch → IsFateOf a.entries told.now.key fate.now
         → IsFinding a told.now result }

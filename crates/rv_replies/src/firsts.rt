@@ -7,7 +7,7 @@ use indexmap::IndexMap;
 use rv_text::{Key, NoMemory};
 use std::alloc::Global;
 
-/// Of each key that lines name the first of them.
+/// The first line of each key that lines name.
 #[derive(Drop)]
 pub(crate) struct Firsts {
     firsts: IndexMap<Name, usize>,

@@ -24,16 +24,16 @@ use rv_text::{
 use serde_json::{Map, Value};
 use std::alloc::{AllocError, Global};
 
-/// Why a line is no record of a reply.
+/// Why a line isn't a record of a reply.
 #[derive(Clone, Copy)]
 pub enum Flaw {
-    /// It is no JSON.
+    /// It isn't JSON.
     NotJson,
-    /// It is no object of two members.
+    /// It isn't an object of two members.
     NotTwo,
-    /// Its member `asked` is no request.
+    /// Its member `asked` isn't a request.
     NotAsked,
-    /// Its member `told` is no reply to that request.
+    /// Its member `told` isn't a reply to that request.
     NotTold,
 }
 
@@ -219,8 +219,8 @@ fn read_tree(alloc: Global, line: &[u8]) -> Result<Told, NotRead>
     }
 }
 
-/// The reply of which a line is the record. A compact line of both in the order in which clients write them
-/// is read with no memory but that of the two; any other as `serde_json` reads it.
+/// The reply that a line records. A compact line of both members, in the order in which clients write them,
+/// is read with no memory but that of the two; any other line is read by `serde_json`.
 pub(crate) fn read_told(alloc: Global, line: &[u8]) -> Result<Told, NotRead>
     ensures told { IfOk result (ReadsTold line.now) }
     ensures flaw { (flaw : Flaw) → result ≡ Err (NotRead.Flawed flaw) → (told : told.Told)

@@ -28,23 +28,23 @@ impl From<AllocError> for OutOfMemory {
 /// A line of a record.
 #[derive(Drop)]
 pub enum Line {
-    /// A reply that a client was told.
+    /// A reply that a client got.
     Told(Told),
-    /// It is no record of a reply.
+    /// It isn't a record of a reply.
     Flawed(Flaw),
 }
 
-/// How a line of a record stands to the first one of its key.
+/// How a line of a record compares with the first one of its key.
 #[derive(Clone, Copy, PartialEq, Eq)]
 pub enum Beside {
-    /// It tells another reply.
+    /// It has another reply.
     Differs,
-    /// It says the same once more, request and reply.
+    /// It repeats both request and reply.
     Repeats,
 }
 
-/// A record of replies, and what became of their requests in an account that passes by. First it takes its
-/// lines, and then each entry. Memory grows with the record alone.
+/// A record of replies, with what became of their requests in an account whose entries pass one by one. It
+/// first takes its lines, and then each entry. Memory grows with the record alone.
 #[derive(Drop)]
 pub struct Records {
     lines: Vec<Line>,
@@ -60,7 +60,7 @@ impl Records {
     ghost use Rattle.rv_replies.specs.declared.records.Line.TheVariants as kinds;
     ghost use Rattle.rv_replies.specs.findings.Fates.{IsFateOf};
 
-    /// The record of no line. It takes no memory yet.
+    /// A record with no lines. It takes no memory yet.
     pub fn new(alloc: Global) -> Records
         ensures lines { result.lines.items ≡ [] }
         ensures stands { (a : Account) → HasNoted result a }
@@ -86,7 +86,7 @@ impl Records {
         self.lines.is_empty()
     }
 
-    /// Whether no line asks about a request: then nothing is noted.
+    /// Whether no line asks about a request. If so, nothing is noted.
     pub fn asks_nothing(&self) -> bool
         ensures { IsTrue result ↔ AsksNothing self.now }
     {
@@ -118,8 +118,8 @@ impl Records {
         self.push(Line::Told(told))
     }
 
-    /// Takes one line more. All must be taken before the first entry passes. Fails only if memory was
-    /// refused; then it is of no further use.
+    /// Takes one more line. All must be taken before the first entry passes. Fails only if memory was
+    /// refused; then the record is of no further use.
     pub fn take(&mut self, alloc: Global, line: &[u8]) -> Result<(), OutOfMemory>
         ensures adds { OnOk result (AddsLine self.old self.new line.now) }
         ensures stands { OnOk result ((a : Account) → a.entries ≡ [] → HasNoted self.old a
@@ -132,8 +132,8 @@ impl Records {
         }
     }
 
-    /// Notes what an entry tells of its replies, by the machine that has followed it. Fails only if memory
-    /// was refused; then it is of no further use.
+    /// Notes what an entry says of the requests of its replies, by the machine that has followed it. Fails
+    /// only if memory was refused; then the record is of no further use.
     pub fn pass(&mut self, alloc: Global, machine: &Machine, entry: &Entry) -> Result<(), NoMemory>
         ensures lines { self.new.lines ≡ self.old.lines }
         ensures stands { OnOk result ((a : Account) → HasPassedBy machine.now a entry.now
@@ -150,7 +150,7 @@ impl Records {
         &self.lines[index]
     }
 
-    /// What became of the request that the line with an index tells of, if it tells of one.
+    /// What became of the request of the line with an index, if the line records a reply.
     pub fn fate(&self, index: usize) -> Option<&Fate>
         requires { index < length self.now.lines.items }
         ensures { (a : Account) (told : replies.Told)
@@ -164,8 +164,8 @@ impl Records {
         }
     }
 
-    /// The first line that tells of the same request as the line with an index, and how that line stands to
-    /// it, if it tells another reply or says the same once more.
+    /// The first line of the same request as the line with an index, and whether the line with that index has
+    /// another reply or repeats the first one.
     pub fn beside_first(&self, index: usize) -> Option<(Beside, usize)>
         requires { index < length self.now.lines.items }
         ensures told { (a : Account) (told : replies.Told)
@@ -230,7 +230,7 @@ impl Records {
         }
     }
 
-    /// The finding on the line with an index, of the account that has passed, which must be of this epoch.
+    /// The finding on the line with an index in the account that has passed, which must be of this epoch.
     pub fn finding(&self, index: usize, epoch: u64) -> Finding
         requires inside { index < length self.now.lines.items }
         ensures { (a : Account) (line : kinds.the_data) → slice_get self.now.lines.items index ≡ Some line

@@ -1,4 +1,4 @@
-//! What a request was told, by the machine that passed its entry.
+//! The reply that a request got, read off the machine that passed its entry.
 ghost use Rattle.std.specs.Prelude.{◌≡◌, IfOk};
 ghost use Rattle.rv_machine.specs.Machines.{state_in};
 ghost use Rattle.rv_state.specs.Moves.{told_again};
@@ -23,7 +23,7 @@ fn told_again(alloc: Global, request: &LastRequest) -> Result<Option<Reply>, NoM
     }
 }
 
-/// What the last request of a key's client is told again. Fails only if memory for a text was refused.
+/// The reply that the last request of a key's client gets again. Fails only if memory for a text was refused.
 pub(crate) fn told_last_by(
     alloc: Global,
     machine: &Machine,
@@ -37,7 +37,8 @@ pub(crate) fn told_last_by(
     }
 }
 
-/// What a waiter is told until an act, by the machine after it. A hello may have taken the waiter's session.
+/// The reply to a request that waited until an act, by the machine after it. A hello may have taken its
+/// session.
 pub(crate) fn told_now(
     alloc: Global,
     machine: &Machine,

@@ -1,5 +1,5 @@
-//! One connection: the bytes that came of its input and weren't taken as a frame, and those of its answers
-//! that its peer hasn't taken.
+//! One connection: the bytes of its input that weren't taken as a frame yet, and those of its answers that
+//! its peer hasn't taken.
 ghost use Rattle.std.specs.Prelude.{◌≡◌};
 
 mod answers;
@@ -15,13 +15,13 @@ pub use unread::Coming;
 /// A growth of memory was refused.
 pub type NoMemory = rv_frame::NoMemory;
 
-/// One connection: the bytes that came of its input and weren't taken as a frame, one frame at most; and the
-/// bytes of answers that its peer hasn't taken. Of these may leave what stands before the first answer that
-/// rests on an entry that isn't written.
+/// One connection: the bytes of its input that weren't taken as a frame yet, one frame at most, and the bytes
+/// of answers that its peer hasn't taken. The answers before the first that rests on an unwritten entry may
+/// leave.
 ///
-/// A frame is taken only while no earlier answer is owed and at most 65,534 bytes of answers are held, so
-/// never more than 131,071 are. Contracts see a connection as its `Traffic`. What came, was answered and left
-/// from its opening on is a `History`, which each call keeps (`laws`).
+/// A frame is taken only while no earlier answer is owed and at most 65,534 bytes of answers are held, so no
+/// more than 131,071 are ever held. Contracts see a connection as its `Traffic`. What came, was answered and
+/// left since it was opened is a `History`, which each call keeps (`laws`).
 #[derive(Drop)]
 pub struct Wire {
     buffers: Buffers,
@@ -48,7 +48,7 @@ impl Wire {
     ghost use Rattle.rv_server_connections.specs.connection.Steps.{fresh_traffic, input_ended, left_by};
     ghost use Rattle.rv_server_connections.specs.connection.Steps.{taken};
 
-    /// A connection of which nothing came. It takes no memory yet.
+    /// A connection with no input yet. It takes no memory yet.
     pub fn new(alloc: Global) -> Wire
         ensures { result ≡ fresh_traffic }
     {
@@ -57,8 +57,8 @@ impl Wire {
         }
     }
 
-    /// Takes bytes of a piece of its input, and tells how many: all, or as many as end the unread frame or
-    /// show that its length is bad. If memory for them is refused nothing changes.
+    /// Takes bytes of a piece of its input, and gives how many: all, or as many as end the unread frame or
+    /// show that its length is bad. If memory for them is refused, nothing changes.
     pub fn take_in(&mut self, piece: &[u8]) -> Result<usize, NoMemory>
         ensures takes { IfOk result (λ count. TakesIn self.old piece.now count self.new) }
         ensures refused { OnErr result (self.new ≡ self.old) }
@@ -103,15 +103,15 @@ impl Wire {
         self.buffers.answer(written, entries, body)
     }
 
-    /// Lets answers go that rest on no more entries than are written.
+    /// Releases the answers that rest on no more entries than are written.
     pub fn release(&mut self, written: u64)
         ensures { Releases written self.old self.new }
     {
         self.buffers.release(written)
     }
 
-    /// How many entries have to be written before any of the bytes may leave that may not yet, if there are
-    /// such.
+    /// How many entries must be written before any of the bytes that may not leave yet may do so, if there
+    /// are such bytes.
     pub fn waits_for(&self) -> Option<u64>
         ensures { result ≡ first_rests_on self.now.behind }
     {

@@ -16,8 +16,8 @@ pub use tables::{ConnectionNumber, Subscription};
 /// request.
 ///
 /// Contracts see a function from the numbers of connections to what they wait for, if they wait. `is_heard`
-/// and `clients_heard` take constant time, on average, each other call time logarithmic in the number of
-/// those that wait.
+/// and `clients_heard` take constant time, on average; each other call takes time logarithmic in the number
+/// of those that wait.
 #[derive(Drop)]
 pub struct Subscribers {
     counted: Counted,
@@ -33,7 +33,7 @@ impl Subscribers {
     ghost use Rattle.rv_server_connections.specs.subscribers.Subscription.{nobody};
     ghost use Rattle.rv_server_connections.specs.subscribers.Subscribers.{subscribers_count, subscribers_of};
 
-    /// Nobody waits. It takes no memory yet.
+    /// No connection waits. It takes no memory yet.
     pub fn new(alloc: Global) -> Subscribers
         ensures nobody { subscribers_of result ≡ nobody }
         ensures count { subscribers_count result ≡ 0 }
@@ -59,7 +59,7 @@ impl Subscribers {
         self.counted.add(connection, subscription)
     }
 
-    /// A connection waits no longer. It gives what that waited for, if it waited.
+    /// A connection no longer waits. Gives what it waited for, if it waited.
     pub fn remove(&mut self, connection: ConnectionNumber) -> Option<Subscription>
         ensures was { result ≡ subscribers_of self.old connection }
         ensures removed { SetsSubscription (subscribers_of self.old) connection None (subscribers_of
@@ -77,7 +77,7 @@ impl Subscribers {
         self.counted.tables.get(connection)
     }
 
-    /// The connection of the lowest number that waits for a request of this client.
+    /// The lowest connection that waits for a request of this client.
     pub fn first_of(&self, client: u64) -> Option<ConnectionNumber>
         ensures first { IfSome result (IsFirstSubscriber (subscribers_of self.now) client) }
         ensures none { IfNone result ((connection : ℕ) → ¬ SubscribesTo (subscribers_of self.now) client
@@ -86,7 +86,7 @@ impl Subscribers {
         self.counted.tables.first_of(client)
     }
 
-    /// The least moment up to which a connection waits, with the connection of the lowest number that does.
+    /// The earliest moment up to which a connection waits, with the lowest connection that waits up to it.
     pub fn next_until(&self) -> Option<(u64, ConnectionNumber)>
         ensures next { IfSome result (λ next. IsNextUntil (subscribers_of self.now) next.0 next.1) }
         ensures none { IfNone result ((connection : ℕ) → subscribers_of self.now connection ≡ None) }
@@ -101,7 +101,7 @@ impl Subscribers {
         self.counted.is_heard(client)
     }
 
-    /// How many clients there are for a request of whom some connection waits.
+    /// How many clients have a request for which some connection waits.
     pub fn clients_heard(&self) -> usize
         ensures { CountsHeard (subscribers_of self.now) result }
     {

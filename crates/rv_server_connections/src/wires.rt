@@ -32,9 +32,9 @@ fn add_unread(unread: u128, more: usize, room: usize) -> u128
 
 /// All open connections, each under its number, with how many entries are written.
 ///
-/// Contracts see of each number the connection's bytes, if it is open (`wires_in`). A number is free exactly
-/// while no connection is open under it. All calls but `release` take constant time, or time logarithmic in
-/// the number of connections that hold something back.
+/// Contracts see the bytes of the connection under each number, if it is open (`wires_in`). A number is free
+/// exactly while no connection is open under it. All calls but `release` take constant time, or time
+/// logarithmic in the number of connections that hold something back.
 #[derive(Drop)]
 pub struct Wires {
     noted: Noted,
@@ -90,8 +90,8 @@ impl Wires {
         self.noted.open()
     }
 
-    /// The connection under a number, if it is open. What may not leave of any begins with an answer that
-    /// rests on an entry which isn't written.
+    /// The connection under a number, if it is open. The bytes that may not leave begin with an answer that
+    /// rests on an unwritten entry.
     pub fn get(&self, connection: ConnectionNumber) -> Option<&Wire>
         ensures found { option_copied result ≡ (wires_in self.now).wires connection }
         ensures held_back { AllHeldBack (wires_in self.now) }
@@ -99,8 +99,8 @@ impl Wires {
         self.noted.get(connection)
     }
 
-    /// Takes bytes of a piece of a connection's input, and tells how many (`Wire::take_in`). If memory for
-    /// them is refused nothing changes.
+    /// Takes bytes of a piece of a connection's input, and gives how many (`Wire::take_in`). If memory for
+    /// them is refused, nothing changes.
     pub fn take_in(&mut self, connection: ConnectionNumber, piece: &[u8]) -> Result<usize, NoMemory>
         requires { IsSome ((wires_in self.old).wires connection) }
         ensures takes { IfOk result (λ count. ChangesWire (wires_in self.old) connection
@@ -152,8 +152,8 @@ impl Wires {
         self.noted.answer(connection, entries, body)
     }
 
-    /// Lends the room in which the texts of answers are written, so that one after another takes no memory
-    /// but where it needs more. While it is lent there is none.
+    /// Lends the buffer in which the texts of answers are written, so that one text after another takes no
+    /// memory unless it needs more room. While it is lent, there is none.
     pub fn lend_room(&mut self) -> Vec<u8>
         ensures same { wires_in self.new ≡ wires_in self.old }
         ensures tally { tally_in self.new ≡ tally_in self.old }
@@ -162,7 +162,8 @@ impl Wires {
         mem::replace(&mut self.room, none)
     }
 
-    /// Takes the room back. It stays as large as the longest text needed, twice the most bytes of a body.
+    /// Takes the buffer back. It stays as large as the longest text needed: at most twice the bytes that a
+    /// body may have.
     pub fn keep_room(&mut self, room: Vec<u8>)
         ensures same { wires_in self.new ≡ wires_in self.old }
         ensures tally { tally_in self.new ≡ tally_in self.old }
@@ -192,9 +193,9 @@ impl Wires {
         self.noted.took(connection, count)
     }
 
-    /// So many entries are written from now on: all answers go that rest on no more. It takes time for the
-    /// connections that it releases, and none for the others. It takes no memory that would be missed: where
-    /// a growth is refused, the next call looks at a connection in vain.
+    /// From now on so many entries are written, and all answers that rest on no more are released. It takes
+    /// time only for the connections that it releases. A refused growth of memory does no harm: the next call
+    /// looks at a connection in vain.
     pub fn release(&mut self, written: u64)
         ensures releases { ReleasesAll (wires_in self.old) written (wires_in self.new) }
         ensures noted { NotesReleased (wires_in self.old) (tally_in self.old) written (tally_in self.new) }
@@ -202,14 +203,14 @@ impl Wires {
         self.noted.release(written)
     }
 
-    /// The connections of which bytes may leave since the last `release`, and might not before it.
+    /// The connections with bytes that may leave since the last `release` and might not before it.
     pub fn released(&self) -> &[ConnectionNumber]
         ensures { result.now ≡ (wires_in self.now).released }
     {
         &self.noted.slots.released
     }
 
-    /// Closes a connection: nothing of it is held any more, and its number is free.
+    /// Closes a connection: nothing is held for it any more, and its number is free.
     pub fn close(&mut self, connection: ConnectionNumber)
         ensures closed { SetsWire (wires_in self.old) connection None (wires_in self.new) }
         ensures noted { IsSome ((wires_in self.old).wires connection)
@@ -238,8 +239,8 @@ impl Wires {
         *unread
     }
 
-    /// The connections that changed since `clear_changed`, each once: those that were opened or closed, that
-    /// have an answer more, whose input ended, and those of which bytes came, left, or may leave now.
+    /// The connections that changed since `clear_changed`, each once: those that were opened or closed, got
+    /// an answer, or whose input ended, and those whose bytes came, left, or may leave now.
     pub fn changed(&self) -> &[ConnectionNumber]
         ensures all { result.now ≡ (tally_in self.now).changed }
         ensures once { AllPairs (λ one other. one ≢ other) result.now }
@@ -247,7 +248,7 @@ impl Wires {
         &self.noted.changes.numbers
     }
 
-    /// Begins the list of those that changed anew. It takes time for those that are listed.
+    /// Empties the list of those that changed. It takes time for those that are listed.
     pub fn clear_changed(&mut self)
         ensures same { wires_in self.new ≡ wires_in self.old }
         ensures cleared { tally_in self.new ≡ record (tally_in self.old) { changed = [] } }

@@ -4,8 +4,8 @@ ghost use Rattle.rv_server_crashes.specs.Laws.{HubsAreServers, HubsBegin, HubsGo
 ghost use Rattle.rv_server_crashes.specs.Laws.{SentMayLeave};
 ghost use Rattle.rv_server_crashes.specs.Room.{EffectsKeepRoom, EventsKeepRoom, FrontsGoOn};
 
-/// A hub's account had room after each of its entries, and so has it after what its effects add. So whatever
-/// a crash leaves of it, a machine can be made of that.
+/// A hub's account had room after each of its entries, and still has it after those that its effects add. So
+/// a machine can be made of whatever a crash leaves of it.
 pub fn accounts_go_on()
     ensures effects { EffectsKeepRoom }
     ensures events { EventsKeepRoom }
@@ -14,7 +14,8 @@ pub fn accounts_go_on()
 
 /// The events of a hub are effects of a server that crashes and goes on: steps under its limits, time alone,
 /// and entries that are stored. Each answer that a connection was given is held back for the sender of its
-/// frame's message, with the number of entries that it rests on. So may want of memory be, for any message.
+/// frame's message, with the number of entries that it rests on. The answer that memory was refused may be
+/// held back too, for any message.
 pub fn hubs_are_servers()
     ensures events { HubsAreServers }
     ensures lacks { LacksMemory }
@@ -22,13 +23,13 @@ pub fn hubs_are_servers()
     crate::crashes::laws::effects_keep_servers();
 }
 
-/// Of an answer no byte leaves before the server may send it.
+/// No byte of an answer leaves before the server may send that answer.
 pub fn sent_may_leave()
     ensures { SentMayLeave }
 {}
 
-/// A new hub is such a server, in an epoch in which nothing happened, and after a crash, over all that this
-/// left.
+/// A new hub is such a server in an epoch in which nothing happened, and so is one that goes on, after a
+/// crash, from all that the crash left.
 pub fn hubs_go_on()
     ensures begins { HubsBegin }
     ensures goes_on { HubsGoOn }

@@ -8,7 +8,7 @@ use crate::giving_up::give_up;
 use crate::traffic::Switchboard;
 use rv_server_connections::subscribers::ConnectionNumber;
 
-/// A connection that was opened, and has no socket yet. Only `Switchboard::open` makes one, of the number
+/// A connection that was opened, and has no socket yet. Only `Switchboard::open` makes one, with the number
 /// that the hub gave.
 #[derive(Drop)]
 pub struct Opened {

@@ -1,4 +1,4 @@
-//! What is asked of a connection before its turn.
+//! What is checked of a connection before its turn.
 ghost use Rattle.std.specs.Prelude.{◌≡◌, ◌<◌, ◌≤◌, ◌+◌, [], length, None, Some};
 ghost use Rattle.std.specs.Bool.{OnFalse, OnTrue};
 ghost use Rattle.rv_server_connections.specs.connection.Traffic.{Traffic};

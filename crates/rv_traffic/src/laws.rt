@@ -22,8 +22,8 @@ pub fn calls_are_runs<S: Read + Write>()
     ensures written_lines { WrittenLinesAreRuns }
 {}
 
-/// So is a whole turn over one device: it takes the lines of the account in order, each whole, but for the
-/// last where it fails.
+/// So is a whole turn over one device. The device takes the lines of the account in order, each whole, except
+/// for the last if it fails there.
 pub fn turns_are_runs<W: Write>()
     ensures joined { OversAreJoined W.contents }
     ensures others { OthersAreOver W.contents }

@@ -71,7 +71,7 @@ impl<S: Drop> Links<S> {
         *pending
     }
 
-    /// All numbers of sockets are below this one.
+    /// The number below which all sockets' numbers are.
     pub fn room(&self) -> usize
         ensures { result ≡ length self.now.table.items }
     {
@@ -89,7 +89,7 @@ impl<S: Drop> Links<S> {
         }
     }
 
-    /// What was read of a connection and not taken.
+    /// The bytes that were read from a connection and not taken.
     pub fn pending(&self, number: usize) -> &[u8]
         ensures { result.now ≡ pending_of (link_at self.now.table.items number) }
     {
@@ -99,7 +99,7 @@ impl<S: Drop> Links<S> {
         }
     }
 
-    /// Whether there is something to offer of a connection, or its socket may be read.
+    /// Whether a connection has bytes to offer, or its socket may be read.
     pub fn has_input(&self, number: usize) -> bool
         ensures { IsTrue result ↔ HasInput (link_at self.now.table.items number) }
     {
@@ -157,7 +157,7 @@ impl<S: Drop> Links<S> {
         buffer.as_slice()
     }
 
-    /// Of what was read of a connection and not taken these so many bytes are taken.
+    /// So many of the bytes that were read from a connection and not taken are taken.
     pub fn advance(&mut self, number: usize, count: usize)
         requires { count ≤ length (pending_of (link_at self.old.table.items number)) }
         ensures pends { PendsSlot (link_at self.old.table.items number)
@@ -172,7 +172,7 @@ impl<S: Drop> Links<S> {
         self.pending -= count as u128;
     }
 
-    /// A connection's socket may be read, or written, once more, as a poll told.
+    /// A connection's socket may be read, or written, again, as a poll reported.
     pub fn heed(&mut self, number: usize, is_readable: bool, is_writable: bool)
         ensures heeds { link_at self.new.table.items number
             ≡ option_map (λ link. heeded link is_readable is_writable) (link_at self.old.table.items number) }
@@ -183,7 +183,7 @@ impl<S: Drop> Links<S> {
         }
     }
 
-    /// Nothing was there to leave of a connection at this moment.
+    /// At this moment a connection had no bytes that might leave.
     pub fn rest(&mut self, number: usize, now: u64)
         ensures rests { link_at self.new.table.items number
             ≡ option_map (λ link. rested link now) (link_at self.old.table.items number) }
@@ -225,8 +225,8 @@ impl<S: Write> Links<S> {
 }
 
 impl<S: Drop> Links<S> {
-    /// When this many bytes of the last piece were taken, the rest is pending for its connection, after what
-    /// already was. If memory is refused nothing changes.
+    /// Once this many bytes of the last piece were taken, makes the rest pending for its connection, after
+    /// what already is. If memory is refused, nothing changes.
     pub fn keep(&mut self, number: usize, taken: usize) -> Result<(), AllocError>
         requires { taken ≤ length self.old.buffer.items }
         ensures kept { OnOk result (PendsSlot (link_at self.old.table.items number)
@@ -265,7 +265,7 @@ impl<S: Drop> Links<S> {
         self.table[number] = Some(Socket::new(self.alloc, stream, now));
     }
 
-    /// Lets go the socket under a number, with what was read of it and not taken.
+    /// Lets go of the socket under a number, with the bytes that were read from it and not taken.
     pub fn remove(&mut self, number: usize)
         ensures none { link_at self.new.table.items number ≡ None }
         ensures others { ChangesOne self.old.table.items number self.new.table.items }

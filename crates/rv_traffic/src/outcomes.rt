@@ -5,7 +5,7 @@
 pub enum Reading {
     /// Nothing was handed on.
     Nothing,
-    /// Bytes were.
+    /// Bytes were handed on.
     Offered,
     /// A piece came that isn't small: it is pending, and waits for its share.
     Kept,
@@ -13,7 +13,7 @@ pub enum Reading {
     Ended,
     /// Its socket failed: it is given up.
     Broken,
-    /// Memory was refused to what is to be pending of it: it is given up.
+    /// Memory was refused for what was to be pending: it is given up.
     NoMemory,
 }
 

@@ -23,7 +23,7 @@ pub const SMALL: usize = 512;
 /// A share has at most so many bytes.
 pub const SHARE: usize = 4_096;
 
-/// At most so many that wait have a share at a time.
+/// At most so many waiting connections get a share at a time.
 pub const SHARES: usize = 4;
 
 /// An engine with the sockets of its connections, each under the number that the hub gave it, and those that
@@ -77,8 +77,8 @@ impl<S: Drop> Switchboard<S> {
         self.waits.is_empty()
     }
 
-    /// Whether more bytes are held of all connections than there is room for: of answers, of frames that
-    /// aren't whole, and pending.
+    /// Whether more bytes are held over all connections than there is room for: bytes of answers, of frames
+    /// that aren't whole, and pending ones.
     pub fn is_over(&self, room: u128) -> bool
         ensures yes { OnTrue result (IsOverfull (traffic_state self.now) room) }
         ensures no { OnFalse result (HasRoomLeft (traffic_state self.now) room) }
@@ -86,8 +86,8 @@ impl<S: Drop> Switchboard<S> {
         asking::is_over(self, room)
     }
 
-    /// Lets a connection's socket go, and tells the hub that it is gone; where memory is refused to lines
-    /// of the account it is to be looked at.
+    /// Lets go of a connection's socket, and tells the hub that its peer is gone. If memory for lines of the
+    /// account is refused, the connection is to be looked at.
     pub fn give_up(&mut self, now: u64, number: ConnectionNumber)
         ensures gives_up { GivesUp self.old.engine.hub.has_journal (hub_terms self.old.engine.hub) now number
             (traffic_state self.old) (traffic_state self.new) }
@@ -109,8 +109,8 @@ impl<S: Drop> Switchboard<S> {
     ghost use Rattle.rv_traffic.specs.CallRuns.{OnlyCalls, RunsOver};
     ghost use Rattle.rv_traffic.specs.Views.{SameTerms, traffic_state};
 
-    /// A connection is opened at a moment: it gives its number, under which a socket is to be put, or why
-    /// there is none.
+    /// Opens a connection at a moment. Gives its number, under which a socket is to be put, or why there is
+    /// none.
     pub fn open(&mut self, now: u64) -> Result<Opened, EngineFault>
         ensures opens { IfOk result (λ opened. HandsOn self.old.engine.hub.has_journal
             (hub_terms self.old.engine.hub) (engine_state self.old.engine) now event.Opened
@@ -128,8 +128,8 @@ impl<S: Drop> Switchboard<S> {
         }
     }
 
-    /// Puts a socket that was accepted under the number that the hub gave its connection, and gives whether
-    /// that has room; else the connection is given up.
+    /// Puts an accepted socket under the number that the hub gave its connection. Gives whether that number
+    /// has room; if not, the connection is given up.
     pub fn attach(&mut self, now: u64, opened: Opened, stream: S) -> bool
         ensures attaches { Attaches self.old.engine.hub.has_journal (hub_terms self.old.engine.hub) now
             opened.number stream (traffic_state self.old) result (traffic_state self.new) }
@@ -153,7 +153,7 @@ impl<S: Drop> Switchboard<S> {
         self.give_up(now, number);
     }
 
-    /// A poll told that a connection's socket may be read, or written, once more: it is to be looked at.
+    /// A poll reported that a connection's socket may be read, or written, again: it is to be looked at.
     pub fn heed(&mut self, number: ConnectionNumber, is_readable: bool, is_writable: bool)
         ensures heeds { link_at self.new.links.table.items number
             ≡ option_map (λ link. heeded link is_readable is_writable)
@@ -171,7 +171,7 @@ impl<S: Drop> Switchboard<S> {
         self.engine.look_at(number);
     }
 
-    /// Time goes on to a moment, where no entry is left: whoever has waited as long as it may is told.
+    /// Time goes on to a moment, while no entry is left: each that has waited as long as it may is told.
     pub fn pass(&mut self, now: u64)
         requires { (engine_state self.old.engine).left ≡ [] }
         ensures passes { (given : ℕ) × Hands self.old.engine.hub.has_journal (hub_terms self.old.engine.hub)
@@ -184,7 +184,7 @@ impl<S: Drop> Switchboard<S> {
         self.engine.hand(now, LinkEvent::Passed);
     }
 
-    /// Gathers lines of the account that found no memory, and tells whether none is left.
+    /// Gathers lines of the account for which memory was refused before, and gives whether none is left.
     pub fn catch_up(&mut self) -> bool
         ensures gathers { Gathers (engine_state self.old.engine) (engine_state self.new.engine) }
         ensures hub { self.new.engine.hub ≡ self.old.engine.hub }
@@ -227,8 +227,8 @@ impl<S: Drop> Switchboard<S> {
     ghost use Rattle.rv_traffic.specs.CallRuns.{OnlyCalls};
     ghost use Rattle.rv_traffic.specs.Views.{SameTerms, traffic_state};
 
-    /// Offers a share of what is pending of some that wait, at a moment, unless more is held of all than
-    /// there is room for: each of them has one before any has another.
+    /// Offers a share of the pending bytes of some waiting connections, at a moment, unless more is held in
+    /// all than there is room for. Each of them gets one before any gets another.
     pub fn share_out(&mut self, room: u128, now: u64)
         ensures shares { SharesOut room self.old.engine.hub.has_journal (hub_terms self.old.engine.hub) now
             (traffic_state self.old) (traffic_state self.new) }
@@ -263,9 +263,9 @@ impl<S: Write + Drop> Switchboard<S> {
     ghost use Rattle.rv_traffic.specs.CallRuns.{OnlyCalls};
     ghost use Rattle.rv_traffic.specs.Views.{SameTerms, traffic_state};
 
-    /// Writes once, at a moment, to each connection that is to be looked at; after that only those are that
-    /// can be read or written again at once. One that the hub closed loses its socket, and the hub is told of
-    /// one that has none. Gives how many failed.
+    /// Writes once, at a moment, to each connection that is to be looked at. After that only those that can
+    /// be read or written again at once are to be looked at. A connection that the hub closed loses its
+    /// socket, and the hub is told of one that has none. Gives how many failed.
     pub fn write_round(&mut self, now: u64) -> usize
         ensures writes { WritesRound S.contents self.old.engine.hub.has_journal
             (hub_terms self.old.engine.hub) now (traffic_state self.old) result (traffic_state self.new) }

@@ -22,7 +22,7 @@ impl WaitingLists {
     ghost use Rattle.rv_traffic.specs.Views.{waits_of};
     ghost use Rattle.rv_traffic.specs.Waiting.{WaitsToo, shares_begun};
 
-    /// None waits, and all below this number may.
+    /// Empty lists, which have room for all numbers below this one.
     pub fn new(alloc: Global, most: usize) -> Result<WaitingLists, AllocError>
         ensures none { IfOk result (λ lists. waits_of lists ≡ record { due = []; next = []; room = most }) }
     {
@@ -32,7 +32,7 @@ impl WaitingLists {
         })
     }
 
-    /// Whether none waits.
+    /// Whether no connection waits.
     pub fn is_empty(&self) -> bool
         ensures { IsTrue result ↔ (((waits_of self.now).due ≡ []) × ((waits_of self.now).next ≡ [])) }
     {

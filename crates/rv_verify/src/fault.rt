@@ -1,11 +1,11 @@
-//! Why an account is not read to its end.
+//! Why an account isn't read to its end.
 use rv_lines::LineFault;
 use rv_replies::OutOfMemory;
 use rv_text::NoMemory;
 use std::io;
 use std::io::ErrorKind;
 
-/// Why an account is not read to its end.
+/// Why an account isn't read to its end.
 #[derive(Clone, Copy)]
 pub enum VerifyFault {
     /// A read failed.

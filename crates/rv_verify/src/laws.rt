@@ -1,12 +1,12 @@
-//! Laws of what is told of an account: each function is its contract, over the definitions alone.
+//! Laws of verdicts on an account: each function is its contract, over the definitions alone.
 ghost use Rattle.rv_verify.specs.Laws.{LegalHadRoom, LegalIsNoted, VerdictsAgree};
 
-/// Of lines that an audit reads as an account the verdict says what the audit tells.
+/// On lines that an audit reads as an account, the verdict says what the audit says.
 pub fn verdicts_agree()
     ensures { VerdictsAgree }
 {}
 
-/// Of lines that an audit reads as a legal account the state has had room after each entry.
+/// In an account that an audit reads as legal, the state has had room after each entry.
 pub fn legal_had_room()
     ensures { LegalHadRoom }
 {}

@@ -1,4 +1,4 @@
-//! Reads the entries before one that names a closed place once more, and tells which rule that breaks.
+//! Reads again the entries before one that names a closed place, and says which rule that entry breaks.
 ghost use Rattle.std.specs.Prelude.{◌≡◌, ◌<◌, ◌⊎◌, ℕ, List, Ok, Err, Some, IfOk, IsOk, length, true, false};
 ghost use Rattle.rv_account.specs.Account.{Among, call_in};
 ghost use Rattle.rv_account.specs.declared.entry.Entry as entries;

@@ -1,4 +1,4 @@
-//! Audits an account as it comes, also while it grows.
+//! Audits an account as it comes, even while it still grows.
 ghost use Rattle.std.specs.Prelude.{◌≡◌, ◌≢◌, ◌↔◌, ◌∷◌, ◌++◌, [], ℕ, List, Some, IfOk, IsTrue, OnOk};
 ghost use Rattle.rv_replies.specs.declared.findings.verdict.AccountVerdict.TheVariants as verdict;
 ghost use Rattle.rv_replies.specs.declared.records.Records as records;
@@ -38,7 +38,7 @@ pub enum Pause {
 }
 
 /// An audit of an account whose bytes come bit by bit. It keeps what is open, the clients, and the last
-/// bytes, which lack their LF.
+/// bytes, if they lack their LF.
 #[derive(Drop)]
 pub struct OngoingAudit {
     pub(crate) stage: Stage,
@@ -46,7 +46,7 @@ pub struct OngoingAudit {
 }
 
 impl OngoingAudit {
-    /// Before the first byte. It takes no memory yet.
+    /// An audit that has read no byte. It takes no memory yet.
     pub fn new(alloc: Global) -> OngoingAudit
         ensures ready { CanGoOn result }
         ensures read { (r : records.Records) → AreNew r → HasReadPart [] result r }
@@ -131,7 +131,7 @@ impl OngoingAudit {
         self.stage.entries()
     }
 
-    /// Reads the rest of an account, and tells what it is.
+    /// Reads the rest of an account, and says what was found of it.
     pub(crate) fn read_to_end<B: BufRead>(
         &mut self,
         alloc: Global,
@@ -173,8 +173,8 @@ impl OngoingAudit {
         Ok(finding_on(&mut self.stage, false))
     }
 
-    /// What is known of an account that goes on: of its whole lines only. Its end is torn if bytes after them
-    /// were read.
+    /// What is found of an account that isn't read to its end, from its whole lines alone. Its end is torn if
+    /// bytes after them were read.
     pub fn break_off(self) -> AccountFinding
         ensures found { (read : List (List ℕ)) (r : records.Records) → HasReadLines read self.stage r
             → IsFoundOfLines read r result }

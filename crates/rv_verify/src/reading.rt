@@ -1,4 +1,4 @@
-//! Reads an account to its end, and tells what it is.
+//! Reads an account to its end, and says what was found of it.
 ghost use Rattle.std.specs.Prelude.{◌≡◌, Ok, IfOk, IfSome, true, false};
 ghost use Rattle.rv_account.specs.declared.entry.Entry as entries;
 ghost use Rattle.rv_verify.specs.Ends.{IsToldOfBytes};
@@ -13,9 +13,9 @@ use rv_replies::findings::AccountFinding;
 use std::alloc::Global;
 use std::io::BufRead;
 
-/// Reads an account to its end, tells what it is, and hands each entry that passed to the records, which have
-/// noted none yet. A bad line is told wherever it stands; else the first fault of the account, if its state
-/// has room up to there.
+/// Reads an account to its end, says what was found of it, and hands each entry that passed to the records,
+/// which have noted none yet. A bad line is reported wherever it is; if there is none, the first fault of the
+/// account is, if its state has room up to there.
 ///
 /// It keeps what is open, the clients, and one line at a time.
 pub fn verify<B: BufRead>(
@@ -33,7 +33,7 @@ pub fn verify<B: BufRead>(
     audit.read_to_end(alloc, reader, records)
 }
 
-/// Whether a last piece, which is no first line, is read as no entry.
+/// Whether a last piece, which isn't the first line, isn't read as an entry.
 pub(crate) fn is_torn(alloc: Global, piece: &[u8]) -> Result<bool, VerifyFault>
     ensures yes { result ≡ Ok true → (e : entries.Entry) → ¬ ReadsLongEntry piece.now e }
     ensures no { result ≡ Ok false → (e : entries.Entry) × ReadsLongEntry piece.now e }

@@ -12,7 +12,7 @@ use rv_replies::Records;
 use std::alloc::Global;
 use std::io::BufRead;
 
-/// The record that the lines of a reader are, to its end. The last one may lack its LF.
+/// Reads a record from the lines of a reader, to its end. The last line may lack its LF.
 pub fn read_records<B: BufRead>(alloc: Global, reader: &mut B) -> Result<Records, VerifyFault>
     ensures record { IfSome (B.remaining reader.old) (λ bytes. IfOk result (IsRecordOf bytes)) }
     ensures are_new { IfOk result AreNew }

@@ -71,7 +71,7 @@ impl Stage {
         }
     }
 
-    /// Reads one line more, and hands its entry to the records, if that passed.
+    /// Reads one more line, and hands its entry to the records, if the entry passed.
     pub(crate) fn line(
         &mut self,
         alloc: Global,
@@ -94,7 +94,7 @@ impl Stage {
         Ok(())
     }
 
-    /// The verdict on the lines that were read. It is told once.
+    /// The verdict on the lines that were read. It can be taken only once.
     pub(crate) fn verdict(&mut self) -> AccountVerdict
         ensures told { (lines : List (List ℕ)) (r : records.Records) → HasReadLines lines self.old r
             → IsVerdictOn lines result }

@@ -1,4 +1,4 @@
-//! Tells a torn piece from a line that says an entry.
+//! Tells a torn piece from a line that is an entry.
 ghost use Rattle.std.specs.Prelude.{◌≡◌, Ok, Err, IfErr, IsOk, true, false};
 ghost use Rattle.rv_text.specs.Members.{max_identifier};
 ghost use Rattle.rv_account.specs.declared.entry.Entry as entries;
@@ -9,8 +9,8 @@ use rv_lines::{LineFault, read_entry};
 use rv_text::MAX_IDENTIFIER;
 use std::alloc::Global;
 
-/// Whether a last piece, which is no first line, is read as no entry of an account of any length. Fails only
-/// if memory was refused.
+/// Whether a last piece, which isn't the first line, isn't read as an entry of an account of any length.
+/// Fails only if memory was refused.
 pub fn is_torn(alloc: Global, piece: &[u8]) -> Result<bool, LineFault>
     ensures yes { result ≡ Ok true → (e : entries.Entry) → ¬ ReadsEntryUpTo max_identifier piece.now e }
     ensures no { result ≡ Ok false → (e : entries.Entry) × ReadsEntryUpTo max_identifier piece.now e }

@@ -35,14 +35,14 @@ use std::alloc::Global;
 pub(crate) enum StopReason {
     /// An entry breaks this rule first, in the order of an audit.
     Breaks(Rule),
-    /// This entry names a place that is open nowhere, and breaks no rule before P1.
+    /// This entry names a place where nothing is open, and breaks no rule before P1.
     NotOpen(Entry),
     /// The state after an entry has no room.
     BeyondLimits,
 }
 
-/// An account that was read so far. It keeps what is open and the clients; of entries that passed it keeps
-/// nothing.
+/// The part of an account that was read so far. It keeps what is open and the clients, and nothing of the
+/// entries that passed.
 #[derive(Drop)]
 pub(crate) struct Verifier {
     pub(crate) machine: Machine,
@@ -68,8 +68,8 @@ impl Verifier {
         })
     }
 
-    /// Reads the next line, follows its entry, if all before it passed, and hands it to the records, if it
-    /// passed too. It fails if the line is read as no entry more, or memory was refused.
+    /// Reads the next line. If all before it passed, follows its entry, and hands it to the records if it
+    /// passed too. Fails if the line isn't read as one more entry, or memory was refused.
     pub(crate) fn line(
         &mut self,
         alloc: Global,
@@ -137,7 +137,7 @@ impl Verifier {
         Ok(())
     }
 
-    /// The verdict on the lines that were read. Of a verifier that stopped it is told once.
+    /// The verdict on the lines that were read. If the verifier stopped, it can be taken only once.
     pub(crate) fn verdict(&mut self) -> AccountVerdict
         ensures told { (lines : List (List ℕ)) → HasRead lines self.old → IsVerdictOn lines result }
         ensures fault { IsSome self.old.stop → result ≢ verdict.Legal }

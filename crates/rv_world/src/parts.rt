@@ -1,5 +1,5 @@
-//! The parts of a network world, servers, clients and a link that loses, repeats and reorders; what each
-//! event does to them, and the laws of events. Servers are books, and clients are typed clients.
+//! The parts of a network world: servers, clients, and a link that loses, repeats and reorders. Each event's
+//! work on them is here, with the laws of events. Servers are books, and clients are typed clients.
 
 mod clients;
 mod event;

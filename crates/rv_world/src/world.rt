@@ -18,7 +18,7 @@ use std::marker::Model;
 /// costs as much as the book's step and its answer. A delivery to a client copies the answer. A call is
 /// copied three times when it is begun, and once each time that it is sent again. A new epoch opens a book,
 /// with 64 queues and 64 exchangers. All that was sent, asked, held or started is kept, and so are all books.
-/// Of a process that ended nothing else is.
+/// Nothing else is kept of a process that ended.
 #[derive(Drop)]
 pub struct World {
     state: WorldState,
@@ -80,9 +80,9 @@ impl World {
         Ok(World { state })
     }
 
-    /// Takes one event, which must keep its limits, and tells what is seen of it. A refused event changes
+    /// Takes one event, which must keep its limits, and gives what is seen of it. A refused event changes
     /// nothing. `NoMemory` comes only if no other refusal is due, and never for a crash or for an answer
-    /// whose client has no process. If the server itself lacks memory the event is not refused, and the
+    /// whose client has no process. If the server itself lacks memory, the event isn't refused, and the
     /// answer that is sent says so.
     pub fn step(&mut self, event: &Event) -> Result<Seen, WorldRefusal>
         requires { FitsEvent event.now }
@@ -107,8 +107,8 @@ impl World {
         &self.state.asked
     }
 
-    /// The account of an epoch, if that was opened. One before the present is looked for among all earlier
-    /// books, from the first on.
+    /// The account of an epoch, if that epoch was opened. An earlier one than the present is looked for among
+    /// all earlier books, from the first on.
     pub fn account(&self, epoch: u64) -> Option<&Account>
         ensures found { IfSome result (λ account. IsAccountOf self.now epoch account.now.account) }
         ensures none { IfNone result ((a : _) → ¬ IsAccountOf self.now epoch a) }

@@ -1,4 +1,4 @@
-//! The line of those that an arrival might meet, beside the partners that its entry names.
+//! The line of those that an arrival might meet, compared with the partners that its entry names.
 ghost use Rattle.std.specs.Prelude.{◌≡◌, ◌↔◌, ◌<◌, ◌≤◌, ℕ, suc, IsTrue, None, length, slice_get};
 ghost use Rattle.rv_text.specs.Limits.{FitsCall};
 ghost use Rattle.rv_account.specs.Calls.{may_name};

@@ -148,8 +148,8 @@ fn stand_below(places: &[Place], length: usize) -> bool
     true
 }
 
-/// Whether the places that the entry names rise, are no more than its call may name, and stand before it, and
-/// only an arrival that may meet names one.
+/// Whether the places that the entry names rise, are no more than its call may name, and come before it, and
+/// whether it is an arrival that may meet if it names any.
 pub(crate) fn names_well(machine: &Machine, entry: &Entry) -> bool
     ensures { IsTrue result ↔ NamesWell (state_in machine.now) entry.now }
 {
@@ -257,7 +257,7 @@ pub(crate) fn pairs_all(machine: &Machine, entry: &Entry) -> bool
     }
 }
 
-/// Whether an arrival that exchanges names one, or nobody is there whom it might meet.
+/// Whether an arrival that exchanges names a partner, or there is none that it might meet.
 pub(crate) fn swaps_all(machine: &Machine, entry: &Entry) -> bool
     requires resumes { CanResume (state_in machine.now) }
     requires fits { FitsEntry entry.now }

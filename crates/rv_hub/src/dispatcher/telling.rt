@@ -1,4 +1,4 @@
-//! Whoever waited is told.
+//! Those that waited are told.
 ghost use Rattle.std.specs.Prelude.{◌≡◌, ◌+◌, ◌≤◌, ℕ, true, length, IfNone, IfOk, IfSome, IsSome, OnErr};
 ghost use Rattle.std.specs.Prelude.{OnOk};
 ghost use Rattle.std.specs.String.{string_bytes};

@@ -24,8 +24,8 @@ impl Dispatcher {
         }
     }
 
-    /// Time goes on to a moment: all whom that ends are told, and then those that have waited as long as they
-    /// may.
+    /// Time goes on to a moment: those whose requests that ends are told, and then those that have waited as
+    /// long as they may.
     pub fn pass(&mut self, now: u64)
         requires ready { IsDispatcherReady self.old }
         requires begun { self.old.entries.items ≡ [] }

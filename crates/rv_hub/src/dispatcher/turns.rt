@@ -81,7 +81,7 @@ impl Dispatcher {
         taken
     }
 
-    /// The first of those that were told and didn't go on yet.
+    /// The first of those that were told and haven't gone on yet.
     pub fn next_freed(&mut self) -> Option<ConnectionNumber>
         ensures first { self.old.freed.items ≡ option_to_list result ++ self.new.freed.items }
         ensures none { IfNone result (self.new.freed.items ≡ []) }

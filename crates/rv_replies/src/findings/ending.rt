@@ -1,11 +1,11 @@
-//! What is told who waited until an act.
+//! The reply to a request whose wait an act ended.
 ghost use Rattle.std.specs.Prelude.{◌≡◌};
 ghost use Rattle.rv_rules.specs.Replies.{told_by};
 
 use rv_account::Act;
 use rv_text::Reply;
 
-/// What is told who waited until this act stopped the wait. No arrival stops one.
+/// The reply to a request whose wait this act ended. No arrival ends one.
 pub fn told_by(act: &Act) -> Reply
     ensures { result ≡ told_by act.now }
 {

@@ -1,7 +1,7 @@
 //! What became of the request with a key.
 use rv_text::{Call, Reply};
 
-/// What became of the request with a key, as an account tells it.
+/// What became of the request with a key, according to an account.
 #[derive(Drop)]
 pub enum Fate {
     /// No entry names the key.

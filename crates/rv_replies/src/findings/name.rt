@@ -18,7 +18,7 @@ pub struct Name {
 }
 
 impl Name {
-    /// That of a key.
+    /// The name of a key.
     pub fn of(key: &Key) -> Name
         ensures { result ≡ key_name key.now }
     {

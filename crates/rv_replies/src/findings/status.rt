@@ -1,4 +1,4 @@
-//! The status by which the program ends.
+//! The exit status of the program.
 ghost use Rattle.std.specs.Prelude.{◌≡◌};
 ghost use Rattle.rv_replies.specs.findings.Statuses.{closed_status, legal_status, status_by, torn_or};
 
@@ -43,8 +43,8 @@ fn legal_status(torn: bool, kept: bool) -> u8
     if kept { torn_or(torn, 0) } else { UNKEPT }
 }
 
-/// The status that tells what was found of an account, the rule at a closed place if it is known, and whether
-/// all of a record is kept.
+/// The exit status for what was found of an account, the rule that is broken at a closed place, if it is
+/// known, and whether all of a record is kept.
 pub fn status_of(found: &AccountFinding, rule: Option<Rule>, kept: bool) -> u8
     ensures { result ≡ status_by found.now.verdict rule found.now.torn kept }
 {

@@ -12,7 +12,7 @@ fn is_cancelled(reply: &Reply) -> bool
     matches!(reply, Reply::Cancelled)
 }
 
-/// Whether a request with this call may be told this, also where it was cancelled before it came.
+/// Whether a request with this call may get this reply, or get it if it was cancelled before it came.
 pub(crate) fn may_tell(call: &Call, reply: &Reply) -> bool
     ensures { IsTrue result ↔ MayBeTold call.now reply.now }
 {

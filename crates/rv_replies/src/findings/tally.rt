@@ -1,4 +1,4 @@
-//! How many lines have which finding.
+//! How many lines have each finding.
 ghost use Rattle.std.specs.Prelude.{◌≡◌, ◌↔◌, IsTrue, filter, length};
 ghost use Rattle.std.specs.List.{All};
 ghost use Rattle.rv_replies.specs.findings.Tallies.{is_finding, words_of};

@@ -14,27 +14,28 @@ pub enum AccountVerdict {
         /// The first rule that is broken there, in the order of an audit.
         rule: Rule,
     },
-    /// They are read as an account in which P1, P2 or S1 is the first rule that is broken. Which of them it
-    /// is, the entries before the place tell.
+    /// They are read as an account in which P1, P2 or S1 is the first rule that is broken. Which of the three
+    /// it is depends on the entries before the place.
     NotOpen {
         /// The first place at which a rule is broken.
         place: Place,
         /// The entry there.
         entry: Entry,
     },
-    /// They are read as no account: the first line that has another form, counted from 1.
+    /// They aren't read as an account: the first line that has another form, counted from 1.
     BadLine(u64),
     /// They are read as an account that is legal up to this place, after which its state has no room.
     BeyondLimits(Place),
 }
 
-/// What is told of the bytes of an account.
+/// What was found of the bytes of an account.
 #[derive(Drop)]
 pub struct AccountFinding {
     /// The epoch that the first line says, unless that is bad or torn.
     pub epoch: Option<u64>,
-    /// The verdict on the lines; if the end is torn, on those before it.
+    /// The verdict on the lines; if the end is torn, on those before the torn piece.
     pub verdict: AccountVerdict,
-    /// Whether the bytes end by a piece that lacks its LF, and would be the first line or is no entry's.
+    /// Whether the bytes end in a piece that lacks its LF, and that would be the first line or isn't an
+    /// entry.
     pub torn: bool,
 }

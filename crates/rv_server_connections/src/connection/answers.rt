@@ -126,7 +126,7 @@ impl Outgoing {
         true
     }
 
-    /// Lets all answers go that may, where so many entries are written.
+    /// Releases all answers that may leave once so many entries are written.
     pub(crate) fn release(&mut self, written: u64)
         requires { IsSoundOutgoing self.old }
         ensures sound { IsSoundOutgoing self.new }
@@ -163,7 +163,7 @@ impl Outgoing {
         self.tidy();
     }
 
-    /// How many entries the first answer rests on that may not leave, if there is one.
+    /// How many entries the first answer that may not leave rests on, if there is one.
     pub(crate) fn waits_for(&self) -> Option<u64>
         requires { IsSoundOutgoing self.now }
         ensures { result ≡ first_rests_on (behind_in self.now) }

@@ -3,9 +3,9 @@ ghost use Rattle.rv_server_connections.specs.connection.History.{CutsBad, CutsOp
 ghost use Rattle.rv_server_connections.specs.connection.History.{KeepsEnd, KeepsFrame, KeepsLeaving};
 ghost use Rattle.rv_server_connections.specs.connection.History.{KeepsPiece, KeepsRelease, OpensHistory};
 
-/// A new connection has the history of nothing, and each call keeps it: the answers are those to the frames
-/// of its input, one each, in order; and what left, and then what may leave, are of their frames exactly
-/// those before the first that rests on more entries than are written.
+/// A new connection has an empty history, and each call keeps it up: the answers are those to the frames of
+/// its input, one each, in order. What left, and then what may leave, are exactly the frames of the answers
+/// before the first that rests on more entries than are written.
 pub fn history_is_kept()
     ensures opens { OpensHistory }
     ensures piece { KeepsPiece }
@@ -16,7 +16,8 @@ pub fn history_is_kept()
     ensures end { KeepsEnd }
 {}
 
-/// The frames that were taken are those of the cut of all that came, but for a whole frame that is unread.
+/// The frames that were taken are those into which all that came is cut, except for a whole frame that is
+/// unread.
 pub fn history_is_cut()
     ensures unfinished { CutsOpen }
     ensures whole { CutsWhole }

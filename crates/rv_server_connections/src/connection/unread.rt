@@ -5,7 +5,7 @@ ghost use Rattle.rv_server_connections.specs.connection.Fields.{IsBegun, LeavesO
 
 use std::alloc::Global;
 
-/// The unread bytes, as far as they tell of a frame.
+/// What the unread bytes say of a frame.
 #[derive(Clone, Copy)]
 pub enum Coming<'a> {
     /// Less than a frame, or nothing.
@@ -79,7 +79,7 @@ pub(crate) fn told(unread: &[u8]) -> Coming<'_>
     }
 }
 
-/// Lets go of all bytes, and of room that is more than few have.
+/// Lets go of all bytes, and of the buffer too if it is large.
 pub(crate) fn clear(bytes: &mut Vec<u8>)
     ensures { bytes.new.items ≡ [] }
 {

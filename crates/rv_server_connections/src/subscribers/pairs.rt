@@ -20,7 +20,7 @@ pub struct Pairs {
 }
 
 impl Pairs {
-    /// None stands under any number. It takes no memory yet.
+    /// No connection is under any number. It takes no memory yet.
     pub fn empty(alloc: Global) -> Pairs
         ensures none { NoPairs result }
         ensures count { pair_count result ≡ 0 }
@@ -43,7 +43,7 @@ impl Pairs {
         }
     }
 
-    /// The connection stands no longer under the number.
+    /// The connection is no longer under the number.
     pub fn remove(&mut self, number: u64, connection: usize)
         ensures removed { ChangesPairs self.old self.new number connection false }
         ensures fewer { stands_under self.old number connection ≡ true
@@ -63,7 +63,7 @@ impl Pairs {
         (least == number).then_some(connection)
     }
 
-    /// The lowest connection under the lowest number, with that.
+    /// The lowest connection under the lowest number, with that number.
     pub fn least(&self) -> Option<(u64, usize)>
         ensures some { IfSome result (IsLeastPair self.now) }
         ensures none { IfNone result (NoPairs self.now) }
@@ -79,8 +79,8 @@ impl Pairs {
         self.pairs.len()
     }
 
-    /// Makes a list of those that stand under a number up to this one, for which it has room: first those
-    /// under the lowest number, and under one number the lowest first.
+    /// Fills a list, which has room for all, with those that are under a number up to this one: those under
+    /// the lowest number first, and under one number the lowest connection first.
     pub fn list_up_to(&self, most: u64, list: &mut Vec<usize>)
         requires { pair_count self.now ≤ vec_capacity list.old }
         ensures listed { ListsUpTo self.now most list.new.items }

@@ -24,7 +24,7 @@ pub fn sent_is_stored()
     ensures { SentIsStored }
 {}
 
-/// Whatever occurs, no request is answered two replies, and each reply is that of its key in what is stored.
+/// Whatever occurs, no request is answered with two replies, and each reply is its key's in what is stored.
 pub fn no_two_replies_across()
     ensures { NoTwoRepliesAcross }
 {
@@ -40,7 +40,7 @@ pub fn legal_accounts_across()
     sent_is_stored();
 }
 
-/// Whatever occurs, what is answered received was assigned to one taker, by what is stored.
+/// Whatever occurs, an item that is answered received was assigned to one taker, by what is stored.
 pub fn received_means_assigned_across()
     ensures { ReceivedMeansAssignedAcross }
 {
@@ -48,8 +48,8 @@ pub fn received_means_assigned_across()
     sent_is_stored();
 }
 
-/// Whatever occurs, what is answered a no meets nobody in all that is made, then and after whatever occurs
-/// further.
+/// Whatever occurs, a request that is answered with a no meets nobody in all that is made, then or after
+/// whatever else occurs.
 pub fn never_handed_over_across()
     ensures { NeverHandedOverAcross }
 {
@@ -73,7 +73,7 @@ pub fn true_exchange_across()
     sent_is_stored();
 }
 
-/// Whatever occurs further only adds: to what was asked and held, to the answers, and to what is stored.
+/// Whatever else occurs only adds: to what was asked and held, to the answers, and to what is stored.
 pub fn only_growth_across()
     ensures { OnlyGrowthAcross }
 {
@@ -99,7 +99,8 @@ pub fn nobody_is_forgotten_across()
     sent_is_stored();
 }
 
-/// Whatever happens in the network world occurs so, where a server stores and sends at once.
+/// Whatever happens in the network world occurs here too, and leaves the same world, if a server stores and
+/// sends at once.
 pub fn today_is_the_case()
     ensures { TodayIsTheCase }
 {}

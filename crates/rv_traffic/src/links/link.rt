@@ -1,4 +1,4 @@
-//! One connection's socket, with what was read of it and not taken.
+//! One connection's socket, with the bytes that were read from it and not taken.
 ghost use Rattle.std.specs.Prelude.{◌≡◌, ◌<◌, ◌+◌, length};
 ghost use Rattle.rv_traffic.specs.links.Reading.{ReadsOnce, fresh_link};
 ghost use Rattle.rv_traffic.specs.links.Writing.{WritesOnce};
@@ -31,8 +31,8 @@ pub enum WriteOutcome {
     Broken,
 }
 
-/// A socket, what of its input nobody has taken, and what is known of its readiness. A flag is cleared only
-/// where a call would have blocked, since a poll tells changes alone.
+/// A socket, the bytes of its input that weren't taken, and what is known of its readiness. A flag is cleared
+/// only when a call would have blocked, since a poll reports only changes.
 #[derive(Drop)]
 pub struct Socket<S> {
     pub(crate) stream: S,

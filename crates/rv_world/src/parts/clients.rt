@@ -1,4 +1,4 @@
-//! The table of clients: of each its process, and the greatest incarnation that it was started in.
+//! The table of clients: each one's process, and the greatest incarnation in which it was started.
 ghost use Rattle.std.specs.Prelude.{◌≡◌, [], None, Some, IfOk, OnOk, OnErr, option_map};
 ghost use Rattle.rv_text.specs.declared.message.Key.{Key};
 ghost use Rattle.rv_client.specs.Process as process;
@@ -18,7 +18,7 @@ struct Client {
     process: Option<Running>,
 }
 
-/// All clients that were started. Contracts see of each its process, if one runs, and its greatest
+/// All clients that were started. Contracts see each one's process, if one runs, and its greatest
 /// incarnation.
 #[derive(Drop)]
 pub struct Clients {

@@ -6,8 +6,8 @@ ghost use Rattle.rv_world.specs.parts.Laws.{OneRunAnyhow, OneStep, OneStepUnder,
 ghost use Rattle.rv_world.specs.parts.Laws.{RunsOnlyGrowAnyhow, StepsExist, StepsExistUnder, TimeCanPass};
 
 /// An event has one outcome, want of memory aside: it makes one world, with one thing seen, or it is refused
-/// for one reason. Two worlds are the same if all that they hold is, and each client has the same process in
-/// both.
+/// for one reason. Two worlds are the same if all that they hold is the same, and each client has the same
+/// process in both.
 pub fn one_step()
     ensures { OneStep }
 {}
@@ -38,13 +38,13 @@ pub fn runs_only_grow()
     ensures { RunsOnlyGrow }
 {}
 
-/// Under whatever limits of the server's step an event has one outcome, want of memory aside.
+/// Under any limits of the server's step, an event has one outcome, want of memory aside.
 pub fn one_step_under()
     ensures { (limits : StepLimits) → OneStepUnder limits }
 {}
 
-/// Under whatever limits an event for which no refusal is due leads to a world, with no want of memory, if
-/// the present account is legal.
+/// Under any limits, an event for which no refusal is due leads to a world, with no want of memory, if the
+/// present account is legal.
 pub fn steps_exist_under()
     ensures { (limits : StepLimits) → StepsExistUnder limits }
 {}
@@ -71,7 +71,7 @@ pub fn runs_only_grow_anyhow()
     ensures { RunsOnlyGrowAnyhow }
 {}
 
-/// A list of events leads where it leads as what happens under a book's limits.
+/// A list of events leads to the world to which the same events lead as what happens under a book's limits.
 pub fn events_happen()
     ensures { EventsHappen }
 {}
