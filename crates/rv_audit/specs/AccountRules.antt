@@ -30,12 +30,12 @@ use Rattle.rv_audit.specs.declared.rule.Rule.TheVariants.{M1, M2, M3, N1, N2, N3
 abbrev pub FallsBack : Account → Entry → Type 0
 FallsBack a e = e.moment < own_moment a
 
--- the limit of a request that waits has come, and the entry is no tick
+-- the limit of a waiting request has come, and the entry isn't a tick
 pub record PassesLimit (entries : List Entry) (e : Entry) : Type 0 where
   pub no_tick : e.act ≢ Tick
   pub due : SomethingDue entries e.moment
 
--- the entry is a tick, though nothing is due: no limit of a request that waits has come
+-- the entry is a tick, though nothing is due: the limit of no waiting request has come
 pub record TicksForNothing (entries : List Entry) (e : Entry) : Type 0 where
   pub ticks : e.act ≡ Tick
   pub nothing_due : NothingDue entries e.moment
@@ -54,14 +54,14 @@ pub record StartsNoNewer (entries : List Entry) (does : Act) : Type 0 where
   pub earlier : act_at entries place ≡ Some (Hello client reached earlier_version)
   pub no_newer : incarnation ≤ reached
 
--- the entry names a key of another epoch than the account's, or of another incarnation than that of the
--- client's last hello, or of a client that said none
+-- the entry names a key with an epoch other than the account's, or with an incarnation other than that of its
+-- client's last hello, or of a client that said no hello
 pub record IsOfNoSession (a : Account) (does : Act) : Type 0 where
   pub key : Key
   pub names : key_in does ≡ Some key
   pub no_session : (key.epoch ≢ a.epoch) ⊎ (¬ HasIncarnation a.entries key.client key.incarnation)
 
--- the client's greatest number since its last hello is n, and 0 where it has none, or said no hello
+-- the client's greatest number since its last hello is n; n is 0 if it has none, or said no hello
 abbrev pub CountsTo : List Entry → ℕ → ℕ → Type 0
 CountsTo entries client n = LastNumber entries client n ⊎ ((¬ SaidHello entries client) × (n ≡ 0))
 
@@ -71,7 +71,7 @@ pub record IsNotNext (entries : List Entry) (key : Key) : Type 0 where
   pub counts_to : CountsTo entries key.client last
   pub other : key.number ≢ last + 1
 
--- that, or a request of its session waits
+-- the key isn't next, or a request of its session waits
 abbrev pub IsOutOfOrder : List Entry → Key → Type 0
 IsOutOfOrder entries key = IsNotNext entries key ⊎ HasWaiting entries key.client
 
@@ -111,7 +111,7 @@ pub record NamesTooMany (e : Entry) : Type 0 where
   pub arrives : call_in e.act ≡ Some call
   pub many : may_name call < length e.partners
 
--- that, or its partners don't rise
+-- the entry names a taken partner or too many, or its partners don't rise
 abbrev pub NamesWrongly : List Entry → Entry → Type 0
 NamesWrongly entries e = NamesTaken entries e ⊎ (NamesTooMany e ⊎ ¬ IsStrictlyIncreasing e.partners)
 
@@ -128,13 +128,13 @@ IsSwapped (Takes queue) = ⊥
 IsSwapped (Looks queue) = ⊥
 IsSwapped (Exchanges exchanger) = Unit {0}
 
--- the entry is an arrival of such a side, with this call
+-- the entry is an arrival on such a side, with this call
 pub record ArrivesAs (Is : Side → Type 0) (e : Entry) (call : Call) : Type 0 where
   pub arrives : call_in e.act ≡ Some call
   pub is : Is (side_of call)
 
--- the entry is an arrival of such a side, and names a partner that isn't an open arrival which it meets: one
--- of its queue's other side, or at its exchanger
+-- the entry is an arrival on such a side, and names a partner that isn't an open arrival which it meets: one
+-- on its queue's other side, or at its exchanger
 pub record MeetsWrongly (Is : Side → Type 0) (entries : List Entry) (e : Entry) : Type 0 where
   pub call : Call
   pub arrives : ArrivesAs Is e call
@@ -142,8 +142,8 @@ pub record MeetsWrongly (Is : Side → Type 0) (entries : List Entry) (e : Entry
   pub names : Names e partner
   pub no_opposite : ¬ IsOpenOpposite entries call partner
 
--- the entry gives or takes, and an open arrival of a partner's side and queue, which is none of its partners,
--- stands before that partner
+-- the entry gives or takes, and before one of its partners comes an open arrival of that partner's side and
+-- queue that isn't among its partners
 pub record PassesOver (entries : List Entry) (e : Entry) : Type 0 where
   pub call : Call
   pub arrives : ArrivesAs IsPaired e call
@@ -157,8 +157,8 @@ pub record PassesOver (entries : List Entry) (e : Entry) : Type 0 where
   pub there : OpenAt entries side passed
   pub unnamed : ¬ Names e passed
 
--- the entry is an arrival of such a side and names fewer partners than it may, though an open arrival which
--- it meets is there and is none of them
+-- the entry is an arrival on such a side and names fewer partners than it may, though there is an open
+-- arrival that it meets and that isn't among them
 pub record MissesPartner (Is : Side → Type 0) (entries : List Entry) (e : Entry) : Type 0 where
   pub call : Call
   pub arrives : ArrivesAs Is e call
@@ -184,7 +184,7 @@ BreaksBehind P4 a e = MissesPartner IsPaired a.entries e
 BreaksBehind S1 a e = MeetsWrongly IsSwapped a.entries e
 BreaksBehind S2 a e = MissesPartner IsSwapped a.entries e
 
--- where the rule stands in the order in which they are asked at one place
+-- the rule's place in the order in which the rules are checked at one place
 abbrev pub rank_of : Rule → ℕ
 rank_of M1 = 0
 rank_of M2 = 1
@@ -199,11 +199,11 @@ rank_of P4 = 9
 rank_of S1 = 10
 rank_of S2 = 11
 
--- the entry breaks none of so many
+-- the entry breaks none of the first so many rules
 abbrev pub KeepsBefore : ℕ → Account → Entry → Type 0
 KeepsBefore n a e = (other : Rule) → rank_of other < n → ¬ BreaksBehind other a e
 
--- the entry breaks this rule, and none before it in the order in which they are asked
+-- the entry breaks this rule, and none before it in the order in which they are checked
 pub record BreaksFirst (a : Account) (e : Entry) (rule : Rule) : Type 0 where
   pub broken : BreaksBehind rule a e
   pub first : KeepsBefore (rank_of rule) a e

@@ -1,4 +1,4 @@
--- Which fault of an account is its first, and what an audit tells of it.
+-- Which fault of an account is its first, and what the result of an audit says of the account.
 use Rattle.std.specs.Prelude.{◌≡◌, ◌<◌, ℕ, Some, slice_get}
 use Rattle.rv_account.specs.declared.entry.Entry.{Entry}
 use Rattle.rv_account.specs.Account.{Account}
@@ -18,13 +18,14 @@ pub record Breaks (rule : Rule) (a : Account) (place : ℕ) : Type 0 where
 abbrev pub KeepsRules : Account → ℕ → Type 0
 KeepsRules a place = (rule : Rule) → ¬ Breaks rule a place
 
--- the rule is broken at the place, none is before it, and of those before it in the order none is there
+-- the rule is broken at the place; no rule is at an earlier place, and none before it in the order is at this
+-- one
 pub record FirstFault (a : Account) (place : ℕ) (rule : Rule) : Type 0 where
   pub broken : Breaks rule a place
   pub kept_before : (r : ℕ) → r < place → KeepsRules a r
   pub first : (other : Rule) → rank_of other < rank_of rule → ¬ Breaks other a place
 
--- what an audit tells of the account is so: that it is legal, or its first fault
+-- the audit's result is true of the account: it is legal, or this is its first fault
 abbrev pub IsToldOf : Account → Audit → Type 0
 IsToldOf a tells.Legal = Legal a
 IsToldOf a (tells.Fault place rule) = FirstFault a place rule

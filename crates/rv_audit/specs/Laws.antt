@@ -5,10 +5,10 @@ use Rattle.rv_rules.specs.Legal.{Legal}
 use Rattle.rv_audit.specs.declared.outcome.Audit.{Audit}
 use Rattle.rv_audit.specs.Faults.{IsToldOf, KeepsRules}
 
--- an account is legal exactly where no rule is broken at any place
+-- an account is legal exactly if no rule is broken at any place
 abbrev pub LegalByRules : Type 0
 LegalByRules = (a : Account) → Legal a ↔ ((place : ℕ) → KeepsRules a place)
 
--- what an audit tells of an account is one thing
+-- an account has one audit result
 abbrev pub OneAudit : Type 0
 OneAudit = (a : Account) (told other : Audit) → IsToldOf a told → IsToldOf a other → told ≡ other

@@ -1,4 +1,5 @@
--- Who is open on each side, as a table keeps it: who stands there, and what changes when one comes or goes.
+-- What is open on each side, as a table keeps it: which places are there, and what changes when one comes or
+-- goes.
 use Rattle.std.specs.Prelude.{◌≡◌, ◌⊎◌, ◌≢◌, ◌<◌, ℕ, Bool, true, false, List}
 use Rattle.rv_text.specs.declared.call.Side.{Side}
 use Rattle.rv_text.specs.declared.call.Side.TheVariants.{Gives, Takes, Looks, Exchanges}
@@ -20,17 +21,17 @@ IsOpenable (Takes queue) = Unit {0}
 IsOpenable (Looks queue) = ⊥
 IsOpenable (Exchanges exchanger) = Unit {0}
 
--- one more stands on the side
+-- one more place is on the side
 pub record Opens (old new : OpenLines) (side : Side) (place : ℕ) : Type 0 where
   pub own : IsOpenable side → stands_in new side place ≡ true
   pub others : (s : Side) (p : ℕ) → (s ≢ side) ⊎ (p ≢ place) → stands_in new s p ≡ stands_in old s p
 
--- one no longer does
+-- one place no longer is
 pub record Closes (old new : OpenLines) (side : Side) (place : ℕ) : Type 0 where
   pub own : stands_in new side place ≡ false
   pub others : (s : Side) (p : ℕ) → (s ≢ side) ⊎ (p ≢ place) → stands_in new s p ≡ stands_in old s p
 
--- the place is the first on the side that is none of these; all that stand there are of these
+-- the place is the first on the side that isn't among these; all that are on the side are among these
 pub record IsFirstBeside (lines : OpenLines) (side : Side) (places : List ℕ) (place : ℕ) : Type 0 where
   pub there : stands_in lines side place ≡ true
   pub beside : ¬ Among places place

@@ -1,4 +1,4 @@
--- Sets of places, each under a number: what one has marked, and what one more or one less changes.
+-- Sets of places, each under a number: which are marked, and what one more or one less changes.
 use Rattle.std.specs.Prelude.{◌≡◌, ◌⊎◌, ◌≢◌, ◌≤◌, ◌<◌, ℕ, Bool, true, false, List, Option, None, Some}
 use Rattle.std.specs.Ordering.{ordering_then, nat_cmp}
 use Rattle.std.specs.declared.ops.Bound.{Bound}
@@ -21,7 +21,7 @@ pub record Gains (old new : Marks) (number place : ℕ) : Type 0 where
 abbrev pub SameMarks : Marks → Marks → Type 0
 SameMarks old new = (number place : ℕ) → is_marked_under new number place ≡ is_marked_under old number place
 
--- one is no longer
+-- one is no longer marked
 pub record Loses (old new : Marks) (number place : ℕ) : Type 0 where
   pub own : is_marked_under new number place ≡ false
   pub others : (n p : ℕ) → (n ≢ number) ⊎ (p ≢ place) → is_marked_under new n p ≡ is_marked_under old n p
@@ -31,12 +31,12 @@ abbrev pub IsBehind : Option ℕ → ℕ → Type 0
 IsBehind None place = Unit {0}
 IsBehind (Some last) place = last < place
 
--- where these begin, in their order
+-- where the pairs of the number that come after the place begin, in their order
 abbrev pub bound_behind : ℕ → Option ℕ → Bound (ℕ × ℕ)
 bound_behind number None = Included (number, 0)
 bound_behind number (Some last) = Excluded (number, last)
 
--- the place is the lowest there that is marked under the number; none is marked there
+-- the place is the lowest after the last that is marked under the number; none after it is marked
 pub record IsFirstBehind (m : Marks) (number : ℕ) (last : Option ℕ) (place : ℕ) : Type 0 where
   pub there : is_marked_under m number place ≡ true
   pub behind : IsBehind last place
@@ -45,7 +45,7 @@ pub record IsFirstBehind (m : Marks) (number : ℕ) (last : Option ℕ) (place :
 abbrev pub NoneBehind : Marks → ℕ → Option ℕ → Type 0
 NoneBehind m number last = (p : ℕ) → IsBehind last p → is_marked_under m number p ≡ false
 
--- the same of those that are none of these places
+-- the same for those that aren't among these places
 pub record IsLowestBeside (m : Marks) (number : ℕ) (places : List ℕ) (place : ℕ) : Type 0 where
   pub there : is_marked_under m number place ≡ true
   pub beside : ¬ Among places place
@@ -54,7 +54,7 @@ pub record IsLowestBeside (m : Marks) (number : ℕ) (places : List ℕ) (place 
 abbrev pub NoneBeside : Marks → ℕ → List ℕ → Type 0
 NoneBeside m number places = (p : ℕ) → is_marked_under m number p ≡ true → Among places p
 
--- those that are marked under the number are of these places as far as a place
+-- up to a place, all that are marked under the number are among these places
 abbrev pub AreNamedTo : Marks → ℕ → List ℕ → Option ℕ → Type 0
 AreNamedTo m number places last = (p : ℕ) → is_marked_under m number p ≡ true
     → Among places p ⊎ IsBehind last p
@@ -66,7 +66,7 @@ IsUntil m limit place = (n : ℕ) × (is_marked_under m n place ≡ true) × (n 
 abbrev pub NoneUntil : Marks → ℕ → Type 0
 NoneUntil m limit = (n p : ℕ) → n ≤ limit → is_marked_under m n p ≡ false
 
--- the same of a number, if one is handed in
+-- the same for a number, if one is given
 abbrev pub GainsIf : Marks → Marks → Option ℕ → ℕ → Type 0
 GainsIf old new None place = new ≡ old
 GainsIf old new (Some limit) place = Gains old new limit place

@@ -34,7 +34,7 @@ abbrev pub has_come : ℕ → Option ℕ → Bool
 has_come moment None = false
 has_come moment (Some limit) = cond (nat_lt moment limit) false true
 
--- it stands on its side, and has its limit, in the tables, and nothing else does
+-- each is on its side and under its limit in the tables, and nothing else is
 abbrev pub AreLined : Opens → Type 0
 AreLined t = (side : Side) (place : ℕ) → IsOpenable side
     → stands_in t.lines side place ≡ is_on side (opening_at t place)
@@ -46,18 +46,18 @@ pub record AreTabled (t : Opens) : Type 0 where
   pub lined : AreLined t
   pub limited : AreLimited t
 
--- this is open at the place, or nothing is, and at each other place what was
+-- this is open at the place, or nothing is, and each other place has what it had
 pub record OpensAt (old new : Opens) (place : ℕ) (there : Option AuditOpen) : Type 0 where
   pub indexed : AreTabled new
   pub own : opening_at new place ≡ there
   pub others : (r : ℕ) → r ≢ place → opening_at new r ≡ opening_at old r
 
--- the same if something is handed in
+-- the same if something is given
 abbrev pub OpensIf : Opens → Opens → ℕ → Option AuditOpen → Type 0
 OpensIf old new place None = new ≡ old
 OpensIf old new place (Some there) = OpensAt old new place (Some there)
 
--- at these places nothing is open, and at each other place what was
+-- nothing is open at these places, and each other place has what it had
 abbrev pub is_among : List ℕ → ℕ → Bool
 is_among places r = list_any (λ p. nat_eq p r) places
 
@@ -65,7 +65,7 @@ pub record ClosesEach (old new : Opens) (places : List ℕ) : Type 0 where
   pub indexed : AreTabled new
   pub are : (r : ℕ) → opening_at new r ≡ cond (is_among places r) None (opening_at old r)
 
--- the same of those whose limit has come at a moment
+-- the same for those whose limit has come at a moment
 abbrev pub left_after : ℕ → Option AuditOpen → Option AuditOpen
 left_after moment None = None
 left_after moment (Some there) = cond (has_come moment there.limit) None (Some there)

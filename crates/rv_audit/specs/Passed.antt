@@ -38,7 +38,7 @@ passed_state front = state_of (passed_account front)
 abbrev pub IsTaken : List Entry → ℕ → Type 0
 IsTaken entries r = WasNamed entries r ⊎ NamesOne entries r
 
--- the flags are those of such entries
+-- the flags are set for exactly such entries
 pub record AreTaken (entries : List Entry) (taken : List Bool) : Type 0 where
   pub count : length taken ≡ length entries
   pub flags : (r : ℕ) → (slice_get taken r ≡ Some true) ↔ IsTaken entries r
@@ -57,15 +57,15 @@ opening_of there =
       client = option_map (λ w. w.key.client) there.waiter;
     }
 
--- what is open among these at a place
+-- what is open at a place, of these open places
 abbrev pub open_among : List OpenPlace → ℕ → Option OpenPlace
 open_among all place = find (λ o. nat_eq o.place place) all
 
--- what is open at each place is open among these
+-- at each place the table has what is open there, of these open places
 abbrev pub AreOpen : List OpenPlace → Opens → Type 0
 AreOpen all t = (r : ℕ) → opening_at t r ≡ option_map opening_of (open_among all r)
 
--- a client's session has its incarnation, its last number, and where alone its last request waits, if it does
+-- the session has its client's incarnation and last number, and, if its last request waits, the place of that
 pub record IsAudited (state : ClientState) (s : AuditSession) : Type 0 where
   pub incarnation : s.incarnation ≡ state.incarnation
   pub last : s.last ≡ state.last
@@ -89,47 +89,48 @@ pub record AreTables (a : Account) (front : Front) : Type 0 where
   pub opens : AreOpen (state_of a).open_places front.opens
   pub sessions : AreAudited (state_of a) front.sessions
 
--- the tables are what the entries say that were passed
+-- the tables are what the entries that were passed say
 abbrev pub IsFront : Front → Type 0
 IsFront front = AreTables (passed_account front) front
 
--- ---- what is asked of them
+-- ---- what is read off them
 
 -- the key has the account's epoch and its client's incarnation
 abbrev pub IsOfSessionOf : Account → Key → Type 0
 IsOfSessionOf a key = (key.epoch ≡ a.epoch) × HasIncarnation a.entries key.client key.incarnation
 
--- the place is that of the oldest open arrival that the call might meet and that is none of these places; or
--- none is
+-- the place is that of the oldest open arrival that the call might meet and that isn't among these places; or
+-- there is none
 abbrev pub IsOldestOpposite : List Entry → Call → List ℕ → Option ℕ → Type 0
 IsOldestOpposite entries call places None = (r : ℕ) → IsOpenOpposite entries call r → Among places r
 IsOldestOpposite entries call places (Some place) = IsOpenOpposite entries call place × (¬ Among places place)
     × ((r : ℕ) → r < place → IsOpenOpposite entries call r → Among places r)
 
--- the side is of those that meet in this way
+-- the side is one of those that meet in this way
 abbrev pub IsOf : MeetingKind → Side → Type 0
 IsOf kinds.Pair side = IsPaired side
 IsOf kinds.Swap side = IsSwapped side
 
--- one of these places is such a one; before a number of them none is
+-- this holds of one of these places; it holds of none of the first so many
 abbrev pub HasAmong : (ℕ → Type 0) → List ℕ → Type 0
 HasAmong Is places = (p : ℕ) × Among places p × Is p
 
 abbrev pub NoneBefore : (ℕ → Type 0) → List ℕ → ℕ → Type 0
 NoneBefore Is places n = (i p : ℕ) → i < n → slice_get places i ≡ Some p → ¬ Is p
 
--- one of these partners is none that the call may meet there
+-- one of these partners isn't one that the call may meet there
 abbrev pub Misses : List Entry → Call → List ℕ → Type 0
 Misses entries call partners = HasAmong (λ p. ¬ IsOpenOpposite entries call p) partners
 
--- these partners are fewer than the call may name, and one that it may meet is there beside them
+-- these partners are fewer than the call may name, and there is one that it may meet and that isn't among
+-- them
 pub record LeavesPartner (entries : List Entry) (call : Call) (partners : List ℕ) : Type 0 where
   pub fewer : length partners < may_name call
   pub other : ℕ
   pub there : IsOpenOpposite entries call other
   pub unnamed : ¬ Among partners other
 
--- one that it might meet, and that is none of them, stands before one of them
+-- one that it might meet, and that isn't among them, comes before one of them
 pub record LeavesOlder (entries : List Entry) (call : Call) (partners : List ℕ) : Type 0 where
   pub partner : ℕ
   pub named : Among partners partner
@@ -153,7 +154,7 @@ with_opens front opens = record {
 abbrev pub SameRest : Front → Front → Type 0
 SameRest old new = new ≡ with_opens old new.opens
 
--- the open places that an act of a moment closes: what waits of a client, what is met, or what is due
+-- the open places that an act at a moment closes: what waits for a client, what is met, or what is due
 abbrev pub closed_by : State → ℕ → Act → List OpenPlace
 closed_by s moment (Hello client incarnation version) = just_open (client_waits s client)
 closed_by s moment (Arrive key call) = met_by s call
@@ -163,14 +164,14 @@ closed_by s moment Tick = due_at s moment
 abbrev pub open_beside : State → Entry → List OpenPlace
 open_beside s e = but s.open_places (closed_by s e.moment e.act)
 
--- what the entry closes is open no more
+-- what the entry closes is no longer open
 pub record ClosesGone (old new : Front) (e : Entry) : Type 0 where
   pub indexed : AreTabled new.opens
   pub opens : AreOpen (open_beside (passed_state old) e) new.opens
 
 -- ---- what an entry brings
 
--- those flags are set that were, and those of these places
+-- the flags that are set are those that were set, and those of these places
 pub record SetsFlags (old new : List Bool) (places : List ℕ) : Type 0 where
   pub count : length new ≡ length old
   pub flags : (r : ℕ) → slice_get new r ≡ option_map (λ flag. flag || is_among places r) (slice_get old r)
@@ -179,13 +180,13 @@ pub record SetsFlags (old new : List Bool) (places : List ℕ) : Type 0 where
 abbrev pub is_any : List ℕ → Bool
 is_any places = not (nat_eq (length places) 0)
 
--- the flags of these places were set, and one more stands at the end: whether there are any of them
+-- the flags of these places were set, and one more was added at the end: whether there are any such places
 pub record Flags (old new : List Bool) (places : List ℕ) : Type 0 where
   pub flags : List Bool
   pub sets : SetsFlags old flags places
   pub one_more : new ≡ flags ++ is_any places ∷ []
 
--- what an arrival with this key and call opens at a moment, if it names nobody
+-- what an arrival with this key and call opens at a moment, if it names no partner
 abbrev pub opening_of_call : ℕ → Key → Call → Option AuditOpen
 opening_of_call moment key call =
     cond (is_some (opposite (side_of call)) && lasts_by (wait_of call))
@@ -203,7 +204,7 @@ alone_opens _ moment does = None
 abbrev pub opening_by : Entry → Option AuditOpen
 opening_by e = alone_opens e.partners e.moment e.act
 
--- what an act makes of its client's session
+-- how an act changes its client's session
 abbrev pub with_number : ℕ → ℕ → Option AuditSession → Option (ℕ × AuditSession)
 with_number client number None = None
 with_number client number (Some s) =
@@ -222,7 +223,7 @@ pub record MayPass (front : Front) (e : Entry) : Type 0 where
   pub there : slice_get front.account.now.account.entries (length front.taken.items) ≡ Some e
   pub follows : MayFollow (passed_account front) e
 
--- and since a front all that it closes was closed
+-- and, since a front, all that it closes was closed
 pub record IsReadyFor (front : Front) (e : Entry) : Type 0 where
   pub start : Front
   pub is_front : IsFront start

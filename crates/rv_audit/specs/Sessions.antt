@@ -1,4 +1,4 @@
--- What each session has come to, as a table keeps it.
+-- The state of each session, as a table keeps it.
 use Rattle.std.specs.Prelude.{◌≡◌, ◌≢◌, ℕ, Option, None, Some}
 use Rattle.std.specs.Ordering.{nat_cmp}
 use Rattle.std.specs.BTreeMap.{get}
@@ -14,7 +14,7 @@ pub record EntersSession (old new : AuditSessions) (client : ℕ) (session : Aud
   pub own : session_in new client ≡ Some session
   pub others : (other : ℕ) → other ≢ client → session_in new other ≡ session_in old other
 
--- the same of a session, if one is handed in
+-- the same for a session, if one is given
 abbrev pub EntersIf : AuditSessions → AuditSessions → Option (ℕ × AuditSession) → Type 0
 EntersIf old new None = new ≡ old
 EntersIf old new (Some entry) = EntersSession old new entry.0 entry.1

@@ -1,4 +1,4 @@
--- What becomes of an entry that was written before.
+-- The outcomes for an entry that was written before.
 use Rattle.std.specs.Prelude.{◌≡◌, [], Option, Some}
 use Rattle.rv_text.specs.declared.answer.Reply.{Reply}
 use Rattle.rv_account.specs.declared.entry.Act.{Act}
@@ -29,14 +29,15 @@ TellsOwn s (Arrive key call) told =
 TellsOwn s (Cancel key) told = Unit {0}
 TellsOwn s Tick told = Unit {0}
 
--- the machine has followed: it holds the state after the entry, and just whom that settles is listed
+-- the machine has followed: it holds the state after the entry, and lists exactly the requests that the entry
+-- settles
 pub record HasFollowed (old new : Machine) (e : Entry) : Type 0 where
   pub follows : FollowsInRoom (state_in old) e
   pub after : state_in new ≡ state_after (state_in old) e
   pub settles : new.settled.items ≡ keys_settled (following (state_in old) e.moment e.act).settles
   pub own : TellsOwn (state_in new) e.act (following (state_in old) e.moment e.act).reply
 
--- the entry breaks a rule first, or names a closed place, or follows to no room; and nothing changed
+-- the entry breaks a rule first, or names a closed place, or follows but has no room; and nothing changed
 pub record HasBroken (old new : Machine) (e : Entry) (Fails : State → Entry → Type 0) : Type 0 where
   pub fails : Fails (state_in old) e
   pub stays : new ≡ old
@@ -46,14 +47,14 @@ pub record PassesRoom (s : State) (e : Entry) : Type 0 where
   pub follows : FollowsState s e
   pub beyond : ¬ StaysInRoom (state_after s e)
 
--- memory was refused, which the entry may want; the state stays, and nobody is listed
+-- memory was refused, and the entry may need some; the state stays, and no request is listed
 pub record WantedMemory (old new : Machine) (e : Entry) : Type 0 where
   pub follows : FollowsInRoom (state_in old) e
   pub wants : ¬ NeedsNoMemory (state_in old) e.act
   pub stays : state_in new ≡ state_in old
   pub none : new.settled.items ≡ []
 
--- what is told of the entry is so
+-- this outcome is true of the entry
 abbrev pub IsFollowed : Machine → Machine → Entry → Followed → Type 0
 IsFollowed old new e followed.Done = HasFollowed old new e
 IsFollowed old new e (followed.Breaks rule) = HasBroken old new e (λ s e. IsFirstBroken s e rule)

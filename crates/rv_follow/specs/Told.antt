@@ -1,4 +1,4 @@
--- What a state tells of an entry, before anything is done.
+-- What a state says of an entry, before anything is done.
 use Rattle.rv_account.specs.declared.entry.Entry.{Entry}
 use Rattle.rv_state.specs.Follows.{FollowsState}
 use Rattle.rv_state.specs.State.{State}
@@ -6,7 +6,7 @@ use Rattle.rv_follow.specs.declared.ruling.Ruling.{Ruling}
 use Rattle.rv_follow.specs.declared.ruling.Ruling.TheVariants.{Breaks, Follows, NotOpen}
 use Rattle.rv_follow.specs.state_rules.Ruling.{IsFirstBroken, NamesClosed}
 
--- what is told is so
+-- this ruling is true of the entry
 abbrev pub IsRulingOf : State → Entry → Ruling → Type 0
 IsRulingOf s e Follows = FollowsState s e
 IsRulingOf s e (Breaks rule) = IsFirstBroken s e rule

@@ -1,4 +1,4 @@
--- The first line of each key, and whether another one of it tells another reply, or says the same once more.
+-- The first line of each key, and whether another line of that key has another reply or repeats it.
 use Rattle.std.specs.Prelude.{◌≡◌, ◌≢◌, ◌⊎◌, ◌≤◌, ℕ, List, Option, None, Some, IsSome, slice_get, unwrap_or}
 use Rattle.std.specs.Map.{lookup}
 use Rattle.rv_text.specs.declared.message.Key.{Key}
@@ -10,22 +10,22 @@ use Rattle.rv_replies.specs.declared.records.Line.TheVariants as line
 use Rattle.rv_replies.specs.declared.records.Beside.{Beside}
 use Rattle.rv_replies.specs.declared.records.Beside.TheVariants.{Differs, Repeats}
 
--- the line of this index tells this of the key, and none before it tells of it
+-- the line of this index has this reply to the key, and no line before it has one
 pub record IsFirstOf (lines : List Line) (key : Key) (index : ℕ) (told : Told) : Type 0 where
   pub there : slice_get lines index ≡ Some (line.Told told)
   pub of_key : told.key ≡ key
   pub least : (i : ℕ) (other : Told) → slice_get lines i ≡ Some (line.Told other) → other.key ≡ key
       → index ≤ i
 
--- what a line that tells this is beside the first one of its key, which tells that: it tells another reply;
--- or it says the same, request and reply, and isn't that line; or neither
+-- how a line compares with the first one of its key: it has another reply; or it repeats request and reply,
+-- and isn't that first line; or neither
 abbrev pub IsBeside : Told → ℕ → Told → ℕ → Option (Beside × ℕ) → Type 0
 IsBeside told index own first result =
     ((own.reply ≢ told.reply) × (result ≡ Some (Differs, first)))
     ⊎ ((own ≡ told) × (first ≢ index) × (result ≡ Some (Repeats, first)))
     ⊎ ((own.reply ≡ told.reply) × (own ≡ told → first ≡ index) × (result ≡ None))
 
--- what the line with an index, which tells this, is beside the first one of its key
+-- how the line with an index, which has this reply, compares with the first one of its key
 pub record StandsBeside (lines : List Line) (index : ℕ) (told : Told) (result : Option (Beside × ℕ))
     : Type 0 where
   pub first : ℕ
@@ -37,12 +37,12 @@ pub record StandsBeside (lines : List Line) (index : ℕ) (told : Told) (result 
 abbrev pub first_in : Firsts → Key → Option ℕ
 first_in f key = lookup (is_named key) f.firsts.entries
 
--- this line is the first of the key, if none was; of other keys the same stands as before
+-- this line is the key's first, if there was none; the other keys' first lines stay
 pub record NotesFirst (old new : Firsts) (key : Key) (index : ℕ) : Type 0 where
   pub own : first_in new key ≡ Some (unwrap_or (first_in old key) index)
   pub others : (other : Key) → (other ≡ key → ⊥) → first_in new other ≡ first_in old other
 
--- of each key that a line names the first line is known
+-- the first line is known of each key that a line names
 pub record KnowsFirsts (lines : List Line) (f : Firsts) : Type 0 where
   pub first : (key : Key) (index : ℕ) → first_in f key ≡ Some index
       → (told : Told) × IsFirstOf lines key index told

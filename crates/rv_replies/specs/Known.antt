@@ -1,4 +1,4 @@
--- Which keys are known, and when what is known of each is what an account tells.
+-- Which keys are known, and when what is known of each is what an account says.
 use Rattle.std.specs.Prelude.{◌≡◌, Option, Some, is_some, unwrap_or}
 use Rattle.std.specs.Map.{lookup}
 use Rattle.rv_text.specs.declared.message.Key.{Key}
@@ -18,7 +18,7 @@ use Rattle.rv_replies.specs.findings.Fates.{IsFateOf}
 abbrev pub fate_in : Fates → Key → Option Fate
 fate_in f key = lookup (is_named key) f.fates.entries
 
--- of each key that is known, this became of its request in the account
+-- for each key that is known, this became of its request in the account
 abbrev pub IsAbout : Fates → Account → Type 0
 IsAbout f a = (key : Key) (fate : Fate) → fate_in f key ≡ Some fate → IsFateOf a.entries key fate
 
@@ -26,7 +26,7 @@ IsAbout f a = (key : Key) (fate : Fate) → fate_in f key ≡ Some fate → IsFa
 abbrev pub KnowsSame : Fates → Fates → Type 0
 KnowsSame old new = (key : Key) → is_some (fate_in new key) ≡ is_some (fate_in old key)
 
--- of the key nothing is known but that it is asked about, if it wasn't known; of others the same as before
+-- the key is known as one that nothing names, if it wasn't known before; what is known of the others stays
 pub record AsksAbout (old new : Fates) (key : Key) : Type 0 where
   pub own : fate_in new key ≡ Some (unwrap_or (fate_in old key) Unnamed)
   pub others : (other : Key) → (other ≡ key → ⊥) → fate_in new other ≡ fate_in old other

@@ -1,4 +1,4 @@
--- Which line is the record of which reply.
+-- Which line records which reply.
 use Rattle.std.specs.Prelude.{◌≡◌, ℕ, List, Some, codes}
 use Rattle.serde_json.specs.Data.{Data, Members, object}
 use Rattle.serde_json.specs.Events.{members_len}
@@ -29,7 +29,7 @@ pub record TellsMember (members : Members) (key : Key) (reply : Reply) : Type 0 
   pub there : get_member (codes "told") members ≡ Some (object_of (answer_row (Replied key reply)))
   pub fits : FitsAnswer (Replied key reply)
 
--- the line is an object of two members, of which one is the request and one its reply
+-- the line is an object of two members, one the request and one its reply
 pub record ReadsTold (line : List ℕ) (told : Told) : Type 0 where
   pub value : Data
   pub members : Members

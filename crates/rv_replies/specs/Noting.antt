@@ -1,4 +1,4 @@
--- For private clauses: what is noted of an entry, key by key.
+-- For private clauses: what is noted when an entry passes, key by key.
 use Rattle.std.specs.Prelude.{◌≡◌, ◌⊎◌, ℕ, List, Option, Some, option_map, slice_get}
 use Rattle.rv_text.specs.declared.message.Key.{Key}
 use Rattle.rv_text.specs.declared.answer.Reply.{Reply}
@@ -10,7 +10,7 @@ use Rattle.rv_replies.specs.Known.{fate_in}
 use Rattle.rv_replies.specs.declared.findings.fate.Fate.{Fate}
 use Rattle.rv_replies.specs.declared.fates.Fates.{Fates}
 
--- of this key alone what is known changes so
+-- what is known of this key changes so, and nothing else does
 pub record Changes (old new : Fates) (key : Key) (change : Fate → Fate) : Type 0 where
   pub own : fate_in new key ≡ option_map change (fate_in old key)
   pub others : (other : Key) → (other ≡ key → ⊥) → fate_in new other ≡ fate_in old other
@@ -23,7 +23,7 @@ StaysKnown old new key = fate_in new key ≡ fate_in old key
 abbrev pub Turns : Fates → Fates → Key → (Fate → Fate) → Type 0
 Turns old new key change = fate_in new key ≡ option_map change (fate_in old key)
 
--- the requests of these keys have the replies that they are told, if they waited
+-- the requests of these keys get these replies, if they waited
 pub record EndsEach (old new : Fates) (keys : List Key) (told : Key → Option Reply) : Type 0 where
   pub either : (key : Key) → StaysKnown old new key ⊎ Turns old new key (ended_by (told key))
   pub done : (i : ℕ) (key : Key) → slice_get keys i ≡ Some key → Turns old new key (ended_by (told key))

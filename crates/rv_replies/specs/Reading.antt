@@ -1,4 +1,4 @@
--- For private clauses: the text that is written of a member.
+-- For private clauses: the text that is written for a member.
 use Rattle.std.specs.Prelude.{◌≡◌, ◌≤◌, ℕ, List, Option, Some, None, String, false, string_bytes}
 use Rattle.std.specs.declared.alloc.Global.{Global}
 use Rattle.serde_json.specs.Data.{Data, depth}

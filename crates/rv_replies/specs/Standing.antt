@@ -1,4 +1,4 @@
--- A record of replies: what its lines are, and when what is known of them is what an account tells.
+-- A record of replies: what its lines are, and when what is known of them is what an account says.
 use Rattle.std.specs.Prelude.{◌≡◌, ◌∷◌, ◌++◌, [], ℕ, List, IsSome, Some, slice_get}
 use Rattle.rv_account.specs.Account.{Account}
 use Rattle.rv_replies.specs.declared.fates.Fates.{Fates}
@@ -34,7 +34,8 @@ abbrev pub KnowsEach : List Line → Fates → Type 0
 KnowsEach lines fates = (i : ℕ) (told : Told) → slice_get lines i ≡ Some (line.Told told)
     → IsSome (fate_in fates told.key)
 
--- of each reply it is known what became of its request in the account, and which line is the first of it
+-- for each reply it is known what became of its request in the account, and which line is that request's
+-- first
 pub record HasNoted (r : Records) (a : Account) : Type 0 where
   pub about : IsAbout r.fates a
   pub known : KnowsEach r.lines.items r.fates

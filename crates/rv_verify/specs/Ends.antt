@@ -1,4 +1,4 @@
--- Torn ends: what is told of the bytes of an account, which a server may have been writing.
+-- Torn ends: findings on the bytes of an account that a server may still have been writing.
 use Rattle.std.specs.Prelude.{◌≡◌, ◌≢◌, ◌⊎◌, ◌∷◌, ◌++◌, [], true, false, Bool, ℕ, List}
 use Rattle.std.specs.List.{All}
 use Rattle.rv_account.specs.declared.entry.Entry.{Entry}
@@ -6,7 +6,7 @@ use Rattle.rv_lines.specs.Lines.{lines}
 use Rattle.rv_verify.specs.Verdicts.{IsVerdictOn, ReadsLongEntry}
 use Rattle.rv_replies.specs.declared.findings.verdict.AccountFinding.{AccountFinding}
 
--- bytes that are none, or end by LF (10)
+-- no bytes, or bytes that end in LF (10)
 abbrev pub AreWholeLines : List ℕ → Type 0
 AreWholeLines bytes = (bytes ≡ []) ⊎ ((front : List ℕ) × (bytes ≡ front ++ 10 ∷ []))
 
@@ -22,7 +22,7 @@ pub record IsTornBehind (before : List (List ℕ)) (piece : List ℕ) : Type 0 w
   pub some : piece ≢ []
   pub torn : (before ≡ []) ⊎ ((e : Entry) → ¬ ReadsLongEntry piece e)
 
--- the bytes end by a torn piece, and this holds of all lines before it
+-- the bytes end in a torn piece, and this holds of all lines before it
 pub record IsTornWith (bytes : List ℕ) (Holds : List (List ℕ) → Type 0) : Type 0 where
   pub whole : List ℕ
   pub piece : List ℕ
@@ -38,11 +38,11 @@ pub record IsWholeWith (bytes : List ℕ) (Holds : List (List ℕ) → Type 0) :
   pub untorn : ¬ IsTornBehind (lines whole) piece
   pub holds : Holds (lines bytes)
 
--- whether the end of the bytes is torn is told so, and this holds of the lines that count
+-- the flag says whether the end of the bytes is torn, and this holds of the lines that count
 abbrev pub HoldsOfLines : Bool → List ℕ → (List (List ℕ) → Type 0) → Type 0
 HoldsOfLines true bytes Holds = IsTornWith bytes Holds
 HoldsOfLines false bytes Holds = IsWholeWith bytes Holds
 
--- what is told of the bytes of an account is so
+-- the finding is true of the bytes of an account
 abbrev pub IsToldOfBytes : List ℕ → AccountFinding → Type 0
 IsToldOfBytes bytes told = HoldsOfLines told.torn bytes (λ ls. IsVerdictOn ls told.verdict)

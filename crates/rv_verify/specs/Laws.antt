@@ -1,4 +1,4 @@
--- What is told of lines that an audit reads too.
+-- Verdicts on lines that an audit reads too.
 use Rattle.std.specs.Prelude.{◌≡◌, ℕ, List}
 use Rattle.rv_account.specs.Account.{Account}
 use Rattle.rv_audit.specs.Faults.{IsToldOf}
@@ -13,9 +13,8 @@ use Rattle.rv_verify.specs.Verdicts.{IsVerdictOn, ReadsLong}
 use Rattle.rv_replies.specs.declared.findings.verdict.AccountVerdict.{AccountVerdict}
 use Rattle.rv_replies.specs.declared.findings.verdict.AccountVerdict.TheVariants as verdict
 
--- both say that the account is legal, or tell the same fault; of an entry that names a closed place the rule
--- is
--- P1, P2 or S1
+-- both say that the account is legal, or report the same fault; for an entry that names a closed place the
+-- rule is P1, P2 or S1
 abbrev pub SayTheSame : Audit → AccountVerdict → Type 0
 SayTheSame tells.Legal verdict.Legal = Unit {0}
 SayTheSame tells.Legal (verdict.Fault place rule) = ⊥
@@ -28,17 +27,17 @@ SayTheSame (tells.Fault place rule) (verdict.NotOpen other e) = (place ≡ other
 SayTheSame (tells.Fault place rule) (verdict.BadLine n) = ⊥
 SayTheSame (tells.Fault place rule) (verdict.BeyondLimits other) = ⊥
 
--- of lines that an audit reads as an account the verdict says what the audit tells
+-- on lines that an audit reads as an account, the verdict says what the audit says
 abbrev pub VerdictsAgree : Type 0
 VerdictsAgree = (lines : List (List ℕ)) (a : Account) (told : Audit) (said : AccountVerdict)
     → ReadsAccount lines a → IsToldOf a told → IsVerdictOn lines said → SayTheSame told said
 
--- of lines that an audit reads as a legal account the state has had room after each entry
+-- in an account that an audit reads as legal, the state has had room after each entry
 abbrev pub LegalHadRoom : Type 0
 LegalHadRoom = (lines : List (List ℕ)) (a : Account) → ReadsAccount lines a → Legal a → HadRoom a
 
--- of lines that are read as a legal account, whose state has had room after each entry, that is the account
--- of which a record of replies notes what passed
+-- if lines are read as a legal account whose state has had room after each entry, a record of replies notes
+-- exactly that account
 abbrev pub LegalIsNoted : Type 0
 LegalIsNoted = (lines : List (List ℕ)) (a noted : Account) → ReadsLong lines a → Legal a → HadRoom a
     → IsLongestLegal lines noted → noted ≡ a

@@ -1,4 +1,4 @@
--- How far an audit has gone on with an account that grows.
+-- How far an audit has got with an account that grows.
 use Rattle.std.specs.Prelude.{◌≡◌, ◌≢◌, ◌<◌, ◌≤◌, ◌-◌, ◌++◌, [], ℕ, List, Option, Some, length, take}
 use Rattle.std.specs.List.{All}
 use Rattle.rv_lines.specs.Lines.{lines}
@@ -37,17 +37,17 @@ pub record HasRun (before : List (List ℕ)) (bytes : List ℕ) (s : Stage) (r :
 abbrev pub AreLegalUpTo : List (List ℕ) → ℕ → ℕ → Type 0
 AreLegalUpTo lines from to = (n : ℕ) → from < n → n ≤ to → TellsLegalAccount (take n lines)
 
--- where a fault ends the reading, there was none before
+-- if a fault ends the reading, there was none before
 abbrev pub HadNoFault : Until → List (List ℕ) → ℕ → ℕ → Type 0
 HadNoFault far.End lines from to = Unit {0}
 HadNoFault far.Fault lines from to = AreLegalUpTo lines from to
 
--- how many of these lines had no fault: all at the end; else all but the last
+-- how many of these lines had no fault: all of them at the end, else all but the last
 abbrev pub good_lines : Pause → List (List ℕ) → ℕ
 good_lines pause.End lines = length lines
 good_lines pause.Fault lines = length lines - 1
 
--- these bytes were left: at the end they are kept; else none are, and there is a fault
+-- these bytes were left: at the end the audit keeps them; at a fault it keeps none
 abbrev pub HasLeft : OngoingAudit → List ℕ → Option (List ℕ) → Pause → Type 0
 HasLeft o rest left pause.End = (left ≡ Some []) × (o.piece.items ≡ rest)
 HasLeft o rest left pause.Fault = (left ≡ Some rest) × (o.piece.items ≡ []) × HasFault o.stage
@@ -67,11 +67,11 @@ pub record HasGoneOn (until : Until) (before : List (List ℕ)) (bytes : List �
 abbrev pub HasReadOn : List (List ℕ) → List ℕ → OngoingAudit → Records → Option (List ℕ) → Pause → Type 0
 HasReadOn before bytes o r left why = HasGoneOn far.Fault before bytes o r left why
 
--- what is told of the bytes is so, and the record has noted what passed of them
+-- the finding is true of the bytes, and the record has noted what passed of them
 abbrev pub IsFoundOfBytes : List ℕ → Records → AccountFinding → Type 0
 IsFoundOfBytes bytes r found = IsToldOfBytes bytes found × IsNotedOfBytes bytes found r
 
--- the same of whole lines
+-- the same for whole lines
 pub record IsFoundOfLines (lines : List (List ℕ)) (r : Records) (found : AccountFinding) : Type 0 where
   pub verdict : IsVerdictOn lines found.verdict
   pub noted : HasNotedOf lines found.epoch r

@@ -28,7 +28,7 @@ IsNext bytes rest line next.Line = (bytes ≡ line ++ 10 ∷ rest) × All (λ by
 IsNext bytes rest line next.Piece = (bytes ≡ line) × IsPiece line × (rest ≡ [])
 IsNext bytes rest line next.End = (bytes ≡ []) × (line ≡ []) × (rest ≡ [])
 
--- so much is left, and the bytes were this line and that
+-- so much is left, and the bytes were this part and what is left
 pub record HasNextPart (bytes : List ℕ) (left : Option (List ℕ)) (line : List ℕ) (next : NextPart) :
     Type 0 where
   pub rest : List ℕ
@@ -47,7 +47,7 @@ abbrev pub FollowsUnlessStopped : Option StopReason → Verifier → Verifier �
 FollowsUnlessStopped None old new e = IsStopped old.machine new.machine e new.stop
 FollowsUnlessStopped (Some reason) old new e = (new.machine ≡ old.machine) × (new.stop ≡ Some reason)
 
--- the verifier read the line as an entry more
+-- the verifier read the line as one more entry
 pub record ReadsOneMore (old new : Verifier) (line : List ℕ) : Type 0 where
   pub entry : Entry
   pub read : ReadsLongEntry line entry
@@ -60,7 +60,7 @@ NotesUnlessStopped m old new e None = (a : Account) → HasPassedBy m a e → Ha
     → HasNoted new (with_entry a e)
 NotesUnlessStopped m old new e (Some reason) = new ≡ old
 
--- the verifier read the line as an entry more, and the record has noted it, if it passed
+-- the verifier read the line as one more entry, and the record has noted it, if it passed
 pub record NotesOneMore (old new : Verifier) (before after : Records) (line : List ℕ) : Type 0 where
   pub reads : ReadsOneMore old new line
   pub notes : NotesUnlessStopped new.machine before after reads.entry new.stop

@@ -1,4 +1,4 @@
--- What the audit of an account is to the lines that were read so far.
+-- What the audit of an account holds after the lines that were read so far.
 use Rattle.std.specs.Prelude.{◌≡◌, ◌⊎◌, ◌-◌, [], ℕ, List, Option, None, Some, IfSome, IsSome, take}
 use Rattle.rv_account.specs.Account.{Account}
 use Rattle.rv_machine.specs.Machines.{state_in}
@@ -18,7 +18,7 @@ pub record HasReadNoting (lines : List (List ℕ)) (v : Verifier) (r : Records) 
   pub read : HasRead lines v
   pub noted : HasNoted r read.passed
 
--- no line was read; or the first is bad; or all by the verifier; or those before the first bad one
+-- no line was read; or the first is bad; or the verifier read all, or all before the first bad one
 abbrev pub StandsBehind : List (List ℕ) → Option Verifier → Option ℕ → Records → Type 0
 StandsBehind lines None None r = (lines ≡ []) × AreNew r
 StandsBehind lines None (Some n) r = IsBadAt lines n × (n ≡ 1)

@@ -1,6 +1,5 @@
--- What a verifier is to the lines that it read: the account that passed, which its machine holds, and where
--- it
--- stopped.
+-- What a verifier holds of the lines that it read: the account that passed, whose state its machine holds,
+-- and where it stopped.
 use Rattle.std.specs.Prelude.{◌≡◌, ◌≤◌, ◌∷◌, ◌++◌, ℕ, List, Option, None, Some, length}
 use Rattle.rv_text.specs.Members.{max_identifier}
 use Rattle.rv_account.specs.Account.{Account}
@@ -19,13 +18,13 @@ use Rattle.rv_verify.specs.declared.verifier.StopReason.{StopReason}
 use Rattle.rv_verify.specs.declared.verifier.StopReason.TheVariants as stop
 use Rattle.rv_verify.specs.declared.verifier.Verifier.{Verifier}
 
--- the entry doesn't go on from the state for this reason
+-- the entry doesn't follow the state, or not with room, for this reason
 abbrev pub IsStopAt : State → Entry → StopReason → Type 0
 IsStopAt s e (stop.Breaks rule) = IsFirstBroken s e rule
 IsStopAt s e (stop.NotOpen entry) = NamesClosed s e × (entry ≡ e)
 IsStopAt s e stop.BeyondLimits = PassesRoom s e
 
--- the account begins with the one that passed, and goes on with an entry that stops the verifier
+-- the account begins with the one that passed, and then has an entry that stops the verifier
 pub record StopsBehind (passed account : Account) (reason : StopReason) : Type 0 where
   pub epoch : account.epoch ≡ passed.epoch
   pub opened : account.opened ≡ passed.opened

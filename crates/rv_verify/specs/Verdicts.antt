@@ -1,8 +1,8 @@
--- What is told of the lines of an account of any length.
+-- The verdicts on the lines of an account of any length.
 --
--- An account is followed by its state alone, which must have room. So of an account that breaks no rule, but
--- whose state has no room at some place, this is told; and of an entry that names a place which is open
--- nowhere, only that it breaks one of three rules.
+-- An account is followed by its state alone, which must have room. So there is a verdict for an account that
+-- breaks no rule, but whose state has no room at some place, and one for an entry that names a place where
+-- nothing is open, which says only that it breaks one of three rules.
 use Rattle.std.specs.Prelude.{◌≡◌, ◌<◌, ◌+◌, ℕ, List, Some, length, slice_get}
 use Rattle.rv_text.specs.Members.{max_identifier}
 use Rattle.rv_account.specs.Account.{Account}
@@ -36,7 +36,7 @@ ReadsLong = ReadsAccountUnder long_limits
 abbrev pub FirstBadLong : List (List ℕ) → ℕ → Type 0
 FirstBadLong = FirstBadLineUnder long_limits
 
--- whatever an audit tells of the account is a fault at the place, of such a rule
+-- any audit of the account reports a fault at the place, of such a rule
 abbrev pub AuditTells : Account → ℕ → (Rule → Type 0) → Type 0
 AuditTells a place Of = (told : Audit) → IsToldOf a told → (rule : Rule) × (told ≡ tells.Fault place rule)
     × Of rule
@@ -48,8 +48,8 @@ pub record TellsLegalAccount (lines : List (List ℕ)) : Type 0 where
   pub legal : Legal account
   pub had_room : HadRoom account
 
--- the lines are read as an account; up to the place it is legal, and its state had room; and of it an audit
--- tells a fault at the place, of such a rule
+-- the lines are read as an account; it is legal up to the place, and its state had room; and an audit of it
+-- reports a fault at the place, of such a rule
 pub record TellsFaultOf (Of : Rule → Type 0) (lines : List (List ℕ)) (place : ℕ) : Type 0 where
   pub account : Account
   pub read : ReadsLong lines account
@@ -61,8 +61,8 @@ pub record TellsFaultOf (Of : Rule → Type 0) (lines : List (List ℕ)) (place 
 abbrev pub TellsFaultAt : List (List ℕ) → ℕ → Rule → Type 0
 TellsFaultAt lines place rule = TellsFaultOf (λ other. other ≡ rule) lines place
 
--- the same of this entry at the place, which keeps all rules before P1, as far as a state can tell, but names
--- a place that is open nowhere: the rule is P1, P2 or S1
+-- the same for this entry at the place. As far as a state can tell, it keeps all rules before P1, but it
+-- names a place where nothing is open: the rule is P1, P2 or S1
 pub record TellsNotOpen (lines : List (List ℕ)) (place : ℕ) (e : Entry) : Type 0 where
   pub fault : TellsFaultOf IsOnNamed lines place
   pub there : slice_get fault.account.entries place ≡ Some e
@@ -78,7 +78,7 @@ pub record TellsBeyond (lines : List (List ℕ)) (place : ℕ) : Type 0 where
   pub had_room : HadRoom (before account place)
   pub beyond : ¬ StaysInRoom (state_of (before account (place + 1)))
 
--- the verdict on the lines is so
+-- the verdict is true of the lines
 abbrev pub IsVerdictOn : List (List ℕ) → AccountVerdict → Type 0
 IsVerdictOn lines verdict.Legal = TellsLegalAccount lines
 IsVerdictOn lines (verdict.Fault place rule) = TellsFaultAt lines place rule

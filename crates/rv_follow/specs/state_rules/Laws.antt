@@ -1,5 +1,5 @@
--- The laws of entries that follow a state: what the state of a legal account says, an audit of the account
--- with the entry tells.
+-- The laws of entries that follow a state: the state of a legal account says of an entry what an audit says
+-- of the account with that entry.
 use Rattle.std.specs.Prelude.{◌≡◌, ◌↔◌, length}
 use Rattle.rv_account.specs.declared.entry.Entry.{Entry}
 use Rattle.rv_account.specs.Account.{Account, with_entry}
@@ -12,12 +12,12 @@ use Rattle.rv_audit.specs.declared.outcome.Audit.TheVariants.{Fault}
 use Rattle.rv_audit.specs.declared.rule.Rule.{Rule}
 use Rattle.rv_follow.specs.state_rules.Ruling.{IsFirstBroken, IsOnNamed, NamesClosed}
 
--- an entry follows the state of a legal account exactly where the account with it is legal
+-- an entry follows the state of a legal account exactly if the account with it is legal
 abbrev pub FollowsLegally : Type 0
 FollowsLegally = (a : Account) (e : Entry) → Legal a → FollowsState (state_of a) e ↔ Legal (with_entry a e)
 
--- the rule that it breaks first there is what an audit tells of the account with it, and the other way round,
--- but for an entry that names a closed place
+-- the rule that it breaks first there is the one that an audit reports of the account with it; the converse
+-- holds too, except for an entry that names a closed place
 pub record BreaksAlike (a : Account) (e : Entry) (rule : Rule) : Type 0 where
   pub told : IsFirstBroken (state_of a) e rule → (told : Audit) → IsToldOf (with_entry a e) told
       → told ≡ Fault (length a.entries) rule
@@ -27,13 +27,14 @@ pub record BreaksAlike (a : Account) (e : Entry) (rule : Rule) : Type 0 where
 abbrev pub RulesBreak : Type 0
 RulesBreak = (a : Account) (e : Entry) (rule : Rule) → Legal a → BreaksAlike a e rule
 
--- an audit tells of the account with the entry a fault at its last place, of a rule on whom an entry names
+-- an audit reports a fault at the last place of the account with the entry, of a rule on which places an
+-- entry names
 pub record ToldOnNamed (a : Account) (told : Audit) : Type 0 where
   pub rule : Rule
   pub is : told ≡ Fault (length a.entries) rule
   pub on_named : IsOnNamed rule
 
--- so it does where the entry names a closed place
+-- it does so if the entry names a closed place
 abbrev pub ClosedBreaks : Type 0
 ClosedBreaks = (a : Account) (e : Entry) (told : Audit) → Legal a → NamesClosed (state_of a) e
     → IsToldOf (with_entry a e) told → ToldOnNamed a told

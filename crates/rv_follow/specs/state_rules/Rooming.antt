@@ -1,4 +1,4 @@
--- What is asked of a state, to tell whether the state after an entry has room.
+-- What is read off a state to know whether the state after an entry has room.
 use Rattle.std.specs.Prelude.{◌≡◌, ◌≤◌, ◌+◌, ℕ, Some, None, IsSome}
 use Rattle.rv_session.specs.Clients.{place_waiting}
 use Rattle.rv_state.specs.State.{ClientState, OpenPlace, State, client_at, open_at, waiting_count}
@@ -25,6 +25,6 @@ pub record IsWaitedFor (s : State) (place : ℕ) : Type 0 where
 abbrev pub IsUnawaited : State → ℕ → Type 0
 IsUnawaited s place = (there : OpenPlace) → open_at s place ≡ Some there → there.waiter ≡ None
 
--- there is space for so many entries more, beside those that what waits may come to need
+-- there is space for so many more entries, besides those that may come to be needed for what waits
 abbrev pub HasSpace : State → ℕ → Type 0
 HasSpace s need = s.length + waiting_count s + need ≤ max_identifier

@@ -1,8 +1,8 @@
--- Which rule an entry breaks first, asked of a state alone: the words of an audit, over states.
+-- Which rule an entry breaks first, decided by a state alone: the words of an audit, over states.
 --
--- Of each rule is said what keeps it. One thing isn't told by a state: an entry that names well, but a place
--- that is open nowhere. Whether that place was met or named before (P1), or is none that the entry could meet
--- (P2 or S1), hangs on the past.
+-- For each rule, this says what keeps it. A state can't decide one case: an entry that names well, except for
+-- a place where nothing is open. Whether that place was met or named before (P1), or is one that the entry
+-- could never meet (P2 or S1), depends on the past.
 use Rattle.std.specs.Prelude.{◌≡◌, ◌≢◌, ◌<◌, ◌≤◌, ℕ}
 use Rattle.rv_text.specs.declared.call.Call.{Call}
 use Rattle.rv_text.specs.declared.call.Side.{Side}
@@ -17,7 +17,7 @@ use Rattle.rv_audit.specs.AccountRules.{ArrivesAs, IsPaired, IsSwapped, rank_of}
 use Rattle.rv_audit.specs.declared.rule.Rule.{Rule}
 use Rattle.rv_audit.specs.declared.rule.Rule.TheVariants.{M1, M2, M3, N1, N2, N3, P1, P2, P3, P4, S1, S2}
 
--- this holds of an entry that arrives as such a side
+-- this holds if an entry arrives on such a side
 abbrev pub IfArrives : (Side → Type 0) → Entry → Type 0 → Type 0
 IfArrives Is e Holds = (call : Call) → ArrivesAs Is e call → Holds
 
@@ -36,7 +36,7 @@ KeepsRule P4 s e = IfArrives IsPaired e (NamesAll s e)
 KeepsRule S1 s e = IfArrives IsSwapped e (NamesOpposites s e)
 KeepsRule S2 s e = IfArrives IsSwapped e (NamesAll s e)
 
--- the entry keeps so many of the rules, in the order in which they are asked
+-- the entry keeps the first so many rules, in the order in which they are checked
 abbrev pub KeepsUpTo : ℕ → State → Entry → Type 0
 KeepsUpTo n s e = (other : Rule) → rank_of other < n → KeepsRule other s e
 
@@ -47,14 +47,15 @@ pub record IsFirstBroken (s : State) (e : Entry) (rule : Rule) : Type 0 where
   pub first : KeepsUpTo (rank_of rule) s e
   pub named_open : rank_of P1 < rank_of rule → NamesOpen s e
 
--- the entry keeps all rules up to P1, but names a place that is open nowhere
+-- the entry keeps all rules up to P1, but names a place where nothing is open
 pub record NamesClosed (s : State) (e : Entry) : Type 0 where
   pub kept : KeepsUpTo (rank_of P2) s e
   pub place : ℕ
   pub names : Names e place
   pub closed : ¬ Among (place_list s.open_places) place
 
--- the rule is one on whom an entry names: which places, or which that it could meet
+-- the rule is on the places that an entry names: which it may name (P1), or which of them it could meet (P2,
+-- S1)
 abbrev pub IsOnNamed : Rule → Type 0
 IsOnNamed M1 = ⊥
 IsOnNamed M2 = ⊥

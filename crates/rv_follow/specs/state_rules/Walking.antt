@@ -1,4 +1,4 @@
--- What is asked of an entry's partners one by one, and of the line of those that its call might meet.
+-- What is checked of an entry's partners one by one, and of the line of those that its call might meet.
 use Rattle.std.specs.Prelude.{◌≡◌, ◌<◌, ℕ, List, length, Some, slice_get}
 use Rattle.rv_text.specs.declared.call.Call.{Call}
 pub use Rattle.rv_dual.specs.Above.{first_above, is_above}
@@ -7,7 +7,7 @@ use Rattle.rv_account.specs.Calls.{may_name}
 use Rattle.rv_state.specs.Kept.{IsOpposite}
 use Rattle.rv_state.specs.State.{State, opposites, place_list}
 
--- this holds of each of these places; of each of the first so many
+-- this holds of each of these places; this holds of each of the first so many
 abbrev pub HoldsOfAll : (ℕ → Type 0) → List ℕ → Type 0
 HoldsOfAll Holds places = (p : ℕ) → Among places p → Holds p
 
@@ -26,7 +26,7 @@ AgreeBefore places others n = (i : ℕ) → i < n → slice_get others i ≡ sli
 abbrev pub LeadsLine : List ℕ → List ℕ → Type 0
 LeadsLine places others = AgreeBefore places others (length places)
 
--- what a call might meet and stands before one of these places is one of them
+-- each place that a call might meet and that comes before one of these is one of these
 abbrev pub TakesOldest : State → Call → List ℕ → Type 0
 TakesOldest s call places = (p r : ℕ) → Among places p → IsOpposite s call r → r < p → Among places r
 

@@ -1,5 +1,5 @@
--- What an account says of a reply that a client was told: the first of these that applies, of which the first
--- two are that the account gives it.
+-- What an account says of a reply that a client got: the first finding that applies, in order. The first two
+-- say that the account gives it.
 use Rattle.std.specs.Prelude.{◌≡◌, ◌≢◌, ◌⊎◌, ◌<◌, ℕ, List, Some}
 use Rattle.rv_text.specs.declared.answer.Reply.{Reply}
 use Rattle.rv_text.specs.declared.answer.Reply.TheVariants.{Cancelled}
@@ -19,7 +19,7 @@ use Rattle.rv_replies.specs.declared.findings.Finding.TheVariants.{Impossible, K
 use Rattle.rv_replies.specs.declared.findings.Finding.TheVariants.{NoRequest, OtherCall, OtherEpoch}
 use Rattle.rv_replies.specs.declared.findings.Finding.TheVariants.{OtherReply, Waiting}
 
--- a request with this call may be told this, in a session of either version, or where it was cancelled before
+-- a request with this call may get this reply, in a session of either version, or if it was cancelled before
 -- it came
 abbrev pub MayBeTold : Call → Reply → Type 0
 MayBeTold call reply = SuitsCall One call reply ⊎ SuitsCall Two call reply ⊎ (reply ≡ Cancelled)
@@ -37,7 +37,7 @@ pub record GivesOther (entries : List Entry) (key : Key) (call : Call) (reply : 
   pub gives : GivesReply entries key call other
   pub differs : other ≢ reply
 
--- this is so of the reply
+-- the finding is true of the reply
 abbrev pub IsSaid : Account → Told → Finding → Type 0
 IsSaid a told Kept = HasReplied a.entries told.key told.call told.reply
 IsSaid a told KeptUnseen = CancelledFirst a.entries told.key × (told.reply ≡ Cancelled)
@@ -49,7 +49,7 @@ IsSaid a told Waiting = WaitsWith a.entries told.key told.call
 IsSaid a told NoRequest = NamesNowhere a.entries told.key
 IsSaid a told NoRecord = ⊥
 
--- their order
+-- the order of findings
 abbrev pub order_of : Finding → ℕ
 order_of Kept = 0
 order_of KeptUnseen = 0
@@ -61,11 +61,11 @@ order_of Waiting = 3
 order_of NoRequest = 3
 order_of NoRecord = 3
 
--- it is so, and none before it is
+-- the finding is true, and none before it is
 pub record IsFinding (a : Account) (told : Told) (finding : Finding) : Type 0 where
   pub says : IsSaid a told finding
   pub first : (other : Finding) → order_of other < order_of finding → ¬ IsSaid a told other
 
--- a finding that tells of a reply which the account gives
+-- a finding that says that the account gives the reply
 abbrev pub IsKeptFinding : Finding → Type 0
 IsKeptFinding finding = (finding ≡ Kept) ⊎ (finding ≡ KeptUnseen)

@@ -1,4 +1,4 @@
--- For private clauses: what is said by what became of a request.
+-- For private clauses: the findings that follow from what became of a request.
 use Rattle.std.specs.Prelude.{◌≡◌, ◌≢◌, ◌⊎◌}
 use Rattle.rv_text.specs.declared.answer.Reply.TheVariants.{Cancelled}
 use Rattle.rv_text.specs.declared.call.Call.{Call}
@@ -10,7 +10,7 @@ use Rattle.rv_replies.specs.declared.findings.Finding.{Finding}
 use Rattle.rv_replies.specs.declared.findings.Finding.TheVariants.{Kept, KeptUnseen, NoRequest}
 use Rattle.rv_replies.specs.declared.findings.Finding.TheVariants.{OtherCall, OtherReply, Waiting}
 
--- it was told that, with that call, or cancelled before it came
+-- the request got that reply, with that call, or was cancelled before it came
 abbrev pub TellsSame : Told → Fate → Type 0
 TellsSame told Unnamed = ⊥
 TellsSame told (Waits call) = ⊥
@@ -24,12 +24,12 @@ kept_by (Waits call) = Kept
 kept_by (RepliedTo call reply) = Kept
 kept_by CancelledUnseen = KeptUnseen
 
--- the finding on what came with this call: this one where it is that of the reply
+-- the finding for a request that came with this call: the given one, if that is the call of the reply
 abbrev pub IsByCall : Told → Call → Finding → Finding → Type 0
 IsByCall told call same finding =
     ((call ≡ told.call) × (finding ≡ same)) ⊎ ((call ≢ told.call) × (finding ≡ OtherCall))
 
--- the finding is said by what became of it, if it wasn't told that
+-- the finding by what became of the request, if it didn't get that reply
 abbrev pub SaidInstead : Told → Fate → Finding → Type 0
 SaidInstead told Unnamed finding = finding ≡ NoRequest
 SaidInstead told (Waits call) finding = IsByCall told call Waiting finding

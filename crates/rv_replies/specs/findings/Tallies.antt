@@ -1,4 +1,4 @@
--- The words of findings, and which are the same.
+-- The words of findings, and which findings are the same.
 use Rattle.std.specs.Prelude.{Bool, ℕ, List, codes, nat_eq}
 use Rattle.rv_replies.specs.declared.findings.Finding.{Finding}
 use Rattle.rv_replies.specs.declared.findings.Finding.TheVariants.{Impossible, Kept, KeptUnseen, NoRecord}
