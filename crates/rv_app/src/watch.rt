@@ -59,7 +59,7 @@ impl<'a> Watch<'a> {
         }
     }
 
-    // Tells how far it is behind so many seconds.
+    // Tells how far it is after so many seconds.
     fn tell(&self, seconds: u64) {
         if let Ok(text) = progress_text(
             self.rt.alloc(),

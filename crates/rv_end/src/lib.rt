@@ -1,4 +1,4 @@
-//! Requests that wait with no connection, as a server's status tells them; and how they are ended, by hellos
+//! Requests that wait with no connection, as a server's status lists them; and how they are ended, by hellos
 //! of greater incarnations.
 #![tactic(auto)]
 

@@ -104,7 +104,7 @@ fn read_rows(alloc: Global, values: &[Value]) -> Result<Vec<WaitingRow>, StatusF
     Ok(rows)
 }
 
-// Puts a row behind the others.
+// Puts a row after the others.
 fn put(rows: &mut Vec<WaitingRow>, row: WaitingRow) -> Result<(), AllocError>
     ensures { OnOk result (rows.new.items ≡ rows.old.items ++ row ∷ []) }
 {

@@ -1,4 +1,4 @@
--- Calls of a server's traffic, one behind another.
+-- Calls of a server's traffic, one after another.
 use Rattle.std.proofs.Common.{◌≡◌, Option, Some, List, subst, sym, ℕ}
 use Rattle.rv_traffic.specs.declared.traffic.Switchboard.{Switchboard}
 use Rattle.rv_traffic.specs.CallRuns.{OnlyCalls, RunsOnDevice, RunsWith}

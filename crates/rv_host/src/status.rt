@@ -131,7 +131,7 @@ impl StatusDesk {
         list_queues(hub.machine(), &mut self.status.queues)
     }
 
-    // Looks at the next clients, from the first on again behind the last.
+    // Looks at the next clients, and goes on from the first after the last.
     fn look_at_clients(&mut self, now: u64, hub: &Hub) -> Result<(), AllocError> {
         for _ in 0..CLIENTS_A_TURN.min(self.left) {
             self.left = self.left.saturating_sub(1);
@@ -221,8 +221,8 @@ impl StatusDesk {
 }
 
 impl<W: Drop> Shell<W> {
-    /// The turn of the status address, behind all others. Its lists have room, so that no memory is refused
-    /// to them.
+    /// The turn of the status address, after all others. Its lists have room, so no memory is refused to
+    /// them.
     pub(crate) fn show_status(&mut self, rt: &HostRuntime, now: u64)
         ensures traffic { self.new.traffic ≡ self.old.traffic }
         ensures account { self.new.account ≡ self.old.account }

@@ -21,7 +21,7 @@ printed_append (body ∷ bodies) others = ap (λ rest. body ++ 10 ∷ rest) (pri
 
 -- ---- what went out
 
--- what is gathered behind the rest is promised behind it
+-- what is gathered after the rest is promised after it
 pub promised_on : (now : Option (List ℕ)) (waiting more : List ℕ)
     → Appends (append_known now waiting) (append_known now (waiting ++ more)) more
 promised_on None waiting more = tt

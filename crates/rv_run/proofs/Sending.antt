@@ -20,7 +20,7 @@ module _ {W : Type 0} (contents : W → Option (List ℕ)) {bytes : List ℕ} {b
           (omega (arith, stops.not_all)))) stops.went_out;
     }
 
-    -- a fault of what comes behind other bytes is one of the whole, where those went out
+    -- a fault of what comes after other bytes is one of the whole, where those went out
     pub stops_behind : (first : List ℕ) (start : Sink W) (begun : ℕ) → SinkTakes contents start old first
         → before ≡ begun + length first → StopsAfter contents bytes before old new sent
         → StopsAfter contents (first ++ bytes) begun start new sent

@@ -4,7 +4,7 @@ use Rattle.std.specs.Fmt.{decimal}
 use Rattle.std.proofs.lemmas.Fmt.{length-decimal-le}
 use Rattle.rv_run.specs.Output.{IsShort}
 
--- a number behind a few letters
+-- a number after a few letters
 pub number_is_short : (text word : List ℕ) (n : ℕ) → text ≡ word ++ decimal n → length word ≤ 20 → n < 2 ^ 64
     → IsShort text
 number_is_short text word n is few small =

@@ -27,8 +27,8 @@ IsShortText text = IsShort (string_bytes text)
 abbrev pub promised_contents : Option (List ℕ) → Output → Option (List ℕ)
 promised_contents contents output = append_known contents (gathered_bytes output)
 
--- of these bytes, behind so many that went out before, the sink took the front: a write failed after so many
--- in all, and not all
+-- after so many bytes that went out before, the sink took only a front of these: a write failed after so many
+-- bytes in all, which are not all of them
 pub record StopsAfter {W : Type 0} (contents : W → Option (List ℕ)) (bytes : List ℕ) (before : ℕ)
     (old new : Sink W) (sent : ℕ) : Type 0 where
   pub past_those_sent : before ≤ sent

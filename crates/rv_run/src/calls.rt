@@ -47,12 +47,12 @@ pub enum CallSaid {
 ///
 /// All lines are read before hello is said, and read faults, too long an input and want of memory up to
 /// there are found before anything is asked or written. A line that cannot be settled ends the run, with one
-/// word behind the lines that were: `refused N` and `not welcome` at the hello; `unsettled NUMBER` if nothing
+/// word after the lines that were: `refused N` and `not welcome` at the hello; `unsettled NUMBER` if nothing
 /// final was heard, and the request is given up; `epoch ended CURRENT`; `replaced CURRENT`; and `bad line` if
 /// the line says no call. Lines end by LF, which the last one may lack.
 ///
 /// [`RunFault::WriteFault`] tells of `out` alone; a fault of the link is told by the word. If memory is
-/// refused for reading a line, for its text or for a word, the run ends behind whole lines, each that of a
+/// refused for reading a line, for its text or for a word, the run ends after whole lines, each that of a
 /// settled call. A line that was not read was not asked for; one whose text found no memory was settled.
 pub fn call_run<L: Read, O: Write, R: Read, W: Write>(
     alloc: Global,
@@ -79,7 +79,7 @@ pub fn call_run<L: Read, O: Write, R: Read, W: Write>(
         (record { client = client; incarnation = incarnation; version = version }) tries lines.old lines.new
         (link from.old to.old) (link from.new to.new) out.old out.new (Err (RunFault.WriteFault fault)) }
 
-    // Behind lines that are settled and have their texts a line was not read, or the next text not made; or
+    // After lines that were settled and have their texts, a line was not read, or the next text not made; or
     // nothing was done.
     ensures lacked_memory { result ≡ Err RunFault.NoMemory →
         ((source_failed lines.new ≡ false)
@@ -137,7 +137,7 @@ fn call_lines<O: Write, R: Read, W: Write>(
     Ok(CallSaid::Whole)
 }
 
-// Prints the word that ends the run, behind so many bytes.
+// Prints the word that ends the run, after so many bytes.
 pub(crate) fn print_word<O: Write>(
     alloc: Global,
     word: EndWord,
@@ -154,7 +154,7 @@ pub(crate) fn print_word<O: Write>(
     Ok(CallSaid::Stopped)
 }
 
-// Prints a text and LF behind so many bytes, in one write, and gives how many there are then.
+// Prints a text and LF after so many bytes, in one write, and returns how many there are then.
 fn print_line<O: Write>(out: &mut Sink<O>, text: String, printed: u64) -> Result<u64, RunFault>
     requires short { IsShortText text }
     requires countable { printed < 2 ^ 63 }
@@ -178,7 +178,7 @@ pub(crate) fn with_lf(text: String) -> Result<String, NoMemory>
     Ok(line)
 }
 
-// Writes a line with its LF behind so many bytes, in one piece, and gives how many there are then.
+// Writes a line with its LF after so many bytes, in one piece, and returns how many there are then.
 pub(crate) fn write_line<O: Write>(
     out: &mut Sink<O>,
     line: &str,

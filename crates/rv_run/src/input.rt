@@ -15,7 +15,7 @@ const MAX_INPUT_BYTES: usize = 536_870_912;
 const PIECE_BYTES: usize = 65_536;
 
 /// Reads all the bytes that the source has left. It is a fault if they are more than 536,870,912, if memory
-/// was refused, and if a read failed. It asks for 65,536 at a time, and for none behind the piece that passes
+/// was refused, and if a read failed. It asks for 65,536 at a time, and for none after the piece that passes
 /// the limit.
 pub fn read_input<R: Read>(alloc: Global, source: &mut Source<R>) -> Result<Vec<u8>, RunFault>
     ensures bytes { IfOk result (λ input.

@@ -99,7 +99,7 @@ impl Output {
         Ok(())
     }
 
-    // Sends bytes, at least one, behind so many that went out, and gives how many went out then.
+    // Sends bytes, at least one, after so many that went out, and returns how many have gone out then.
     fn send<W: Write>(sink: &mut Sink<W>, sent: u128, bytes: &[u8]) -> Result<u128, OutputFault>
         requires some { 0 < length bytes.now }
         requires countable { sent + length bytes.now < 2 ^ 128 }

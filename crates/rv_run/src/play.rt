@@ -25,7 +25,7 @@ use std::io::{Read, Write};
 ///
 /// The whole input is read before the first line is taken, so that a read fault, too long an input and want
 /// of memory up to there come before anything is written. If memory for reading a line or for the text of a
-/// result is refused, the run ends behind the results of the lines before it. A write fault may come at any
+/// result is refused, the run ends after the results of the lines before it. A write fault may come at any
 /// line.
 pub fn play_run<R: Read, W: Write>(
     alloc: Global,

@@ -24,7 +24,7 @@ use Rattle.rv_server.specs.declared.fault.WorkFault.TheVariants.{BadLength, CutF
 use Rattle.rv_server.specs.declared.fault.WorkFault.TheVariants.{TooLong, WriteFault}
 use Rattle.rv_server.proofs.Getting.{added_append, cover_append, covers_all}
 
--- ---- answered frames, one behind the others
+-- ---- answered frames, one after the others
 
 abbrev body_of : AnsweredFrame → List ℕ
 body_of frame = frame.body

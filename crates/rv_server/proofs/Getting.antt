@@ -1,4 +1,4 @@
--- Stamps that are got for a frame, one behind the other.
+-- Stamps that are got for a frame, one after the other.
 use Rattle.std.proofs.Common.{add-zero, ◌≡◌, ◌∙◌, ◌+◌, ◌++◌, ◌∷◌, ◌≤◌, [], ℕ, Bool, List, true, ap, arith}
 use Rattle.std.proofs.Common.{subst, sym, append_assoc}
 use Rattle.std.specs.List.{All}

@@ -126,7 +126,7 @@ module _ {R V W : Type 0} (remaining : R → Option (List ℕ)) (contents : V �
       subst (λ (f : WorkFault). Works remaining contents' (connection source old' share)
       (connection source' new' share') list (Some f)) (sym is) (unsent works)
 
--- over a writer behind which nothing is held yet
+-- over a writer that holds nothing back yet
 pub begins_empty : {W A : Type 0} (contents : W → Option (List ℕ)) (buffered : BufWriter W A) (writer : W)
     (sink : Sink (BufWriter W A)) → sink_device sink ≡ buffered
     → writer_inner buffered ≡ writer → writer_buffer buffered ≡ []

@@ -38,7 +38,7 @@ two_parts high low n rest is small =
     let second : low ≡ n % 256 = omega arith in
     (cc)
 
--- what two bytes and those behind them begin with
+-- what two bytes and those after them begin with
 abbrev BeginsSome : (high low : ℕ) → List ℕ → Type 0
 BeginsSome high low rest =
     IsUnfinished (high ∷ low ∷ rest) ⊎ (BeginsBad (high ∷ low ∷ rest) (256 * high + low) ⊎ BeginsFrame

@@ -42,8 +42,8 @@ FailsAtSink failed (WriteFault sent) = failed ≡ true
 FailsAtSink failed _ = Unit {0}
 
 module _ {R : Type 0} (remaining : R → Option (List ℕ)) where
-  -- these bytes were read, and behind all that was fed before them they are fed; of the frames of all, these
-  -- were taken
+  -- these bytes were read, and fed after all that was fed before them; and these were taken of the frames of
+  -- them all
   pub record ReadsOn (before after : Source R) (old new : Stream) (more : List (List ℕ)) : Type 0 where
     pub bytes : List ℕ
     pub gives : SourceGives remaining before after bytes

@@ -1,4 +1,4 @@
--- What stands of a connection whose answers are held back in part: what its writer took, and then the rest.
+-- A connection whose answers are held back in part: the bytes that its writer took, and then the rest.
 use Rattle.std.specs.Prelude.{ℕ, ◌≡◌, [], false, true, List, Option, None, Some}
 use Rattle.std.specs.Io.KnownBytes.{append_known}
 use Rattle.rv_frame.specs.declared.source.Source.{Source}
@@ -22,8 +22,8 @@ passing writer held = record { writer = writer; held = held }
 abbrev pub passing_contents : {W : Type 0} → (W → Option (List ℕ)) → Passing W → Option (List ℕ)
 passing_contents contents passing = held_behind (contents passing.writer) passing.held
 
--- what `work` says, of a writer behind which nothing is held at first, and these bytes at last, when it is
--- given up
+-- what `work` says of a writer for which nothing is held back at first, and these bytes at the end, when it
+-- is given up
 abbrev pub WorksThrough : {R W : Type 0} → (R → Option (List ℕ)) → (W → Option (List ℕ)) → Source R → Source R
     → W → W → List ℕ → ℕ → ℕ → Listed → Option WorkFault → Type 0
 WorksThrough remaining contents source source' writer writer' held share share' list fault =
@@ -31,7 +31,7 @@ WorksThrough remaining contents source source' writer writer' held share share' 
     (connection source (sink_over (passing writer []) false) share)
     (connection source' (sink_over (passing writer' held) true) share') list fault
 
--- the worker's fault is told; without one, that some bytes were not sent
+-- the worker's fault is reported; without one, that some bytes were not sent
 abbrev pub IsFirstFault : Option WorkFault → Option WorkFault → List ℕ → Type 0
 IsFirstFault (Some fault) told held = told ≡ Some fault
 IsFirstFault None None held = held ≡ []

@@ -48,7 +48,7 @@ impl Inlet {
         }
     }
 
-    /// The body of the next whole frame; `None` if the source ended behind the last one. It reads only
+    /// The body of the next whole frame; `None` if the source ended after the last one. It reads only
     /// while no whole frame is there, and flushes the sink before each read. Each read gives a byte or
     /// ends: at most 65,537 reads.
     pub(crate) fn next_frame<R: Read, W: Write>(
@@ -97,7 +97,7 @@ impl Inlet {
         Ok(true)
     }
 
-    // Takes in so many bytes of the buffer. The rest behind the whole frames is then shorter than the longest
+    // Takes in so many bytes of the buffer. What follows the whole frames is then shorter than the longest
     // frame.
     fn feed(&mut self, buffer: &[u8; PIECE_BYTES], count: usize) -> Result<(), WorkFault>
         requires { count ≤ 4096 }
@@ -116,7 +116,7 @@ impl Inlet {
         }
     }
 
-    // The end of the source behind all whole frames: there is no frame, or one that is cut.
+    // The end of the source after all whole frames: there is no frame, or one that is cut.
     fn at_end(&self) -> Result<Option<Vec<u8>>, WorkFault>
         requires { IsOpen self.now.end }
         ensures none { IfOk result (λ body. (body ≡ None) × (self.now.end ≡ Open [])) }

@@ -85,8 +85,8 @@ fn told(fault: Option<WorkFault>, held: &[u8]) -> Option<WorkFault>
 }
 
 impl<'a, T: Wait, D: Desk, L: Ledger, C: Clock, G: Gate> WorkerContext<'a, T, D, L, C, G> {
-    // Answers the frames of a connection as `work` does, over a writer behind at most 16,384 bytes of answers
-    // that are held back. They go to the writer before each read, before each pause, and at the end.
+    // Answers the frames of a connection as `work` does, over a writer with at most 16,384 bytes of answers
+    // held back in front of it. They go to the writer before each read, before each pause, and at the end.
     pub(crate) fn answer_through<R: Read, W: Write + Drop>(
         &self,
         seat: &mut Seat<L>,

@@ -1,4 +1,4 @@
--- Tokens and texts that are written one behind another.
+-- Tokens and texts that are written one after another.
 use Rattle.std.proofs.Common.{◌≡◌, ℕ, codes, List, [], ◌∷◌, ◌++◌, map, refl, sym, ap, ◌∙◌, append_assoc}
 use Rattle.std.specs.Prelude.{flat_map}
 use Rattle.json.specs.Print.{print}
@@ -28,7 +28,7 @@ use Rattle.rv_status.specs.Values.{sample_value, status_value, tokens_of, versio
 pub cons_same : {A : Type 0} {a b : A} {xs ys : List A} → a ≡ b → xs ≡ ys → a ∷ xs ≡ b ∷ ys
 cons_same first others = cc
 
--- one list behind another is read as one
+-- one list after another is read as one
 pub mapped : {A B C : Type 0} (f : B → List C) (g : A → B) (xs : List A)
     → flat_map (λ x. f (g x)) xs ≡ flat_map f (map g xs)
 mapped f g [] = refl
@@ -181,7 +181,7 @@ status_told s history h rows r queues q unheard u waiting w old begun ta tb tc t
     stacked old begun ta tb tc td te tf ended a b c d e f begin_object end_object
     is_begun to_a to_b to_c to_d is_e to_f is_ended
 
--- what is printed of a value's tokens, behind nothing
+-- what is printed of a value's tokens, after nothing
 pub value_told : (d : Data) (before text : List ℕ) (tokens : List Token)
     → text ≡ before ++ print tokens
     → before ≡ []
@@ -227,7 +227,7 @@ metrics_told g xs s same items i consumers k old first second text is_first is_s
     to_c ∙ ap (λ t. t ++ c) to_b ∙ ap (λ t. (t ++ b) ++ c) to_a
     ∙ append_assoc (old ++ a) b c ∙ append_assoc old a (b ++ c)
 
--- what stands behind a head
+-- what comes after a head
 pub headed : (head rest old first text : List ℕ)
     → first ≡ old ++ head
     → text ≡ first ++ rest

@@ -1,4 +1,4 @@
--- Who was visited stands behind all others, or is let go.
+-- A connection that was visited goes after all others, or is let go.
 use Rattle.std.proofs.Common.{◌≡◌, ◌∷◌, ℕ, Bool, List, Option, subst, sym}
 use Rattle.http.specs.declared.request.Request.{Request}
 use Rattle.http_server.specs.declared.response.Response.{Response}

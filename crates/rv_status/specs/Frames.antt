@@ -3,19 +3,19 @@ use Rattle.std.specs.Prelude.{ℕ, ◌+◌, ◌*◌, Bool, true, false, List, []
 use Rattle.rv_status.specs.declared.frames.FrameMeter.{FrameMeter}
 use Rattle.rv_status.specs.declared.frames.FrameMeter.TheVariants.{Between, Body, Length}
 
--- behind a length
+-- after a length
 abbrev pub of_length : ℕ → FrameMeter
 of_length zero = Between
 of_length (suc more) = Body more
 
--- behind one byte more
+-- after one byte more
 abbrev pub after_byte : FrameMeter → ℕ → FrameMeter
 after_byte Between byte = Length byte
 after_byte (Length high) byte = of_length (high * 256 + byte)
 after_byte (Body zero) byte = Between
 after_byte (Body (suc more)) byte = Body more
 
--- behind these bytes
+-- after these bytes
 abbrev pub after : FrameMeter → List ℕ → FrameMeter
 after meter [] = meter
 after meter (byte ∷ bytes) = after (after_byte meter byte) bytes

@@ -67,7 +67,7 @@ values_text name h = flat_map (bucket_text name) h.buckets ++ totals_text name h
 
 -- ---- for private clauses
 
--- a bucket behind one value more
+-- a bucket after one more value
 abbrev pub observed : ℕ → Bucket → Bucket
 observed value bucket = record {
   bound = bucket.bound;

@@ -19,7 +19,7 @@ use Rattle.http1.specs.Text.{eq_ignore_case}
 abbrev pub up_to_byte : ℕ → List ℕ → List ℕ
 up_to_byte byte text = take (prefix_len (λ b. not (b == byte)) text) text
 
--- what stands in front of a port, behind a colon (58)
+-- what stands before a port and its colon (58)
 abbrev pub host_name : List ℕ → List ℕ
 host_name = up_to_byte 58
 
@@ -38,7 +38,7 @@ IsIpv6 text = (address : Ipv6Addr) × IsIpv6Text text address
 abbrev pub IsBracketed : List ℕ → Type 0
 IsBracketed host = (slice_index host 0 ≡ 91) × IsIpv6 (up_to_byte 93 (drop 1 host))
 
--- a name or an address, and a port or none behind
+-- a name or an address, with or without a port after it
 abbrev pub IsOwnHost : List (String Global) → List ℕ → Type 0
 IsOwnHost names host = IsTrue (is_own_name names (host_name host)) ⊎ (IsIpv4 (host_name host) ⊎ IsBracketed
     host)

@@ -34,7 +34,7 @@ page_for method path =
     if bytes_eq method (codes "GET") || bytes_eq method (codes "HEAD") then page_named path else
     pages.NotAllowed
 
--- that of a request: a question behind its path changes nothing
+-- that of a request: a query after its path changes nothing
 abbrev pub page_of : Request (List ℕ) → StatusPage
 page_of request = page_for (head_of request).method (uri_path (head_of request).uri)
 

@@ -15,7 +15,7 @@ IsSampleDue history second = IsLater (slice_get history (length history - 1)) se
 abbrev pub kept_samples : List StatusSample → List StatusSample
 kept_samples all = if nat_lt 61 (length all) then drop 1 all else all
 
--- a sample that is due stands behind the others; one that isn't changes nothing
+-- a sample that is due is added after the others; one that isn't changes nothing
 pub record Samples (old : List StatusSample) (sample : StatusSample) (new : List StatusSample) : Type 0 where
   pub due : IsSampleDue old sample.second → new ≡ kept_samples (old ++ sample ∷ [])
   pub early : ¬ IsSampleDue old sample.second → new ≡ old

@@ -77,7 +77,7 @@ pub record IsVisit {S P : Type 0} (remaining contents : S → Option (List ℕ))
     pub config : config_of new.connection ≡ config_of old.connection
     pub came : new.came ≡ old.came
 
--- a connection that is over is gone, another stands behind the rest
+-- a connection that is over is gone; any other goes after the rest
 pub record StaysUnlessLeaving {S : Type 0} (now : ℕ) (visitor : Visitor S) (rest new : List (Visitor S)) :
     Type 0
   where

@@ -16,7 +16,7 @@ pub enum FrameMeter {
 }
 
 impl FrameMeter {
-    // Behind the length of a frame.
+    // After the length of a frame.
     fn of_length(length: usize) -> FrameMeter
         ensures { result ≡ of_length length }
     {

@@ -251,7 +251,7 @@ fn put_seconds(text: &mut String, micros: u64) -> Result<(), AllocError>
     put_part(text, micros % 1_000_000)
 }
 
-// A part of a second behind its point, if there is one.
+// The part of a second that follows its point, if there is one.
 fn put_part(text: &mut String, rest: u64) -> Result<(), AllocError>
     ensures { OnOk result (string_bytes text.new ≡ string_bytes text.old ++ part_text rest) }
 {

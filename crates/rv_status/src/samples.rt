@@ -10,7 +10,7 @@ const PAUSE: u64 = 10;
 
 const MOST: usize = 61;
 
-/// Takes a sample in behind the others, if ten seconds are over since the last one, and keeps the last 61.
+/// Adds a sample after the others, if ten seconds have passed since the last one, and keeps the last 61.
 /// Fails only if memory was refused, and never where the list has room for one more.
 pub fn take_sample(history: &mut Vec<StatusSample>, sample: StatusSample) -> Result<(), AllocError>
     ensures taken { OnOk result (Samples history.old.items sample history.new.items) }

@@ -72,7 +72,7 @@ impl<S: Drop> Visitors<S> {
         }
     }
 
-    // Takes one who was visited in again, behind all others, or lets go who is over.
+    // Puts a connection that had its turn at the end of the line, or closes it if it is over.
     fn take_back(&mut self, now: u64, visitor: Visitor<S>)
         requires { deque_len self.old.line < 32 }
         ensures { StaysUnlessLeaving now visitor self.old.line.items self.new.line.items }
@@ -85,10 +85,10 @@ impl<S: Drop> Visitors<S> {
 }
 
 impl<S: Read + Write + Drop> Visitors<S> {
-    /// Reads the first once, answers it by the pages, and writes once to it. It then stands behind all
-    /// others, or is let go: if its socket failed, if all is said, a second after it came where it hasn't
-    /// said what it asks for, or ten seconds after it came. True where there was something to be sent: an
-    /// answer was made, or an earlier one isn't gone yet.
+    /// Reads the first connection once, answers it from the pages, and writes to it once. It then goes to
+    /// the end of the line, or is closed: if its socket failed, if all is said, a second after it came
+    /// where it hasn't said what it asks for, or ten seconds after it came. True where there was something
+    /// to send: an answer was made, or an earlier one hasn't gone out yet.
     pub fn visit<P: Service>(&mut self, now: u64, pages: &mut P) -> bool
         ensures { Visits S.remaining S.contents P.answers now self.old.line.items self.new.line.items
             pages.old pages.new result }

@@ -1,4 +1,4 @@
-//! Machines made anew behind a line: of the state before it, and by following the entries that it made.
+//! Machines made anew after a line: of the state before it, and by following the entries that it made.
 ghost use Rattle.rv_steps.specs.Ready.{CanFollow};
 
 use crate::steps::{Made, answer_line};
@@ -40,8 +40,8 @@ fn answer_anew(
     }
 }
 
-// Puts the machine of the state before a line, behind the entries that the line made, in the place of the one
-// that heard it. Tells whether that can be made, and settles just the same.
+// Makes a machine anew from the state before a line, lets it follow the entries that the line made, and puts
+// it in the place of the one that heard the line. Tells whether it can be made, and settles just the same.
 fn is_made_anew(alloc: Global, machine: &mut Machine, before: Snapshot, made: Made) -> bool {
     let Ok(mut again) = Machine::resume(alloc, before) else {
         return false;

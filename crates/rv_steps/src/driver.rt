@@ -21,7 +21,7 @@ pub(crate) enum Driver {
         machine: Machine,
         /// Those of its steps.
         limits: Limits,
-        /// Whether it is made anew behind each line.
+        /// Whether it is made anew after each line.
         anew: bool,
     },
     /// A hub.
@@ -57,8 +57,8 @@ pub(crate) fn begin(alloc: Global, limits: Limits, beginning: Beginning) -> Resu
     }
 }
 
-/// Does what a line says, and writes what is told of that, in whole lines. False if the line ends the run: it
-/// says no event, or a machine made anew behind it differs.
+/// Does what a line says, and writes what came of that, in whole lines. False if the line ends the run: it
+/// says no event, or a machine made anew after it differs.
 pub(crate) fn answer(
     alloc: Global,
     driver: &mut Driver,

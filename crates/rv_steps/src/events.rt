@@ -10,7 +10,7 @@ use rv_lines::{cut_at, read_number};
 use rv_text::NoMemory;
 use std::alloc::Global;
 
-/// The words of a line, those behind its end empty: the moment, what came, and what more is told of that.
+/// The words of a line, empty where it has no more: the moment, what came, and what else is said of that.
 #[derive(Clone, Copy)]
 pub(crate) struct LineWords<'a> {
     moment: &'a [u8],
@@ -32,7 +32,7 @@ pub(crate) fn words_of(line: &[u8]) -> LineWords<'_> {
     }
 }
 
-// The first word of a text, and those behind it.
+// The first word of a text, and those after it.
 fn first_word(text: &[u8]) -> (&[u8], &[u8]) {
     match cut_at(b' ', text) {
         Some((word, rest)) => (word, rest),

@@ -4,7 +4,7 @@ use serde_json::Value;
 use std::io::{self, BufWriter, Write};
 use std::process::ExitCode;
 
-/// Writes back the JSON that stands behind the first space of each line.
+/// Writes back the JSON that follows the first space of each line.
 pub(crate) fn rewrite_lines(rt: &HostRuntime) -> anyhow::Result<ExitCode> {
     let alloc = rt.alloc();
     let input = io::read_to_string(alloc, rt.stdin())?;

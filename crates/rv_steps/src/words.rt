@@ -28,7 +28,7 @@ pub(crate) enum Task {
 pub(crate) enum Beginning {
     /// As a machine.
     Machine {
-        /// Whether it is made anew behind each line.
+        /// Whether it is made anew after each line.
         anew: bool,
     },
     /// As a hub.
@@ -40,17 +40,17 @@ pub(crate) enum Beginning {
     },
 }
 
-/// Whether the words behind the program's name ask for JSON to be written back.
+/// Whether the words after the program's name ask for JSON to be written back.
 pub(crate) fn is_json(words: &[String]) -> bool {
     words.len() == 2 && is_word(&words[1], "json")
 }
 
-/// Whether the words behind the program's name ask what bodies are read as.
+/// Whether the words after the program's name ask what bodies are read as.
 pub(crate) fn is_bodies(words: &[String]) -> bool {
     words.len() == 2 && is_word(&words[1], "bodies")
 }
 
-/// What the words behind the program's name ask to be done under limits, if they do.
+/// What the words after the program's name ask to be done under limits, if they do.
 pub(crate) fn work_of(words: &[String]) -> Option<Work>
     ensures { IfSome result (λ work. AreStepLimits work.limits) }
 {
@@ -62,7 +62,7 @@ pub(crate) fn work_of(words: &[String]) -> Option<Work>
     Some(Work { limits, task })
 }
 
-// What the first word names, with the words behind its limits.
+// What the first word names, with the words after its limits.
 fn task_of(word: &str, more: &[String]) -> Option<Task> {
     if is_word(word, "machine") {
         return task_of_machine(more);

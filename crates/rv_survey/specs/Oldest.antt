@@ -7,7 +7,7 @@ use Rattle.rv_status.specs.declared.status.WaitingRow.{WaitingRow}
 abbrev pub is_later : ℕ → WaitingRow → Bool
 is_later since row = nat_lt since row.since
 
--- the row stands in front of the first that is later, or behind all, and the first 100 are left
+-- the row stands in front of the first that is later, or after all, and the first 100 are left
 abbrev pub with_row : WaitingRow → List WaitingRow → List WaitingRow
 with_row row rows =
     take 100 (insert rows (unwrap_or (position (is_later row.since) rows) (length rows)) row)

@@ -42,7 +42,7 @@ fn keep(rows: &mut Vec<WaitingRow>, row: WaitingRow) -> Result<(), AllocError>
     Ok(())
 }
 
-// In front of the first that is later, or behind all.
+// In front of the first that is later, or after all.
 fn place_for(rows: &[WaitingRow], since: u64) -> usize
     ensures place { result ≡ unwrap_or (position (is_later since) rows.now) (length rows.now) }
     ensures within { result ≤ length rows.now }

@@ -8,7 +8,7 @@ use std::alloc::Global;
 use std::io::ErrorKind;
 use std::process::Abort;
 
-// The bytes of the hello that is asked, behind their length, and of its welcome.
+// The bytes of the hello that is asked, after their length, and of its welcome.
 const HELLO_BYTES: usize = 45;
 
 const WELCOME: &[u8] = b"\x00\x37{\"client\":1,\"epoch\":1,\"incarnation\":1,\"kind\":\"welcome\"}";

@@ -64,7 +64,7 @@ fn told_of<R: Wait + Abort + AllocGlobal>(rt: &R, sent: &[u8], most: usize) -> O
     told_over(rt, TestReader::new(sent, most), writer)
 }
 
-// What comes behind a hello, and the fault that it is.
+// What comes after a hello, and the fault that it is.
 const ENDS: [(&[u8], Option<WorkFault>); 4] = [
     (b"", None),
     (b"\x00\x2b{", Some(WorkFault::CutFrame)),

@@ -4,7 +4,7 @@ use rv_text::{Answer, Call, Item, Key, Reply, Version};
 use rv_world::{Event, World, WorldRefusal, run};
 use std::process::Abort;
 
-// Behind a hello and a put of client 1 there is one reply, and two entries.
+// After a hello and a put of client 1 there is one reply, and two entries.
 fn holds_a_put(rt: &impl Abort, world: &World) {
     same(rt, (world.held().len(), world.asked().len()), (1, 1));
     let entries = world.account(1).map(|account| account.len());

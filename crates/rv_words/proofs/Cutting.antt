@@ -38,7 +38,7 @@ longer digits Second = omega (arith, length-append digits (unit_word Second))
 longer digits Minute = omega (arith, length-append digits (unit_word Minute))
 longer digits Hour = omega (arith, length-append digits (unit_word Hour))
 
--- a span's first letter stands behind its digits
+-- a span's first letter comes after its digits
 pub first_letter_of : (text : List ℕ) (n : ℕ) → (w : WritesDuration text n)
     → position is_no_digit text ≡ Some (length w.digits)
 first_letter_of text n w =

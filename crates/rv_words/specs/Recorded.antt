@@ -2,7 +2,7 @@
 use Rattle.std.specs.Prelude.{codes, List, ◌∷◌, ◌≡◌}
 use Rattle.clap.specs.Words.{Text}
 
--- behind the program's name stand `record`, `--to`, this file, and then options: those of this call
+-- after the program's name come `record`, `--to`, this file, and then options: those of this call
 pub record NamesRecord (words : List Text) (file : Text) (call : List Text) : Type 0 where
   pub name : Text
   pub options : List Text

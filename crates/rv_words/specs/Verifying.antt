@@ -38,7 +38,7 @@ pub record ClapSays (own : List Text) (v : VerifyWords) : Type 0 where
   pub taken : fault_of verify_app own ≡ []
   pub says : SaysVerify (matches_of verify_app own) v
 
--- behind the program's name stands `verify`, and the words from there on say this
+-- after the program's name comes `verify`, and the words from there on say this
 pub record NamesVerify (words : List Text) (v : VerifyWords) : Type 0 where
   pub name : Text
   pub rest : List Text
@@ -48,6 +48,6 @@ pub record NamesVerify (words : List Text) (v : VerifyWords) : Type 0 where
 abbrev pub NamesNoVerify : List Text → Type 0
 NamesNoVerify words = (v : VerifyWords) → ¬ NamesVerify words v
 
--- behind the program's name, if there is one, stands another word or none
+-- the word after the program's name isn't `verify`, or there is none
 abbrev pub BeginOtherwise : List Text → Type 0
 BeginOtherwise = BeginWithout (codes "verify")

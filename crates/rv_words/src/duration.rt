@@ -20,8 +20,8 @@ pub(crate) enum TimeUnit {
     Hour,
 }
 
-/// The span that a text writes, in milliseconds, if it is a day at most: 1 to 19 digits, and behind them
-/// `ms`, `s`, `m` or `h`.
+/// The span that a text writes, in milliseconds, if it is a day at most: 1 to 19 digits, then `ms`, `s`, `m`
+/// or `h`.
 pub fn read_duration(text: &str) -> Option<u64>
     ensures some { IfSome result (WritesDuration text.now) }
     ensures none { result ≡ None → (n : ℕ) → ¬ WritesDuration text.now n }

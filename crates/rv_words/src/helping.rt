@@ -39,7 +39,7 @@ impl fmt::Display for HelpAnswer {
     }
 }
 
-/// `rv help`, alone or with a command's name behind it: the help that `clap` has, or why it has none. Words
+/// `rv help`, alone or with a command's name after it: the help that `clap` has, or why it has none. Words
 /// that begin otherwise ask for none. The first word is the program's name.
 pub fn read_help<'a>(
     alloc: Global,

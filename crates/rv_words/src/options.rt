@@ -56,7 +56,7 @@ pub struct HostOptions<'a> {
 }
 
 /// The options that the words of `rv host` name, the word `host` first, as `clap` reads them. A number is
-/// ASCII digits, behind a plus or none, read in decimal.
+/// ASCII digits, with or without a plus in front, read in decimal.
 pub fn read_host<'a>(alloc: Global, words: &'a [&'a str]) -> Result<HostOptions<'a>, HostFault<'a>>
     ensures ok { IfOk result (NamesOptions (texts words.entry.now)) }
     ensures fits { IfOk result FitOptions }

@@ -26,7 +26,7 @@ pub fn read_record<'a>(
     }
 }
 
-// The file of a record, and the options behind it.
+// The file of a record, and the options after it.
 fn file_and_options<'a>(words: &'a [&'a str]) -> Option<(&'a str, &'a [&'a str])>
     ensures some { IfSome result (λ p. (name : Text)
         × (texts words.entry.now ≡ name ∷ codes "record" ∷ codes "--to" ∷ p.0.now ∷ texts p.1.now)) }

@@ -4,7 +4,7 @@ ghost use Rattle.clap.specs.Words.{Text};
 ghost use Rattle.clap.specs.Walk.{texts};
 ghost use Rattle.rv_words.specs.Beginning.{BeginWithout};
 
-/// The words from `host` on, if that is the word behind the program's name.
+/// The words from `host` on, if that is the word after the program's name.
 pub fn words_of_host<'a>(words: &'a [&'a str]) -> Option<&'a [&'a str]>
     ensures some { IfSome result (λ own. (name : Text) × (rest : List Text)
         × (texts words.entry.now ≡ name ∷ codes "host" ∷ rest) × (texts own.now ≡ codes "host" ∷ rest)) }

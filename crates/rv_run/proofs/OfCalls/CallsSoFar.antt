@@ -156,7 +156,7 @@ module _ {O R W : Type 0} (taken : O → Option (List ℕ)) (remaining : R → O
 
 module _ {O R W : Type 0} (taken : O → Option (List ℕ)) (remaining : R → Option (List ℕ)) (contents : W
     → Option (List ℕ)) (starting : Starting) (tries : ℕ) where
-  -- behind the texts a word is printed, or it is not
+  -- after the texts a word is printed, or it is not
   pub runs_by_word : (all texts : List (List ℕ)) (word : EndWord) (before after : Link R W) (count : ℕ)
       (a b c : Sink O) (result : Result CallSaid RunFault)
       → Stops remaining contents starting tries all texts word before after → TakesLines taken texts a b

@@ -186,7 +186,7 @@ module _ {O R W F : Type 0} (taken : O → Option (List ℕ)) (remaining : R →
 
 module _ {O R W F : Type 0} (taken : O → Option (List ℕ)) (remaining : R → Option (List ℕ))
     (contents : W → Option (List ℕ)) (kept : F → Option (List ℕ)) (starting : Starting) (tries : ℕ) where
-  -- behind the texts a word is printed, or it is not
+  -- after the texts a word is printed, or it is not
   records_by_word : (all texts : List (List ℕ)) (word : EndWord) (before after : Link R W) (count : ℕ)
       (a b c : Sink O) (f g : Sink F) (result : Result CallSaid RecordingFault)
       → Stops remaining contents starting tries all texts word before after → TakesLines taken texts a b

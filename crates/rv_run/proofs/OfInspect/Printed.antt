@@ -29,11 +29,11 @@ use Rattle.rv_run.specs.inspect.Report.{IsOther, SaysFinding}
 behind : (x y z w : List ℕ) → y ++ z ≡ w → (x ++ y) ++ z ≡ x ++ w
 behind x y z w is = append_assoc x y z ∙ ap (λ l. x ++ l) is
 
--- a line, and another one behind LF
+-- a line, and another one after LF
 pub two_lines : (x y : List ℕ) → IsOneText (x ∷ y ∷ []) (x ++ 10 ∷ y)
 two_lines x y = append_assoc x (10 ∷ y) (10 ∷ [])
 
--- a verdict, and behind it that the end is torn
+-- a verdict, and after it that the end is torn
 pub torn_text : (v : AccountVerdict) (rule : Option Rule) (torn : Bool) (own text : List ℕ) → torn ≡ true
     → own ≡ verdict_text v rule → text ≡ own ++ codes "\ntorn end"
     → IsOneText (verdict_lines v rule torn) text

@@ -191,7 +191,7 @@ module _ {r : Records} {findings : List Finding} {first : List ℕ} {contents no
   says_some lines within =
       record { count = index; within = within; each = so_far.each; says = so_far.says; texts_are = refl }
 
-  -- with the last lines behind them
+  -- with the last lines after them
   pub all_bytes : (lines counts : List (List ℕ)) (last : List ℕ) → IsOneText lines first
       → IsOneText counts last → ((first ++ 10 ∷ []) ++ printed_lines (joined so_far.each)) ++
       (last ++ 10 ∷ [])

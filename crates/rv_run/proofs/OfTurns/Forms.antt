@@ -60,7 +60,7 @@ digits_or_not text = elim (both (at_most 1 (length text)) (both (at_most (length
       | inr not ↦ inr (λ are. not (are.some, (are.within, are.are_digits)))
     ]
 
--- digits before a first space and bytes of a body's length behind it are the form
+-- digits before a first space and bytes of a body's length after it are the form
 form_of : (line digits body : List ℕ) → line ≡ digits ++ 32 ∷ body → Lacks 32 digits
     → Decided (IsDigits digits × HasBodyLength body) → Decided (HasForm line)
 form_of line digits body parts lacks decided = elim decided [

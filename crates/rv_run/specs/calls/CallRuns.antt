@@ -29,7 +29,7 @@ module _ {R W : Type 0} (remaining : R → Option (List ℕ)) (contents : W → 
     pub welcomed : IsWelcomed remaining contents starting tries epoch before greeted
     pub settled : SettlesLines remaining contents tries (first_key starting epoch) all texts greeted after
 
-  -- so were some first lines, and the word says why the one behind them was not
+  -- so were some first lines, and the word says why the line after them was not
   pub record CallsStopAtLine (all texts : List (List ℕ)) (word : EndWord) (before after : Link R W)
       : Type 0 where
     pub first : List (List ℕ)
@@ -50,7 +50,7 @@ module _ {R W : Type 0} (remaining : R → Option (List ℕ)) (contents : W → 
     pub no_text : texts ≡ []
     pub turned_away : IsTurnedAway remaining contents starting tries word before after
 
-  -- the word ends the run behind the lines that were settled with these texts
+  -- the word ends the run after the lines that were settled with these texts
   abbrev pub Stops : List (List ℕ) → List (List ℕ) → EndWord → Link R W → Link R W → Type 0
   Stops all texts word before after = StopsAtOnce texts word before after
       ⊎ CallsStopAtLine all texts word before after
@@ -62,7 +62,7 @@ module _ {R W : Type 0} (remaining : R → Option (List ℕ)) (contents : W → 
     pub cut : all ≡ first ++ later
     pub settles : SettlesAll first texts before after
 
-  -- behind these texts comes this one: that of one more settled line, or the word that ends the run
+  -- after these texts comes this one: that of one more settled line, or the word that ends the run
   abbrev pub TextComesNext : List (List ℕ) → List (List ℕ) → List ℕ → Link R W → Link R W → Type 0
   TextComesNext all texts text before after = SettlesFirst all (texts ++ text ∷ []) before after
       ⊎ ((word : EndWord) × Stops all texts word before after × (text ≡ word_text word))
@@ -82,14 +82,14 @@ module _ {O : Type 0} (contents : O → Option (List ℕ)) where
     pub went_out : SinkTakes contents old new (take sent (printed_lines (texts ++ text ∷ [])))
     pub sink_fails : sink_failed new ≡ true
 
-  -- ---- for private clauses: one line behind others
+  -- ---- for private clauses: one line after others
 
   -- a text, with LF after it
   pub record TakesText (text : List ℕ) (old new : Sink O) : Type 0 where
     pub went_out : SinkTakes contents old new (text ++ 10 ∷ [])
     pub sink_stays : sink_failed new ≡ sink_failed old
 
-  -- a part of one, behind so many bytes: this makes so many bytes in all
+  -- a part of one, after so many bytes: this makes so many bytes in all
   pub record CutsText (text : List ℕ) (before sent : ℕ) (old new : Sink O) : Type 0 where
     pub past_others : before ≤ sent
     pub not_all : sent < before + length text + 1
@@ -128,7 +128,7 @@ module _ {O R W : Type 0} (taken : O → Option (List ℕ)) (remaining : R → O
     pub says : TextComesNext remaining contents starting tries all texts text before after
     pub cut : CutsLine taken texts text sent out out'
 
-  -- memory was refused behind lines that were settled and have these texts: to read the line behind them, of
+  -- memory was refused after lines that were settled and have these texts: to read the line after them, for
   -- which nothing was asked then, or for the text that comes next
   pub record RunsShort (all : List (List ℕ)) (before after : Link R W) (out out' : Sink O) : Type 0 where
     pub texts : List (List ℕ)

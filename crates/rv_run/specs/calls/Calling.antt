@@ -20,11 +20,11 @@ use Rattle.rv_run.specs.declared.calls.client.Halt.TheVariants as halt
 use Rattle.rv_run.specs.declared.calls.end_word.EndWord.{EndWord}
 use Rattle.rv_run.specs.declared.calls.end_word.EndWord.TheVariants as word
 
--- the key behind so many requests
+-- the key after so many requests
 abbrev pub key_behind : Key → ℕ → Key
 key_behind key requests = record key { number = key.number + requests }
 
--- the client is idle, and this key and one for each of so many requests behind it keep the limits
+-- the client is idle, and this key and one for each of so many requests after it keep the limits
 pub record HasNumbers (idle : Option Key) (requests : ℕ) : Type 0 where
   pub key : Key
   pub is_next : idle ≡ Some key

@@ -127,8 +127,8 @@ module _ {O R W F : Type 0} (taken : O → Option (List ℕ)) (remaining : R →
     pub says : ComesRecorded all texts text before after old.file new.file
     pub cut : CutsLine taken texts text sent old.out new.out
 
-  -- memory was refused behind lines that were settled and have these texts and their entries: to read the
-  -- line behind them, of which nothing was asked then, or for the text that comes next, which has no entry
+  -- memory was refused after lines that were settled and have these texts and their entries: to read the
+  -- line after them, for which nothing was asked then, or for the text that comes next, which has no entry
   pub record RecordsShort (all : List (List ℕ)) (before after : Link R W) (old new : Outlets O F)
       : Type 0 where
     pub texts : List (List ℕ)
@@ -197,7 +197,7 @@ module _ {L O R W F : Type 0} (given : L → Option (List ℕ)) (taken : O → O
 -- ---- for private clauses: one line
 
 module _ {O F : Type 0} (taken : O → Option (List ℕ)) (kept : F → Option (List ℕ)) where
-  -- a settled line's entry, and its text behind so many bytes of the output
+  -- a settled line's entry, and its text after so many bytes of the output
   abbrev pub TellsCall : List ℕ → List ℕ → ℕ → Outlets O F → Outlets O F → Result ℕ RecordingFault → Type 0
   TellsCall entry text before old new (Ok count) = (count ≡ before + length text + 1)
       × TakesText kept entry old.file new.file × TakesText taken text old.out new.out
@@ -213,7 +213,7 @@ module _ {O F : Type 0} (taken : O → Option (List ℕ)) (kept : F → Option (
       ⊎ ((sent : ℕ) × CutsText taken text before sent old.out new.out))
 
 module _ {O : Type 0} (taken : O → Option (List ℕ)) where
-  -- the word that ends the run, behind so many bytes of the output
+  -- the word that ends the run, after so many bytes of the output
   abbrev pub SaysWord : List ℕ → ℕ → Sink O → Sink O → Result CallSaid RecordingFault → Type 0
   SaysWord text before old new (Ok Stopped) = TakesText taken text old new
   SaysWord text before old new (Ok Whole) = ⊥

@@ -62,7 +62,7 @@ call_said key (Waits call) = Some (message_text (Request key call))
 call_said key (RepliedTo call reply) = Some (message_text (Request key call))
 call_said key CancelledUnseen = None
 
--- the body that stands behind the finding: the other reply's, or the other call's
+-- the body that follows the finding: the other reply's, or the other call's
 abbrev pub instead_said : Finding → Key → Fate → Option (List ℕ)
 instead_said Kept key fate = None
 instead_said KeptUnseen key fate = None
@@ -76,7 +76,7 @@ instead_said NoRecord key fate = None
 
 -- ---- the lines of a record
 
--- a line's number, its finding's words, and the body behind it, if there is one
+-- a line's number, its finding's words, and the body after it, if there is one
 abbrev pub finding_text : ℕ → Finding → Option (List ℕ) → List ℕ
 finding_text number finding None = decimal number ++ 32 ∷ words_of finding
 finding_text number finding (Some body) = decimal number ++ (32 ∷ words_of finding ++ 32 ∷ body)

@@ -76,14 +76,14 @@ pub record SaysEach (r : Records) (findings : List Finding) (count : ℕ) (each 
       → slice_get findings index ≡ Some finding → slice_get each index ≡ Some texts
       → SaysLine a r.lines.items index own finding texts
 
--- behind the first lines stand those of each line of the record, and the counts
+-- after the first lines come those of each line of the record, and the counts
 pub record SaysAll (first : List (List ℕ)) (r : Records) (findings : List Finding)
     (counts texts : List (List ℕ)) : Type 0 where
   pub each : List (List (List ℕ))
   pub says : SaysEach r findings (length r.lines.items) each
   pub texts_are : texts ≡ first ++ (flat_map (λ own. own) each ++ counts)
 
--- behind the first lines stand those of some first lines of the record
+-- after the first lines come those of some first lines of the record
 pub record SaysSome (first : List (List ℕ)) (r : Records) (findings : List Finding)
     (texts : List (List ℕ)) : Type 0 where
   pub count : ℕ

@@ -26,13 +26,13 @@ pub record SayTwo (First Second : List ℕ → Type 0) (fields : List ℕ) : Typ
   pub says_first : First first
   pub says_second : Second second
 
--- an incarnation alone is one of version 1; of version 2 one space and that number stand behind it
+-- an incarnation alone is one of version 1; for version 2, one space and that number follow it
 abbrev pub SaysSession : List ℕ → ℕ → Version → Type 0
 SaysSession fields incarnation One = WritesIdentifier fields incarnation
 SaysSession fields incarnation Two =
     SayTwo (λ f. WritesIdentifier f incarnation) (λ f. f ≡ codes "2") fields
 
--- the fields behind the word say the event; a call is said by any text of it
+-- the fields after the word say the event; a call is said by any text of it
 abbrev pub SayRest : List ℕ → Event → Type 0
 SayRest fields (event.Start client incarnation version) =
     SayTwo (λ f. WritesIdentifier f client) (λ f. SaysSession f incarnation version) fields

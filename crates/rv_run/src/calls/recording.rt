@@ -148,8 +148,8 @@ fn record_lines<O: Write, R: Read, W: Write, F: Write>(
     Ok(CallSaid::Whole)
 }
 
-// Writes the entry of a settled call, then prints its text behind so many bytes, and gives how many there are
-// then. Memory is refused for the text before the entry goes out.
+// Writes the entry of a settled call, then prints its text after so many bytes, and returns how many there
+// are then. If memory is refused for the text, that is before the entry goes out.
 fn tell_call<O: Write, F: Write>(
     alloc: Global,
     asked: &str,
@@ -218,7 +218,7 @@ fn write_entry<F: Write>(
     Ok(())
 }
 
-// Prints the word that ends the run, behind so many bytes.
+// Prints the word that ends the run, after so many bytes.
 fn say_word<O: Write>(
     alloc: Global,
     word: EndWord,

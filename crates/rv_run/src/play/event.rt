@@ -71,7 +71,7 @@ fn start(fields: &[u8]) -> Option<Event>
     Some(Event::Start(read_identifier(client)?, incarnation, version))
 }
 
-// An incarnation of version 1, or one with the version 2 behind it.
+// An incarnation of version 1, or one with the version 2 after it.
 fn read_session(fields: &[u8]) -> Option<(u64, Version)>
     ensures says { IfSome result (λ session. SaysSession fields.now session.0 session.1) }
     ensures none { result ≡ None → (incarnation : ℕ) (version : Version)

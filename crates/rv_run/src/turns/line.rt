@@ -17,7 +17,7 @@ pub(crate) fn read_line(alloc: Global, line: &[u8]) -> Result<(u64, Message), Li
     Ok((moment, decode_message(alloc, body)?))
 }
 
-// The moment of a line, and the bytes behind the one space after it, whatever they are.
+// The moment of a line, and the bytes that follow the one space after it, whatever they are.
 fn moment_and_body(line: &[u8]) -> Option<(u64, &[u8])>
     ensures some { IfSome result (λ p. (digits : List ℕ) × (line.now ≡ digits ++ 32 ∷ p.1.now)
         × WritesNumber digits p.0) }

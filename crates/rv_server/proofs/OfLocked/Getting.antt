@@ -33,7 +33,7 @@ nothing_told number body share old new told same tells = record {
   tells = tells;
 }
 
--- what a stamp shows stands behind what those before it show
+-- what a stamp shows comes after what those before it show
 pub pushed_shown : {S : Type 0} (stamped : S → Stamped) (number : ℕ) (stamp : S) (old room new : List (ℕ × S))
     → room ≡ old → new ≡ room ++ (number, stamp) ∷ []
     → shown_stamps stamped new ≡ shown_stamps stamped old ++ (number, stamped stamp) ∷ []

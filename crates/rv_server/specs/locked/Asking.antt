@@ -24,7 +24,7 @@ abbrev pub Cover : ℕ → List Numbered → Type 0
 Cover own [] = Unit {0}
 Cover own (stamp ∷ stamps) = (own + added_by stamp.1 ≤ stamp.1.length) × Cover (own + added_by stamp.1) stamps
 
--- for the frame of this number and body these stamps were got, behind those that were there, and they added
+-- these stamps were got for the frame of this number and body, after those that were there, and they added
 -- to the seat's share what they say
 pub record GetsStamps (number : ℕ) (body : List ℕ) (share : ℕ) (old : List Numbered) (share' : ℕ)
     (new got : List Numbered) : Type 0 where
@@ -33,13 +33,13 @@ pub record GetsStamps (number : ℕ) (body : List ℕ) (share : ℕ) (old : List
   pub adds : share' ≡ share + added_entries got
   pub cover : Cover share got
 
--- what is told of the frame, by its body and the stamps that were got for it
+-- what is reported of the frame, by its body and the stamps that were got for it
 abbrev pub TellsFrame : List ℕ → List Numbered → FrameAnswer → Type 0
 TellsFrame body got BadText = IsNoMessage body
 TellsFrame body got NoMemory = Unit {0}
 TellsFrame body got (Said answer) = LastSays got answer × FitsAnswer answer
 
--- such stamps were got, and this is told by them
+-- such stamps were got, and this is reported by them
 pub record GetsTold (number : ℕ) (body : List ℕ) (share : ℕ) (old : List Numbered) (share' : ℕ)
     (new : List Numbered) (told : FrameAnswer) : Type 0 where
   pub got : List Numbered

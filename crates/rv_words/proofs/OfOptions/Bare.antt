@@ -130,7 +130,7 @@ stall_written = record {
   fits = (lit≤ tt, lit≤ tt);
 }
 
--- a number that is written behind an option is what the option gives, and it gives no other
+-- a number that is written after an option is what the option gives, and it gives no other
 given : (option : HostNumber) (r : List Row) (text : Text) (m n : ℕ) → given_for option r ≡ Some text
     → WritesWithin option text m → n ≡ m → GivesNumber option r n
 given option r text m n is written same =

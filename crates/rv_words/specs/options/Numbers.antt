@@ -36,7 +36,8 @@ most_of number.Stall = 31536000
 abbrev pub Fits : HostNumber → ℕ → Type 0
 Fits number n = IsInRange (least_of number) (most_of number) n
 
--- the text is decimal digits, behind a plus or none, of this number, which is within the option's limits
+-- the text is decimal digits of this number, with or without a plus in front, and the number is within the
+-- option's limits
 pub record WritesWithin (number : HostNumber) (text : Text) (n : ℕ) : Type 0 where
   pub digits : IsNumeral 10 (without_leading_plus text)
   pub of_number : digits_value 10 (without_leading_plus text) ≡ n

@@ -7,7 +7,7 @@ use Rattle.rv_frame.specs.Source.{SourceGives}
 use borrow.Rule.Slice.PartMut.{put_mid}
 use Rattle.rv_client.proofs.link.fill.Goals as goal
 
--- the front of a list whose part behind `filled` was written
+-- the front of a list whose part after `filled` was written
 front_filled : (filled count size : ℕ) (old new : List ℕ) → filled ≤ length old → count ≤ length new
     → take (filled + count) (put_mid filled size old new) ≡ take filled old ++ take count new
 front_filled filled count size old new within fewer =

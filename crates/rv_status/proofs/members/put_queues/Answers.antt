@@ -1,4 +1,4 @@
--- Each token stands behind those before it.
+-- Each token comes after those before it.
 use Rattle.std.proofs.Common.{codes}
 use Rattle.std.proofs.lemmas.Result.{on_ok_weaker}
 use Rattle.rv_status.specs.Values.{queue_value}

@@ -1,4 +1,4 @@
--- Each token stands behind those before it.
+-- Each token comes after those before it.
 use Rattle.std.proofs.lemmas.Result.{on_ok_weaker}
 use Rattle.rv_status.specs.Values.{waiting_value}
 use Rattle.rv_status.proofs.Told.{list_told}

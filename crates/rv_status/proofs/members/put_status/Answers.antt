@@ -1,4 +1,4 @@
--- The members stand one behind another.
+-- The members come one after another.
 use Rattle.std.proofs.lemmas.Result.{on_ok_weaker}
 use Rattle.rv_status.proofs.Told.{status_told}
 use Rattle.rv_status.proofs.members.put_status.Goals as goal

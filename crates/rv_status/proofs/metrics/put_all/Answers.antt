@@ -1,4 +1,4 @@
--- The numbers, the items and the consumers stand one behind another.
+-- The numbers, the items and the consumers come one after another.
 use Rattle.std.proofs.lemmas.Result.{on_ok_weaker}
 use Rattle.rv_status.specs.Rows.{reading_row}
 use Rattle.rv_status.proofs.Told.{metrics_told}

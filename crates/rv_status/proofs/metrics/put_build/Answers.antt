@@ -1,4 +1,4 @@
--- The version stands behind its head.
+-- The version comes after its head.
 use Rattle.std.proofs.Common.{codes}
 use Rattle.std.proofs.lemmas.Result.{on_ok_weaker}
 use Rattle.rv_status.specs.declared.numbers.MetricKind.TheVariants.{Gauge}

@@ -1,4 +1,4 @@
--- The values stand behind their head.
+-- The values come after their head.
 use Rattle.std.proofs.lemmas.Result.{on_ok_weaker}
 use Rattle.rv_status.proofs.Told.{family_told}
 use Rattle.rv_status.proofs.metrics.put_family.Goals as goal

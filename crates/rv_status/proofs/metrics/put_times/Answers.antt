@@ -1,4 +1,4 @@
--- Both histograms, one behind the other.
+-- Both histograms, one after the other.
 use Rattle.std.proofs.Common.{codes}
 use Rattle.std.proofs.lemmas.Result.{on_ok_weaker}
 use Rattle.rv_status.specs.Texts.{histogram_text}

@@ -1,4 +1,4 @@
--- What becomes of a connection behind its opening.
+-- What becomes of a connection after it was opened.
 use Rattle.rv_traffic.proofs.CallsRun.{calls_join}
 use Rattle.rv_host.proofs.shell.Shell.open.Goals as goal
 

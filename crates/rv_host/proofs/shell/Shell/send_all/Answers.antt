@@ -1,4 +1,4 @@
--- One call behind the other.
+-- One call after the other.
 use Rattle.std.proofs.Common.{◌∙◌}
 use Rattle.rv_traffic.proofs.CallsRun.{calls_join}
 use Rattle.rv_host.proofs.Turning.{calls_to}

@@ -1,4 +1,4 @@
--- Behind the verdict stands that the end is torn.
+-- After the verdict comes the line that says the end is torn.
 use Rattle.std.proofs.Common.{string_bytes}
 use Rattle.std.proofs.lemmas.Result.{IfOk-weaker}
 use Rattle.rv_run.proofs.OfInspect.Printed.{torn_text}

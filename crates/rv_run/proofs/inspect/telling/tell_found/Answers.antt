@@ -1,4 +1,4 @@
--- By the lines of the verdict, and what is told behind them.
+-- By the lines of the verdict, and what is told after them.
 use Rattle.std.proofs.Common.{inl, refl, subst, sym}
 use Rattle.std.proofs.lemmas.Result.{err_from_is_err_and}
 use Rattle.rv_run.specs.inspect.Lines.{verdict_lines}

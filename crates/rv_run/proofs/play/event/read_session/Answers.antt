@@ -1,4 +1,4 @@
--- A session is said in one way: by an incarnation alone, or by one with the number of version 2 behind it.
+-- A session is said in one way: by an incarnation alone, or by one with the number of version 2 after it.
 use Rattle.std.proofs.Common.{refl, sym, ◌∙◌}
 use Rattle.std.proofs.lemmas.Bool.{false≢true}
 use Rattle.rv_run.proofs.OfPlay.Saying.{no_session, no_session_of_two}

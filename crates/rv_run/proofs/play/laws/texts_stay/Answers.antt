@@ -1,4 +1,4 @@
--- By the turns behind it, which only add.
+-- By the turns after it, which only add.
 use Rattle.rv_world.proofs.OfParts.Listing.{place_of}
 use Rattle.rv_run.proofs.OfPlay.Running.{text_stays}
 use Rattle.rv_run.proofs.play.laws.texts_stay.Goals as goal

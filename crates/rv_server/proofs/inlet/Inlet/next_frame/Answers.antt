@@ -1,4 +1,4 @@
--- Each turn flushes the sink and reads one piece behind those of the turns before it.
+-- Each turn flushes the sink and reads one piece after those of the turns before it.
 use Rattle.std.proofs.Common.{[], Err, rules, subst, sym, true, ◌≡◌}
 use Rattle.std.proofs.KnownBytes.{Appends-nil, Appends-trans}
 use Rattle.rv_frame.specs.Stream.{Stream}

@@ -1,4 +1,4 @@
--- The read, the answers and the write, one behind another.
+-- The read, the answers and the write, one after another.
 use Rattle.std.proofs.Common.{◌∙◌, List, subst}
 use Rattle.http_server.specs.declared.state.Config.{Config}
 use Rattle.http_server.specs.Connection.{history}
