@@ -1,4 +1,9 @@
-//! The program `rv`: it reads its command line, and runs the command that the words name.
+//! The program `rv`, which reads its command line and runs the command that it names.
+//!
+//! ```sh
+//! $ rv audit < account.txt
+//! legal
+//! ```
 #![tactic(auto)]
 
 ghost use Rattle.std.specs.Prelude.{◌≤◌};

@@ -1,4 +1,10 @@
-//! The server that stays, `rv host`: one thread and one poll around an engine.
+//! The long-running server, `rv host`: one thread and one poll around an engine.
+//!
+//! ```
+//! // rv host --listen 127.0.0.1:7411 --account account.txt
+//! let words = ["host", "--listen", "127.0.0.1:7411", "--account", "account.txt"];
+//! let status = run_host(rt, &words); // runs until it is killed or can't go on
+//! ```
 #![tactic(auto)]
 
 mod door;

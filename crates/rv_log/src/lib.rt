@@ -1,4 +1,13 @@
-//! What a server says of itself: how often each kind of fault is told, the texts, and the bytes of a line.
+//! The lines that a server logs: its start, and how often each kind of fault came, at most once a minute.
+//!
+//! ```
+//! let mut tally = FaultTally::new();
+//! tally.note();
+//! if let Some(count) = tally.take(now) {
+//!     let text = fault_text(alloc, FaultKind::Link, count)?; // "links that broke: 1"
+//!     let bytes = line(alloc, None, &text)?; // with LF, at most 4,096 bytes
+//! }
+//! ```
 #![tactic(auto)]
 
 mod kind;

@@ -1,5 +1,12 @@
-//! The parts that runs over lines share: they read their whole input, print their lines in large pieces, and
-//! end by the same faults.
+//! The runs of `rv` over lines, such as calls, plays and turns of a book, and what these runs share.
+//!
+//! They read their whole input first, print their lines in large pieces, and end with the same faults.
+//!
+//! ```
+//! let mut source = Source::new(rt.stdin());
+//! let mut sink = Sink::new(rt.stdout());
+//! play_run(rt.alloc(), &mut source, &mut sink)?; // what `rv play` does
+//! ```
 #![tactic(auto)]
 
 pub mod calls;

@@ -1,5 +1,14 @@
 //! What a server shows of itself over HTTP: a page for people, the same as JSON, metrics, and whether it
-//! works; and the few, short connections that ask for it.
+//! works.
+//!
+//! It keeps a few short-lived connections for that, and visits them in turn.
+//!
+//! ```
+//! let mut visitors = Visitors::new(alloc, keys)?;
+//! visitors.admit(now, stream);
+//! let mut pages = StatusPages { alloc, status: &status, names: &names };
+//! let had_something_to_send = visitors.visit(now, &mut pages);
+//! ```
 #![tactic(auto)]
 
 mod answers;

@@ -1,15 +1,23 @@
-//! A program for tests, whose first word says what it does.
+//! A program for tests, which runs steps of a machine or events of a hub, and reads JSON and bodies.
+//!
+//! ```sh
+//! $ printf '0 {"a":1, "b":[]}\n' | rv_steps json
+//! {"a":1,"b":[]}
+//! ```
+//!
+//! Its first word says what it does:
 //!
 //! `machine ENTRIES CLIENTS OPEN|none [anew | turns COUNT]`: a machine of epoch 1 makes the step of each line
-//! of standard input under these limits, and what that is told is printed. By `anew` a machine that is made
-//! anew hears each line; by `turns` the machine takes so many turns of the program's own, and no line.
+//! of standard input under these limits, and its answer is printed. With `anew`, each line is heard by a
+//! machine that was made anew; with `turns`, the machine takes so many turns of the program's own, and no
+//! line.
 //!
 //! `hub ENTRIES CLIENTS OPEN|none PATIENCE journal|none`: a hub over such a machine is handed the event of
-//! each line, and what comes of that is printed.
+//! each line, and what came of it is printed.
 //!
 //! `json`: the JSON of each line is written back.
 //!
-//! `bodies`: of each line's body, in hexadecimal digits, or a lone `-` for none, it is printed what that is
+//! `bodies`: for each line's body, in hexadecimal digits, or a lone `-` for none, it prints what the body is
 //! read as: the message, the answer and the call, with a tab between them, each written again, or the number
 //! of its fault. A call is written as the request whose key has 1 for each number.
 #![tactic(auto)]

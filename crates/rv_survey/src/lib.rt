@@ -1,4 +1,12 @@
 //! What a server's status shows of a hub: what waits in its queues, and its oldest requests.
+//!
+//! ```
+//! let mut sights = Sights::new(alloc);
+//! list_queues(hub.machine(), &mut queues)?;
+//! renew(&mut waiting, client, waiting_row(hub.machine(), client))?;
+//! let row = sights.look(client, unheard_row(&hub, client), now);
+//! renew(&mut unheard, client, row)?;
+//! ```
 #![tactic(auto)]
 
 mod oldest;

@@ -1,7 +1,14 @@
-//! What no clause and no program says of the crates below the program: a list of events, the copy of an
-//! account, room on both sides of a queue, and that a deadline that is there takes no memory; the fault that
-//! a request or a worker meets at its link, how often devices are asked, and sizes that no program has; how
-//! many of its connections a server counts as served.
+//! Tests of what no contract and no program says of the libraries that the program uses.
+//!
+//! They test a list of events, the copy of an account, room on both sides of a queue, and that a deadline
+//! that is there takes no memory; the fault that a request or a worker meets at its link, how often devices
+//! are asked, and sizes that no program has; and how many of its connections a server counts as served.
+//!
+//! ```
+//! fn room_is_made_on_both_sides(rt: HostRuntime) {
+//!     Dual::new(rt.alloc()).reserve().expect(&rt, "no memory");
+//! }
+//! ```
 #![tactic(auto)]
 
 #[cfg(test)]

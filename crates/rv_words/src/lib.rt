@@ -1,5 +1,12 @@
-//! The words of the program `rv` as `clap` reads them: its commands with their options, and those that
-//! read their own words.
+//! The command line of the program `rv`, as `clap` reads it: its commands and their options.
+//!
+//! Some commands, such as `host`, `record` and `verify`, have a reader of their own.
+//!
+//! ```
+//! let command = read_command(alloc, &["rv", "book", "--epoch", "7"])?; // Command::Book(7)
+//! let verify = read_verify(alloc, &["rv", "verify", "account.txt"])?; // Some(VerifyWords { .. })
+//! let millis = read_duration("90s"); // Some(90_000)
+//! ```
 #![tactic(auto)]
 
 pub mod command;
