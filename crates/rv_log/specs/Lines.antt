@@ -9,8 +9,8 @@ abbrev pub stamp_bytes : Option HttpDate → List ℕ
 stamp_bytes None = []
 stamp_bytes (Some date) = date_text date ++ 32 ∷ []
 
--- the text and what stands in front, cut so that both have at most 4,095 bytes and the text ends by a whole
--- character, and no later; and LF (10)
+-- the text and what stands in front of it, and LF (10); the text is cut after the last whole character that
+-- leaves both with at most 4,095 bytes
 pub record IsLogLine (at : Option HttpDate) (text bytes : List ℕ) : Type 0 where
   pub count : ℕ
   pub bytes_are : bytes ≡ stamp_bytes at ++ take count text ++ 10 ∷ []

@@ -47,7 +47,7 @@ abbrev pub start_words : StartSaid → List ℕ
 start_words said = place_words said.address.now said.epoch ++ link_words said.connections said.open_files
     ++ book_words said.clients said.open_places said.memory ++ codes ", rv " ++ said.version.now
 
--- how a client makes a call of a server at an address
+-- how a client makes a call to a server at an address
 abbrev pub call_words : List ℕ → List ℕ → ℕ → List ℕ
 call_words call address client = codes "echo '" ++ (call ++ (codes "' | rv call --connect " ++ (address
     ++ (codes " --client " ++

@@ -1,4 +1,4 @@
-//! The kinds of fault that a server tells, once a minute each.
+//! The kinds of fault that a server reports, each at most once a minute.
 ghost use Rattle.std.specs.Prelude.{◌≡◌};
 ghost use Rattle.rv_log.specs.Texts.{kind_words};
 
@@ -19,11 +19,11 @@ pub enum FaultKind {
     Stall,
     /// Lines of the account found no memory.
     Behind,
-    /// A connection held most when all held too much.
+    /// A connection held the most bytes when all held too much.
     MostHeld,
-    /// A line that standard error didn't take.
+    /// Standard error didn't take a line.
     Dropped,
-    /// A connection was closed since its address had as many as it may.
+    /// A connection was closed because its address had as many as it may have.
     TooManyFrom,
     /// The account's file wasn't in its place, or not as long as what was written to it.
     AccountFile,
@@ -36,7 +36,7 @@ pub enum FaultKind {
 }
 
 impl FaultKind {
-    /// All kinds, in the order in which they are told.
+    /// All kinds, in the order in which they are reported.
     pub const ALL: [FaultKind; 14] = [
         FaultKind::NotOpened,
         FaultKind::NoDescriptor,
@@ -54,7 +54,7 @@ impl FaultKind {
         FaultKind::NoMemory,
     ];
 
-    /// What is counted of it, in words.
+    /// What is counted, in words.
     pub fn words(self) -> &'static str
         ensures { result.now ≡ kind_words self }
     {

@@ -13,15 +13,15 @@ pub struct StartSaid<'a> {
     pub address: &'a str,
     /// Its epoch.
     pub epoch: u64,
-    /// How many connections it has at most, and the limit of open files that they keep.
+    /// The most connections that it has, which keep within the limit of open files.
     pub connections: u64,
-    /// That limit.
+    /// The limit of open files.
     pub open_files: u64,
-    /// How many clients it takes.
+    /// The most clients that it takes.
     pub clients: u64,
-    /// How many items and requests are open at most.
+    /// The most items and requests that are open.
     pub open_places: u64,
-    /// How many MiB the bytes of all connections take.
+    /// The most MiB that the bytes of all connections take.
     pub memory: u64,
     /// The version of this build.
     pub version: &'a str,
@@ -60,7 +60,8 @@ fn book_text(alloc: Global, clients: u64, places: u64, memory: u64) -> Result<St
     format!(in alloc; "{clients} clients, {places} open, {memory} MiB")
 }
 
-/// How a client of this number makes a call, as call text, of a server at an address.
+/// The command line with which a client of this number makes a call, given as text, to the server at an
+/// address.
 pub fn call_text(
     alloc: Global,
     call: &str,

@@ -16,7 +16,7 @@ pub record AnsweredFrame : Type 0 where
   pub item : Item
   pub answer : List ℕ
 
--- what the answer's body says, and of what
+-- what the answer's body says, of which frame
 abbrev pub BodySays : Item → List ℕ → List Numbered → List ℕ → Type 0
 BodySays BadText body stamps answer = IsNoMessage body × (answer ≡ refused_text refusal.BadText)
 BodySays NoMemory body stamps answer = answer ≡ refused_text refusal.NoMemory
@@ -27,7 +27,7 @@ pub record IsAnsweredFrame (number : ℕ) (frame : AnsweredFrame) : Type 0 where
   pub fits : IsFrameBody frame.answer
   pub says : BodySays frame.item frame.body frame.stamps frame.answer
 
--- the answered frames, numbered from this number on
+-- the frames were answered rightly, and are numbered from this number on
 abbrev pub AreAnsweredFrames : ℕ → List AnsweredFrame → Type 0
 AreAnsweredFrames number [] = Unit {0}
 AreAnsweredFrames number (frame ∷ answered) = IsAnsweredFrame number frame × AreAnsweredFrames

@@ -1,4 +1,4 @@
--- What is got for one frame, by asking the desk for it once or more often.
+-- What is got for one frame, by asking the desk for it once or more than once.
 use Rattle.std.specs.Prelude.{ℕ, ◌≡◌, Bool, List, true}
 use Rattle.std.specs.List.{All}
 use Rattle.rv_text.specs.declared.answer.Answer.{Answer}
@@ -10,7 +10,7 @@ use Rattle.rv_server.specs.declared.locked.asking.FrameAnswer.TheVariants.{Said}
 use Rattle.rv_server.specs.declared.fault.WorkFault.{WorkFault}
 use Rattle.rv_server.specs.declared.fault.WorkFault.TheVariants as fault
 
--- it is told that the request waits
+-- the answer says that the request waits
 pub record Waits (told : FrameAnswer) : Type 0 where
   pub answer : Answer
   pub is : told ≡ Said answer
@@ -22,7 +22,7 @@ pub record GetsSome (number : ℕ) (body : List ℕ) (share : ℕ) (old : List N
   pub got : List Numbered
   pub gets : GetsStamps number body share old share' new got
 
--- so far all stamps that were got stand for an answer that waits
+-- all stamps that were got so far stand for an answer that waits
 pub record OnlyWaited (number : ℕ) (body : List ℕ) (share : ℕ) (old : List Numbered) (share' : ℕ)
     (new : List Numbered) : Type 0 where
   pub got : List Numbered

@@ -1,4 +1,4 @@
--- How far a worker has come, and what one frame more does.
+-- How far a worker has come, and what one more frame does.
 use Rattle.std.specs.Prelude.{ℕ, ◌≡◌, ◌+◌, ◌<◌, ◌⊎◌, ◌∷◌, ◌++◌, [], List, Option, map, length, take, true}
 use Rattle.rv_frame.specs.Cut.{frame_bytes, row_bytes}
 use Rattle.rv_frame.specs.Sink.{SinkTakes, sink_failed}
@@ -68,7 +68,7 @@ module _ {W : Type 0} (contents : W → Option (List ℕ)) where
   StopsAtFrame number body before after old new _ = ⊥
 
 module _ {R W : Type 0} (remaining : R → Option (List ℕ)) (contents : W → Option (List ℕ)) where
-  -- so many frames were answered, all that were taken of the stream
+  -- so many frames were answered, which are all that were taken from the stream
   pub record Progress (before after : Connection R W) (listed : Listed) (stream : Stream) (number : ℕ)
       : Type 0 where
     pub bytes : List ℕ

@@ -1,4 +1,4 @@
--- What is read of a connection: bytes, the frames of their cut, and what follows these.
+-- What is read of a connection: its bytes, the frames into which they are cut, and what follows these.
 use Rattle.std.specs.Prelude.{ℕ, ◌≡◌, ◌<◌, ◌++◌, ◌∷◌, [], List, Option, None, Some, Result, Ok, Err, Vec}
 use Rattle.std.specs.Prelude.{Bool, false, length, true}
 use Rattle.std.specs.declared.alloc.Global.{Global}
@@ -36,7 +36,7 @@ TakesWhole old new (Err CutFrame) = ⊥
 TakesWhole old new (Err (WriteFault sent)) = ⊥
 TakesWhole old new (Err TooLong) = ⊥
 
--- where it is a write fault the sink has failed
+-- if it is a write fault, the sink has failed
 abbrev pub FailsAtSink : Bool → WorkFault → Type 0
 FailsAtSink failed (WriteFault sent) = failed ≡ true
 FailsAtSink failed _ = Unit {0}

@@ -1,4 +1,4 @@
--- What stands after a worker read a connection to its end, or stopped.
+-- What holds after a worker read a connection to its end, or stopped.
 use Rattle.std.specs.Prelude.{ℕ, ◌≡◌, ◌≢◌, ◌⊎◌, ◌+◌, ◌<◌, ◌≤◌, ◌∷◌, ◌++◌, [], List, Option, None, Some}
 use Rattle.std.specs.Prelude.{map, length, take, true}
 use Rattle.std.specs.List.{All}
@@ -35,7 +35,7 @@ pub record Connection (R W : Type 0) : Type 0 where
 abbrev pub connection : {R W : Type 0} → Source R → Sink W → ℕ → Connection R W
 connection source sink share = record { source = source; sink = sink; share = share }
 
--- what is told of the frames: an item for each that was answered, and every stamp
+-- what is reported of the frames: an item for each that was answered, and every stamp
 pub record Listed : Type 0 where
   pub items : List Item
   pub stamps : List Numbered
@@ -53,8 +53,8 @@ AreForNext number [] stamps = stamps ≡ []
 AreForNext number (body ∷ bodies) stamps = AreFor number body stamps
 
 module _ {R W : Type 0} (remaining : R → Option (List ℕ)) (contents : W → Option (List ℕ)) where
-  -- the bytes that were read have the answered frames, and then these more and this end; their answers
-  -- were written, and then these bytes more; beside their stamps there are these
+  -- the bytes that were read are the answered frames, then these other frames, and this end; the answers of
+  -- the first were written, and then these bytes; after their stamps come these, for the next frame
   pub record Worked (before after : Connection R W) (list : Listed) (more : List (List ℕ)) (end : End)
       (pending : List Numbered) (broken : List ℕ) : Type 0 where
     pub bytes : List ℕ
@@ -86,7 +86,7 @@ module _ {R W : Type 0} (remaining : R → Option (List ℕ)) (contents : W → 
     pub worked : Worked before after list (frame.body ∷ later) end frame.stamps
         (take sent (frame_bytes frame.answer))
 
-  -- of the next frame's answer nothing was written; stamps were got for it, or none
+  -- nothing of the next frame's answer was written; stamps were got for it, or none
   pub record StopsBetween (before after : Connection R W) (list : Listed) : Type 0 where
     pub more : List (List ℕ)
     pub end : End
@@ -94,20 +94,20 @@ module _ {R W : Type 0} (remaining : R → Option (List ℕ)) (contents : W → 
     pub few : (pending ≡ []) ⊎ (length list.items < max_frames)
     pub worked : Worked before after list more end pending []
 
-  -- a flush failed, before a read or before a pause: what was got for the next frame stands for an answer
-  -- that waits
+  -- a flush failed, before a read or before a pause: all stamps that were got for the next frame stand for
+  -- answers that wait
   pub record FlushFails (before after : Connection R W) (list : Listed) (sent : ℕ) : Type 0 where
     pub none : sent ≡ 0
     pub stops : StopsBetween before after list
     pub waited : All (λ (stamp : Numbered). IsWaiting stamp.1.said) stops.pending
 
-  -- sending failed: the next frame was answered, and of its answer so many bytes went out, and not all; or a
-  -- flush did
+  -- sending failed: a write, so that only so many bytes of the next frame's answer went out, and not all; or
+  -- a flush
   pub record SendingFails (before after : Connection R W) (list : Listed) (sent : ℕ) : Type 0 where
     pub how : AnswerBreaksOff before after list sent ⊎ FlushFails before after list sent
     pub failed : sink_failed after.sink ≡ true
 
-  -- what stands by the fault, if there is one
+  -- what holds after this fault, or after none
   abbrev pub Works : Connection R W → Connection R W → Listed → Option WorkFault → Type 0
   Works before after list None = WorkedOut before after list (Open []) × SourceHasEnded remaining after.source
   Works before after list (Some ReadFault) =

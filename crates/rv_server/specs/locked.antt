@@ -1,4 +1,4 @@
--- The desk behind its lock: its stamps, what it is asked for a frame, and what is written of that.
+-- The desk behind its lock: its stamps, what it is asked for a frame, and the frame that answers.
 pub mod Stamps
 pub mod Books
 pub mod FrameStamps

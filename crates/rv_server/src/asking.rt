@@ -1,4 +1,4 @@
-//! Asks the desk for one frame, until its answer is one that doesn't wait.
+//! Asks the desk for one frame, until the answer says something else than that the request waits.
 ghost use Rattle.std.specs.Prelude.{◌≡◌, [], false, true, IfErr, IfOk, IsTrue, OnErr};
 ghost use Rattle.rv_frame.specs.Sink.{SinkTakes, sink_failed};
 ghost use Rattle.rv_server.specs.locked.Asking.{GetsTold};
@@ -70,8 +70,9 @@ impl<'a, T: Wait, D: Desk, L: Ledger, C: Clock, G: Gate> WorkerContext<'a, T, D,
         Ok(())
     }
 
-    /// Asks for the frame of this number and body. While its request waits it flushes the sink, pauses, and
-    /// asks again: at most 200 pauses, and then the last answer stands. A flush that fails ends it.
+    /// Asks the desk for the frame of this number and body. While its request waits, it flushes the sink,
+    /// pauses, and asks again: at most 200 pauses, and then the last answer stands. A flush that fails ends
+    /// it.
     pub(crate) fn ask<W: Write>(
         &self,
         seat: &mut Seat<L>,

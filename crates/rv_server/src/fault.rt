@@ -13,14 +13,14 @@ pub enum WorkFault {
     /// 1: a read failed, at this call or at an earlier one. The source has failed.
     #[error("a read of the connection failed")]
     ReadFault,
-    /// 2: sending failed, at this call or at an earlier one: a write, after so many bytes of an answer's
-    /// frame, or a flush, which counts 0. The sink has failed.
+    /// 2: sending failed, at this call or at an earlier one: a write, after this many bytes of an answer's
+    /// frame, or a flush, which counts as 0. The sink has failed.
     #[error("a write to the connection failed after {0} bytes of a frame")]
     WriteFault(usize),
     /// 3: the input ended in the middle of a frame.
     #[error("the connection ended in the middle of a frame")]
     CutFrame,
-    /// 4: two length bytes say 0.
+    /// 4: the two bytes of a length say 0.
     #[error("a frame has the bad length {0}")]
     BadLength(u16),
     /// 5: a growth of memory was refused.

@@ -36,7 +36,7 @@ impl Inlet {
     ghost use Rattle.rv_server.specs.Works.{IsCut};
     ghost use Rattle.rv_server.specs.declared.fault.WorkFault.TheVariants.{CutFrame, NoMemory};
 
-    /// An inlet of which nothing was read.
+    /// An inlet to which nothing was read yet.
     pub(crate) fn new(alloc: Global) -> Inlet
         ensures frames { result.frames ≡ [] }
         ensures end { result.end ≡ Open [] }
@@ -49,8 +49,8 @@ impl Inlet {
     }
 
     /// The body of the next whole frame; `None` if the source ended after the last one. It reads only
-    /// while no whole frame is there, and flushes the sink before each read. Each read gives a byte or
-    /// ends: at most 65,537 reads.
+    /// while no whole frame is there, and flushes the sink before each read. Each read gives at least one
+    /// byte or is the last, so there are at most 65,537.
     pub(crate) fn next_frame<R: Read, W: Write>(
         &mut self,
         source: &mut Source<R>,

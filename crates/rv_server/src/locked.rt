@@ -1,4 +1,4 @@
-//! A desk behind its lock: what is asked of it for one frame, and the frame that answers.
+//! A desk behind its lock: what it is asked for one frame, and the frame that answers.
 
 mod asking;
 mod book;

@@ -1,4 +1,4 @@
-//! Serves the connections of a listener, by one thread for each seat.
+//! Serves the connections of a listener, with one thread for each seat.
 ghost use Rattle.std.specs.Prelude.{◌≡◌, ◌<◌, ◌≤◌, ◌+◌, length, vec_len, Err, IfErr, IfOk, OnErr, OnOk};
 ghost use Rattle.std.specs.Vec.{vec_capacity};
 ghost use Rattle.rv_server.specs.declared.sockets.ServeFault.TheVariants.{NoMemory, NoWorker};
@@ -208,16 +208,16 @@ where
     }
 }
 
-/// Serves so many connections of the listener, with one thread for each seat, and ends when all of them
+/// Serves this many connections of the listener, with one thread for each seat, and ends when all of them
 /// were served. A worker answers a connection as [`work`] does until it ends, and then takes the next one.
-/// It sends its answers before each read of the connection, before each pause and at the end, all that
-/// there are at once, and earlier if they have more than 16,384 bytes. While all workers are busy an
-/// accepted connection waits. Once as many wait as there are workers, one more is accepted and waits too,
-/// and then no further one.
+/// It sends all its answers at once, before each read of the connection, before each pause and at the end,
+/// and earlier if they have more than 16,384 bytes. While all workers are busy, an accepted connection
+/// waits. Once as many wait as there are workers, one more is accepted and waits too, and then no further
+/// one.
 ///
-/// A connection ends by a read fault if its peer says nothing for 10 minutes while the worker reads, and by a
-/// write fault if its peer takes nothing for 60 seconds. A failed send ends a connection at once: no further
-/// frame of it is asked for, and answers that were not sent are lost.
+/// A connection ends with a read fault if its peer says nothing for 10 minutes while the worker reads, and
+/// with a write fault if its peer takes nothing for 60 seconds. A failed send ends a connection at once: the
+/// desk is asked for no further frame of it, and answers that were not sent are lost.
 ///
 /// A thread that can't be started is left out, and its seat stays. A failed accept counts as a connection,
 /// and the gate's pause comes before the next one. After the last accept the listener is closed, so that

@@ -73,14 +73,14 @@ impl<'a, T: Wait, D: Desk, L: Ledger, C: Clock, G: Gate> WorkerContext<'a, T, D,
 /// The sink is flushed before each read and before each pause, so that no answer is held back while the
 /// worker waits for its peer or for others. A last flush is left to the caller.
 ///
-/// A frame's body that is no message's is answered by [`BAD_TEXT_BODY`]. Else the desk is asked for its
-/// message, under the lock. If the answer waits, the worker pauses with the lock free, decodes the body
-/// anew and asks again. It pauses at most 200 times, and then the last answer stands. If memory was refused
-/// for the message or for the answer's text, [`NO_MEMORY_BODY`] is the answer.
+/// A frame whose body isn't a message is answered with [`BAD_TEXT_BODY`]. Otherwise the message is handed to
+/// the desk, under the lock. If the answer is that the request waits, the worker pauses with the lock free,
+/// decodes the body anew and asks again. It pauses at most 200 times, and then the last answer stands. If
+/// memory was refused for the message or for the answer's text, [`NO_MEMORY_BODY`] is the answer.
 ///
 /// At most 65,536 frames are answered. The seat's share rises by what the messages of the stamps added. A
 /// [`WorkFault`] comes with the report on all that was done before it. After a write fault each earlier
-/// answer was written whole, and of one more as many bytes as the fault counts: none if a flush failed.
+/// answer was written whole, and as many bytes of the next one as the fault counts: none if a flush failed.
 /// After a failed write or flush nothing more is asked.
 ///
 /// It waits for the lock and the gate, and wherever the source or the sink does.

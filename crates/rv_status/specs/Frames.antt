@@ -3,7 +3,7 @@ use Rattle.std.specs.Prelude.{ℕ, ◌+◌, ◌*◌, Bool, true, false, List, []
 use Rattle.rv_status.specs.declared.frames.FrameMeter.{FrameMeter}
 use Rattle.rv_status.specs.declared.frames.FrameMeter.TheVariants.{Between, Body, Length}
 
--- after a length
+-- what is left after a length
 abbrev pub of_length : ℕ → FrameMeter
 of_length zero = Between
 of_length (suc more) = Body more
@@ -25,7 +25,7 @@ is_between Between = true
 is_between (Length high) = false
 is_between (Body more) = false
 
--- how many frames end in these bytes: at each a byte that is the last of one
+-- how many frames end in these bytes: one for each byte that is the last of a frame
 abbrev pub ends : FrameMeter → List ℕ → ℕ
 ends meter [] = 0
 ends meter (byte ∷ bytes) = cond (is_between (after_byte meter byte)) 1 0 + ends (after_byte meter byte) bytes

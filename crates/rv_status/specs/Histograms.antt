@@ -1,4 +1,4 @@
--- What a histogram tells of the values that were observed, in any order, and its text.
+-- What a histogram shows of the values that were observed, in any order, and its text.
 use Rattle.std.specs.Prelude.{ℕ, ◌+◌, ◌-◌, ◌*◌, ◌/◌, ◌%◌, ◌^◌, List, [], ◌∷◌, ◌++◌, codes, decimal, eqb}
 use Rattle.std.specs.Prelude.{flat_map}
 use Rattle.std.specs.Prelude.{if◌then◌else◌, leb, length, map, min, suc, zero}
@@ -6,7 +6,7 @@ use Rattle.std.specs.List.{count_by, sum}
 use Rattle.rv_status.specs.declared.histogram.Bucket.{Bucket}
 use Rattle.rv_status.specs.declared.histogram.Histogram.{Histogram}
 
--- as far as a count goes
+-- a count stops at 2^64 - 1
 abbrev pub as_counted : ℕ → ℕ
 as_counted n = min n (2 ^ 64 - 1)
 
@@ -14,7 +14,7 @@ as_counted n = min n (2 ^ 64 - 1)
 abbrev pub bucket_of : List ℕ → ℕ → Bucket
 bucket_of seen bound = record { bound = bound; count = as_counted (count_by (λ value. leb value bound) seen) }
 
--- that of each bound, how many values there are, and what they are in all
+-- the bucket of each bound, how many values there are, and their sum
 abbrev pub histogram_of : List ℕ → List ℕ → Histogram
 histogram_of bounds seen = record {
   buckets = map (bucket_of seen) bounds;
@@ -34,7 +34,7 @@ answer_bounds =
     1000 ∷ 5000 ∷ 10000 ∷ 50000 ∷ 100000 ∷ 250000 ∷ 500000 ∷ 1000000 ∷ 5000000 ∷ 10000000 ∷ 30000000
     ∷ 300000000 ∷ 3600000000 ∷ 86400000000 ∷ []
 
--- the digits of a part of a second, of millionths, up to the last that is not 0
+-- the digits of a part of a second, in millionths, up to the last that is not 0
 abbrev pub digits_text : ℕ → ℕ → List ℕ
 digits_text zero rest = []
 digits_text (suc places) rest =
@@ -54,14 +54,14 @@ bucket_text name bucket =
     (name ++ (codes "_bucket{le=" ++ 34 ∷ []))
     ++ (seconds_text bucket.bound ++ ((34 ∷ codes "} ") ++ (decimal bucket.count ++ 10 ∷ [])))
 
--- the lines of all values: how many they are, and their sum in seconds
+-- the lines for all values: how many there are, and their sum in seconds
 abbrev pub totals_text : List ℕ → Histogram → List ℕ
 totals_text name h =
     (name ++ ((codes "_bucket{le=" ++ 34 ∷ (codes "+Inf" ++ 34 ∷ codes "} ")) ++ (decimal h.count
     ++ ((10 ∷ []) ++ (name ++ codes "_sum ")))))
     ++ (seconds_text h.sum ++ ((10 ∷ []) ++ (name ++ (codes "_count " ++ (decimal h.count ++ 10 ∷ [])))))
 
--- those of each bucket, and then these
+-- the lines of each bucket, and then these
 abbrev pub values_text : List ℕ → Histogram → List ℕ
 values_text name h = flat_map (bucket_text name) h.buckets ++ totals_text name h
 

@@ -1,6 +1,5 @@
 -- Whose pages a request asks for: those of a host that is named by an address, by `localhost` or by a name
--- that
--- the server was given. A page of another origin asks under its own name, wherever that leads to.
+-- that the server was given. A page of another origin asks under its own name, wherever that leads to.
 use Rattle.std.specs.Prelude.{ℕ, List, ◌≡◌, ◌==◌, ◌⊎◌, Bool, IsTrue, None, Option, Some, String, codes, drop}
 use Rattle.std.specs.Prelude.{not}
 use Rattle.std.specs.Prelude.{slice_index, string_bytes, take, ◌||◌}

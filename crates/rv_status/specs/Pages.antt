@@ -1,4 +1,4 @@
--- Which page a request is for, and what it is told.
+-- Which page a request is for, and what answers it.
 use Rattle.std.specs.Prelude.{ℕ, List, [], ◌∷◌, ◌++◌, ◌||◌, ◌≡◌, Bool, String, codes, if◌then◌else◌, nat_le}
 use Rattle.std.specs.Str.{bytes_eq}
 use Rattle.std.specs.declared.alloc.Global.{Global}
@@ -28,17 +28,17 @@ page_named path =
     else (if bytes_eq path (codes "/readyz") then pages.Ready
     else pages.Unknown))))
 
--- GET and HEAD alone are for a page
+-- only GET and HEAD are for a page
 abbrev pub page_for : List ℕ → List ℕ → StatusPage
 page_for method path =
     if bytes_eq method (codes "GET") || bytes_eq method (codes "HEAD") then page_named path else
     pages.NotAllowed
 
--- that of a request: a query after its path changes nothing
+-- the page of a request: a query after its path changes nothing
 abbrev pub page_of : Request (List ℕ) → StatusPage
 page_of request = page_for (head_of request).method (uri_path (head_of request).uri)
 
--- what a server of these names answers a request by: a request for another host gets no page
+-- the page with which a server of these names answers a request; a request for another host gets none
 pub record IsToAnswerBy (names : List (String Global)) (request : Request (List ℕ)) (page : StatusPage) :
     Type 0 where
   pub here : IsOwn names request → page ≡ page_of request
@@ -50,7 +50,7 @@ is_full n =
     nat_le n.clients_limit n.clients || nat_le n.open_places_limit n.open_places
     || nat_le n.connections_limit n.connections
 
--- where that is so
+-- the HTTP status that says whether the server is full
 abbrev pub ready_code : Bool → ℕ
 ready_code is_full = if is_full then 503 else 200
 
@@ -68,7 +68,7 @@ page_code n pages.Elsewhere = 421
 page_code n pages.Unknown = 404
 page_code n pages.NotAllowed = 405
 
--- what kind of text its body is
+-- the content type of its body
 abbrev pub page_type : StatusPage → List ℕ
 page_type pages.Front = codes "text/html; charset=utf-8"
 page_type pages.Status = codes "application/json"
@@ -79,7 +79,7 @@ page_type pages.Elsewhere = codes "text/plain"
 page_type pages.Unknown = codes "text/plain"
 page_type pages.NotAllowed = codes "text/plain"
 
--- its body; the short ones end by LF (10)
+-- its body; the short ones end with LF (10)
 abbrev pub page_body : HostStatus → StatusPage → List ℕ
 page_body s pages.Front = PAGE.now
 page_body s pages.Status = compact_text (status_value s)

@@ -3,7 +3,7 @@ use Rattle.std.specs.Prelude.{◌≡◌, ℕ, List, [], ◌∷◌, ◌++◌, ◌
 use Rattle.std.specs.Prelude.{nat_lt, slice_get, if◌then◌else◌}
 use Rattle.rv_status.specs.declared.status.StatusSample.{StatusSample}
 
--- ten seconds are over since the last sample, if there is one
+-- ten seconds have passed since the last sample, if there is one
 abbrev pub IsLater : Option StatusSample → ℕ → Type 0
 IsLater None second = Unit {0}
 IsLater (Some last) second = last.second + 10 ≤ second
@@ -11,7 +11,7 @@ IsLater (Some last) second = last.second + 10 ≤ second
 abbrev pub IsSampleDue : List StatusSample → ℕ → Type 0
 IsSampleDue history second = IsLater (slice_get history (length history - 1)) second
 
--- all of them, but for the oldest if they are more than 61
+-- all of them, except the oldest if there are more than 61
 abbrev pub kept_samples : List StatusSample → List StatusSample
 kept_samples all = if nat_lt 61 (length all) then drop 1 all else all
 

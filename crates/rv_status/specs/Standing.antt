@@ -2,7 +2,7 @@
 use Rattle.std.specs.Prelude.{ℕ, ◌≡◌, List, [], ◌∷◌, length, max}
 use Rattle.rv_status.specs.declared.standing.FrameLine.{FrameLine}
 
--- the first of them stands first since its last byte was read or the answer before it left, whichever is
+-- the first of them has stood first since its last byte was read or the answer before it left, whichever is
 -- later
 abbrev pub StandsSince : List ℕ → ℕ → ℕ → Type 0
 StandsSince [] left since = Unit {0}

@@ -11,7 +11,7 @@ use Rattle.rv_status.specs.declared.status.StatusTimes.{StatusTimes}
 use Rattle.rv_status.specs.Histograms.{values_text}
 use Rattle.rv_status.specs.Rows.{MetricRow, kind_word, number_rows}
 
--- two lines, each ended by LF (10): what a name means, and its kind
+-- two lines, each ending with LF (10): what a name means, and its kind
 abbrev pub family_head : List ℕ → List ℕ → MetricKind → List ℕ
 family_head name help kind =
     codes "# HELP " ++ (name ++ (codes " " ++ (help ++ ((10 ∷ codes "# TYPE ") ++ (name

@@ -33,7 +33,7 @@ sample_value row = listed (map cell_value (row.second ∷ row.entries ∷ row.pl
 abbrev pub queue_value : QueueRow → Data
 queue_value row = listed (map cell_value (row.queue ∷ row.items ∷ row.consumers ∷ []))
 
--- the numbers of a request's row; the last is told of one that was found with no connection
+-- the numbers of a request's row; the last one is there if it was found with no connection
 abbrev pub request_cells : WaitingRow → List ℕ
 request_cells row =
     row.at ∷ row.since ∷ row.client ∷ row.incarnation ∷ row.number ∷ option_to_list row.unheard

@@ -20,7 +20,7 @@ narrow = record {
   read_size = 4096;
 }
 
--- a connection that came at a moment, over which nothing was said
+-- a connection that came at a moment, over which nothing was said yet
 pub record IsFresh {S : Type 0} (stream : S) (now : ℕ) (visitor : Visitor S) : Type 0 where
   pub over : visitor.stream ≡ stream
   pub silent : history visitor.connection ≡ new_history
@@ -28,12 +28,13 @@ pub record IsFresh {S : Type 0} (stream : S) (now : ℕ) (visitor : Visitor S) :
   pub came : visitor.came ≡ now
   pub whole : visitor.is_broken ≡ false
 
--- it came a second ago, and its connection takes more of what it asks for
+-- it came a second ago or earlier, and its connection still reads what it asks for
 abbrev pub IsLateToAsk : {S : Type 0} → ℕ → Visitor S → Type 0
 IsLateToAsk now visitor = (visitor.came + 1000 ≤ now)
     × WantsRead (config_of visitor.connection) (history visitor.connection)
 
--- its socket failed, all is said, it came ten seconds ago, or hasn't said within one what it asks for
+-- its socket failed; or all is said; or it came ten seconds ago or earlier; or it hasn't said within one
+-- second what it asks for
 abbrev pub IsLeaving : {S : Type 0} → ℕ → Visitor S → Type 0
 IsLeaving now visitor =
     IsTrue visitor.is_broken ⊎ (IsDone (history visitor.connection) ⊎ ((visitor.came + 10000 ≤ now)
@@ -57,8 +58,8 @@ pub record SendsOnce {S : Type 0} (contents : S → Option (List ℕ)) (old new 
   pub config : config_of new.connection ≡ config_of old.connection
   pub came : new.came ≡ old.came
 
--- What the socket gave was received, the service made all calls that could be made of it, and the socket took
--- the first so many of the bytes that then waited, if some did.
+-- What the socket gave was received, every call to the service that this allowed was made, and the socket
+-- took a front of the bytes that then waited, if some did.
 pub record IsVisit {S P : Type 0} (remaining contents : S → Option (List ℕ))
     (answers : P → Request (List ℕ) → Response → P → Type 0) (old new : Visitor S) (before after : P)
     (some : Bool) : Type 0

@@ -1,7 +1,7 @@
 //! Which answers leave over a connection: their frames are looked at as they go by.
 ghost use Rattle.std.specs.Prelude.{◌≡◌, ◌≤◌, ◌-◌};
 
-/// How many kinds of answers are counted: refusals 1 to 12, and the others but welcomes.
+/// How many kinds of answers are counted: refusals 1 to 12, and all others except welcomes.
 pub const ANSWERS: usize = 24;
 
 // How many of them are refusals.
@@ -29,7 +29,7 @@ const WAITING: usize = 23;
 /// How many answers of each kind have left: refusals 1 to 12, and then the others by their words.
 pub type AnswerCounts = [u64; ANSWERS];
 
-/// How far the answer goes that is leaving over a connection.
+/// How much is left of the answer that is leaving over a connection.
 #[derive(Clone, Copy)]
 pub struct AnswerMeter {
     // So many bytes at the front of those that are ready are of an answer that was counted.
@@ -44,8 +44,9 @@ impl AnswerMeter {
         AnswerMeter { owed: 0 }
     }
 
-    /// The first so many of the bytes that are ready have left, which are frames after what is owed of the
-    /// last one: each of which a byte left is counted, once. It gives how many these are, welcomes too.
+    /// The first `count` of the bytes that are ready have left. What is ready is the rest of the frame that
+    /// was leaving, and then other frames. Each frame is counted once, as soon as a byte of it left. Returns
+    /// how many frames this call counted, welcomes included.
     pub fn pass(&mut self, ready: &[u8], count: usize, counts: &mut AnswerCounts) -> usize
         ensures owed { count ≤ self.old.owed → self.new.owed ≡ self.old.owed - count }
         ensures counted { count ≤ self.old.owed → counts.new ≡ counts.old }

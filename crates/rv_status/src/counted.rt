@@ -26,8 +26,8 @@ struct AnswerCells {
     times: Cell<Histogram>,
 }
 
-/// How many answers of each kind have left over all connections, of how many of these was told, and how long
-/// their requests stood first of their connection.
+/// How many answers of each kind have left over all connections, how many of them
+/// [`fresh`](AnswerTally::fresh) has returned, and how long their requests stood first of their connection.
 #[derive(Drop)]
 pub struct AnswerTally {
     tally: Rc<AnswerCells>,
@@ -50,7 +50,7 @@ impl AnswerTally {
         })
     }
 
-    /// A turn begins at this moment, in milliseconds: what comes and leaves from now on does then.
+    /// A turn begins at this moment, in milliseconds. All that comes and leaves from now on counts as of it.
     pub fn begin_turn(&self, now: u64) {
         self.tally.now.set(now);
     }
@@ -65,7 +65,7 @@ impl AnswerTally {
         self.tally.times.get()
     }
 
-    /// A socket over which they are counted, of which nothing was read and nothing has left.
+    /// A socket over which answers are counted. Nothing was read from it yet, and nothing has left.
     pub fn over<S>(&self, stream: S) -> CountedStream<S>
         ensures stream { result.stream ≡ stream }
         ensures frames { result.frames ≡ Between }
@@ -81,7 +81,7 @@ impl AnswerTally {
         }
     }
 
-    /// How many of a kind have left since it was asked last.
+    /// How many of a kind have left since this was last asked.
     pub fn fresh(&mut self, place: usize) -> u64 {
         let counts = self.tally.counts.get();
         match (counts.get(place), self.seen.get_mut(place)) {
@@ -95,7 +95,7 @@ impl AnswerTally {
     }
 }
 
-/// A socket, with what is counted of it: what it gives and takes is what the socket does.
+/// A socket that counts what passes over it. It reads and writes exactly what the socket does.
 #[derive(Drop)]
 pub struct CountedStream<S> {
     stream: S,

@@ -1,5 +1,5 @@
-//! How many frames come whole over a connection: of each the two bytes of its length are looked at, and its
-//! body is passed over.
+//! How many whole frames come over a connection: the two bytes of each one's length are read, and its body
+//! is skipped.
 ghost use Rattle.std.specs.Prelude.{◌≡◌, ◌≤◌, ◌<◌, ◌+◌, drop, length};
 ghost use Rattle.std.specs.Prelude.{cond};
 ghost use Rattle.rv_status.specs.Frames.{after, ends, is_between, of_length};
@@ -11,7 +11,7 @@ pub enum FrameMeter {
     Between,
     /// The first byte of a frame's length.
     Length(u8),
-    /// A part of a frame: one byte more is missing of its body than this.
+    /// A part of a frame, whose body lacks this many bytes and one more.
     Body(usize),
 }
 
@@ -66,7 +66,7 @@ impl FrameMeter {
         }
     }
 
-    /// A piece came. It gives how many frames end in it; a length of 0 is that of a frame with no body.
+    /// A piece came. Returns how many frames end in it; a length of 0 is that of a frame with no body.
     pub fn pass(&mut self, piece: &[u8]) -> usize
         ensures after { self.new ≡ after self.old piece.now }
         ensures ends { result ≡ ends self.old piece.now }

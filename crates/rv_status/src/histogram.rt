@@ -52,7 +52,7 @@ macro_rules! histogram {
 }
 
 impl Histogram {
-    /// No turn was observed. The bounds are half a millisecond to ten seconds.
+    /// A histogram of no turns, with bounds from half a millisecond to ten seconds.
     pub fn of_turns() -> Histogram
         ensures { result ≡ histogram_of turn_bounds [] }
     {
@@ -62,7 +62,7 @@ impl Histogram {
         ]
     }
 
-    /// No answer was observed. The bounds are a millisecond to a day.
+    /// A histogram of no answers, with bounds from a millisecond to a day.
     pub fn of_answers() -> Histogram
         ensures { result ≡ histogram_of answer_bounds [] }
     {

@@ -1,4 +1,4 @@
-//! The numbers as Prometheus reads them: of each its meaning, its kind and its value, a line each.
+//! The numbers as Prometheus reads them: for each one, a line with its meaning, its kind and its value.
 ghost use Rattle.std.specs.Prelude.{◌≡◌, ◌++◌, flat_map, IfOk, OnOk, string_bytes};
 ghost use Rattle.rv_status.specs.Histograms.{bucket_text, digits_text, part_text, seconds_text, totals_text};
 ghost use Rattle.rv_status.specs.Histograms.{values_text};

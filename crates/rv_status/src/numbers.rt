@@ -1,4 +1,4 @@
-//! The numbers of a server, each with the name, the kind and the meaning that it is told with.
+//! The numbers of a server, each with the name, the kind and the meaning that are shown with it.
 ghost use Rattle.std.specs.Prelude.{◌≡◌, map};
 ghost use Rattle.rv_status.specs.Pages.{is_full};
 ghost use Rattle.rv_status.specs.Rows.{first_numbers, kind_word, number_rows, reading_row};
@@ -15,13 +15,13 @@ pub struct FaultCounts {
     pub accept: u64,
     /// Looks that found the account's file not in its place, or not as long as what was written to it.
     pub account: u64,
-    /// Connections closed since their address had as many as it may.
+    /// Connections closed because their address had as many as it may have.
     pub address: u64,
     /// Turns in which the clock could not be read, so that time stood still.
     pub clock: u64,
     /// Accepts for which no descriptor was left.
     pub descriptor: u64,
-    /// Connections closed since they said nothing and waited for nothing.
+    /// Connections closed because they said nothing and waited for nothing.
     pub idle: u64,
     /// Lines that standard error did not take.
     pub line: u64,
@@ -29,9 +29,9 @@ pub struct FaultCounts {
     pub link: u64,
     /// Connections that found no memory.
     pub memory: u64,
-    /// Connections closed since they held most when all held too much.
+    /// Connections closed because they held the most bytes when all held too much.
     pub most_held: u64,
-    /// Connections closed in the middle of a frame, or since their peer took no answer.
+    /// Connections closed in the middle of a frame, or because their peer took no answer.
     pub stall: u64,
     /// Turns in which lines of the account found no memory.
     pub unwritten: u64,
@@ -40,7 +40,7 @@ pub struct FaultCounts {
 /// The numbers of a server at one moment.
 #[derive(Clone, Copy)]
 pub struct StatusNumbers {
-    /// Bytes that were written to the account's file; 0 without one.
+    /// Bytes that were written to the account's file; 0 if there is none.
     pub account_bytes: u64,
     /// How many answers of each kind have left: refusals 1 to 12, and then the others by their words.
     pub answers: [u64; ANSWERS],
@@ -74,14 +74,14 @@ pub struct StatusNumbers {
     pub requests_unheard: u64,
     /// Requests that wait.
     pub requests_waiting: u64,
-    /// Connections over which this is told.
+    /// Connections to the status address.
     pub status_connections: u64,
     /// Seconds since the start.
     pub uptime: u64,
 }
 
 impl StatusNumbers {
-    /// Those of a server that begins: nothing was told of it but these limits and faults.
+    /// Those of a server that starts: all are 0 except these limits and faults.
     pub fn new(clients_limit: u64, open_places_limit: u64, faults: FaultCounts) -> StatusNumbers
         ensures { result ≡ first_numbers clients_limit open_places_limit faults }
     {
@@ -118,7 +118,7 @@ impl StatusNumbers {
     }
 }
 
-/// How a number goes on.
+/// How a number changes.
 #[derive(Clone, Copy)]
 pub(crate) enum MetricKind {
     /// It only grows, until the server ends.
@@ -142,7 +142,7 @@ impl MetricKind {
     }
 }
 
-/// A number as it is told.
+/// A number as it is shown.
 #[derive(Clone, Copy)]
 pub(crate) struct StatusReading {
     pub(crate) name: &'static str,

@@ -1,4 +1,4 @@
-//! The answers over HTTP: which page a request is for, and what it is told.
+//! The answers over HTTP: which page a request is for, and what answers it.
 ghost use Rattle.std.specs.Prelude.{◌≡◌, IfOk, OnOk};
 ghost use Rattle.http_server.specs.Response.{IsBlank, IsResponse};
 ghost use Rattle.rv_status.specs.Pages.{
@@ -35,11 +35,11 @@ pub enum StatusPage {
     Status,
     /// The metrics.
     Metrics,
-    /// Whether the server turns.
+    /// Whether the server takes its turns.
     Health,
     /// Whether it takes new clients, items and connections.
     Ready,
-    /// It is asked for under another host's name.
+    /// A page of another host.
     Elsewhere,
     /// There is no such page.
     Unknown,
@@ -47,14 +47,14 @@ pub enum StatusPage {
     NotAllowed,
 }
 
-/// What a server tells over HTTP at one moment.
+/// What a server shows over HTTP at one moment.
 #[derive(Clone, Copy)]
 pub struct StatusPages<'a> {
     /// Its memory.
     pub alloc: Global,
-    /// What is told.
+    /// The status that it shows.
     pub status: &'a HostStatus,
-    /// The names under which it is told, beside `localhost` and each address.
+    /// The names under which it can be asked for, beside `localhost` and each address.
     pub names: &'a [String],
 }
 

@@ -1,11 +1,11 @@
-//! For how long the first frame of a connection that has no answer stands first.
+//! How long the first unanswered frame of a connection stands first.
 ghost use Rattle.std.specs.Prelude.{ℕ, ◌≡◌, ◌≤◌, ◌<◌, ◌+◌, ◌^◌, ◌-◌, ◌∷◌, [], ◌++◌, List, None, Some};
 ghost use Rattle.std.specs.Prelude.{length, max, replicate};
 ghost use Rattle.std.specs.List.{All};
 ghost use Rattle.rv_status.specs.Standing.{LineStands};
 
-/// How many frames of a connection have no answer that left, and since when the first of them stands first.
-/// Moments are in any unit, and don't go back.
+/// How many frames of a connection are unanswered, and since when the first of them has stood first. A frame
+/// is answered when its answer leaves. Moments are in any unit, and don't go back.
 #[derive(Clone, Copy)]
 pub struct FrameLine {
     count: u64,
@@ -31,7 +31,7 @@ impl FrameLine {
         self.count = self.count.saturating_add(frames as u64);
     }
 
-    /// An answer left at a moment. It gives for how long its frame stood first; none where there is no frame.
+    /// An answer left at a moment. Returns how long its frame stood first, or `None` if there is no frame.
     pub fn left(&mut self, now: u64) -> Option<u64>
         ensures stood { (first : ℕ) (others : List ℕ) (left : ℕ) → LineStands (first ∷ others) left self.old
             → All (λ moment. moment ≤ now) others

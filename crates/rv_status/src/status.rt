@@ -1,4 +1,4 @@
-//! What is told of a server: its numbers, and lists of bounded length. No item's text is among it.
+//! What a server shows of itself: its numbers, and lists of bounded length. It shows no item's text.
 ghost use Rattle.std.specs.Prelude.{◌≡◌, IfOk};
 ghost use Rattle.rv_status.specs.Begun.{HasNoRow, HasRoom, no_times};
 ghost use Rattle.rv_status.specs.Values.{call_word};
@@ -19,11 +19,11 @@ const SAMPLES: usize = 62;
 pub struct StatusTimes {
     /// Turns of the server.
     pub turns: Histogram,
-    /// Requests, while they stood first of their connection.
+    /// Requests, for as long as they stood first of their connection.
     pub answers: Histogram,
 }
 
-/// What a server tells of itself at one moment. Who fills it keeps each list at 100 rows at most.
+/// What a server shows of itself at one moment. Whoever fills it keeps each list at 100 rows at most.
 #[derive(Drop)]
 pub struct HostStatus {
     /// The version of its build, of digits and points.
@@ -36,7 +36,7 @@ pub struct HostStatus {
     pub history: Vec<StatusSample>,
     /// Its queues.
     pub queues: Vec<QueueRow>,
-    /// Requests that wait, and of whose clients no connection waits.
+    /// Requests that wait while no connection of their client does.
     pub unheard: Vec<WaitingRow>,
     /// Requests that wait, the oldest first.
     pub waiting: Vec<WaitingRow>,
@@ -51,7 +51,7 @@ pub struct StatusSample {
     pub entries: u64,
     /// How many places were open.
     pub places: u64,
-    /// How many bytes were written of its account.
+    /// How many bytes of its account were written.
     pub account: u64,
 }
 
@@ -92,7 +92,7 @@ pub struct WaitingRow {
     pub incarnation: u64,
     /// Its number.
     pub number: u64,
-    /// Since when it was found with no connection, in milliseconds since the start, where that is told.
+    /// Since when it has been found with no connection, in milliseconds since the start, if that is shown.
     pub unheard: Option<u64>,
 }
 
@@ -109,7 +109,7 @@ impl StatusTimes {
 }
 
 impl HostStatus {
-    /// A status of these numbers, with no row, and with room for as many of each list as are told and one
+    /// A status of these numbers, with no rows, and with room in each list for as many as it shows and one
     /// more. Fails only if memory was refused.
     pub fn with_room(
         alloc: Global,

@@ -13,7 +13,7 @@ use std::io::{Read, Write};
 // So many stand in line at most.
 const MOST: usize = 32;
 
-/// Connections in a line, the first of which is visited next, in room that was made at the start.
+/// Connections in a line, the first of which is visited next. Room for all of them was made at the start.
 #[derive(Drop)]
 pub struct Visitors<S> {
     alloc: Global,
@@ -24,7 +24,7 @@ pub struct Visitors<S> {
 }
 
 impl<S: Drop> Visitors<S> {
-    /// Nobody, and room for 32. The maps of headers take these keys.
+    /// An empty line with room for 32. The maps of headers use these keys.
     pub fn new(alloc: Global, keys: RandomState) -> Result<Visitors<S>, AllocError>
         ensures { IfOk result (λ v. v.line.items ≡ []) }
     {
@@ -49,8 +49,8 @@ impl<S: Drop> Visitors<S> {
         self.line.is_empty()
     }
 
-    /// Takes a connection in, at a moment in milliseconds, to be visited next. Where 32 are there the first
-    /// makes way, which was visited longest ago.
+    /// Takes a connection in, at a moment in milliseconds, to be visited next. If 32 are there, the first
+    /// one, which was visited longest ago, makes way.
     pub fn admit(&mut self, now: u64, stream: S)
         ensures { Admits now stream self.old.line.items self.new.line.items }
     {
@@ -59,7 +59,7 @@ impl<S: Drop> Visitors<S> {
         self.line.push_front_reserved(visitor);
     }
 
-    // Where 32 are there the first is let go.
+    // If 32 are there, the first is let go.
     fn make_way(&mut self)
         ensures left { self.new.line.items ≡ drop (length self.old.line.items - 31) self.old.line.items }
         ensures room { deque_len self.new.line < 32 }

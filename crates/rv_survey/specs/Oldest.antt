@@ -1,4 +1,4 @@
--- The oldest requests of all, client by client.
+-- The oldest of all requests, with one row for each client.
 use Rattle.std.specs.Prelude.{ℕ, ◌==◌, Bool, List, None, Option, Some, filter, insert, length, nat_lt, not}
 use Rattle.std.specs.Prelude.{position, take, unwrap_or}
 use Rattle.rv_status.specs.declared.status.WaitingRow.{WaitingRow}
@@ -7,7 +7,7 @@ use Rattle.rv_status.specs.declared.status.WaitingRow.{WaitingRow}
 abbrev pub is_later : ℕ → WaitingRow → Bool
 is_later since row = nat_lt since row.since
 
--- the row stands in front of the first that is later, or after all, and the first 100 are left
+-- the rows with this one in front of the first that is later, or after all; the first 100 are kept
 abbrev pub with_row : WaitingRow → List WaitingRow → List WaitingRow
 with_row row rows =
     take 100 (insert rows (unwrap_or (position (is_later row.since) rows) (length rows)) row)

@@ -30,7 +30,7 @@ row_for waiter call =
       unheard = None;
     }
 
--- the row of who waits at an open place, if somebody does
+-- the row of the request that waits at an open place, if there is one
 abbrev pub row_in : OpenPlace → Option WaitingRow
 row_in open_place =
     option_and_then (λ waiter. option_map (row_for waiter) (call_on_side open_place.side)) open_place.waiter

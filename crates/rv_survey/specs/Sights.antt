@@ -1,4 +1,4 @@
--- Since when looks have found requests with no connection.
+-- Since when each request has been found with no connection.
 use Rattle.std.specs.Prelude.{ℕ, ◌≡◌, ◌≢◌, ◌==◌, ◌&&◌, Option, None, Some, if◌then◌else◌, nat_eq}
 use Rattle.std.specs.Prelude.{option_and_then}
 use Rattle.std.specs.Map.{lookup}
@@ -14,8 +14,8 @@ last_sight sights client = option_and_then (λ sight. sight) (lookup (nat_eq cli
 abbrev pub ChangesOnly : ℕ → Sights → Sights → Type 0
 ChangesOnly client old new = (other : ℕ) → client ≢ other → last_sight new other ≡ last_sight old other
 
--- the moment since which looks have found the request so: that of the last sight, if it was one of the same
--- request, and else now
+-- the moment since which looks have found the request so: that of the last sight, if that was of the same
+-- request, else now
 abbrev pub moment_after : Option Sight → ℕ → WaitingRow → ℕ
 moment_after None now row = now
 moment_after (Some last) now row =

@@ -1,4 +1,4 @@
-//! The oldest requests of all, client by client.
+//! The oldest of all requests, with one row for each client.
 ghost use Rattle.std.specs.Prelude.{◌≡◌, ◌<◌, ◌≤◌, IfSome, OnErr, OnOk, length, position, unwrap_or};
 ghost use Rattle.rv_survey.specs.Oldest.{is_later, renewed, with_row, without_client};
 
@@ -8,8 +8,9 @@ use std::alloc::AllocError;
 // A list has so many rows at most.
 const MOST: usize = 100;
 
-/// Replaces a client's rows in a list by the row that it has now, if any, after all that are as old or older.
-/// The first 100 are kept. If memory is refused the client has no row; it never is once 101 rows had room.
+/// Replaces a client's rows in a list with the row that it has now, if any, after all that are as old or
+/// older. The first 100 are kept. If memory is refused, the client has no row. It is never refused once the
+/// list had room for 101 rows.
 pub fn renew(
     rows: &mut Vec<WaitingRow>,
     client: u64,
@@ -32,7 +33,7 @@ fn forget(rows: &mut Vec<WaitingRow>, client: u64)
     rows.retain(|other| other.client != client);
 }
 
-// Takes in a row, and keeps the first 100.
+// Inserts a row, and keeps the first 100.
 fn keep(rows: &mut Vec<WaitingRow>, row: WaitingRow) -> Result<(), AllocError>
     ensures kept { OnOk result (rows.new.items ≡ with_row row rows.old.items) }
     ensures refused { OnErr result (rows.new.items ≡ rows.old.items) }

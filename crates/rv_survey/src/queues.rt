@@ -12,7 +12,7 @@ use std::alloc::AllocError;
 const QUEUES: u64 = 64;
 
 /// Lists what waits in each queue, in place of what the list held. Fails only if memory was refused, and
-/// never once 64 rows had room.
+/// never once the list had room for 64 rows.
 pub fn list_queues(machine: &Machine, rows: &mut Vec<QueueRow>) -> Result<(), AllocError>
     ensures { OnOk result (AreQueues 64 (state_in machine.now) rows.new.items) }
 {

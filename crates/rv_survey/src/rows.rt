@@ -12,7 +12,7 @@ use rv_session::{LastRequest, OpenPlace, Place};
 use rv_status::{CallKind, WaitingRow};
 use rv_text::Side;
 
-/// The request of a client that waits, if one does.
+/// The client's request, if it waits.
 pub fn waiting_row(machine: &Machine, client: u64) -> Option<WaitingRow>
     ensures { result ≡ row_of (state_in machine.now) client }
 {
@@ -21,7 +21,7 @@ pub fn waiting_row(machine: &Machine, client: u64) -> Option<WaitingRow>
     row(machine.open_at(place)?)
 }
 
-/// The request of a client that waits, if no connection waits for it.
+/// The client's request, if it waits and no connection waits for its answer.
 pub fn unheard_row(hub: &Hub, client: u64) -> Option<WaitingRow>
     ensures unheard { IsUnheard (hub_state hub.now).book (hub_state hub.now).hears client
         → result ≡ row_of (hub_state hub.now).book client }

@@ -1,4 +1,4 @@
-//! Since when looks have found requests with no connection.
+//! Since when each request has been found with no connection.
 ghost use Rattle.std.specs.Prelude.{◌≡◌, ◌⊎◌, ℕ, None, Some, option_map, true, false};
 ghost use Rattle.rv_survey.specs.Sights.{ChangesOnly, last_sight, sight_after, with_moment};
 
@@ -17,7 +17,7 @@ pub struct Sight {
     pub moment: u64,
 }
 
-/// Of each client the request that the last look at it found with no connection, if it found one.
+/// For each client, the request that the last look at it found with no connection, if it found one.
 #[derive(Drop)]
 pub struct Sights {
     sights: IndexMap<u64, Option<Sight>>,
@@ -33,10 +33,11 @@ impl Sights {
         }
     }
 
-    /// Takes in what a look at a client found at a moment: the row of its request, if that waits with no
-    /// connection. Gives the row with the moment of the first look that found so, as each did since: a
-    /// request that was found with a connection meanwhile begins anew, and so does another one. Memory is
-    /// taken only of a client of which nothing was ever noted; where it is refused nothing is noted now.
+    /// Notes what a look at a client found at a moment: the row of its request, if that waits with no
+    /// connection. Returns the row with the moment since which every look has found that request so. The
+    /// moment starts anew where a look in between found it with a connection, and for another request.
+    /// Memory is taken only for a client for which nothing was ever noted; if it is refused, nothing is
+    /// noted now.
     pub fn look(&mut self, client: u64, found: Option<WaitingRow>, now: u64) -> Option<WaitingRow>
         ensures told { result ≡ option_map (with_moment (last_sight self.old client) now) found }
         ensures taken_in { (last_sight self.new client

@@ -15,6 +15,6 @@ shown_by verdict =
 abbrev pub entry_count : Account → ℕ
 entry_count account = length account.entries
 
--- a message that came at a moment is the next step from one account to the other, by this verdict
+-- a message that came at a moment leads from one account to the other, with this verdict
 abbrev pub IsStep : Account → ℕ → Message → Account → VerdictView → Type 0
 IsStep old now message new verdict = Next old now message new verdict.said

@@ -1,4 +1,4 @@
--- The frame by which what is told of a frame is answered.
+-- The frame that answers another, by what the desk said of that one.
 use Rattle.std.specs.Prelude.{ℕ, ◌≡◌, ◌<◌, List, Option, length, take, true}
 use Rattle.rv_text.specs.Bodies.{answer_text, refused_text}
 use Rattle.rv_text.specs.Limits.{FitsAnswer}
@@ -15,8 +15,8 @@ abbrev pub FitsTold : FrameAnswer → Type 0
 FitsTold (told.Said answer) = FitsAnswer answer
 FitsTold _ = Unit {0}
 
--- the body that answers, and the item that stands for it: want of memory may take the place of an answer's
--- text
+-- the body that answers, and the item that stands for it: the refusal for lack of memory may take the place
+-- of an answer's text
 abbrev pub IsAnswer : FrameAnswer → Item → List ℕ → Type 0
 IsAnswer told item.NoMemory answer = answer ≡ refused_text refusal.NoMemory
 IsAnswer told.BadText item.BadText answer = answer ≡ refused_text refusal.BadText
@@ -30,7 +30,7 @@ module _ {W : Type 0} (contents : W → Option (List ℕ)) where
     pub fits : IsFrameBody answer
     pub written : SinkTakes contents old new (frame_bytes answer)
 
-  -- the first bytes alone went out, so many, and not all
+  -- only the first so many bytes went out, and not all
   pub record WritesPart (old new : Sink W) (told : FrameAnswer) (sent : ℕ) : Type 0 where
     pub item : Item
     pub answer : List ℕ

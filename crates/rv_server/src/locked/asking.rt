@@ -1,4 +1,4 @@
-//! Asks the desk for one frame, once.
+//! Asks the desk once for one frame.
 ghost use Rattle.std.specs.Prelude.{◌≡◌, IfOk, OnErr};
 ghost use Rattle.rv_server.specs.locked.Asking.{GetsTold};
 ghost use Rattle.rv_server.specs.locked.Stamps.{shown_stamps};
@@ -13,7 +13,7 @@ use std::sync::ledger::Ledger;
 /// The answer to a frame, before it is written.
 #[derive(Drop)]
 pub enum FrameAnswer {
-    /// That of refusal 1: the frame's body is no message's.
+    /// That of refusal 1: the frame's body isn't a message.
     BadText,
     /// That of refusal 11: memory was refused for reading the body or for the answer's text.
     NoMemory,
@@ -21,9 +21,9 @@ pub enum FrameAnswer {
     Said(Answer),
 }
 
-/// Asks for the frame of this number and body once, under the lock, at the clock's present moment. Room for
-/// the stamp is made before the desk is asked; if that is refused, nothing is asked, and it is an error. A
-/// body that is no message's is answered without the desk.
+/// Asks the desk once for the frame of this number and body, under the lock, at the clock's present moment.
+/// Room for the stamp is made before the desk is asked; if that is refused, nothing is asked, and it is an
+/// error. A body that isn't a message is answered without the desk.
 ///
 /// It waits for the lock.
 pub fn ask_once<T: Wait, D: Desk, L: Ledger, C: Clock>(

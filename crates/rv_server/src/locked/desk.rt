@@ -10,7 +10,7 @@ use std::alloc::Global;
 /// A desk handles messages, one at a time, and keeps entries. `rv_book`'s `Book` is one.
 pub trait Desk: Drop {
     /// The result of `handle`, which nothing else makes. Contracts see in it the message that was handled,
-    /// the answer, and the number of entries before and after.
+    /// its answer, and the number of entries before and after.
     type Stamp: Drop;
 
     // The stamp as contracts see it.
@@ -37,7 +37,7 @@ pub trait Desk: Drop {
         ensures length { (stamped result).length ≡ count self.new }
         ensures never_lower { count self.old ≤ count self.new };
 
-    /// The answer of a stamp that this desk gave. It fails only if memory for a text was refused.
+    /// The answer for which a stamp of this desk stands. Fails only if memory for a text was refused.
     fn answer(&self, alloc: Global, stamp: &Self::Stamp) -> Result<Answer, NoMemory>
         requires { gave self.now stamp.now }
         ensures { IfOk result (λ answer. answer ≡ (stamped stamp.now).said) };

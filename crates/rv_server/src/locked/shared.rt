@@ -15,8 +15,8 @@ use thiserror::Error;
 /// The most workers of a server.
 pub const MAX_WORKERS: usize = 64;
 
-/// The desk that the lock guards, with the total of its entries. Contracts see it as the desk, and the
-/// total is always the number of the desk's entries.
+/// The desk that the lock guards, with the total of its entries. Contracts see it as the desk. The total is
+/// always the number of the desk's entries.
 #[derive(Drop)]
 pub struct Locked<D: Desk, L: Ledger> {
     desk: D,
@@ -50,8 +50,8 @@ impl<L: Ledger> Model for Seat<L> {
     ghost invariant = { λ seat. seat.share.parts ≡ 1 };
 }
 
-/// A desk behind its lock. Contracts see it as the number of seats that were made for it. Of the desk that
-/// the lock gives only its type is known, since other workers may have used it.
+/// A desk behind its lock. Contracts see it as the number of seats that were made for it. Only the type is
+/// known of the desk that the lock gives, because other workers may have used it.
 #[derive(Drop)]
 pub struct Shared<D: Desk, L: Ledger> {
     locked: Mutex<Locked<D, L>>,
@@ -68,8 +68,8 @@ impl<D: Desk, L: Ledger> Model for Shared<D, L> {
     ghost invariant = { λ shared. (1 ≤ shared.seats) × (shared.seats ≡ L.parts) };
 }
 
-/// Hands one message that keeps its limits to the desk, under the lock. The entries that it added count in
-/// the total and in the seat.
+/// Hands one message that keeps its limits to the desk, under the lock. The entries that it added are
+/// counted in the total and in the seat.
 pub fn serve_message<D: Desk, L: Ledger>(
     locked: &mut Locked<D, L>,
     seat: &mut Seat<L>,
@@ -122,7 +122,7 @@ pub struct Closing<D: Desk> {
     pub total: u64,
 }
 
-/// The number of seats is not the number that was made. Nothing has changed.
+/// The number of seats isn't the number that was made. Nothing has changed.
 #[derive(Clone, Copy, Debug, Error)]
 #[error("there are not as many seats as were made")]
 pub struct ForeignSeat;
@@ -202,8 +202,8 @@ fn merged<L: Ledger>(seats: Vec<Seat<L>>) -> Share<L>
 
 /// Takes the desk out again, once all seats are handed in. The total is the number of the desk's entries
 /// and the sum of the seats' shares: each entry was added by a message that was counted in one of these
-/// seats. With another number of seats all is handed back. The ledger's type says that the seats are those
-/// of this server. It takes no memory.
+/// seats. If the number of seats is another, everything is handed back. The ledger's type says that the
+/// seats are those of this server. It takes no memory.
 pub fn finish<D: Desk, L: Ledger>(
     shared: Shared<D, L>,
     seats: Vec<Seat<L>>,

@@ -26,8 +26,8 @@ fn write_item<W: Write>(sink: &mut Sink<W>, item: Item, body: &[u8]) -> Result<I
     Ok(item)
 }
 
-/// Writes the frame that answers, and gives the item that stands for it. If memory for an answer's text was
-/// refused, the answer of refusal 11 takes its place. A fault tells how many bytes of the frame went out.
+/// Writes the frame that answers, and returns the item that stands for it. If memory for an answer's text
+/// was refused, the answer of refusal 11 takes its place. A fault says how many bytes of the frame went out.
 pub fn write_told<W: Write>(
     alloc: Global,
     sink: &mut Sink<W>,
