@@ -1,4 +1,4 @@
--- What a call does: its one request goes out again and again, until an answer says something final.
+-- What a call does: its one request is sent again until an answer says something final.
 use Rattle.std.specs.Prelude.{ℕ, ◌≡◌, ◌<◌, List, Option, Some, None, Ok, Err, length, replicate}
 use Rattle.std.specs.List.{All}
 use Rattle.rv_text.specs.Bodies.{IsAnswerBody, message_text}
@@ -12,13 +12,13 @@ use Rattle.rv_client.specs.Link.{Asks, Link, Moves, message_frame}
 use Rattle.rv_client.specs.Process.{Asking, Hears, Outcome, SaysNothingFinal, request_of}
 use Rattle.rv_client.specs.Process as process
 
--- the body is that of an answer that says nothing final about the request
+-- this is the body of an answer that says nothing final about the request
 abbrev pub IsIgnored : Asking → List ℕ → Type 0
 IsIgnored asking body = (answer : Answer) × IsAnswerBody body answer × SaysNothingFinal asking.key answer
 
 module _ {R W : Type 0} (remaining : R → Option (List ℕ)) (contents : W → Option (List ℕ)) where
-  -- the request went out so often, in frames one after the other, and each time the frame of an answer came
-  -- in that says nothing final; where it went out no time nothing happened
+  -- the request went out this many times, in one frame after the other, and each time the frame of an answer
+  -- came in that says nothing final; if it never went out, nothing happened
   pub record AsksInVain (asking : Asking) (before after : Link R W) (times : ℕ) : Type 0 where
     pub bodies : List (List ℕ)
     pub each : length bodies ≡ times
@@ -47,7 +47,7 @@ module _ {R W : Type 0} (remaining : R → Option (List ℕ)) (contents : W → 
       (same ≡ asking) × Asks remaining contents (message_frame (request_of asking)) before after (Err fault)
   EndsBy asking before after (called.Unsettled same None) = ⊥
 
-  -- after fewer tries than there may be, which said nothing final, one more ends the call
+  -- after fewer tries than are allowed, which brought nothing final, one more ends the call
   pub record EndsWithin (asking : Asking) (tries : ℕ) (before after : Link R W) (outcome : CallOutcome)
       : Type 0 where
     pub times : ℕ
@@ -56,8 +56,8 @@ module _ {R W : Type 0} (remaining : R → Option (List ℕ)) (contents : W → 
     pub in_vain : AsksInVain asking before between times
     pub ends : EndsBy asking between after outcome
 
-  -- a call is unsettled with no fault after as many answers as there may be tries, which all said nothing
-  -- final; else one of the tries ends it
+  -- a call is unsettled with no fault after as many answers as there may be tries, none of which was final;
+  -- otherwise one of the tries ends it
   abbrev pub Calls : Asking → ℕ → Link R W → Link R W → CallOutcome → Type 0
   Calls asking tries before after (called.Unsettled same None) =
       (same ≡ asking) × AsksInVain asking before after tries

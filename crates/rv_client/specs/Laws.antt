@@ -1,4 +1,4 @@
--- What holds of the process as such.
+-- Laws of a client's process.
 use Rattle.std.specs.Prelude.{◌≡◌, IfSome, ℕ}
 use Rattle.rv_text.specs.Limits.{FitsIdentifier, FitsKey}
 use Rattle.rv_text.specs.declared.answer.Answer.{Answer}

@@ -1,4 +1,4 @@
--- A link: what goes out and comes in while a request is asked, for the answer and for each fault.
+-- A link: what goes out and comes in while a request is asked, for an answer and for each fault.
 use Rattle.std.specs.Prelude.{ℕ, ◌≡◌, ◌<◌, ◌⊎◌, List, Option, Result, Ok, Err, true, false, length, take}
 use Rattle.rv_text.specs.Bodies.{IsAnswerBody, message_text}
 use Rattle.rv_text.specs.declared.answer.Answer.{Answer}
@@ -16,7 +16,7 @@ use Rattle.rv_client.specs.declared.fault.LinkFault.TheVariants.{BadBody, NoMemo
 abbrev pub message_frame : Message → List ℕ
 message_frame message = frame_bytes (message_text message)
 
--- the body is no answer's
+-- no answer has this body
 abbrev pub IsNoAnswer : List ℕ → Type 0
 IsNoAnswer body = (answer : Answer) → ¬ IsAnswerBody body answer
 
@@ -50,8 +50,8 @@ module _ {R W : Type 0} (remaining : R → Option (List ℕ)) (contents : W → 
     pub moves : Moves before after request (frame_bytes body)
     pub works : LinkHolds before after
 
-  -- the whole request went out, and no whole frame came in: these bytes alone, and a read failed; a source
-  -- that had failed before gives nothing
+  -- the whole request went out, and no whole frame came in: only these bytes, and then a read failed; a
+  -- source that had failed before gives nothing
   pub record FailsReading (request : List ℕ) (before after : Link R W) : Type 0 where
     pub bytes : List ℕ
     pub unfinished : IsUnfinished bytes
@@ -76,7 +76,7 @@ module _ {R W : Type 0} (remaining : R → Option (List ℕ)) (contents : W → 
     pub moves : Moves before after request (length_bytes n)
     pub works : LinkHolds before after
 
-  -- of the request these first bytes alone went out, not all, and a write failed; a sink that had failed
+  -- only the first so many bytes of the request went out, not all, and a write failed; a sink that had failed
   -- before takes none; nothing was read
   pub record FailsWriting (request : List ℕ) (before after : Link R W) (sent : ℕ) : Type 0 where
     pub not_all : sent < length request
@@ -85,7 +85,7 @@ module _ {R W : Type 0} (remaining : R → Option (List ℕ)) (contents : W → 
     pub stays_failed : sink_failed before.sink ≡ true → (sent ≡ 0) × (after.sink ≡ before.sink)
     pub nothing_read : after.source ≡ before.source
 
-  -- what stands of a link after a request was asked once, by what came of it. Want of memory comes before
+  -- what holds of a link after a request was asked once, by what came of it; memory is refused before
   -- anything happened, or after the answer's frame was read
   abbrev pub Asks : List ℕ → Link R W → Link R W → Result Answer LinkFault → Type 0
   Asks request before after (Ok answer) = ReadsBody request before after (λ body. IsAnswerBody body answer)

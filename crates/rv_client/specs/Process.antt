@@ -1,5 +1,4 @@
--- The process of a client in the network world: what it may do next, and what becomes of it when an answer
--- comes to it.
+-- A client's process in the network world: what it may do next, and what becomes of it when an answer comes.
 use Rattle.std.specs.Prelude.{ℕ, ◌≡◌, ◌<◌, ◌+◌, Option, Some, None, if◌then◌else◌, nat_lt}
 use Rattle.rv_text.specs.declared.version.Version.{Version}
 use Rattle.rv_text.specs.declared.message.Key.{Key}
@@ -58,28 +57,28 @@ abbrev pub key_after : Key → Option Key
 key_after key =
     if nat_lt key.number max_identifier then Some (record key { number = key.number + 1 }) else None
 
--- ---- what an answer is to it
+-- ---- what an answer means to it
 
 -- the client is welcome in its incarnation and with its version, in this epoch
 abbrev pub Welcomes : Starting → Answer → ℕ → Type 0
 Welcomes starting answer epoch =
     answer ≡ answers.Welcome epoch starting.client starting.incarnation starting.version
 
--- a reply of the request's own key
+-- a reply to the request's own key
 abbrev pub Settles : Key → Answer → Reply → Type 0
 Settles key answer reply = answer ≡ answers.Replied key reply
 
--- the server has an epoch above the key's, which is this one
+-- the server has this epoch, which is above the key's
 abbrev pub EndsEpoch : Key → Answer → ℕ → Type 0
 EndsEpoch key answer current =
     (answer ≡ answers.Refused (refusals.OtherEpoch current)) × (key.epoch < current)
 
--- the client has an incarnation above the key's, which is this one
+-- the client has this incarnation, which is above the key's
 abbrev pub Replaces : Key → Answer → ℕ → Type 0
 Replaces key answer current =
     (answer ≡ answers.Refused (refusals.OldIncarnation current)) × (key.incarnation < current)
 
--- neither a welcome of the client in its incarnation and with its version nor a refusal
+-- neither a welcome of the client in its incarnation and with its version, nor a refusal
 pub record PassesBy (starting : Starting) (answer : Answer) : Type 0 where
   pub no_welcome : (epoch : ℕ) → ¬ Welcomes starting answer epoch
   pub no_refusal : (refusal : Refusal) → ¬ (answer ≡ answers.Refused refusal)
@@ -100,8 +99,9 @@ pub data Outcome : Type 0 where
   Replaced : (key : Key) (current : ℕ) → Outcome
   Ignored : (process : Process) → Outcome
 
--- the process to which the answer comes has this outcome: it is idle, at its first number or, with the reply
--- that is held, at the next; or turned away, and new as before; or ended; else the answer is ignored
+-- the process to which the answer comes has this outcome: it is idle, at its first number, or at the next one
+-- with this reply; or it is turned away, and new as before; or its request ended; otherwise the answer is
+-- ignored
 abbrev pub Hears : Process → Answer → Outcome → Type 0
 Hears (New starting) answer (Welcomed next) =
     (epoch : ℕ) × Welcomes starting answer epoch × (next ≡ Some (first_key starting epoch))

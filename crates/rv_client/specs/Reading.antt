@@ -1,4 +1,4 @@
--- What stands of a source after one frame was read of it, or a part of one; for the proofs.
+-- What holds of a source after one frame, or a part of one, was read from it; for the proofs.
 use Rattle.std.specs.Prelude.{ℕ, ◌≡◌, ◌<◌, List, Option, Result, Ok, Err, true, false, length}
 use Rattle.rv_frame.specs.Cut.{FitsLength, IsFrameBody, IsUnfinished, frame_bytes, length_bytes}
 use Rattle.rv_frame.specs.Source.{SourceGives, SourceHasEnded, source_failed}
@@ -35,7 +35,7 @@ module _ {R : Type 0} (remaining : R → Option (List ℕ)) where
     pub given : SourceGives remaining old new bytes
     pub stops : StopsFor old new fault
 
-  -- the source gave bytes that are no whole frame, and no more
+  -- the source gave bytes that aren't a whole frame, and no more
   pub record BreaksOff (old new : Source R) (fault : LinkFault) : Type 0 where
     pub bytes : List ℕ
     pub unfinished : IsUnfinished bytes

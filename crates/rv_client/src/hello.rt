@@ -67,8 +67,8 @@ impl New {
     }
 
     /// Hears an answer. A welcome of its client, incarnation and version makes it idle, at number 1 in the
-    /// welcome's epoch. A refusal is told, even one of an earlier request of the client. After a refusal and
-    /// after any other answer the client is as before.
+    /// welcome's epoch. A refusal is returned, even if it refuses an earlier request of the client. After a
+    /// refusal and after any other answer, the client is as before.
     pub fn welcome(self, answer: &Answer) -> WelcomeOutcome
         ensures { process.Hears (process.New self) answer.now (greeted_as result) }
     {

@@ -76,8 +76,8 @@ fn read_frame<R: Read>(source: &mut Source<R>, body: &mut Vec<u8>) -> Result<(),
 /// byte goes out.
 ///
 /// Each [`LinkFault`] says how much went out and was read. A read fault comes only if the source has failed,
-/// and a write fault only if the sink has. After a read fault, a closed link or a bad frame the next bytes of
-/// the source need not begin a frame.
+/// and a write fault only if the sink has. After a read fault, a closed link or a bad frame, the next bytes
+/// of the source need not begin a frame.
 pub fn ask<R: Read, W: Write>(
     alloc: Global,
     source: &mut Source<R>,

@@ -155,7 +155,7 @@ impl Outstanding {
 
     /// Hears an answer. A reply to its own key settles the request. The refusal *other epoch* ends it if that
     /// epoch is above its key's, and *old incarnation* if that incarnation is. Any other answer is ignored,
-    /// as a reply to another key, a stale refusal or a welcome.
+    /// such as a reply to another key, a stale refusal or a welcome.
     pub fn hear(self, answer: Answer) -> HearOutcome
         ensures { process.Hears (process.Outstanding self) answer (heard_as result) }
     {

@@ -25,13 +25,13 @@ request_text host =
     codes "GET /status.json HTTP/1.1" ++ (line_end ++ (codes "Host: " ++ (host ++ (line_end
     ++ (codes "Connection: close" ++ (line_end ++ line_end))))))
 
--- the bytes begin by the end of a line and an empty line
+-- the bytes begin with the end of a line and an empty line
 abbrev pub begins_gap : List ℕ → Bool
 begins_gap (first ∷ second ∷ third ∷ fourth ∷ rest) =
     (first == 13) && (second == 10) && (third == 13) && (fourth == 10)
 begins_gap _ = false
 
--- what stands after the first empty line
+-- what follows the first empty line
 abbrev pub after_gap : List ℕ → Option (List ℕ)
 after_gap [] = None
 after_gap (byte ∷ bytes) = if begins_gap (byte ∷ bytes) then Some (drop 3 bytes) else after_gap bytes
@@ -41,7 +41,7 @@ abbrev pub body_in : List ℕ → Option (List ℕ)
 body_in answer =
     if starts_with (λ a b. a == b) answer (codes "HTTP/1.1 200 ") then after_gap answer else None
 
--- the answer's body is a status that tells this
+-- the answer's body is a status that says this
 pub record IsStatusAnswer (answer : List ℕ) (told : StatusTold) : Type 0 where
   pub body : List ℕ
   pub is_body : body_in answer ≡ Some body
@@ -52,7 +52,7 @@ abbrev pub max_answer : ℕ
 max_answer = 4194304
 
 module _ {R : Type 0} (remaining : R → Option (List ℕ)) where
-  -- the answer is all that the source had left; or why it isn't
+  -- the answer is all that the source had left, or why it isn't
   abbrev pub GathersAnswer : Source R → Source R → Result (Vec ℕ Global) StatusFault → Type 0
   GathersAnswer old new (Ok answer) =
       IfSome (source_remaining remaining old) (λ bytes. answer.items ≡ bytes)
@@ -64,7 +64,7 @@ module _ {R : Type 0} (remaining : R → Option (List ℕ)) where
   GathersAnswer old new (Err NotUnderstood) = ⊥
 
 module _ {R W : Type 0} (remaining : R → Option (List ℕ)) (contents : W → Option (List ℕ)) where
-  -- the whole request for the status went out, and what came of the answer is this
+  -- the whole request for the status went out, and the bytes that came in answer are these
   pub record HasAsked (host : List ℕ) (to to' : Sink W) (from : Source R) (Is : List ℕ → Type 0) : Type 0
     where
       pub sent : SinkTakes contents to to' (request_text host)

@@ -1,4 +1,4 @@
--- The hello by which a request is ended, and what came of it.
+-- The hello that ends a request, and what came of it.
 use Rattle.std.specs.Prelude.{ℕ, ◌≡◌, ◌+◌, ◌⊎◌, Bool, Err, false, if◌then◌else◌, List, max, nat_le, None, Ok}
 use Rattle.std.specs.Prelude.{Option, Result, Some, true}
 use Rattle.rv_text.specs.Members.{max_identifier}
@@ -25,7 +25,7 @@ is_done (Refused refusal) = false
 is_done Kept = false
 is_done NoAnswer = false
 
--- the incarnation of a hello that ends requests of this one, at so many microseconds since 1970; none, if no
+-- the incarnation of a hello that ends requests of this one, at this many microseconds since 1970; none if no
 -- incarnation is so great
 abbrev pub greater_incarnation : ℕ → ℕ → Option ℕ
 greater_incarnation micros incarnation =
@@ -41,7 +41,7 @@ abbrev pub ending_of : Refusal → Ending
 ending_of (refusals.OldIncarnation current) = Replaced current
 ending_of refusal = Refused refusal
 
--- the answer says that
+-- the answer says that this came of the request
 abbrev pub AnswerGives : Starting → Answer → Ending → Type 0
 AnswerGives starting answer Ended = (epoch : ℕ) × Welcomes starting answer epoch
 AnswerGives starting answer NoAnswer = PassesBy starting answer
@@ -60,31 +60,31 @@ module _ {R W : Type 0} (remaining : R → Option (List ℕ)) (contents : W → 
     pub said : GreetsOnce starting before after (Ok answer)
     pub gives : AnswerGives starting answer ending
 
-  -- it heard an answer that says this; or the link gave none
+  -- it heard an answer that says this, or the link gave none
   abbrev pub HelloGives : Starting → Link R W → Link R W → Ending → Type 0
   HelloGives starting before after NoAnswer = HearsAnswer starting before after NoAnswer
       ⊎ ((fault : LinkFault) × GreetsOnce starting before after (Err fault))
   HelloGives starting before after ending = HearsAnswer starting before after ending
 
-  -- memory was refused to its hello
+  -- memory was refused for its hello
   abbrev pub HelloLacksMemory : Starting → Link R W → Link R W → RunFault → Type 0
   HelloLacksMemory starting before after fault = (fault ≡ runs.NoMemory)
       × GreetsOnce starting before after (Err links.NoMemory)
 
-  -- the hello is that of the row's client in the incarnation that ends the row's, and gives this
+  -- the hello is that of the row's client, in the incarnation that ends the row's, and this came of it
   pub record IsGreeted (row : WaitingRow) (micros : ℕ) (Gives : Starting → Type 0) : Type 0 where
     pub incarnation : ℕ
     pub greater : greater_incarnation micros row.incarnation ≡ Some incarnation
     pub gives : Gives (starting row.client incarnation)
 
-  -- the request of a row was ended, or not, by that; where no incarnation is greater nothing was said
+  -- this came of the row's request; if no incarnation is greater, nothing was said
   abbrev pub EndsRequest : WaitingRow → ℕ → Link R W → Link R W → Ending → Type 0
   EndsRequest row micros before after Kept =
       (greater_incarnation micros row.incarnation ≡ None) × (after ≡ before)
   EndsRequest row micros before after ending =
       IsGreeted row micros (λ starting. HelloGives starting before after ending)
 
-  -- memory was refused to the hello of a row
+  -- memory was refused for the hello of a row
   abbrev pub EndLacksMemory : WaitingRow → ℕ → Link R W → Link R W → RunFault → Type 0
   EndLacksMemory row micros before after fault =
       IsGreeted row micros (λ starting. HelloLacksMemory starting before after fault)

@@ -1,4 +1,4 @@
--- The lines that tell what came of requests.
+-- The lines that say what came of requests.
 use Rattle.std.specs.Prelude.{ℕ, ◌≡◌, ◌-◌, ◌/◌, ◌++◌, ◌∷◌, [], codes, Err, List, None, Ok}
 use Rattle.std.specs.Prelude.{Option}
 use Rattle.std.specs.Prelude.{Result, Some, take}
@@ -20,7 +20,7 @@ ending_text (Refused refusal) = codes "refused " ++ decimal (code_of refusal)
 ending_text Kept = codes "kept"
 ending_text NoAnswer = codes "no answer"
 
--- for how many seconds it had no connection, where the server is so many seconds old
+-- for how many seconds it had no connection, if the server is this many seconds old
 abbrev pub seconds_alone : Option ℕ → ℕ → ℕ
 seconds_alone None uptime = 0
 seconds_alone (Some since) uptime = uptime - since / 1000

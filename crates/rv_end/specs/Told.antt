@@ -1,4 +1,4 @@
--- What a server's status tells of the requests that wait with no connection.
+-- What a server's status says of the requests that wait with no connection.
 use Rattle.std.specs.Prelude.{ℕ, ◌≡◌, codes, IsSome, List, map, Option, option_and_then, Result, Some, Ok}
 use Rattle.std.specs.Prelude.{Err}
 use Rattle.std.specs.List.{All}
@@ -19,7 +19,7 @@ told_number name value =
     option_and_then as_u64 (option_and_then as_number
     (option_and_then (get name) (get (codes "numbers") value)))
 
--- client and incarnation are within their limits, and since when it was found so is told
+-- client and incarnation are within their limits, and the row says since when it was found with no connection
 pub record IsKeyed (row : WaitingRow) : Type 0 where
   pub client : FitsIdentifier row.client
   pub incarnation : FitsIdentifier row.incarnation
@@ -35,20 +35,20 @@ pub record AreRows (values : List Data) (rows : List WaitingRow) : Type 0 where
   pub are : values ≡ map waiting_value rows
   pub keyed : All IsKeyed rows
 
--- the value tells the uptime, how many clients there are, and these rows
+-- the value says the uptime, how many clients there are, and these rows
 pub record Tells (value : Data) (told : StatusTold) : Type 0 where
   pub uptime : told_number (codes "rv_uptime_seconds") value ≡ Some told.uptime
   pub clients : told_number (codes "rv_clients") value ≡ Some told.clients
   pub rows : get (codes "unheard") value ≡ Some (listed (map waiting_value told.unheard.items))
   pub keyed : All IsKeyed told.unheard.items
 
--- the text is that of a value that tells this
+-- the text is that of a value that says this
 pub record IsStatusText (text : List ℕ) (told : StatusTold) : Type 0 where
   pub value : Data
   pub reads : Reads text value
   pub tells : Tells value told
 
--- what is told is this; it isn't understood only where nothing is told; or memory was refused
+-- what was read is such a status; it isn't understood only if there is none; or memory was refused
 abbrev pub GivesStatus : (StatusTold → Type 0) → Result StatusTold StatusFault → Type 0
 GivesStatus Is (Ok told) = Is told
 GivesStatus Is (Err NotUnderstood) = (told : StatusTold) → ¬ Is told

@@ -16,8 +16,8 @@ const MAX_ANSWER_BYTES: usize = 4_194_304;
 // How many bytes are asked for at a time.
 const PIECE_BYTES: usize = 65_536;
 
-/// Asks a server for its status, once, and reads the answer to its end: what the status tells. The host is
-/// that of the server's address, as it was written.
+/// Asks a server for its status, once, reads the answer to its end, and returns what the status says. The
+/// host is the one in the server's address, as it was written.
 ///
 /// An answer counts only if its first line says 200. One of more than 4,194,304 bytes isn't read to its end.
 pub fn ask_status<R: Read, W: Write>(

@@ -1,4 +1,4 @@
-//! Which requests are ended, and when no more are looked for.
+//! Which requests are to be ended, and when to look for no more.
 ghost use Rattle.std.specs.Prelude.{◌≡◌, ◌↔◌, ◌≤◌, filter, IsTrue};
 ghost use Rattle.std.specs.List.{All};
 ghost use Rattle.rv_end.specs.Chosen.{IsLookedThrough, is_due, is_old, is_same, was_tried};
@@ -9,8 +9,8 @@ use rv_status::WaitingRow;
 // A server looks at so many clients in the time between two looks at its status.
 const CLIENTS_A_LOOK: u64 = 2_560;
 
-/// Keeps the rows of a look that are to be ended, in their order: those of requests that had no connection
-/// for so many milliseconds, where the server is so many seconds old, but for those that were tried before.
+/// Keeps the rows of a look whose requests are to be ended, in their order. These have had no connection for
+/// `older` milliseconds, on a server that is `uptime` seconds old, and weren't tried before.
 pub fn keep_due(rows: &mut Vec<WaitingRow>, uptime: u64, older: u64, tried: &[WaitingRow])
     ensures kept { rows.new.items ≡ filter (is_due uptime older tried.now) rows.old.items }
     ensures keyed { All IsKeyed rows.old.items → All IsKeyed rows.new.items }
@@ -42,9 +42,9 @@ fn is_same(one: &WaitingRow, other: &WaitingRow) -> bool
     one.client == other.client && one.incarnation == other.incarnation && one.number == other.number
 }
 
-/// Whether a server of so many clients has been looked through: nothing was ever to be ended; or as many
-/// looks found nothing more as it takes to look at each of its clients twice. A look shows 100 rows, and a
-/// request that was ended stands among them until the server has looked at its client again.
+/// Whether a server with this many clients has been looked through: a look found nothing to end, and nothing
+/// was tried before; or more looks found nothing than it takes to look at each of its clients. A look shows
+/// 100 rows, and a request that was ended stands among them until the server has looked at its client again.
 pub fn is_looked_through(tried: usize, looks_in_vain: u64, clients: u64) -> bool
     ensures { IsTrue result ↔ IsLookedThrough tried looks_in_vain clients }
 {

@@ -1,4 +1,4 @@
-//! Ends a request by a hello of its client in a greater incarnation.
+//! Ends a request with a hello of its client in a greater incarnation.
 ghost use Rattle.std.specs.Prelude.{◌≡◌, IfErr, IfOk, IfSome};
 ghost use Rattle.rv_text.specs.Limits.{FitsIdentifier};
 ghost use Rattle.rv_client.specs.Link.{link};
@@ -16,11 +16,11 @@ use std::io::{Read, Write};
 /// What came of a request that was to be ended.
 #[derive(Clone, Copy, Debug, PartialEq, Eq)]
 pub enum Ending {
-    /// Its client was welcome in a greater incarnation, so that it has ended.
+    /// Its client was welcome in a greater incarnation, and so it has ended.
     Ended,
-    /// Its client has this incarnation, greater than that of the hello, and so had ended it.
+    /// Its client has this incarnation, which is greater than that of the hello, and so it had ended already.
     Replaced(u64),
-    /// The hello was refused, for this other reason.
+    /// The hello was refused for another reason, this one.
     Refused(Refusal),
     /// No incarnation is greater than its client's. Nothing was said.
     Kept,
@@ -43,11 +43,11 @@ impl Ending {
     }
 }
 
-/// Says hello once, for the client of a row, in version 2, and in the incarnation that the wall clock's
-/// microseconds since 1970 are, as a process that starts now would; or in the one after the row's, if that
-/// is greater. So a request of the row's incarnation, or of one before the hello's, is ended.
+/// Says hello once, for the client of a row, in version 2. The incarnation is the wall clock's microseconds
+/// since 1970, as a process that starts now would take it, or the one after the row's, if that is greater. So
+/// a request of the row's incarnation, or of any other before the hello's, is ended.
 ///
-/// After [`Ending::NoAnswer`] the link is good for no other hello. Where memory is refused the hello may have
+/// After [`Ending::NoAnswer`] the link is good for no other hello. If memory is refused, the hello may have
 /// been answered.
 pub fn end_request<R: Read, W: Write>(
     alloc: Global,
@@ -83,7 +83,7 @@ fn greater_incarnation(incarnation: u64, micros: u64) -> Option<u64>
     }
 }
 
-// Says hello once, and tells what came of it.
+// Says hello once, and returns what came of it.
 fn say_hello<R: Read, W: Write>(
     alloc: Global,
     client: u64,

@@ -1,4 +1,4 @@
-//! Why the status of a server can't be had.
+//! Why a server's status couldn't be read.
 ghost use Rattle.std.specs.Prelude.{◌≡◌};
 ghost use Rattle.rv_end.specs.Faults.{status_fault_number};
 ghost use Rattle.rv_end.specs.declared.fault.StatusFault.TheVariants as faults;
@@ -19,7 +19,7 @@ pub enum StatusFault {
     NoMemory,
     /// 4: the answer has more than 4,194,304 bytes.
     TooLong,
-    /// 5: the answer isn't one of 200 with a status.
+    /// 5: the answer isn't a 200 with a status.
     NotUnderstood,
 }
 

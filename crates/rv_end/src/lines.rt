@@ -1,4 +1,4 @@
-//! The lines that tell what came of requests.
+//! The lines that say what came of requests.
 ghost use Rattle.std.specs.Prelude.{◌≡◌, IfOk, string_bytes};
 ghost use Rattle.rv_end.specs.Lines.{PrintsLine, ending_text, key_text, line_text, place_text};
 ghost use Rattle.rv_end.specs.Lines.{seconds_alone};
@@ -12,10 +12,10 @@ use std::alloc::Global;
 use std::io::Write;
 
 /// Prints the line of a request, in one write: client, incarnation, number, call, the number of its queue or
-/// exchanger, for how many seconds it had no connection, where the server is so many seconds old, and what
+/// exchanger, for how many seconds it had no connection, on a server that is `uptime` seconds old, and what
 /// came of it.
 ///
-/// At a fault of writing a part of the line went out, and at want of memory nothing.
+/// If the write failed, a part of the line may have gone out; if memory was refused, nothing did.
 pub fn tell_ending<O: Write>(
     alloc: Global,
     out: &mut Sink<O>,

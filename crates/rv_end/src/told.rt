@@ -1,4 +1,4 @@
-//! What a server tells of the requests that wait with no connection, read off its status.
+//! What a server's status says of the requests that wait with no connection.
 ghost use Rattle.std.specs.Prelude.{◌≡◌, ◌++◌, ◌∷◌, [], ℕ, codes, None, Err, IfOk, IfSome, List, map, OnOk};
 ghost use Rattle.std.specs.Prelude.{option_and_then, option_map, Some};
 ghost use Rattle.std.specs.List.{All};
@@ -18,19 +18,19 @@ use rv_text::MAX_IDENTIFIER;
 use serde_json::Value;
 use std::alloc::{AllocError, Global};
 
-/// What a server's status tells, as far as requests are to be ended by it.
+/// What a server's status says, as far as it matters for ending requests.
 #[derive(Drop)]
 pub struct StatusTold {
     /// The seconds since its start.
     pub uptime: u64,
     /// How many clients said hello in its epoch.
     pub clients: u64,
-    /// Requests that wait with no connection, the oldest first. Each has the moment since which it was found
-    /// so, and client and incarnation are from 1 to 2^53 - 1.
+    /// Requests that wait with no connection, the oldest first. Each says since when it was found so, and its
+    /// client and incarnation are from 1 to 2^53 - 1.
     pub unheard: Vec<WaitingRow>,
 }
 
-/// What the text of a status tells.
+/// Reads the text of a status.
 pub(crate) fn read_told(alloc: Global, text: &[u8]) -> Result<StatusTold, StatusFault>
     ensures { GivesStatus (IsStatusText text.now) result }
 {
@@ -51,7 +51,7 @@ fn value_of(alloc: Global, text: &[u8]) -> Result<Value, StatusFault>
     }
 }
 
-// What the value tells.
+// What the value says.
 fn told_in(alloc: Global, value: &Value) -> Result<StatusTold, StatusFault>
     ensures { GivesStatus (Tells (view value.now)) result }
 {

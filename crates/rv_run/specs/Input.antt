@@ -1,4 +1,4 @@
--- What was read of a run's input, and what is left where a run ends before it prints.
+-- What was read of a run's input, and what is left if a run ends before it prints.
 use Rattle.std.specs.Prelude.{ℕ, ◌≡◌, ◌+◌, ◌<◌, ◌≤◌, true, false, IfSome, List, Option, length}
 use Rattle.std.specs.Io.KnownBytes.{IsAtEnd}
 use Rattle.rv_frame.specs.declared.sink.Sink.{Sink}
@@ -37,7 +37,7 @@ module _ {R : Type 0} (remaining : R → Option (List ℕ)) where
     pub at_least : least ≤ length bytes
     pub at_most : length bytes ≤ most
 
-  -- how much the source gave before this fault: no more than the limit, and where there is more, at most the
+  -- how much the source gave before this fault: no more than the limit, or if there is more, at most the
   -- piece that passes it
   abbrev pub GaveBefore : Source R → Source R → RunFault → Type 0
   GaveBefore old new ReadFault = GaveBetween 0 max_input old new

@@ -1,4 +1,4 @@
--- What a clause reads of an `Output`: the bytes that it gathered, and how many it sent before.
+-- What a clause can say of an `Output`: the bytes that it gathered, and how many it sent before.
 use Rattle.std.specs.Prelude.{ℕ, List, Option, String, [], ◌≡◌, ◌+◌, ◌-◌, ◌<◌, ◌≤◌, ◌⊎◌}
 use Rattle.std.specs.Prelude.{length, string_bytes, take}
 use Rattle.std.specs.declared.alloc.Global.{Global}
@@ -23,7 +23,7 @@ taken_in output = sent_before output + length (gathered_bytes output)
 abbrev pub IsShortText : String Global → Type 0
 IsShortText text = IsShort (string_bytes text)
 
--- what the device will hold once the gathered bytes went out
+-- what the device will hold once the gathered bytes have gone out
 abbrev pub promised_contents : Option (List ℕ) → Output → Option (List ℕ)
 promised_contents contents output = append_known contents (gathered_bytes output)
 

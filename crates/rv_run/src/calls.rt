@@ -45,14 +45,14 @@ pub enum CallSaid {
 /// their limits, and the hello asks for the version. Hello is said, and each request asked, at most `tries`
 /// times.
 ///
-/// All lines are read before hello is said, and read faults, too long an input and want of memory up to
-/// there are found before anything is asked or written. A line that cannot be settled ends the run, with one
-/// word after the lines that were: `refused N` and `not welcome` at the hello; `unsettled NUMBER` if nothing
-/// final was heard, and the request is given up; `epoch ended CURRENT`; `replaced CURRENT`; and `bad line` if
-/// the line says no call. Lines end by LF, which the last one may lack.
+/// All lines are read before hello is said. A read fault, an input that is too long, or a refusal of memory
+/// up to there comes before anything is asked or written. A line that cannot be settled ends the run, with
+/// one word after the lines that were: `refused N` and `not welcome` at the hello; `unsettled NUMBER` if
+/// nothing final was heard, and the request is given up; `epoch ended CURRENT`; `replaced CURRENT`; and `bad
+/// line` if the line says no call. Lines end with LF, which the last one may lack.
 ///
-/// [`RunFault::WriteFault`] tells of `out` alone; a fault of the link is told by the word. If memory is
-/// refused for reading a line, for its text or for a word, the run ends after whole lines, each that of a
+/// [`RunFault::WriteFault`] is a fault of `out` alone; a fault of the link is reported by the word. If memory
+/// is refused for reading a line, for its text or for a word, the run ends after whole lines, each that of a
 /// settled call. A line that was not read was not asked for; one whose text found no memory was settled.
 pub fn call_run<L: Read, O: Write, R: Read, W: Write>(
     alloc: Global,

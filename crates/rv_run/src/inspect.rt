@@ -1,4 +1,4 @@
-//! The command `rv verify`: what it prints of an account and of a record beside it, and its status.
+//! The command `rv verify`: what it prints on an account and on a record beside it, and its status.
 
 mod lines;
 mod progress;

@@ -9,9 +9,9 @@ use std::alloc::{AllocError, Global};
 use std::io::Write;
 use thiserror::Error;
 
-/// A write of the output failed. At the first fault `sent` counts the bytes that went out: the first of all
-/// that the output had taken in and of the line that it was to take in then, and not all. A later fault
-/// doesn't count the bytes that went out at the first.
+/// A write of the output failed. At the first fault, `sent` counts the bytes that went out. These are the
+/// first of all that the output had taken in and of the line that it was to take in then, but not all. A
+/// later fault doesn't count the bytes that went out at the first.
 #[derive(Clone, Copy, Debug, Error)]
 #[error("a write failed after {sent} bytes")]
 pub struct OutputFault {
@@ -22,8 +22,8 @@ pub struct OutputFault {
 // The most bytes that are gathered.
 const ROOM: usize = 131_072;
 
-/// Lines on their way to a sink, gathered into pieces of at most 131,072 bytes. Its room is made once, by
-/// `new`, so that a line needs no memory.
+/// Lines on their way to a sink, gathered into pieces of at most 131,072 bytes. Its room is made once, in
+/// `new`, so a line needs no memory.
 #[derive(Drop)]
 pub struct Output {
     gathered: Vec<u8>,
@@ -47,8 +47,8 @@ impl Output {
     }
 
     /// Takes in a text of any length, and LF after it. If no room is left for both, the gathered bytes are
-    /// sent first; else the sink is not asked. Only a text of at least 131,072 bytes is sent by itself, and
-    /// so only such a text can be cut. At a fault the text is not taken in: the bytes gathered before it
+    /// sent first; otherwise the sink isn't asked. Only a text of at least 131,072 bytes is sent by itself,
+    /// and so only such a text can be cut. At a fault the text is not taken in: the bytes gathered before it
     /// still wait, or all of them went out.
     pub fn line<W: Write>(&mut self, sink: &mut Sink<W>, text: &[u8]) -> Result<(), OutputFault>
         requires { taken_in self.old + length text.now + 1 < 2 ^ 128 }

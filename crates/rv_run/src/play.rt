@@ -23,10 +23,10 @@ use std::io::{Read, Write};
 /// the sink for each line. The result of a line that says no event is *bad line*, that of a refused event the
 /// refusal's number, and the run goes on. Lines end with LF, which the last one may lack.
 ///
-/// The whole input is read before the first line is taken, so that a read fault, too long an input and want
-/// of memory up to there come before anything is written. If memory for reading a line or for the text of a
-/// result is refused, the run ends after the results of the lines before it. A write fault may come at any
-/// line.
+/// The whole input is read before the first line is taken. So a read fault, an input that is too long, or a
+/// refusal of memory up to there comes before anything is written. If memory for reading a line or for the
+/// text of a result is refused, the run ends after the results of the lines before it. A write fault may come
+/// at any line.
 pub fn play_run<R: Read, W: Write>(
     alloc: Global,
     source: &mut Source<R>,

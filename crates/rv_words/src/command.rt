@@ -55,15 +55,15 @@ pub enum Command<'a> {
         client: u64,
         /// Its incarnation, 1 to 9,007,199,254,740,991.
         incarnation: u64,
-        /// How often hello is said, and each request asked, at most.
+        /// How often hello is said at most, and each request asked.
         tries: u32,
         /// The version that its hello asks for, 1 or 2.
         speak: Version,
     },
-    /// `rv end --status ADDR --connect ADDR --older TIME`: end the requests that have waited for so long with
-    /// no connection.
+    /// `rv end --status ADDR --connect ADDR --older TIME`: end the requests that have had no connection for
+    /// this long.
     End {
-        /// The address at which the server tells how it is, as it was written.
+        /// The server's status address, as it was written.
         status: &'a str,
         /// The address of the server, as it was written.
         connect: &'a str,
@@ -83,7 +83,7 @@ pub fn read_command<'a>(alloc: Global, words: &'a [&'a str]) -> Result<Command<'
     command_of(&matches).ok_or(CommandFault::Bad)
 }
 
-// The command that the subcommand is.
+// The command that a subcommand names.
 fn command_of<'a>(matches: &ArgMatches<'a>) -> Option<Command<'a>>
     ensures some { IfSome result (λ command.
         IsSomeAnd (subcommand_rows_of matches.now) (λ s. SaysCommand s command)) }

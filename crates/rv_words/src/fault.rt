@@ -1,4 +1,4 @@
-//! Why words are not taken.
+//! Why a command line is refused.
 ghost use Rattle.std.specs.Prelude.{◌≡◌};
 ghost use Rattle.clap.specs.Words.{kind_of};
 ghost use Rattle.rv_words.specs.declared.fault.CommandFault.TheVariants.{Bad, NoMemory};
@@ -11,11 +11,11 @@ use thiserror::Error;
 /// The reason why the words of a command line give no command.
 #[derive(Clone, Copy, Debug, Error)]
 pub enum CommandFault {
-    /// The words name no command, and a call for help is none: `clap` refuses them, or a number is
-    /// written otherwise or lies outside its limits.
+    /// The words name no command, and neither do those that ask for help: `clap` refuses them, or a
+    /// number is written in another way or lies outside its limits.
     #[error("command fault 1")]
     Bad,
-    /// A growth was refused.
+    /// Memory was refused.
     #[error("command fault 2")]
     NoMemory,
 }

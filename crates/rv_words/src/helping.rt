@@ -14,14 +14,14 @@ use clap::error::ErrorKind;
 use std::alloc::{AllocError, Global};
 use std::fmt;
 
-/// What a call for help is answered with: its `Display` is the text.
+/// The answer to a call for help. Its `Display` is the text.
 #[derive(Drop)]
 pub struct HelpAnswer {
     pub(crate) error: clap::Error,
 }
 
 impl HelpAnswer {
-    /// The status of a program that ends by it: 0 for help, 2 where it can't be given.
+    /// The status of a program that ends with it: 0 for help, 2 if there is none to give.
     pub fn status(&self) -> u8
         ensures { result ≡ help_status (kind_of self.now.error) }
     {

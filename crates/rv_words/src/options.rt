@@ -1,4 +1,4 @@
-//! The options of a server that stays, `rv host`: what its words name, or what is wrong with them.
+//! The options of the long-running server, `rv host`: what its words name, or what is wrong with them.
 ghost use Rattle.std.specs.Prelude.{◌≡◌, ◌↔◌, [], codes, IfErr, IfOk, None, option_map, Some, true};
 ghost use Rattle.clap.specs.Walk.{texts};
 ghost use Rattle.clap.specs.Words.{IsAmong, fault_of, first_of, found_of, kind_of, matches_of, rows_of};
@@ -23,7 +23,7 @@ use std::alloc::Global;
 pub use version::VERSION;
 pub use words::{ListedOption, host_words, with_options};
 
-/// The options of a server that stays.
+/// The options of `rv host`.
 #[derive(Clone, Copy)]
 pub struct HostOptions<'a> {
     /// The address to listen at, as it was written.
@@ -32,26 +32,26 @@ pub struct HostOptions<'a> {
     pub epoch: EpochRule,
     /// The file to which its account is written, if there is one.
     pub account: Option<&'a str>,
-    /// The HTTP address at which it tells how it is, as it was written, if there is one.
+    /// Its status address, for HTTP, as it was written, if there is one.
     pub status: Option<&'a str>,
-    /// The names under which it tells that, beside `localhost` and each address, as they were written, with
-    /// commas between them, if there are any.
+    /// The names under which that address is asked, beside `localhost` and each IP address, as they were
+    /// written, with commas between them, if there are any.
     pub status_names: Option<&'a str>,
-    /// How many clients its book takes.
+    /// The most clients that its book takes.
     pub clients: u64,
-    /// How many items and requests are open in it at most.
+    /// The most items and requests that are open in it.
     pub open_places: u64,
-    /// How many connections are open at once.
+    /// The most connections that are open at once.
     pub connections: u64,
-    /// How many of them may come from one address.
+    /// The most of them that may come from one address.
     pub connections_from: u64,
-    /// How many MiB the bytes of all connections take.
+    /// The most MiB that the bytes of all connections take.
     pub memory: u64,
-    /// The seconds of a connection that says nothing and waits for nothing.
+    /// The seconds after which a connection is closed that says nothing and waits for nothing.
     pub idle: u64,
-    /// The seconds of one in the middle of a frame, or whose peer takes no answer.
+    /// The seconds after which one is closed that is in the middle of a frame, or whose peer takes no answer.
     pub stall: u64,
-    /// Whether it prints nothing but what ends it.
+    /// Whether it prints nothing except why it ends.
     pub quiet: bool,
 }
 

@@ -1,4 +1,4 @@
-//! Reads words by `clap`, and the values of options from what it finds.
+//! Reads words with `clap`, and the values of options from what it finds.
 ghost use Rattle.std.specs.Prelude.{◌≡◌, [], IfOk, IsErrOf, option_map, true};
 ghost use Rattle.clap.specs.Words.{HasMatchesOf, app_of, fault_of, first_of, found_of, is_simple_and_free};
 ghost use Rattle.clap.specs.Words.{rows_of};
@@ -15,7 +15,7 @@ pub fn text_of<'a>(options: &ArgMatches<'a>, name: &str) -> Option<&'a str>
     options.get_str(name)
 }
 
-/// The words as clap reads them for a command of which it tells each fault.
+/// The words as `clap` reads them for a command for which it reports each fault.
 pub(crate) fn taken<'a>(
     command: clap::Command<'a>,
     words: &'a [&'a str],

@@ -9,8 +9,8 @@ use crate::fault::CommandFault;
 use std::alloc::Global;
 
 /// `rv record --to FILE`, and then the options of `rv call`: the file, and the words of that call, as
-/// [`matches_of`](crate::matches_of) takes them. Words that begin otherwise are none of a record. The first
-/// word is the program's name.
+/// [`matches_of`](crate::matches_of) takes them. `None` if the words begin in another way. The first word is
+/// the program's name.
 pub fn read_record<'a>(
     alloc: Global,
     words: &'a [&'a str],

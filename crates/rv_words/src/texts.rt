@@ -1,4 +1,4 @@
-//! What help says of each command and of its options.
+//! The help for each command and for its options.
 
 /// What a command of this name does.
 pub(crate) fn about(name: &str) -> &'static str {
@@ -47,7 +47,7 @@ const ABOUT: &[(&str, &str)] = &[
     ),
 ];
 
-/// What the value of an option that has to be given is.
+/// The help for an option that has to be given.
 pub(crate) fn option_help(name: &str) -> &'static str {
     for (option, text) in OPTIONS {
         if *option == name {

@@ -17,7 +17,7 @@ use crate::words::words_of_verify;
 use clap::{Arg, ArgAction, ArgMatches};
 use std::alloc::{AllocError, Global};
 
-/// What the words call standard input.
+/// The word for standard input.
 pub const STANDARD_INPUT: &str = "-";
 
 /// What the words of `rv verify` say.
@@ -31,8 +31,8 @@ pub struct VerifyWords<'a> {
     pub follow: bool,
 }
 
-/// `rv verify FILE`, in any order with `--replies FILE` and `--follow`, which standard input can't be. Words
-/// that begin otherwise are none of it. The first word is the program's name.
+/// `rv verify FILE`, in any order with `--replies FILE` and `--follow`, which can't be used with standard
+/// input. `None` if the words begin in another way. The first word is the program's name.
 pub fn read_verify<'a>(
     alloc: Global,
     words: &'a [&'a str],

@@ -1,4 +1,4 @@
-//! Reads the words of `rv version`, and tells what they ask for.
+//! Reads the words of `rv version`, and has the text that answers them.
 ghost use Rattle.std.specs.Prelude.{◌≡◌, ◌↔◌, IfOk, IsTrue, string_bytes};
 ghost use Rattle.clap.specs.Walk.{texts};
 ghost use Rattle.rv_words.specs.Versions.{AsksVersion, version_words};

@@ -1,4 +1,4 @@
-//! Words that begin by the name of a command that reads its own.
+//! Words that begin with the name of a command that reads its own.
 ghost use Rattle.std.specs.Prelude.{◌≡◌, ◌∷◌, codes, IfSome, List, None};
 ghost use Rattle.clap.specs.Words.{Text};
 ghost use Rattle.clap.specs.Walk.{texts};
@@ -16,7 +16,7 @@ pub fn words_of_host<'a>(words: &'a [&'a str]) -> Option<&'a [&'a str]>
     }
 }
 
-/// Those from `help` on, likewise.
+/// The words from `help` on, in the same way.
 pub(crate) fn words_of_help<'a>(words: &'a [&'a str]) -> Option<&'a [&'a str]>
     ensures some { IfSome result (λ own. (name : Text) × (rest : List Text)
         × (texts words.entry.now ≡ name ∷ codes "help" ∷ rest) × (texts own.now ≡ codes "help" ∷ rest)) }
@@ -28,7 +28,7 @@ pub(crate) fn words_of_help<'a>(words: &'a [&'a str]) -> Option<&'a [&'a str]>
     }
 }
 
-/// Those from `verify` on, likewise.
+/// The words from `verify` on, in the same way.
 pub(crate) fn words_of_verify<'a>(words: &'a [&'a str]) -> Option<&'a [&'a str]>
     ensures some { IfSome result (λ own. (name : Text) × (rest : List Text)
         × (texts words.entry.now ≡ name ∷ codes "verify" ∷ rest) × (texts own.now ≡ codes "verify" ∷ rest)) }

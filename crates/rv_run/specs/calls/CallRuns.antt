@@ -29,7 +29,7 @@ module _ {R W : Type 0} (remaining : R → Option (List ℕ)) (contents : W → 
     pub welcomed : IsWelcomed remaining contents starting tries epoch before greeted
     pub settled : SettlesLines remaining contents tries (first_key starting epoch) all texts greeted after
 
-  -- so were some first lines, and the word says why the line after them was not
+  -- some first lines were settled so, and the word says why the line after them was not
   pub record CallsStopAtLine (all texts : List (List ℕ)) (word : EndWord) (before after : Link R W)
       : Type 0 where
     pub first : List (List ℕ)
@@ -75,7 +75,7 @@ module _ {O : Type 0} (contents : O → Option (List ℕ)) where
     pub went_out : SinkTakes contents old new (printed_lines texts)
     pub sink_stays : sink_failed new ≡ sink_failed old
 
-  -- these lines, and of one more a part: so many bytes in all
+  -- these lines, and a part of one more: so many bytes in all
   pub record CutsLine (texts : List (List ℕ)) (text : List ℕ) (sent : ℕ) (old new : Sink O) : Type 0 where
     pub past_others : length (printed_lines texts) ≤ sent
     pub not_all : sent < length (printed_lines (texts ++ text ∷ []))
@@ -136,7 +136,7 @@ module _ {O R W : Type 0} (taken : O → Option (List ℕ)) (remaining : R → O
         ⊎ ((text : List ℕ) × TextComesNext remaining contents starting tries all texts text before after)
     pub took : TakesLines taken texts out out'
 
-  -- what a run over the lines leaves, by what it answers
+  -- what a run over the lines leaves, for each of its results
   abbrev pub RunsCalls : List (List ℕ) → Link R W → Link R W → Sink O → Sink O
       → Result CallSaid RunFault → Type 0
   RunsCalls all before after out out' (Ok Whole) = RunsWhole all before after out out'

@@ -56,7 +56,7 @@ module _ {R W : Type 0} (remaining : R → Option (List ℕ)) (contents : W → 
       × SaysHello starting before between (Ok answer) × PassesBy starting answer
       × HellosInVain starting answers between after
 
-  -- after fewer hellos in vain than there may be tries, one more came to this
+  -- after fewer hellos in vain than there may be tries, one more had this result
   pub record DecidingHello (starting : Starting) (tries : ℕ) (before after : Link R W)
       (result : Result Answer LinkFault) : Type 0 where
     pub answers : List Answer

@@ -28,7 +28,7 @@ use Rattle.rv_run.specs.calls.EndWord.{word_text}
 
 -- ---- the record's lines
 
--- the line that tells a request's body and that of its reply
+-- the line that says a request's body and that of its reply
 abbrev pub record_text : List ℕ → List ℕ → List ℕ
 record_text asked told = codes "{\"asked\":" ++ (asked ++ (codes ",\"told\":" ++ (told ++ codes "}")))
 
@@ -63,7 +63,7 @@ module _ {F : Type 0} (contents : F → Option (List ℕ)) where
     pub recorded : AreRecorded all texts entries
     pub took : TakesLines contents entries old new
 
-  -- those, and of the entry of one more line a part: so many of its bytes
+  -- those, and a part of the entry of one more line: so many of its bytes
   pub record RecordsPart (all texts : List (List ℕ)) (text : List ℕ) (sent : ℕ) (old new : Sink F)
       : Type 0 where
     pub entries : List (List ℕ)

@@ -36,7 +36,7 @@ impl From<AllocError> for Halt {
     }
 }
 
-/// The caller of a run: the memory for its requests, and how often each is asked at most.
+/// The caller of a run: the memory for its requests, and how often at most each is asked.
 #[derive(Clone, Copy)]
 pub(crate) struct Caller {
     pub(crate) alloc: Global,
@@ -101,7 +101,7 @@ impl Caller {
         }
     }
 
-    /// Makes the call that a line says, as `call_line` does, and gives the body of its request too, before
+    /// Makes the call that a line says, as `call_line` does, and returns the body of its request too, before
     /// the text of the reply's answer.
     pub(crate) fn ask_line<R: Read, W: Write>(
         self,

@@ -24,7 +24,7 @@ pub(crate) enum EndWord {
 }
 
 impl EndWord {
-    /// The line that tells the word.
+    /// The line that says the word.
     pub(crate) fn text(self, alloc: Global) -> Result<String, NoMemory>
         ensures text { IfOk result (λ text. string_bytes text ≡ word_text self) }
         ensures short { IfOk result IsShortText }

@@ -80,12 +80,13 @@ impl From<RunFault> for RecordingFault {
 }
 
 /// Says hello and makes the calls that the lines say, as [`call_run`](crate::calls::call_run) does. For each
-/// that is settled it writes an entry to the record, in one piece: `{"asked":B,"told":B}` and LF, with the
-/// bodies of the request and of the reply's answer. The entry goes out before the answer's body is printed.
+/// call that is settled it writes an entry to the record, in one piece: `{"asked":B,"told":B}` and LF, with
+/// the bodies of the request and of the reply's answer. The entry goes out before the answer's body is
+/// printed.
 ///
-/// At each end the record has the entries of all printed replies, and of one more if that one's printing
-/// failed. A [`RecordingFault::Record`] ends the run at a reply without its entry, of which a part may have
-/// gone out. That reply is printed, if the output doesn't fail too. A word has no entry.
+/// However the run ends, the record has the entries of all printed replies, and of one more if that one's
+/// printing failed. A [`RecordingFault::Record`] ends the run at a reply without its entry, a part of which
+/// may have gone out. That reply is printed, if the output doesn't fail too. A word has no entry.
 pub fn record_run<L: Read, O: Write, R: Read, W: Write, F: Write>(
     alloc: Global,
     lines: &mut Source<L>,

@@ -65,8 +65,8 @@ fn fault_line(alloc: Global, place: usize, rule: &str) -> Result<String, NoMemor
     format!(in alloc; "fault {place} {rule}")
 }
 
-/// How many lines have each finding, and how many differ from the first one of their key, and repeat it: a
-/// line each, with LF between each two.
+/// How many lines have each finding, how many differ from the first one of their key, and how many repeat
+/// it: a line each, with LF between each two.
 pub(crate) fn count_lines(
     alloc: Global,
     findings: &[Finding],

@@ -1,4 +1,4 @@
-//! The line that tells how far a reading is.
+//! The line that says how far a reading is.
 ghost use Rattle.std.specs.Prelude.{◌≡◌, ◌≢◌, IfOk, string_bytes};
 ghost use Rattle.rv_run.specs.inspect.Progress.{read_of_text, read_text, seconds_left};
 
@@ -8,8 +8,8 @@ use std::alloc::Global;
 // How many bytes a megabyte has.
 const MEGABYTE: u64 = 1_000_000;
 
-/// How many lines were read, of how many bytes. If the size isn't 0, also of how many in all, and about how
-/// many seconds the rest takes, if it takes as long for each byte.
+/// How many lines and how many bytes were read. If the size isn't 0, also how many bytes there are in all,
+/// and about how many seconds the rest takes, if each byte takes as long as those before.
 pub fn progress_text(
     alloc: Global,
     lines: u64,

@@ -1,4 +1,4 @@
-//! Prints what was found of an account and of a record, and gives the status that tells it.
+//! Prints what was found of an account and of a record, and returns the status that says so.
 ghost use Rattle.std.specs.Prelude.{◌≡◌, ◌<◌, ◌≤◌, ◌+◌, ◌∷◌, ◌++◌, ◌↔◌, [], true, IfErr, IfOk, IsTrue};
 ghost use Rattle.std.specs.Prelude.{List, OnOk, length, option_map, ℕ};
 ghost use Rattle.rv_account.specs.Account.{Account};
@@ -21,8 +21,8 @@ use std::alloc::{AllocError, Global};
 use std::io::Write;
 
 /// Prints the verdict on an account, with the rule at a closed place if it is known, and whether its end is
-/// torn. Where a record stood beside it, and its first line says an epoch, it then prints what the account
-/// says of each line, and how many lines have which finding. Gives the status that tells it.
+/// torn. If there is a record beside it, and the account says an epoch, it then prints what the account says
+/// of each line of the record, and how many lines have which finding. Returns the status for that.
 ///
 /// Its only faults are `WriteFault`, after the bytes that the fault counts, and `NoMemory`, after some whole
 /// lines or none.

@@ -25,8 +25,8 @@ pub fn one_line_each()
     ensures { OneLineEach }
 {}
 
-/// The text of a turn stays true until the end of the play: the answer that it tells was sent, and the reply
-/// that it tells is held.
+/// The text of a turn stays true until the end of the play: the answer that it shows was sent, and the reply
+/// that it shows is held.
 pub fn texts_stay()
     ensures { TextsStay }
 {

@@ -14,8 +14,8 @@ use rv_text::{NoMemory, encode_answer};
 use rv_world::{Event, Seen, World, WorldRefusal};
 use std::alloc::Global;
 
-/// Gives the world the event that a line says, and tells its result. Fails only if memory for reading the
-/// line or for the text was refused.
+/// Gives the world the event that a line says, and returns the text of its result. Fails only if memory for
+/// reading the line or for the text was refused.
 pub(crate) fn play_line(alloc: Global, world: &mut World, line: &[u8]) -> Result<String, RunFault>
     ensures { IfOk result (PlaysLine world.old line.now world.new) }
 {

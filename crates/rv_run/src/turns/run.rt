@@ -21,14 +21,13 @@ use std::io::{Read, Write};
 /// Opens the book of this epoch at moment 0, hands it the source's lines, and writes one body and LF to the
 /// sink for each.
 ///
-/// A line is a moment of 1 to 19 digits, one space and a message's body. It is answered by the
-/// body of the book's answer; a line of another form by that of refusal 1; and a line for which
-/// memory was refused by that of refusal 11, and the run goes on. Lines end by LF, which the last
-/// one may lack.
+/// A line is a moment of 1 to 19 digits, one space and a message's body. It is answered with the body of the
+/// book's answer, a line of another form with that of refusal 1, and a line for which memory was refused with
+/// that of refusal 11; and the run goes on. Lines end with LF, which the last one may lack.
 ///
-/// The whole input is read before the first line is looked at, and is let go as its lines are answered. Read
-/// faults, too long an input and want of memory that ends the run are found before anything is written. Write
-/// faults may come at any line.
+/// The whole input is read before the first line is looked at, and is freed as its lines are answered. A read
+/// fault, an input that is too long, and a refusal of memory that ends the run come before anything is
+/// written. Write faults may come at any line.
 pub fn book_run<R: Read, W: Write>(
     alloc: Global,
     source: &mut Source<R>,

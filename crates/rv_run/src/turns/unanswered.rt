@@ -1,11 +1,11 @@
-//! An input whose lines are answered one after another: what was answered is let go.
+//! An input whose lines are answered one after another: what was answered is freed.
 ghost use Rattle.std.specs.Prelude.{◌≡◌, ◌≤◌, ◌-◌, drop, length};
 
 // How many bytes were answered at least before they are let go.
 const LEAST: usize = 65_536;
 
-/// The bytes of an input, the first of which are answered. At most half of what it keeps is answered, or
-/// 65,535 bytes; in all, no more bytes are moved than the input has.
+/// The bytes of an input, the first of which are answered. At most half of what it keeps is answered, or at
+/// most 65,535 bytes. No more bytes are moved in all than the input has.
 #[derive(Drop)]
 pub(crate) struct Unanswered {
     bytes: Vec<u8>,
@@ -16,7 +16,7 @@ pub(crate) struct Unanswered {
 impl Unanswered {
     ghost use Rattle.rv_run.specs.turns.Unanswered.{unanswered};
 
-    /// An input of which nothing is answered.
+    /// An input none of which is answered yet.
     pub(crate) fn new(bytes: Vec<u8>) -> Unanswered
         ensures { unanswered result ≡ bytes.items }
     {
@@ -30,7 +30,7 @@ impl Unanswered {
         &self.bytes[self.answered..]
     }
 
-    /// Keeps so many of the last bytes that aren't answered: those before are.
+    /// Keeps only so many bytes at the end as unanswered: those before them are answered.
     pub(crate) fn keep_last(&mut self, left: usize)
         requires { left ≤ length (unanswered self.old) }
         ensures { unanswered self.new ≡ drop (length (unanswered self.old) - left) (unanswered self.old) }

@@ -20,8 +20,8 @@ pub enum EpochRule {
 }
 
 impl EpochRule {
-    /// The epoch of a server that starts at `now` by the wall clock, in milliseconds: `now` itself, where
-    /// that is an epoch and the rule lets it be.
+    /// The epoch of a server that starts at `now` by the wall clock, in milliseconds: `now` itself, if that
+    /// is an epoch and the rule allows it.
     pub fn epoch(self, now: u64) -> u64
         requires { FitsRule self }
         ensures fits { Fits number.Epoch result }

@@ -1,4 +1,4 @@
-//! What is wrong with words that name no options.
+//! What is wrong with words that aren't options of `rv host`.
 ghost use Rattle.std.specs.Prelude.{◌≡◌};
 ghost use Rattle.clap.specs.Words.{kind_of};
 ghost use Rattle.rv_words.specs.options.Faults.{status_of, fault_by};
@@ -9,12 +9,12 @@ use clap::error::ErrorKind;
 use std::alloc::AllocError;
 use std::fmt;
 
-/// Why words name no options. Its `Display` is the text for whoever wrote them.
+/// Why the words aren't options of `rv host`. Its `Display` is the text for whoever wrote them.
 #[derive(Drop)]
 pub enum HostFault<'a> {
     /// `clap` refuses the words, or they ask for help.
     Refused(clap::Error),
-    /// The value of this option is no number within its limits.
+    /// The value of this option isn't a number within its limits.
     Outside {
         /// The option.
         number: HostNumber,
@@ -25,7 +25,7 @@ pub enum HostFault<'a> {
     Missing(&'static str),
     /// `--epoch` and `--epoch-above` are both there.
     TwoEpochs,
-    /// A growth was refused.
+    /// Memory was refused.
     NoMemory,
 }
 
@@ -49,7 +49,7 @@ impl<'a> From<clap::Error> for HostFault<'a> {
 }
 
 impl HostFault<'_> {
-    /// The status of a program that ends by it: 0 where help was asked for, 1 without memory, else 2.
+    /// The status of a program that ends with it: 0 if help was asked for, 1 if memory was refused, else 2.
     pub fn status(&self) -> u8
         ensures { result ≡ status_of self.now }
     {

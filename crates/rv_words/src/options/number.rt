@@ -1,34 +1,34 @@
-//! The numbers that options say, with the word and the limits of each.
+//! The numbers that options give, with the word and the limits of each.
 ghost use Rattle.std.specs.Prelude.{◌≡◌, IfSome, None, ℕ};
 ghost use Rattle.rv_words.specs.options.Numbers.{WritesWithin, least_of, most_of, option_word};
 
-/// A number that an option says.
+/// A number that an option gives.
 #[derive(Clone, Copy)]
 pub enum HostNumber {
     /// `--epoch`: the epoch, 1 to 9,007,199,254,740,991.
     Epoch,
     /// `--epoch-above`: a number that the epoch is above, 1 to 9,007,199,254,740,990.
     EpochAbove,
-    /// `--clients`: how many clients the book takes, 1 to 65,536.
+    /// `--clients`: the most clients that the book takes, 1 to 65,536.
     Clients,
-    /// `--open`: how many items and requests are open at most, 1 to 100,000.
+    /// `--open`: the most items and requests that are open, 1 to 100,000.
     Open,
-    /// `--connections`: how many connections are open at once, 1 to 1,000,000.
+    /// `--connections`: the most connections that are open at once, 1 to 1,000,000.
     Connections,
-    /// `--connections-from`: how many of them may come from one address, 1 to 1,000,000.
+    /// `--connections-from`: the most of them that may come from one address, 1 to 1,000,000.
     ConnectionsFrom,
-    /// `--memory`: how many MiB all buffers take, 1 to 1,048,576.
+    /// `--memory`: the most MiB that all buffers take, 1 to 1,048,576.
     Memory,
-    /// `--idle`: after how many seconds a connection ends that says nothing and waits for nothing,
+    /// `--idle`: after how many seconds a connection is closed that says nothing and waits for nothing,
     /// 1 to 31,536,000.
     Idle,
-    /// `--stall`: after how many seconds one ends in the middle of a frame, or whose peer takes no answer,
-    /// 1 to 31,536,000.
+    /// `--stall`: after how many seconds one is closed that is in the middle of a frame, or whose peer takes
+    /// no answer, 1 to 31,536,000.
     Stall,
 }
 
 impl HostNumber {
-    /// The word of its option, without the two dashes.
+    /// The name of its option, without the two dashes.
     pub fn word(self) -> &'static str
         ensures { result.now ≡ option_word self }
     {

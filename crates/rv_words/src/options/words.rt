@@ -1,4 +1,4 @@
-//! Options that a table lists, and the command `host`, as clap reads them.
+//! Options that are listed in a table, and the command `host`, as `clap` reads them.
 ghost use Rattle.std.specs.Prelude.{◌≡◌, false, IfOk, map};
 ghost use Rattle.clap.specs.Words.{app_of, rule_of, shape_of};
 ghost use Rattle.clap.specs.declared.Command.TheViews.{out-Command};
@@ -8,7 +8,7 @@ ghost use Rattle.rv_words.specs.options.Listed.{listed_rule};
 use clap::{Arg, ArgAction, Command};
 use std::alloc::{AllocError, Global};
 
-/// The command `host` with its options, their defaults, and what help says of them.
+/// The command `host` with its options, their defaults, and their help.
 pub fn host_words<'a>(alloc: Global) -> Result<Command<'a>, AllocError>
     ensures app { IfOk result (λ c. app_of c ≡ host_app) }
     ensures shape { IfOk result (λ c. shape_of c ≡ host_app.top) }
@@ -56,13 +56,13 @@ fn listed_option<'a>(alloc: Global, option: &ListedOption) -> Arg<'a>
 pub struct ListedOption {
     /// Its name, which follows two dashes.
     pub name: &'static str,
-    /// What help calls its value, if that is other than its name; nothing of a flag.
+    /// What help calls its value, if that isn't its name; nothing for a flag.
     pub values: &'static [&'static str],
     /// Whether it has to be given.
     pub required: bool,
-    /// What is done where it is met.
+    /// What is done when it is met.
     pub action: ArgAction,
-    /// Its value where it isn't given, if it has one then.
+    /// Its value if it isn't given, if it has a default.
     pub usual: &'static [&'static str],
     /// What help says of it.
     pub help: &'static str,
