@@ -16,7 +16,7 @@ module _ {W : Type 0} (contents : W → Option (List ℕ)) where
     pub went_out : SinkTakes contents old new (printed_lines (account_lines a))
     pub sink_stays : sink_failed new ≡ sink_failed old
 
-  -- a write failed: of the account's lines the sink took exactly so many bytes, and not all
+  -- a write failed: the sink took exactly this many bytes of the account's lines, and not all
   pub record WritesFront (a : Account) (old new : Sink W) (sent : ℕ) : Type 0 where
     pub not_all : sent < length (printed_lines (account_lines a))
     pub went_out : SinkTakes contents old new (take sent (printed_lines (account_lines a)))

@@ -40,7 +40,7 @@ pub record TellsBadLine (input text : List ℕ) : Type 0 where
   pub bad : FirstBadLine (lines input) number
   pub text_is : text ≡ codes "bad line " ++ decimal number
 
--- the text says what the audit of the input finds, and of which of the three kinds it is
+-- the text says what the audit of the input finds, which is of this one of the three kinds
 abbrev pub TellsAudit : List ℕ → AuditSaid → List ℕ → Type 0
 TellsAudit input Legal text = TellsLegal input text
 TellsAudit input Fault text = TellsFault input text
@@ -55,7 +55,7 @@ pub record TellsLine (input : List ℕ) (said : AuditSaid) (line : List ℕ) : T
 abbrev pub HasLine : List ℕ → AuditSaid × String Global → Type 0
 HasLine input told = TellsLine input told.0 (string_bytes told.1)
 
--- whatever lines are read as this account
+-- the same for any lines that are read as this account
 abbrev pub TellsOf : Account → AuditSaid × String Global → Type 0
 TellsOf account told = (input : List ℕ) → ReadsAccount (lines input) account → HasLine input told
 
@@ -66,7 +66,7 @@ module _ {W : Type 0} (contents : W → Option (List ℕ)) where
     pub tells : TellsLine input said line
     pub went_out : SinkTakes contents old new line
 
-  -- of such a line it took exactly so many bytes, and not all
+  -- it took exactly this many bytes of such a line, and not all
   pub record WritesFrontOfLine (input : List ℕ) (old new : Sink W) (sent : ℕ) : Type 0 where
     pub said : AuditSaid
     pub line : List ℕ
@@ -75,7 +75,7 @@ module _ {W : Type 0} (contents : W → Option (List ℕ)) where
     pub went_out : SinkTakes contents old new (take sent line)
 
 module _ {R W : Type 0} (remaining : R → Option (List ℕ)) (contents : W → Option (List ℕ)) where
-  -- the whole input was audited, and told
+  -- the whole input was audited, and its line was written
   pub record Audited (source source' : Source R) (sink sink' : Sink W) (said : AuditSaid) : Type 0 where
     pub whole_input : ReadsAll remaining source source'
     pub whole_output : IfSome (source_remaining remaining source)

@@ -1,4 +1,4 @@
--- What a status of 0 tells of the bytes of an account and of a record beside it.
+-- What a status of 0 says of the bytes of an account and of a record beside it.
 use Rattle.std.specs.Prelude.{ℕ, ◌⊎◌, List, Option, Some}
 use Rattle.std.specs.List.{All, AllZip}
 use Rattle.rv_account.specs.Account.{Account}
@@ -27,7 +27,7 @@ pub record KeepsRecord (replies lines : List (List ℕ)) : Type 0 where
   pub legal : TellsLegalAccount lines
   pub kept : All (KeepsRecordLine legal.account) replies
 
--- where the status is 0, no end is torn, and all is so
+-- if the status is 0, the account's end isn't torn, and all this is so
 abbrev pub ZeroKeepsAll : Type 0
 ZeroKeepsAll = (account replies : List ℕ) (found : AccountFinding) (rule : Option Rule) (r : Records)
     → IsToldOfBytes account found → IsNotedOfBytes account found r

@@ -1,4 +1,4 @@
--- What `rv verify` tells of the bytes of an input and of a record beside it.
+-- What `rv verify` says of the bytes of an input and of a record beside it.
 use Rattle.std.specs.Prelude.{◌≡◌, ◌≢◌, ◌⊎◌, ◌-◌, ◌++◌, true, false, Bool, ℕ, List, None, Option, Some}
 use Rattle.std.specs.Prelude.{IsSome, length}
 use Rattle.rv_audit.specs.declared.rule.Rule.{Rule}
@@ -18,8 +18,8 @@ use Rattle.rv_verify.specs.Verdicts.{TellsNotOpen}
 use Rattle.rv_app.specs.declared.verify.Reread.{Reread}
 use Rattle.rv_app.specs.declared.verify.Reread.TheVariants.{Told, Unopened}
 
--- of an account that grows, the lines up to the first that is bad, or whose entry isn't followed; the record
--- has noted what passed of them
+-- for an account that grows: the lines up to the first one that is bad, or whose entry isn't followed; the
+-- record has noted what passed of them
 pub record EndsAtFault (bytes : List ℕ) (r : Records) (found : AccountFinding) : Type 0 where
   pub front : List ℕ
   pub rest : List ℕ
@@ -30,7 +30,7 @@ pub record EndsAtFault (bytes : List ℕ) (r : Records) (found : AccountFinding)
   pub broken : found.verdict ≢ verdict.Legal
   pub whole : found.torn ≡ false
 
--- what is found of an input's bytes: as they grow, or of all
+-- what is found of an input's bytes: of those of a growing file, or of all
 abbrev pub IsFoundIn : Bool → List ℕ → Records → AccountFinding → Type 0
 IsFoundIn true bytes r found = EndsAtFault bytes r found
 IsFoundIn false bytes r found = IsFoundOfBytes bytes r found
@@ -40,7 +40,7 @@ abbrev pub beside : {A : Type 0} → Option A → Records → Option Records
 beside None r = None
 beside (Some name) r = Some r
 
--- the verdict names a closed place, at which the entries before tell the rule
+-- the verdict names a closed place, where the entries before it say which rule is broken
 abbrev pub IsClosed : AccountVerdict → Type 0
 IsClosed (verdict.NotOpen place entry) = Unit {0}
 IsClosed verdict.Legal = ⊥
@@ -48,7 +48,7 @@ IsClosed (verdict.Fault place rule) = ⊥
 IsClosed (verdict.BadLine number) = ⊥
 IsClosed (verdict.BeyondLimits place) = ⊥
 
--- the rule at a closed place, where the bytes that are read once more begin as those of the verdict
+-- the rule at a closed place, if the bytes that are read once more begin like those of the verdict
 abbrev pub IsRuleBy : AccountVerdict → Option (List ℕ) → Option Rule → Type 0
 IsRuleBy (verdict.NotOpen place entry) again rule = (all : List (List ℕ)) (bytes : List ℕ)
     → again ≡ Some bytes → TellsNotOpen all place entry → BeginAlike all (lines bytes) place
@@ -58,12 +58,12 @@ IsRuleBy (verdict.Fault place named) again rule = rule ≡ None
 IsRuleBy (verdict.BadLine number) again rule = rule ≡ None
 IsRuleBy (verdict.BeyondLimits place) again rule = rule ≡ None
 
--- or none where nothing may be read once more
+-- or none if nothing may be read once more
 abbrev pub IsRuleOf : AccountVerdict → Option (Option (List ℕ)) → Option Rule → Type 0
 IsRuleOf found None rule = rule ≡ None
 IsRuleOf found (Some again) rule = IsRuleBy found again rule
 
--- what a second reading tells: it fails only at a closed place, where there is what to read
+-- what a second reading finds: it can fail only at a closed place, and only if there is something to read
 abbrev pub IsReread : AccountVerdict → Option (Option (List ℕ)) → Reread → Type 0
 IsReread found again (Told rule) = IsRuleOf found again rule
 IsReread found again Unopened = IsClosed found × IsSome again
@@ -71,7 +71,7 @@ IsReread found again Unopened = IsClosed found × IsSome again
 module _ {W : Type 0} (contents : W → Option (List ℕ)) (IsFound : AccountFinding → Type 0)
     (again : Option (Option (List ℕ))) (r : Option Records) (old new : Sink W) where
   -- the sink took exactly the report on what is found, with the rule at a closed place, if that is known, and
-  -- the status tells that
+  -- this is its status
   pub record ReportsFound (status : ℕ) : Type 0 where
     pub found : AccountFinding
     pub is : IsFound found
@@ -91,7 +91,7 @@ module _ {W : Type 0} (contents : W → Option (List ℕ)) (IsFound : AccountFin
   abbrev pub Reports : ℕ → Type 0
   Reports status = ReportsFound status ⊎ CannotReread status
 
-  -- the telling of what is found stopped for this fault
+  -- the report on what is found stopped for this fault
   pub record StopsReportAt (fault : RunFault) : Type 0 where
     pub found : AccountFinding
     pub is : IsFound found

@@ -12,8 +12,8 @@ use std::alloc::Global;
 use std::io::Write;
 
 /// Writes the lines of an account, legal or not: `epoch E opened T`, and a line for each entry, each with LF
-/// after it, whatever their numbers and however long. By a law of rv_lines, lines within the limits are read
-/// as that account.
+/// after it, whatever the numbers and however long the account. By a law of rv_lines, lines within the limits
+/// are read as that account.
 ///
 /// Its only faults are `WriteFault`, after the bytes that the fault counts, and `NoMemory`, after some whole
 /// lines or none.

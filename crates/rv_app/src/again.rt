@@ -16,11 +16,12 @@ pub(crate) trait Again {
     fn open(&self, rt: &HostRuntime) -> io::Result<Self::Input>
         ensures { IfOk result (λ input. Self.Input.remaining input ≡ bytes self.now) };
 
-    /// How many they are, or 0 if nobody knows.
+    /// How many there are, or 0 if that isn't known.
     fn size(&self, input: &Self::Input) -> u64;
 }
 
-/// The path of a regular file. Another may give no byte twice, and a named pipe waits for who writes.
+/// The path of a regular file. Another kind of file may not give its bytes twice, and a named pipe waits for
+/// a writer.
 #[derive(Clone, Copy, Drop)]
 pub(crate) struct RegularFile<'a> {
     path: &'a str,
@@ -52,7 +53,7 @@ impl Again for RegularFile<'_> {
     }
 }
 
-/// How many bytes a file has, or 0 if nobody knows.
+/// How many bytes a file has, or 0 if that isn't known.
 pub(crate) fn size_of(file: &File) -> u64 {
     file.metadata().map_or(0, |about| about.len())
 }

@@ -19,17 +19,17 @@ pub enum AuditSaid {
     Legal,
     /// Its lines are read as an account in which a rule is broken.
     Fault,
-    /// Its lines are read as no account.
+    /// Its lines aren't those of an account.
     BadLine,
 }
 
 /// Reads the account that the source's lines say, audits it, and writes one line and LF to the sink: `legal`;
 /// or `fault PLACE RULE` for the first place at which a rule is broken, and the first such rule there; or
-/// `bad line N` for the first line that has another form, counted from 1, which is told before any fault.
-/// Lines end by LF, which the last one may lack.
+/// `bad line N` for the first line that has another form, counted from 1, which goes before any fault. Lines
+/// end with LF, which the last one may lack.
 ///
-/// The whole input is read before anything is written, and read faults, want of memory and too long an input
-/// write nothing.
+/// The whole input is read before anything is written. After a read fault, if memory is refused, and if the
+/// input is too long, nothing is written.
 pub fn audit_run<R: Read, W: Write>(
     alloc: Global,
     source: &mut Source<R>,

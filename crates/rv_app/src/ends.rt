@@ -1,4 +1,4 @@
-//! `rv end`: ends the requests that have waited for so long with no connection.
+//! `rv end`: ends the requests that have had no connection for so long.
 ghost use Rattle.std.specs.Prelude.{IfOk};
 ghost use Rattle.std.specs.List.{All};
 ghost use Rattle.rv_end.specs.Told.{IsKeyed};
@@ -23,8 +23,8 @@ const LOOKS: usize = 1_800;
 const PAUSE_SECONDS: u64 = 2;
 
 /// Looks at the status of a server until it has been looked through, and ends the requests that have had no
-/// connection for so many milliseconds. Each has a line that tells what came of it. The exit status is 0 if
-/// each has ended.
+/// connection for `older` milliseconds. Each gets a line that says what came of it. The exit status is 0 if
+/// all of them have ended.
 pub(crate) fn run_end(
     rt: &HostRuntime,
     status: &str,

@@ -17,10 +17,10 @@ pub(crate) enum ProgramFault {
     /// The server ended early.
     #[error("{0}")]
     Serve(ServeFault),
-    /// The status of a server can't be had.
+    /// The status of a server couldn't be read.
     #[error("{0}")]
     Status(StatusFault),
-    /// More requests may be left to be ended.
+    /// More requests may be left to end.
     #[error("more are left")]
     MoreLeft,
     /// No socket listens at the address, or none connects to it.
@@ -29,7 +29,7 @@ pub(crate) enum ProgramFault {
 }
 
 impl ProgramFault {
-    /// The exit status that tells it.
+    /// The exit status for it.
     pub(crate) fn status(&self) -> u8 {
         match self {
             ProgramFault::Command(_) => 2,

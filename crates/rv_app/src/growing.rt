@@ -20,8 +20,8 @@ const PAUSE_MILLIS: u64 = 200;
 // How many seconds pass at least before it is told again how far it is.
 const TELL_SECONDS: u64 = 60;
 
-/// Reads an account as its file grows, until a rule is broken, a line is bad, or its state has no room. What
-/// is told is of whole lines, so no end is torn. On standard error it says at most once a minute how many
+/// Reads an account as its file grows, until a rule is broken, a line is bad, or its state has no room. It
+/// judges only whole lines, so no end is torn. On standard error it says at most once a minute how many
 /// entries there were.
 pub(crate) fn follow<T: Wait + time::Clock, F: Read + Drop>(
     rt: &HostRuntime,

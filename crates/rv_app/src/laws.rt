@@ -11,9 +11,9 @@ pub use rv_run::play::laws::{
 pub use rv_run::turns::laws::one_reading;
 pub use rv_words::command::laws::{book_one_is_named, one_command};
 
-/// Where the status of an account and of a record beside it is 0, the account's end isn't torn, its lines are
-/// a legal account, whose state has had room, and each line of the record is that of a reply which this
-/// account gives.
+/// If the status of an account and of a record beside it is 0, the account's end isn't torn, its lines are a
+/// legal account whose state has had room, and each line of the record is that of a reply that this account
+/// gives.
 pub fn zero_keeps_all()
     ensures { ZeroKeepsAll }
 {}

@@ -10,7 +10,7 @@ use rv_text::{Answer, Message, NoMemory};
 use std::alloc::Global;
 use std::marker::{Brand, Model, PhantomData};
 
-/// The epoch of a book, and the moment of its opening: contracts alone see them.
+/// The epoch of a book, and the moment of its opening. Only contracts see them.
 pub(crate) trait Opening {
     // The epoch.
     ghost epoch: { ℕ };

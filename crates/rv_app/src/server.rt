@@ -62,7 +62,7 @@ impl<'a, R: time::Clock> Gate for Sleeping<'a, R> {
     }
 }
 
-/// The end of a server whose book was opened, and that of the writing of the book's account.
+/// How a server whose book was opened ended, and how the writing of the book's account did.
 #[derive(Clone, Copy)]
 pub(crate) struct ServerEnd {
     ended: Result<(), ServeFault>,
@@ -70,7 +70,7 @@ pub(crate) struct ServerEnd {
 }
 
 impl ServerEnd {
-    /// Tells the fault of the server, or else that of the writing.
+    /// The fault of the server, or else that of the writing.
     pub(crate) fn told(&self) -> Result<(), ProgramFault>
         ensures server { IfErr self.now.ended (λ fault. result ≡ Err (program.Serve fault)) }
         ensures writing { OnOk self.now.ended
@@ -98,7 +98,7 @@ pub(crate) struct ServerPlan {
 
 /// Opens the book of the plan's epoch at moment 0, and serves the plan's connections. When all were served,
 /// and after a fault of the server too, it writes the book's account: one of this epoch, opened at moment 0.
-/// Without memory for the book, its lock and its seats, nothing is served or written.
+/// If memory for the book, its lock or its seats is refused, nothing is served or written.
 pub(crate) fn serve_epoch<R: Threads + Wait + AllocGlobal + time::Clock + Sync, W: Write>(
     rt: &R,
     listener: TcpListener,

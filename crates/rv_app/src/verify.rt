@@ -1,5 +1,5 @@
-//! Verifies the account in a file, or on standard input, in memory of what is open and of clients, and a
-//! record of replies beside it.
+//! Verifies the account in a file or on standard input, and a record of replies beside it. Of the account,
+//! only what is open and the clients are in memory.
 ghost use Rattle.std.specs.Prelude.{◌≡◌, ℕ, IfErr, IfOk, IfSome, List, Some, option_map};
 ghost use Rattle.std.specs.Io.Buffered.{reader_remaining};
 ghost use Rattle.rv_app.specs.Verifying.{IsFoundIn, IsReread, Reports, StopsReporting, beside};
@@ -35,8 +35,8 @@ use std::time;
 // The status that tells that a file can't be opened.
 const UNREAD: u8 = 1;
 
-/// `rv verify`: verifies the account in a file, or on standard input, and tells what it is, and what it says
-/// of each line of a record, if one is named.
+/// `rv verify`: verifies the account in a file or on standard input, and prints what it finds, and what the
+/// account says of each line of a record, if one is named.
 pub(crate) fn run_verify<T: Wait + time::Clock>(
     rt: &HostRuntime,
     waits: &T,
@@ -168,10 +168,10 @@ fn tell_file<A: Again + Drop, W: Write>(
     }
 }
 
-/// What a second reading of an input tells, if one is needed.
+/// What a second reading of an input finds, if one is needed.
 #[derive(Clone, Copy)]
 enum Reread {
-    /// The rule at a closed place: none where no place is closed, or nothing may be read once more.
+    /// The rule at a closed place: none if no place is closed, or if nothing may be read once more.
     Told(Option<Rule>),
     /// The bytes can't be opened once more.
     Unopened,

@@ -1,4 +1,4 @@
-//! Tells on a terminal how far a reading is.
+//! Shows on a terminal how far a reading is.
 ghost use Rattle.std.specs.Prelude.{◌≡◌};
 
 use rv_run::inspect::progress_text;
@@ -12,7 +12,7 @@ const PAUSE_SECONDS: u64 = 2;
 // Takes a line of a terminal away.
 const ERASED: &str = "\r\x1b[K";
 
-/// How far the reading of a file is, which is told on standard error now and then, if that is a terminal.
+/// How far the reading of a file is, which is shown on standard error now and then, if that is a terminal.
 #[derive(Drop)]
 pub(crate) struct Watch<'a> {
     rt: &'a HostRuntime,
@@ -27,7 +27,7 @@ pub(crate) struct Watch<'a> {
 }
 
 impl<'a> Watch<'a> {
-    /// Nothing was read yet, of so many bytes, or of 0 if nobody knows how many.
+    /// Nothing was read yet of this many bytes, or of 0 if their number isn't known.
     pub(crate) fn new(rt: &'a HostRuntime, size: u64) -> Watch<'a> {
         let start = if rt.stderr().is_terminal() {
             Instant::now(rt).ok()
@@ -72,7 +72,7 @@ impl<'a> Watch<'a> {
         }
     }
 
-    /// Takes away what was told.
+    /// Erases what was shown.
     pub(crate) fn erase(&self) {
         if self.due > PAUSE_SECONDS {
             let _ = eprint!(self.rt; "{ERASED}");

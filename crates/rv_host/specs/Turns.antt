@@ -16,12 +16,12 @@ abbrev pub TakesAllLines : {W : Type 0} → Option (Journal W) → Type 0
 TakesAllLines None = Unit {0}
 TakesAllLines (Some journal) = sink_failed journal.file ≡ false
 
--- the calls of a turn, joined, over the one device of the account: the lines that the hub is told of went
--- there
+-- the calls of a turn, joined, over the one device of the account: the lines that the hub was told were
+-- written went there
 abbrev pub TurnsOver : {W : Type 0} → (W → Option (List ℕ)) → Shell W → Shell W → Type 0
 TurnsOver contents old new =
     RunsWith contents old.traffic (device_in old.account) new.traffic (device_in new.account)
 
--- a file is kept exactly where the hub waits until lines are written
+-- a file is kept exactly if the hub waits until lines are written
 abbrev pub HasItsAccount : {W : Type 0} → Shell W → Type 0
 HasItsAccount shell = IsTrue shell.traffic.engine.hub.has_journal ↔ IsSome shell.account

@@ -1,4 +1,4 @@
-//! The listener, and when it may be asked.
+//! The listener, and when to ask it for connections.
 use crate::origins::number_of;
 use mio::net::{TcpListener, TcpStream};
 use mio::{Interest, Poll, Token};
@@ -33,11 +33,11 @@ pub(crate) enum Accepted {
     Nobody,
     /// No descriptor was left.
     NoDescriptor,
-    /// Whoever waited is gone, or the system failed otherwise.
+    /// Whoever waited is gone, or the system failed in another way.
     Failed,
 }
 
-/// A listener that is asked until it tells that nobody waits.
+/// A listener that is asked until it says that nobody waits.
 #[derive(Drop)]
 pub(crate) struct Door {
     listener: TcpListener,
@@ -60,13 +60,13 @@ impl Door {
         }
     }
 
-    /// A poll tells of it from now on, by this token.
+    /// The poll reports it from now on, under this token.
     pub(crate) fn register(&mut self, poll: &Poll, token: Token) -> io::Result<()> {
         poll.registry()
             .register(&mut self.listener, token, Interest::READABLE)
     }
 
-    /// The poll told that someone waits.
+    /// The poll reported that someone waits.
     pub(crate) fn knock(&mut self) {
         self.state = DoorState::Now;
     }

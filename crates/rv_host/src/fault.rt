@@ -7,15 +7,15 @@ use std::{fmt, io};
 /// Why a server ended, or didn't start.
 #[derive(Drop)]
 pub(crate) enum HostEnd {
-    /// The system refused what it was asked for, named by this word.
+    /// The system refused what it was asked for, which this word names.
     System(&'static str, io::Error),
-    /// What the words name, an address or a file, is refused by the system.
+    /// The system refused what the words name: an address or a file.
     Named(String, io::Error),
     /// The account's file didn't take all lines.
     Account(WriteFault),
-    /// The account's file may not be as long as that.
+    /// The account's file may not grow as long as that.
     TooLong,
-    /// The book takes no such limits.
+    /// The book doesn't take these limits.
     Limits,
     /// Memory was refused.
     NoMemory,

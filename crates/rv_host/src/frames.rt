@@ -1,4 +1,4 @@
-//! Since which look each connection is seen in the middle of one frame.
+//! The look since which each connection has been seen in the middle of one frame.
 ghost use Rattle.std.specs.Prelude.{◌≡◌, get_or, replicate, slice_set, IfOk, None};
 ghost use Rattle.rv_host.specs.Times.{IsSeenSince};
 
@@ -7,14 +7,15 @@ use rv_server_connections::connection::Wire;
 use rv_server_connections::subscribers::ConnectionNumber;
 use std::alloc::{AllocError, Global};
 
-/// For each connection, by its number, the look since which it is in the middle of one frame, if it is.
+/// For each connection, by its number, the look since which it has been in the middle of one frame, if it
+/// is in one.
 #[derive(Drop)]
 pub(crate) struct FrameLooks {
     since: Vec<Option<u64>>,
 }
 
 impl FrameLooks {
-    /// No connection is, and there is room for all numbers below this one.
+    /// No connection is in a frame, and there is room for all numbers below `most`.
     pub(crate) fn new(alloc: Global, most: usize) -> Result<FrameLooks, AllocError>
         ensures none { IfOk result (λ looks. looks.since.items ≡ replicate most None) }
     {
@@ -23,7 +24,8 @@ impl FrameLooks {
         })
     }
 
-    /// Looks at a connection at a moment, and gives since which look it is seen in the middle of one frame.
+    /// Looks at a connection at a moment, and returns the look since which it has been seen in the middle of
+    /// one frame.
     pub(crate) fn look(
         &mut self,
         number: ConnectionNumber,
@@ -45,7 +47,7 @@ impl FrameLooks {
         since
     }
 
-    /// A connection isn't looked at: its time begins anew.
+    /// A connection isn't looked at, so its time starts anew.
     pub(crate) fn forget(&mut self, number: ConnectionNumber)
         ensures { self.new.since.items ≡ slice_set self.old.since.items number None }
     {

@@ -16,8 +16,8 @@ use std::fs::File;
 use std::io;
 use std::io::Write;
 
-/// `rv host` with its options, the word `host` first: serves until it is killed, or can't go on, and gives
-/// the status: 0 where help was asked for, 2 for bad options, else 1. Standard error tells why.
+/// `rv host` with its options, the word `host` first: serves until it is killed or can't go on, and returns
+/// the exit status: 0 if help was asked for, 2 for bad options, else 1. Standard error says why.
 pub fn run_host(rt: &HostRuntime, words: &[&str]) -> u8
     ensures refused { ((options : Options) → ¬ NamesOptions (texts words.entry.now) options)
         → RefusesWords (texts words.entry.now) result }
@@ -63,7 +63,7 @@ fn serve(rt: &HostRuntime, options: &HostOptions<'_>) -> u8
     }
 }
 
-// Serves to the end, which is told.
+// Serves to the end, and says why it ended.
 fn go_on(rt: &HostRuntime, options: &HostOptions<'_>, shell: &mut Shell<File>) -> u8 {
     match shell.serve(rt) {
         Ok(()) => 0,

@@ -19,7 +19,7 @@ pub(crate) struct Journal<W> {
 }
 
 impl<W> Journal<W> {
-    /// Whether so many bytes more may be written to it.
+    /// Whether this many more bytes may be written to it.
     pub(crate) fn takes(&self, count: u64) -> bool
         ensures { IsTrue result ↔ (count ≤ self.now.most - self.now.bytes) }
     {
@@ -27,14 +27,14 @@ impl<W> Journal<W> {
     }
 }
 
-/// An account whose first line is written, of so many bytes.
+/// An account whose first line was written, and how many bytes that has.
 #[derive(Drop)]
 pub(crate) struct BegunAccount<W> {
     pub(crate) file: Sink<W>,
     pub(crate) bytes: u64,
 }
 
-/// Begins the account of an epoch in a file, which may have so many bytes.
+/// Begins the account of an epoch in a file, which may have at most `most` bytes.
 pub(crate) fn begin_account<W: Write + Drop>(
     alloc: Global,
     file: W,

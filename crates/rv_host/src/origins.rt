@@ -1,4 +1,4 @@
-//! From which address each connection comes, and how many may come from one.
+//! The address from which each connection comes, and how many may come from one.
 ghost use Rattle.std.specs.Prelude.{◌≡◌, ◌↔◌, get_or, replicate, slice_set, IfOk, IsTrue, None, Some};
 ghost use Rattle.rv_traffic.specs.links.Table.{link_at};
 ghost use Rattle.rv_host.specs.Origins.{MayCome, count_from, is_from};
@@ -8,7 +8,7 @@ use rv_traffic::links::Links;
 use std::alloc::{AllocError, Global};
 use std::net::{IpAddr, SocketAddr};
 
-/// The number of an address: an IPv6 one, as which one of IPv4 is written too.
+/// The number of an address, as an IPv6 address. One of IPv4 is mapped to IPv6.
 pub(crate) fn number_of(address: &SocketAddr) -> u128 {
     match address.ip() {
         IpAddr::V4(ip) => ip.to_ipv6_mapped().to_bits(),
@@ -16,8 +16,8 @@ pub(crate) fn number_of(address: &SocketAddr) -> u128 {
     }
 }
 
-/// By the number of each connection the address from which it came, and how many may be open of one, if that
-/// is bounded.
+/// The address from which each connection came, by the connection's number, and how many may be open from one
+/// address, if that is bounded.
 #[derive(Drop)]
 pub(crate) struct Origins {
     from: Vec<Option<u128>>,
@@ -25,7 +25,7 @@ pub(crate) struct Origins {
 }
 
 impl Origins {
-    /// None has come, and there is room for all numbers below this one.
+    /// None has come, and there is room for all numbers below `room`.
     pub(crate) fn new(
         alloc: Global,
         room: usize,
@@ -78,7 +78,7 @@ impl Origins {
         }
     }
 
-    /// The connection of a number comes from an address.
+    /// The connection of this number comes from an address.
     pub(crate) fn note(&mut self, number: ConnectionNumber, address: u128)
         ensures from { self.new.from.items ≡ slice_set self.old.from.items number (Some address) }
         ensures most { self.new.most ≡ self.old.most }

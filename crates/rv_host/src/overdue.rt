@@ -6,7 +6,7 @@ ghost use Rattle.rv_host.specs.Times.{IsMidFrame, IsSeenSince, IsSilent, IsStall
 use crate::report::FaultKind;
 use rv_server_connections::connection::Wire;
 
-/// For how many milliseconds a connection may stall, and for how many it may be idle.
+/// How many milliseconds a connection may stall, and how many it may be idle.
 #[derive(Clone, Copy)]
 pub(crate) struct TimeLimits {
     pub(crate) stall: u64,
@@ -20,8 +20,8 @@ fn is_mid_frame(wire: &Wire) -> bool
     !wire.owes() && wire.held() == 0 && wire.unread_count() > 0
 }
 
-/// Since which look a connection is seen in the middle of one frame, by that of the look before and the
-/// moment at which bytes last left.
+/// The look since which a connection has been seen in the middle of one frame, given what the look before
+/// found and the moment at which bytes last left.
 pub(crate) fn seen_since(wire: &Wire, before: Option<u64>, sent: u64, now: u64) -> Option<u64>
     ensures { IsSeenSince wire.now before sent now result }
 {
@@ -34,11 +34,12 @@ pub(crate) fn seen_since(wire: &Wire, before: Option<u64>, sent: u64, now: u64) 
     }
 }
 
-/// Why a connection is to be ended at a moment, if it is, by the moments at which bytes of it last came, and
-/// at which bytes last left or none were there to leave, and the look since which it is seen in the middle of
-/// one frame.
+/// Why a connection is to be closed at a moment, if it is: given the moments at which its bytes last came,
+/// and at which bytes last left or none were there to leave, and the look since which it has been seen in
+/// the middle of one frame.
 ///
-/// Where it could not be read, an answer left when it could be again: so it has all its time from then on.
+/// If it couldn't be read for a while, an answer left when it could be again, so it has all its time from
+/// then on.
 pub(crate) fn overdue(
     wire: &Wire,
     heard: u64,

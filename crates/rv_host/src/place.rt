@@ -1,4 +1,4 @@
-//! The account's file under its name: how it is opened, looked at, and left where a start fails.
+//! The account's file under its name: how it is opened, checked, and left if a start fails.
 ghost use Rattle.std.specs.Prelude.{◌↔◌, IsTrue};
 ghost use Rattle.rv_host.specs.Files.{IsInPlace};
 
@@ -13,7 +13,7 @@ const EAGAIN: i32 = 11;
 
 const EEXIST: i32 = 17;
 
-/// What is seen of a file: its device, its number there, and its length.
+/// What a look at a file shows: its device, its number there, and its length.
 #[derive(Clone, Copy)]
 pub(crate) struct FileSeen {
     device: u64,
@@ -70,8 +70,8 @@ fn is_empty_file(rt: &HostRuntime, name: &str) -> bool {
 }
 
 impl AccountPlace {
-    /// Opens a new file, or an empty one that is there, which no other server may take then. What it writes
-    /// goes to the end.
+    /// Opens a new file, or an empty one that is there. No other server may take it then. What is written
+    /// goes to its end.
     pub(crate) fn open(rt: &HostRuntime, name: String) -> io::Result<OpenAccount> {
         let was_there = is_empty_file(rt, name.as_str());
         let file = OpenOptions::new()
@@ -102,7 +102,7 @@ impl AccountPlace {
         Ok(())
     }
 
-    /// A start failed: the file is as it was before.
+    /// A start failed: puts the file back as it was before.
     pub(crate) fn leave(&self, rt: &HostRuntime) {
         let _ = if self.was_there {
             self.file.set_len(0)

@@ -71,8 +71,8 @@ fn date(rt: &HostRuntime) -> Option<HttpDate> {
 }
 
 impl HostReport {
-    /// Nothing is counted. If it is to be quiet it says nothing but why a server ends, and nothing at all
-    /// where standard error is closed. Under systemd, which adds the times, lines have none.
+    /// Nothing is counted yet. If it is to be quiet, it says nothing except why a server ends, and nothing at
+    /// all if standard error is closed. Under systemd, which adds the times, lines have none.
     pub(crate) fn new(rt: &HostRuntime, is_quiet: bool) -> HostReport {
         let is_journal = is_set(rt, "JOURNAL_STREAM") || is_set(rt, "INVOCATION_ID");
         HostReport {
@@ -107,14 +107,14 @@ impl HostReport {
         }
     }
 
-    /// So many faults of this kind came.
+    /// This many faults of this kind came.
     pub(crate) fn note_all(&mut self, kind: FaultKind, count: usize) {
         for _ in 0..count {
             self.note(kind);
         }
     }
 
-    /// Whether a fault came that wasn't told.
+    /// Whether a fault came that wasn't reported.
     pub(crate) fn has_untold(&self) -> bool {
         !self.is_quiet && self.tallies.iter().any(|tally| !tally.is_told())
     }
@@ -143,8 +143,8 @@ impl HostReport {
         }
     }
 
-    /// Tells each kind of fault that came, once a minute at most. While standard error takes no line they are
-    /// counted on.
+    /// Reports each kind of fault that came, at most once a minute. While standard error takes no lines,
+    /// faults are still counted.
     pub(crate) fn tell(&mut self, rt: &HostRuntime, now: u64) {
         for kind in FaultKind::ALL {
             if !self.is_quiet && is_taking() {
@@ -153,7 +153,7 @@ impl HostReport {
         }
     }
 
-    // Tells one kind.
+    // Reports one kind.
     fn tell_kind(&mut self, rt: &HostRuntime, now: u64, kind: FaultKind) {
         let Some(count) = self.take(now, kind) else {
             return;
@@ -170,7 +170,7 @@ impl HostReport {
     }
 }
 
-/// Refusals for want of room are told as faults are.
+/// Refusals for lack of room are reported as faults are.
 pub(crate) fn note_refusals(answers: &mut AnswerTally, report: &mut HostReport) {
     for (place, kind) in REFUSALS {
         let count = answers.fresh(place);

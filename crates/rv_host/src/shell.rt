@@ -1,4 +1,4 @@
-//! The shell of a server: what the poll tells is handed to the traffic of its sockets, turn by turn.
+//! The shell of a server: it hands what the poll reports to the traffic of its sockets, turn by turn.
 ghost use Rattle.std.specs.Prelude.{◌≡◌, false, OnOk};
 ghost use Rattle.rv_frame.specs.Sink.{sink_failed};
 ghost use Rattle.rv_traffic.specs.CallRuns.{OnlyCalls, RunsOnDevice};
@@ -165,7 +165,7 @@ pub(crate) struct Shell<W> {
     origins: Origins,
 }
 
-/// A shell without its engine and its account: where it is asked, a poll that tells who comes, and room for
+/// A shell without its engine and its account: its listeners, a poll that reports who comes, and room for
 /// sockets.
 #[derive(Drop)]
 pub(crate) struct ShellParts {
@@ -182,7 +182,7 @@ pub(crate) struct ShellParts {
     answers: AnswerTally,
 }
 
-/// Where a server is asked: for connections, and how it is.
+/// The listeners of a server: for connections, and for its status.
 #[derive(Drop)]
 pub(crate) struct ShellDoors {
     pub(crate) door: Door,
@@ -208,8 +208,8 @@ fn watching(rt: &HostRuntime, doors: &mut ShellDoors) -> io::Result<Poll> {
 }
 
 impl ShellParts {
-    /// A poll that tells of these doors, and room for so many sockets, of which so many may come from one
-    /// address.
+    /// A poll that watches these doors, and room for `connections` sockets, of which `most_from` may come
+    /// from one address.
     pub(crate) fn new(
         rt: &HostRuntime,
         mut doors: ShellDoors,
@@ -233,7 +233,7 @@ impl ShellParts {
 }
 
 impl<W: Drop> Shell<W> {
-    /// A shell that has not turned yet.
+    /// A shell that has had no turn yet.
     pub(crate) fn new(
         parts: ShellParts,
         account: Option<Journal<W>>,

@@ -1,4 +1,4 @@
-//! The start of a server: its address, its account, its limits, and what it says of them.
+//! The start of a server: its address, its account, its limits, and the line that reports them.
 ghost use Rattle.std.specs.Prelude.{◌≡◌, ◌↔◌, IfOk, IsSome, IsTrue};
 ghost use Rattle.rv_engine.specs.Engines.{engine_state};
 ghost use Rattle.rv_engine.specs.EngineRuns.{BeginsStored};

@@ -1,4 +1,4 @@
-//! The status address: its listener, who asks there, and what they are told.
+//! The status address: its listener, who asks there, and what answers them.
 ghost use Rattle.std.specs.Prelude.{◌≡◌};
 
 use crate::door::{Accepted, Door};
@@ -32,7 +32,7 @@ const ACCEPTS: usize = 256;
 
 const VISITS: usize = 8;
 
-/// What is told at the status address, and to whom.
+/// What the status address shows, and its connections.
 #[derive(Drop)]
 pub(crate) struct StatusDesk {
     alloc: Global,
@@ -93,7 +93,7 @@ impl StatusDesk {
         })
     }
 
-    /// The moment at which there is something to be done again.
+    /// The moment at which there is something to do again.
     pub(crate) fn next_moment(&self, now: u64) -> u64 {
         if self.left > 0 {
             return now;

@@ -8,8 +8,8 @@ use crate::shell::{LOOK_OVER, Shell};
 use rv_server_connections::subscribers::ConnectionNumber;
 
 impl<W: Drop> Shell<W> {
-    /// Once a second ends those that are idle or stall, looks at the account's file, and tells faults; and
-    /// ends who holds most, if all have held too much for as long as a peer may stall.
+    /// Once a second, closes connections that are idle or stall, looks at the account's file, and reports
+    /// faults; and closes the one that holds most, if all have held too much for as long as a peer may stall.
     pub(crate) fn look_over(&mut self, rt: &HostRuntime, now: u64)
         ensures runs { OnlyCalls self.old.traffic self.new.traffic }
         ensures account { self.new.account ≡ self.old.account }

@@ -1,12 +1,12 @@
 //! The worker threads that answer frames from a desk behind its lock, and the sockets that they serve.
 //!
 //! ```
-//! let (shared, seats) = Shared::open(alloc, blank, desk, workers)?;
+//! let (shared, seats) = Shared::<Book, L>::open(alloc, blank, book, workers)?;
 //! let report = match serve(rt, alloc, &shared, seats, &clock, &gate, listener, connections) {
 //!     Ok(report) => report,
 //!     Err((report, _fault)) => report,
 //! };
-//! let closing = finish(shared, report.seats); // the desk again, and the number of its entries
+//! let closing = finish(shared, report.seats); // the book again, and the number of its entries
 //! ```
 #![tactic(auto)]
 

@@ -10,8 +10,8 @@ use rv_state::resume::Snapshot;
 use rv_text::{Key, NoMemory};
 use std::alloc::Global;
 
-/// Answers a line, and puts a machine made anew in the place of the one that heard it, where that is wanted.
-/// None if no such machine can be made, or if it settles others.
+/// Answers a line, and puts a machine made anew in the place of the one that heard it, if that is wanted.
+/// `None` if no such machine can be made, or if it settles other requests.
 pub(crate) fn answer_by(
     alloc: Global,
     limits: &Limits,

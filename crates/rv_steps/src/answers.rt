@@ -1,4 +1,4 @@
-//! The answer that is made of what is said of a step, and of the state after it.
+//! The answer that is made from what a step says, and from the state after it.
 ghost use Rattle.std.specs.Prelude.{◌≡◌, IfOk};
 ghost use Rattle.rv_text.specs.declared.answer.Answer.{Answer as AnswerOf};
 ghost use Rattle.rv_state.specs.Moves.{answer_told, told_again};

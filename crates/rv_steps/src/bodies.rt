@@ -17,7 +17,7 @@ const KEY: Key = Key {
     number: 1,
 };
 
-/// Tells what the body of each line, in hexadecimal digits, is read as.
+/// Prints what the body of each line, in hexadecimal digits, is read as.
 pub(crate) fn read_bodies(rt: &HostRuntime) -> anyhow::Result<ExitCode> {
     let alloc = rt.alloc();
     let input = io::read_to_string(alloc, rt.stdin())?;

@@ -1,4 +1,4 @@
-//! What lines are handed to: a machine or a hub, and what is told of each line.
+//! What lines are handed to, a machine or a hub, and what is printed for each line.
 ghost use Rattle.rv_rules.specs.StepLimits.{AreStepLimits};
 
 use crate::EPOCH;
@@ -19,7 +19,7 @@ pub(crate) enum Driver {
     Machine {
         /// As it stands before the next line.
         machine: Machine,
-        /// Those of its steps.
+        /// The limits of its steps.
         limits: Limits,
         /// Whether it is made anew after each line.
         anew: bool,
@@ -38,7 +38,7 @@ impl Driver {
     }
 }
 
-/// Begins as is said, over a machine without entries.
+/// Begins as the words ask, with a machine that has no entries.
 #[tactic(auto, using(crate::proofs::Opened::opened_resumes))]
 pub(crate) fn begin(alloc: Global, limits: Limits, beginning: Beginning) -> Result<Driver, NoMemory>
     requires { AreStepLimits limits }

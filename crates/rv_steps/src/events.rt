@@ -48,7 +48,7 @@ pub(crate) fn read_show(words: LineWords<'_>) -> Option<usize> {
     read_size(words.kind)
 }
 
-/// The bytes of a line's piece; none, if it tells of another event.
+/// The bytes of a line's piece; none if it is another event.
 pub(crate) fn read_piece(alloc: Global, words: LineWords<'_>) -> Result<Option<Vec<u8>>, NoMemory> {
     if words.kind == b"came".as_slice() {
         return read_hex(alloc, words.second);

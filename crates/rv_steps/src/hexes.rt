@@ -28,7 +28,7 @@ fn byte_of(pair: &[u8]) -> Option<u8> {
     Some(16 * value_of(*high)? + value_of(*low)?)
 }
 
-/// The bytes that a text has the digits of, if it has such.
+/// The bytes whose digits a text has, if it has such digits.
 pub(crate) fn read_hex(alloc: Global, text: &[u8]) -> Result<Option<Vec<u8>>, NoMemory> {
     let mut bytes = Vec::new(alloc);
     if text == b"-".as_slice() {

@@ -1,4 +1,4 @@
-//! The copy of an account, at sizes that little else tries: a drain of 16, and more than 65,535 entries.
+//! Tests of the copy of an account, at sizes that little else tries: a drain of 16, and over 65,535 entries.
 use crate::expect::{holds, same};
 use rv_account::Account;
 use rv_book::{Act, Entry, Partners};

@@ -1,4 +1,4 @@
-//! The fault that a request meets at its link, and how often its devices are asked.
+//! Tests of the fault that a request meets at its link, and of how often its devices are asked.
 use crate::expect::same;
 use rv_client::{LinkFault, New, ask};
 use rv_frame::testing::{Stop, TestReader, TestWriter};

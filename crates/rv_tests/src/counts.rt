@@ -1,4 +1,4 @@
-//! How many of its connections a server counts as served, and how many as faults, on a socket of its own.
+//! A test of how many of its connections a server counts as served, and how many as faults, on a real socket.
 ghost use Rattle.std.specs.Prelude.{◌≡◌};
 
 use crate::expect::same;

@@ -1,4 +1,4 @@
-//! That a deadline that is there is added again without memory.
+//! A test that a deadline that is already there is added again without memory.
 use crate::expect::same;
 use rv_due::Due;
 use std::alloc::AllocGlobal;

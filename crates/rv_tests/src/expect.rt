@@ -1,4 +1,4 @@
-//! What a test expects. An assertion is proved here, once, and each use of it is a call.
+//! What tests expect. Each assertion is proved here, once, and each use of it is a call.
 use std::fmt::Debug;
 use std::process::Abort;
 

@@ -1,4 +1,4 @@
-//! The fault that a worker tells where a connection ends early, over memory.
+//! Tests of the fault that a worker reports if a connection ends early, over devices in memory.
 ghost use Rattle.std.specs.Prelude.{◌≡◌, ◌<◌};
 
 use crate::expect::same;
@@ -14,7 +14,7 @@ use std::process::Abort;
 use std::sync::Wait;
 use std::sync::ledger::{Blank, Ledger};
 
-// A worker answers what the reader gives: the fault that it tells, if it tells one.
+// A worker answers what the reader gives: the fault that it reports, if it reports one.
 fn told<L: Ledger, R: Wait + Abort + AllocGlobal>(
     rt: &R,
     blank: Blank,

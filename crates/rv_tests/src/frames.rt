@@ -1,5 +1,5 @@
-//! Frames out of a piece that is longer than a frame, and out of pieces for which memory is refused; and how
-//! often a device is asked for a frame.
+//! Tests of frames out of a piece that is longer than a frame, and out of pieces for which memory is refused;
+//! and of how often a device is asked for a frame.
 ghost use Rattle.rv_frame.specs.Cut.{IsFrameBody};
 
 use crate::expect::{holds, same};

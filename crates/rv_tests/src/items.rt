@@ -1,4 +1,4 @@
-//! Items and their texts, taken apart.
+//! Tests of items that are taken apart into their texts.
 use crate::expect::same;
 use rv_text::{Item, Items};
 

@@ -1,4 +1,4 @@
-//! Room in a queue for one more of either side, which the program makes for one side at a time.
+//! A test of room in a queue for one more of either side, which the program makes for one side at a time.
 use rv_dual::Dual;
 
 #[test]

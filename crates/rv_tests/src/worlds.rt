@@ -1,4 +1,4 @@
-//! A list of events, which no program runs as a whole, and the world that it leads to.
+//! A test of a list of events, which no program runs as a whole, and of the world that it leads to.
 use crate::expect::{holds, same};
 use rv_text::{Answer, Call, Item, Key, Reply, Version};
 use rv_world::{Event, World, WorldRefusal, run};

@@ -1,4 +1,4 @@
--- Words that begin by a command's name.
+-- Words that begin with a command's name.
 use Rattle.std.specs.Prelude.{List, ◌∷◌, ◌≡◌}
 use Rattle.clap.specs.Words.{Text}
 

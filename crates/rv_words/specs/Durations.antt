@@ -21,8 +21,8 @@ unit_millis Hour = 3600000
 abbrev pub max_millis : ℕ
 max_millis = 86400000
 
--- the text is a number's digits and a unit's word, and so many milliseconds are so many of that unit, at most
--- a day
+-- the text is the digits of a number and the word of a unit, and this many milliseconds are that number of
+-- units, and at most a day
 pub record WritesDuration (text : List ℕ) (n : ℕ) : Type 0 where
   pub digits : List ℕ
   pub count : ℕ

@@ -8,7 +8,7 @@ use Rattle.rv_words.specs.Program.{rv_app, with_commands}
 use Rattle.rv_words.specs.Verifying.{verify_app}
 use Rattle.rv_words.specs.declared.helping.HelpAnswer.{HelpAnswer}
 
--- the program with all its commands: `record --to FILE`, as help tells it, `version`, `verify` and `host` too
+-- the program with all its commands, `record --to FILE`, as help shows it, `version`, `verify` and `host` too
 abbrev pub help_app : App
 help_app =
     let recording = with_commands rv_app ((codes "record", codes "to" ∷ []) ∷ (codes "version", []) ∷ []) in
@@ -18,7 +18,7 @@ help_app =
 abbrev pub IsHelpFor : List Text → HelpAnswer → Type 0
 IsHelpFor words answer = IsAmong (kind_of answer.error) (fault_of help_app words)
 
--- the status of a program that ends by an answer of this kind
+-- the status of a program that ends with an answer of this kind
 abbrev pub help_status : ErrorKind → ℕ
 help_status DisplayHelp = 0
 help_status other = 2

@@ -10,7 +10,7 @@ use Rattle.rv_words.specs.declared.verifying.VerifyWords.{VerifyWords}
 abbrev pub file_rule : Rule
 file_rule = record (new_rule (codes "FILE")) { action = Some Set; required = true }
 
--- `--replies FILE`, which may lack
+-- `--replies FILE`, which may be left out
 abbrev pub replies_rule : Rule
 replies_rule = record (new_rule (codes "replies")) { long = Some (codes "replies"); action = Some Set }
 
@@ -26,14 +26,14 @@ files_app = with_rule (with_rule (new_app (codes "verify")) file_rule) replies_r
 abbrev pub verify_app : App
 verify_app = with_rule files_app follow_rule
 
--- the values and the flag, by their rows, are these, and no standard input is followed
+-- the values and the flag, by their rows, are these, and standard input isn't followed
 pub record SaysVerify (rows : List Row) (v : VerifyWords) : Type 0 where
   pub file : first_of (codes "FILE") rows ≡ Some v.file.now
   pub replies : option_map (λ f. f.now) v.replies ≡ first_of (codes "replies") rows
   pub follow : IsTrue v.follow ↔ (first_of (codes "follow") rows ≡ Some (codes "true"))
   pub no_input : IsTrue v.follow → v.file.now ≢ codes "-"
 
--- in the words from `verify` on `clap` finds no fault, and these are what it says
+-- `clap` finds no fault in the words from `verify` on, and this is what they say
 pub record ClapSays (own : List Text) (v : VerifyWords) : Type 0 where
   pub taken : fault_of verify_app own ≡ []
   pub says : SaysVerify (matches_of verify_app own) v

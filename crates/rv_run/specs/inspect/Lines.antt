@@ -27,11 +27,11 @@ use Rattle.rv_replies.specs.declared.findings.verdict.AccountVerdict.TheVariants
 use Rattle.rv_replies.specs.declared.findings.verdict.AccountVerdict.TheVariants.{Fault, Legal as LegalSoFar}
 use Rattle.rv_replies.specs.declared.findings.verdict.AccountVerdict.TheVariants.{NotOpen}
 
--- a fault, by the place and what names the rule
+-- a fault: its place, and the text that names the rule
 abbrev pub fault_text : ℕ → List ℕ → List ℕ
 fault_text place name = codes "fault " ++ decimal place ++ 32 ∷ name
 
--- the line of a verdict, by the rule at a closed place, if it is known
+-- the line of a verdict, with the rule at a closed place, if it is known
 abbrev pub verdict_text : AccountVerdict → Option Rule → List ℕ
 verdict_text LegalSoFar rule = codes "legal"
 verdict_text (Fault place broken) rule = fault_text place (name_of broken)
@@ -41,7 +41,7 @@ verdict_text (NotOpen place entry) None =
 verdict_text (BadLine number) rule = codes "bad line " ++ decimal number
 verdict_text (BeyondLimits place) rule = codes "beyond limits " ++ decimal place
 
--- the lines of a verdict, of which the last one tells that the end is torn, if it is
+-- the lines of a verdict, the last of which says that the end is torn, if it is
 abbrev pub verdict_lines : AccountVerdict → Option Rule → Bool → List (List ℕ)
 verdict_lines verdict rule true = verdict_text verdict rule ∷ codes "torn end" ∷ []
 verdict_lines verdict rule false = verdict_text verdict rule ∷ []
@@ -55,7 +55,7 @@ reply_said key (Waits call) = None
 reply_said key (RepliedTo call reply) = Some (answer_text (Replied key reply))
 reply_said key CancelledUnseen = Some (answer_text (Replied key Cancelled))
 
--- the body of that request as it came, if it did
+-- the body of that request as it came, if it came
 abbrev pub call_said : Key → Fate → Option (List ℕ)
 call_said key Unnamed = None
 call_said key (Waits call) = Some (message_text (Request key call))
@@ -81,12 +81,12 @@ abbrev pub finding_text : ℕ → Finding → Option (List ℕ) → List ℕ
 finding_text number finding None = decimal number ++ 32 ∷ words_of finding
 finding_text number finding (Some body) = decimal number ++ (32 ∷ words_of finding ++ 32 ∷ body)
 
--- the text is the line of a reply by what became of its request
+-- the text is the line of a reply, by what became of its request
 abbrev pub SaysFate : Account → Told → ℕ → Finding → List ℕ → Type 0
 SaysFate a told number finding text = (fate : Fate) × IsFateOf a.entries told.key fate
     × (text ≡ finding_text number finding (instead_said finding told.key fate))
 
--- the line of this number tells another reply than that one, the first of its key
+-- the line of this number says another reply than that one, the first of its key
 abbrev pub differs_text : ℕ → ℕ → List ℕ
 differs_text number first = decimal number ++ (codes " differs from line " ++ decimal first)
 
@@ -98,7 +98,7 @@ abbrev pub beside_text : Beside → ℕ → ℕ → List ℕ
 beside_text Differs number first = differs_text number first
 beside_text Repeats number first = repeats_text number first
 
--- the line on how it stands to the first one of its key, if there is one
+-- the line on how it compares to the first one of its key, if there is one
 abbrev pub beside_lines : ℕ → Option (Beside × ℕ) → List (List ℕ)
 beside_lines index None = []
 beside_lines index (Some stands) = beside_text stands.0 (index + 1) (stands.1 + 1) ∷ []
@@ -113,7 +113,7 @@ count findings finding = decimal (length (filter (is_finding finding) findings))
 abbrev pub count_text : List Finding → Finding → List ℕ
 count_text findings finding = words_of finding ++ 32 ∷ count findings finding
 
--- that of each finding, and how many lines differ from the first one of their key, and repeat it
+-- the line of each finding; and how many lines differ from the first one of their key, and how many repeat it
 abbrev pub count_lines : List Finding → ℕ → ℕ → List (List ℕ)
 count_lines findings differing repeating =
     count_text findings Kept

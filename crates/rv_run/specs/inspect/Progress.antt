@@ -1,9 +1,9 @@
--- What is told of how far a reading is.
+-- The text that says how far a reading is.
 use Rattle.std.specs.Prelude.{◌++◌, ◌-◌, ◌*◌, ◌/◌, ℕ, zero, suc, List, codes}
 use Rattle.std.specs.Fmt.{decimal}
 
--- the seconds that the rest of the bytes takes, rounded down, if it takes as long for each byte as the first
--- ones took; none before the first
+-- the seconds that the rest of the bytes takes, rounded down, if each byte takes as long as those before; 0
+-- before the first one
 abbrev pub seconds_left : ℕ → ℕ → ℕ → ℕ
 seconds_left zero size seconds = 0
 seconds_left (suc bytes) size seconds = (size - suc bytes) * seconds / suc bytes
@@ -13,7 +13,7 @@ abbrev pub read_text : ℕ → ℕ → List ℕ
 read_text lines bytes =
     decimal lines ++ (codes " lines, " ++ (decimal (bytes / 1000000) ++ codes " MB"))
 
--- of how many megabytes in all, and how many seconds the rest takes
+-- and of how many megabytes in all, and how many seconds the rest takes
 abbrev pub read_of_text : ℕ → ℕ → ℕ → ℕ → List ℕ
 read_of_text lines bytes size seconds =
     decimal lines ++ (codes " lines, " ++ (decimal (bytes / 1000000) ++ (codes " of "

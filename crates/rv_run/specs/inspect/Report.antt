@@ -1,4 +1,4 @@
--- What is printed of an account and of a record beside it, and what of it went out.
+-- What is printed on an account and on a record beside it, and how much of it went out.
 use Rattle.std.specs.Prelude.{◌≡◌, ◌<◌, ◌≤◌, ◌+◌, ◌⊎◌, ◌∷◌, ◌++◌, true, ℕ, List, None, Option, Some}
 use Rattle.std.specs.Prelude.{length, slice_get, take}
 use Rattle.std.specs.List.{flat_map}
@@ -25,14 +25,14 @@ use Rattle.rv_run.specs.inspect.Lines.{SaysFate, beside_lines, count_lines, find
 
 -- ---- what is found of all lines
 
--- these are the findings on the first lines of a record, of the account of this epoch that it has noted
+-- these are the findings on the first lines of a record, beside the account of this epoch that it has noted
 pub record FindsFirst (r : Records) (epoch : ℕ) (count : ℕ) (findings : List Finding) : Type 0 where
   pub each : length findings ≡ count
   pub are : (a : Account) → Legal a → a.epoch ≡ epoch → HasNoted r a → (index : ℕ) (line : Line)
       (finding : Finding) → slice_get r.lines.items index ≡ Some line
       → slice_get findings index ≡ Some finding → IsLineFinding a line finding
 
--- the line of this index, one of so many first ones, stands so to the first one of its key
+-- the line of this index, which is among the first `n`, compares so to the first one of its key
 pub record StandsSo (how : Beside) (lines : List Line) (n index : ℕ) : Type 0 where
   pub inside : index < n
   pub told : Told
@@ -40,7 +40,7 @@ pub record StandsSo (how : Beside) (lines : List Line) (n index : ℕ) : Type 0 
   pub there : slice_get lines index ≡ Some (line.Told told)
   pub beside : StandsBeside lines index told (Some (how, first))
 
--- so many of the first lines of a record do, where it has noted some account
+-- this many of the first `n` lines of a record do, if it has noted some account
 pub record CountsBeside (how : Beside) (r : Records) (n count : ℕ) : Type 0 where
   pub are : (a : Account) → HasNoted r a → NumberOf (StandsSo how r.lines.items n) count
 
@@ -51,12 +51,12 @@ abbrev pub SaysFinding : Account → Line → ℕ → Finding → List ℕ → T
 SaysFinding a (line.Told told) number finding text = SaysFate a told number finding text
 SaysFinding a (line.Flawed flaw) number finding text = text ≡ finding_text number finding None
 
--- how the line with an index stands to the first one of its key, if it tells another reply or repeats it
+-- how the line with an index compares to the first one of its key, if it says another reply or repeats it
 abbrev pub IsOther : List Line → ℕ → Line → Option (Beside × ℕ) → Type 0
 IsOther lines index (line.Told told) other = StandsBeside lines index told other
 IsOther lines index (line.Flawed flaw) other = other ≡ None
 
--- the texts are the line of the finding on the line with an index, and then that it differs or repeats
+-- the texts are the finding on the line with an index, and then, if so, that it differs or repeats
 pub record SaysLine (a : Account) (lines : List Line) (index : ℕ) (own : Line) (finding : Finding)
     (texts : List (List ℕ)) : Type 0 where
   pub text : List ℕ
@@ -67,7 +67,7 @@ pub record SaysLine (a : Account) (lines : List Line) (index : ℕ) (own : Line)
 
 -- ---- what is printed of a record
 
--- so it is of each of so many first lines, beside the account that the record has noted
+-- these are the texts for each of the first `count` lines, beside the account that the record has noted
 pub record SaysEach (r : Records) (findings : List Finding) (count : ℕ) (each : List (List (List ℕ)))
     : Type 0 where
   pub many : length each ≡ count
@@ -117,7 +117,7 @@ ReportsBehind first None epoch texts = texts ≡ first
 ReportsBehind first (Some r) None texts = texts ≡ first
 ReportsBehind first (Some r) (Some epoch) texts = ReportsAll first r epoch texts
 
--- the same as far as some first lines of the record
+-- the same, up to some first lines of the record
 abbrev pub BeginsBehind : List (List ℕ) → Option Records → Option ℕ → List (List ℕ) → Type 0
 BeginsBehind first None epoch texts = texts ≡ first
 BeginsBehind first (Some r) None texts = texts ≡ first
@@ -143,7 +143,7 @@ module _ {W : Type 0} (contents : W → Option (List ℕ)) where
     pub went_out : SinkTakes contents old new (printed_lines texts)
     pub sink_stays : sink_failed new ≡ sink_failed old
 
-  -- a write failed: of these lines, or of some first ones, exactly so many bytes, and not all
+  -- a write failed: exactly this many bytes of these lines, or of some first ones, and not all
   pub record TookFront (AreAll AreSome : List (List ℕ) → Type 0) (old new : Sink W) (sent : ℕ)
       : Type 0 where
     pub texts : List (List ℕ)

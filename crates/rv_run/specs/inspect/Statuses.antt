@@ -1,4 +1,4 @@
--- Which status tells what was found.
+-- The exit status for what was found.
 use Rattle.std.specs.Prelude.{◌≡◌, ◌↔◌, ◌⊎◌, IsTrue, true, Bool, ℕ, None, Option, Some, slice_get}
 use Rattle.rv_account.specs.Account.{Account}
 use Rattle.rv_audit.specs.declared.rule.Rule.{Rule}
@@ -23,13 +23,13 @@ abbrev pub TellsKept : Records → ℕ → Bool → Type 0
 TellsKept r epoch kept = (a : Account) → Legal a → a.epoch ≡ epoch → HasNoted r a
     → (IsTrue kept ↔ KeepsEach r a)
 
--- whether all is kept; of no record, and beside an account that names no epoch, nothing else is told
+-- whether all is kept; with no record, or beside an account that says no epoch, it counts as kept
 abbrev pub IsKeptBeside : Option Records → Option ℕ → Bool → Type 0
 IsKeptBeside None epoch kept = kept ≡ true
 IsKeptBeside (Some r) None kept = kept ≡ true
 IsKeptBeside (Some r) (Some epoch) kept = TellsKept r epoch kept
 
--- the status tells what was found of an account and of a record beside it
+-- this is the status for what was found of an account and of a record beside it
 abbrev pub TellsFound : AccountFinding → Option Rule → Option Records → ℕ → Type 0
 TellsFound found rule records status =
     (kept : Bool) × (status ≡ status_by found.verdict rule found.torn kept)

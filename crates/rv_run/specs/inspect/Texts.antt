@@ -14,7 +14,7 @@ use Rattle.rv_run.specs.inspect.Lines.{count}
 use Rattle.rv_run.specs.inspect.Report.{SaysLine}
 use Rattle.std.specs.Fmt.{decimal}
 
--- the text is these lines, but for the last LF
+-- the text is these lines without the last LF
 abbrev pub IsOneText : List (List ℕ) → List ℕ → Type 0
 IsOneText lines text = text ++ 10 ∷ [] ≡ printed_lines lines
 

@@ -1,4 +1,4 @@
--- What holds of plays as such.
+-- Laws of plays.
 use Rattle.std.specs.Prelude.{ℕ, List, Ok, Err, [], ◌∷◌, ◌++◌, ◌≡◌}
 use Rattle.std.specs.List.{Contains}
 use Rattle.rv_lines.specs.Lines.{lines, printed_lines}

@@ -28,7 +28,7 @@ module _ {W : Type 0} (contents : W → Option (List ℕ)) where
     pub went_out : SinkTakes contents old new (printed_lines (turn_texts turns))
     pub sink_stays : sink_failed new ≡ sink_failed old
 
-  -- of the texts of the turns of some first lines exactly so many bytes, and not all
+  -- exactly this many bytes of the texts of the turns of some first lines, and not all
   pub record PrintsFront (input : List ℕ) (old new : Sink W) (sent : ℕ) : Type 0 where
     pub turns : List LineTurn
     pub left : List (List ℕ)

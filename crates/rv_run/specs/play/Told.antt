@@ -17,7 +17,7 @@ use Rattle.rv_world.specs.parts.Events.{EventComesTo}
 use Rattle.rv_world.specs.parts.World.{World, IsHeld}
 use Rattle.rv_run.specs.play.Turns.{LineOutcome, TakesTurn, TellsResult}
 
--- ---- what can be told
+-- ---- what can be shown
 
 -- an answer of this number was sent
 abbrev pub WasSent : World → ℕ → Type 0
@@ -36,11 +36,11 @@ abbrev pub SettlesBy : World → Event → Key → Type 0
 SettlesBy w (event.ToClient packet) key = HoldsAnswer w packet key
 SettlesBy w _ key = ⊥
 
--- it settles one
+-- the event settles some request
 abbrev pub SettlesOne : World → Event → Type 0
 SettlesOne w e = (key : Key) × SettlesBy w e key
 
--- what is told of an event is there
+-- what is shown of an event is there
 abbrev pub CanTell : World → Event → Seen → Type 0
 CanTell w e (sees.Answered packet) = WasSent w packet
 CanTell w e (sees.Settled key) = SettlesBy w e key
@@ -61,12 +61,12 @@ pub record IsBodyOf (w : World) (packet : ℕ) (body : String Global) : Type 0 w
   pub fits : HasBodyLength (string_bytes body)
   pub one_line : All (λ byte. byte ≢ 10) (string_bytes body)
 
--- the text tells the result in a line
+-- the text says the result in a line
 pub record IsResult (w : World) (shown : Result Seen WorldRefusal) (text : String Global) : Type 0 where
   pub tells : TellsResult w shown (string_bytes text)
   pub fits : FitsLine (string_bytes text)
 
--- the world was given the event, and the text tells the result
+-- the world was given the event, and the text says the result
 pub record PlaysEvent (w : World) (e : Event) (v : World) (text : String Global) : Type 0 where
   pub shown : Result Seen WorldRefusal
   pub comes : EventComesTo w e v shown

@@ -1,4 +1,4 @@
--- What holds of the lines of the book's input as such.
+-- Laws of the lines of the book's input.
 use Rattle.std.specs.Prelude.{ℕ, List, ◌≡◌}
 use Rattle.rv_text.specs.declared.message.Message.{Message}
 use Rattle.rv_run.specs.turns.Lines.{ReadsLine}

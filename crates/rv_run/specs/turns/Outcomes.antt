@@ -15,7 +15,7 @@ module _ {W : Type 0} (contents : W → Option (List ℕ)) where
     pub is_printed : Prints a input output
     pub went_out : SinkTakes contents old new output
 
-  -- of what one run over the input prints the sink took exactly so many bytes, and not all
+  -- the sink took exactly this many bytes of what one run over the input prints, and not all
   pub record SendsFront (a : Account) (input : List ℕ) (old new : Sink W) (sent : ℕ) : Type 0 where
     pub output : List ℕ
     pub is_printed : Prints a input output

@@ -41,7 +41,7 @@ pub record LineLacksMemory (line : List ℕ) (a b : Account) (body : List ℕ) :
   pub stays_or_steps : (b ≡ a) ⊎ ((answer : Answer) × StepsBy line a b answer)
   pub body_is : body ≡ refused_text NoMemory
 
--- the line is answered by this body, and leads from one account to the other
+-- the line is answered with this body, and leads from one account to the other
 abbrev pub AnswersLine : List ℕ → Account → Account → List ℕ → Type 0
 AnswersLine line a b body =
     RefusesLine line a b body ⊎ (SaysAnswer line a b body ⊎ LineLacksMemory line a b body)
@@ -54,7 +54,7 @@ pub record AnswersMessage (moment : ℕ) (message : Message) (a b : Account) (bo
 
 -- ---- all lines
 
--- the lines, in order, are answered by these bodies, one a line, and lead from one account to the other
+-- the lines, in order, are answered with these bodies, one for each, and lead from one account to the other
 abbrev pub RunsLines : Account → List (List ℕ) → List (List ℕ) → Account → Type 0
 RunsLines a [] [] b = b ≡ a
 RunsLines a (line ∷ lines) (body ∷ bodies) b =

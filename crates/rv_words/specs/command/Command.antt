@@ -23,11 +23,11 @@ GivesBetween least most value n = IsSomeAnd value (λ text. WritesBetween least 
 abbrev pub GivesVersion : Option Text → Version → Type 0
 GivesVersion value version = GivesBetween 1 2 value (number_of_version version)
 
--- it is there, and writes a span of so many milliseconds
+-- it is there, and writes a span of this many milliseconds
 abbrev pub GivesDuration : Option Text → ℕ → Type 0
 GivesDuration value n = IsSomeAnd value (λ text. WritesDuration text n)
 
--- the most of what is only counted: each `u32` is one
+-- the greatest count, which is that of a `u32`
 abbrev pub max_count : ℕ
 max_count = 4294967295
 
@@ -53,7 +53,7 @@ pub record SaysEnd (rows : List Row) (status connect : Text) (older : ℕ) : Typ
   pub to_connect : first_of (codes "connect") rows ≡ Some connect
   pub of_age : GivesDuration (first_of (codes "older") rows) older
 
--- a subcommand, by its name and its options, is the command
+-- a subcommand, with this name and these options, is the command
 abbrev pub SaysCommand : Text × List Row → Command → Type 0
 SaysCommand subcommand (Book epoch) = (subcommand.0 ≡ codes "book")
     × GivesIdentifier (first_of (codes "epoch") subcommand.1) epoch

@@ -1,11 +1,11 @@
--- What holds of the words of a command line as such.
+-- Laws of the words of a command line.
 use Rattle.std.specs.Prelude.{codes, List, [], ◌∷◌, ◌≡◌}
 use Rattle.clap.specs.Words.{Text}
 use Rattle.rv_words.specs.command.Command.{NamesCommand}
 use Rattle.rv_words.specs.declared.command.Command.{Command}
 use Rattle.rv_words.specs.declared.command.Command.TheVariants.{Audit, Book, Call, End, Play, Serve}
 
--- the commands are the same; addresses are, where their bytes are
+-- the commands are the same; addresses are the same if their bytes are
 abbrev pub SameCommand : Command → Command → Type 0
 SameCommand (Serve listen epoch workers connections) (Serve other epoch' workers' connections') =
     (listen.now ≡ other.now) × (epoch ≡ epoch') × (workers ≡ workers') × (connections ≡ connections')

@@ -6,7 +6,7 @@ use Rattle.rv_words.specs.declared.options.epoch.EpochRule.{EpochRule}
 use Rattle.rv_words.specs.declared.options.epoch.EpochRule.TheVariants.{Above, Clock, Exactly}
 use Rattle.rv_words.specs.declared.options.number.HostNumber.TheVariants as number
 
--- there is an epoch by the rule
+-- the rule allows an epoch
 abbrev pub FitsRule : EpochRule → Type 0
 FitsRule Clock = Unit {0}
 FitsRule (Exactly epoch) = Fits number.Epoch epoch

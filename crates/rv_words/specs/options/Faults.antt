@@ -1,4 +1,4 @@
--- What is wrong with words that name no options.
+-- What is wrong with words that aren't options of `rv host`.
 use Rattle.std.specs.Prelude.{codes, List, ℕ, None, Some, true, is_some, if◌then◌else◌, [], ◌≡◌}
 use Rattle.clap.specs.Words.{IsAmong, Row, Text, fault_of, first_of, kind_of, matches_of}
 use Rattle.clap.specs.declared.error.Error.{Error}
@@ -11,7 +11,7 @@ use Rattle.rv_words.specs.declared.options.fault.HostFault.TheVariants.{Missing,
 use Rattle.rv_words.specs.declared.options.fault.HostFault.TheVariants.{TwoEpochs}
 use Rattle.rv_words.specs.declared.options.number.HostNumber.TheVariants as number
 
--- a fault of options that clap takes, by their rows
+-- a fault of options that `clap` accepts, by their rows
 abbrev pub IsFaultOf : List Row → HostFault → Type 0
 IsFaultOf rows (Refused error) = ⊥
 IsFaultOf rows (Outside number given) = (given_for number rows ≡ Some given.now)
@@ -21,24 +21,24 @@ IsFaultOf rows TwoEpochs = (is_some (given_for number.Epoch rows) ≡ true)
     × (is_some (given_for number.EpochAbove rows) ≡ true)
 IsFaultOf rows NoMemory = Unit {0}
 
--- a fault of the words: one that clap finds, also a call for help, or else one of the options
+-- a fault of the words: one that `clap` finds, a call for help included, or else one of the options
 abbrev pub IsFault : List Text → HostFault → Type 0
 IsFault words (Refused error) = IsAmong (kind_of error) (fault_of host_app words)
 IsFault words NoMemory = Unit {0}
 IsFault words fault = (fault_of host_app words ≡ []) × IsFaultOf (matches_of host_app words) fault
 
--- the status of a program that ends by an error of this kind
+-- the status of a program that ends with an error of this kind
 abbrev pub status_of_kind : ErrorKind → ℕ
 status_of_kind DisplayHelp = 0
 status_of_kind other = 2
 
--- the status of a program that ends by a fault
+-- the status of a program that ends with a fault
 abbrev pub status_of : HostFault → ℕ
 status_of (Refused error) = status_of_kind (kind_of error)
 status_of NoMemory = 1
 status_of fault = 2
 
--- the fault that an error of clap's, of this kind, is told as
+-- the fault as which an error of this kind from `clap` is reported
 abbrev pub fault_by : ErrorKind → Error → HostFault
 fault_by OutOfMemory error = NoMemory
 fault_by other error = Refused error

@@ -1,4 +1,4 @@
--- What a server is told by the words that name nothing but its address.
+-- The options that words name if they give only an address.
 use Rattle.std.specs.Prelude.{codes, List, None, false, [], ◌∷◌, ◌≡◌}
 use Rattle.clap.specs.Words.{Text}
 use Rattle.rv_words.specs.options.Options.{NamesOptions}
@@ -9,7 +9,7 @@ use Rattle.rv_words.specs.declared.options.HostOptions.{HostOptions}
 abbrev pub bare_words : List Text
 bare_words = codes "host" ∷ codes "--listen" ∷ codes "127.0.0.1:7411" ∷ []
 
--- the options listen there, and are all else by default
+-- the options have that address, and defaults for all others
 pub record AreBare (options : HostOptions) : Type 0 where
   pub listens : options.listen.now ≡ codes "127.0.0.1:7411"
   pub by_clock : options.epoch ≡ Clock

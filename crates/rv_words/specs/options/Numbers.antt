@@ -1,4 +1,4 @@
--- The numbers that options say: the word of each, and its limits.
+-- The numbers that options give: the word of each, and its limits.
 use Rattle.std.specs.Prelude.{codes, List, ℕ, Option, ◌≡◌}
 use Rattle.std.specs.Int.{IsInRange}
 use Rattle.std.specs.Str.Parse.{IsNumeral, digits_value, without_leading_plus}

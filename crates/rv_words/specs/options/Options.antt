@@ -7,7 +7,7 @@ use Rattle.rv_words.specs.options.Epochs.{FitsRule, SaysRule}
 use Rattle.rv_words.specs.declared.options.number.HostNumber.TheVariants as number
 use Rattle.rv_words.specs.declared.options.HostOptions.{HostOptions}
 
--- the rows, a value or more of each option, say these options
+-- the rows, each with the values of an option, say these options
 pub record SaysOptions (rows : List Row) (options : HostOptions) : Type 0 where
   pub listens : first_of (codes "listen") rows ≡ Some options.listen.now
   pub keeps : first_of (codes "account") rows ≡ option_map (λ file. file.now) options.account
@@ -23,7 +23,7 @@ pub record SaysOptions (rows : List Row) (options : HostOptions) : Type 0 where
   pub stalls : GivesNumber number.Stall rows options.stall
   pub is_quiet : (options.quiet ≡ true) ↔ (first_of (codes "quiet") rows ≡ Some (codes "true"))
 
--- clap finds no fault in the words, of which the first is the command's, and their options are these
+-- `clap` finds no fault in the words, the first of which is the command's name, and their options are these
 pub record NamesOptions (words : List Text) (options : HostOptions) : Type 0 where
   pub taken : fault_of host_app words ≡ []
   pub said : SaysOptions (matches_of host_app words) options

@@ -1,4 +1,4 @@
--- The command `host` as clap reads it: its options, with what they are where they aren't given.
+-- The command `host` as `clap` reads it: its options, with their defaults.
 use Rattle.std.specs.Prelude.{Bool, codes, List, Some, true, false, [], ◌∷◌}
 use Rattle.clap.specs.Words.{App, Rule, Text, new_app, new_rule, with_rule}
 use Rattle.clap.specs.declared.builder.ArgAction.TheVariants.{Set, SetTrue}
@@ -11,7 +11,7 @@ abbrev pub text_rule : Text → Bool → Rule
 text_rule name required =
     record (new_rule name) { long = Some name; action = Some Set; value_names = 1; required = required }
 
--- an option `--NAME N`, with what it is where it isn't given
+-- an option `--NAME N`, with its default
 abbrev pub number_rule : HostNumber → List Text → Rule
 number_rule number usual = record (text_rule (option_word number) false) { defaults = usual }
 
