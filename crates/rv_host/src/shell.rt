@@ -128,8 +128,8 @@ fn heed_all(
 
 // The poll told that someone waits at the status address.
 fn knock(status: &mut Option<StatusDesk>) {
-    if let Some(dispatcher) = status {
-        dispatcher.door.knock();
+    if let Some(desk) = status {
+        desk.door.knock();
     }
 }
 
@@ -194,7 +194,7 @@ impl ShellDoors {
     fn register(&mut self, poll: &Poll) -> io::Result<()> {
         self.door.register(poll, LISTENER)?;
         match &mut self.status {
-            Some(dispatcher) => dispatcher.door.register(poll, STATUS_LISTENER),
+            Some(desk) => desk.door.register(poll, STATUS_LISTENER),
             None => Ok(()),
         }
     }
@@ -323,8 +323,8 @@ impl<W: Drop> Shell<W> {
         if may_accept {
             until = until.min(self.door.again().unwrap_or(u64::MAX));
         }
-        if let Some(dispatcher) = &self.status {
-            until = until.min(dispatcher.next_moment(now));
+        if let Some(desk) = &self.status {
+            until = until.min(desk.next_moment(now));
         }
         until.saturating_sub(now).min(LONGEST_WAIT)
     }

@@ -143,7 +143,7 @@ impl StatusDesk {
             self.after = Some(client);
             let waiting = waiting_row(hub.machine(), client);
             renew(&mut self.status.waiting, client, waiting)?;
-            let unheard = self.sights.look(client, unheard_row(hub, client), now);
+            let unheard = self.sights.look(client, unheard_row(hub, client), now)?;
             renew(&mut self.status.unheard, client, unheard)?;
         }
         Ok(())
@@ -229,11 +229,11 @@ impl<W: Drop> Shell<W> {
     {
         note_refusals(&mut self.answers, &mut self.report);
         self.learn(now);
-        let Some(dispatcher) = &mut self.status else {
+        let Some(desk) = &mut self.status else {
             return;
         };
-        let _ = dispatcher.look_at_clients(now, self.traffic.engine().hub());
-        dispatcher.serve(rt, now);
+        let _ = desk.look_at_clients(now, self.traffic.engine().hub());
+        desk.serve(rt, now);
     }
 
     // Once a second takes in what is known.
@@ -242,15 +242,15 @@ impl<W: Drop> Shell<W> {
         ensures account { self.new.account ≡ self.old.account }
     {
         let numbers = match &self.status {
-            Some(dispatcher) if dispatcher.next_second <= now => self.numbers(now),
+            Some(desk) if desk.next_second <= now => self.numbers(now),
             _ => return,
         };
-        if let Some(dispatcher) = &mut self.status {
+        if let Some(desk) = &mut self.status {
             let times = StatusTimes {
                 turns: self.turns,
                 answers: self.answers.times(),
             };
-            let _ = dispatcher.learn(now, numbers, times, self.traffic.engine().hub());
+            let _ = desk.learn(now, numbers, times, self.traffic.engine().hub());
         }
     }
 

@@ -6,7 +6,7 @@ ghost use Rattle.rv_lines.specs.EntryText.{FitPartners, IsShort, entry_text, hea
 ghost use Rattle.rv_lines.specs.EntryText.{partners_text, places_text, said_text};
 
 use rv_account::{Act, Entry, Partners, Place};
-use rv_text::{Message, NoMemory, encode_message};
+use rv_text::{Message, NoMemory, encode_message, encode_request};
 use std::alloc::Global;
 
 /// The first line of an account, with no LF: `epoch E opened T`. It is shorter than 65,727 bytes. Fails only
@@ -67,31 +67,21 @@ fn act_field(alloc: Global, act: &Act) -> Result<String, NoMemory>
     ensures text { IfOk result (λ s. string_bytes s ≡ said_text (message_in act.now)) }
     ensures short { FitsAct act.now → IfOk result (λ s. length (string_bytes s) ≤ 65535) }
 {
-    match message_of(alloc, act)? {
-        Some(message) => encode_message(alloc, &message),
-        None => String::from_str(alloc, "tick"),
-    }
-}
-
-// The message that an act records, if it records one.
-fn message_of(alloc: Global, act: &Act) -> Result<Option<Message>, NoMemory>
-    ensures { IfOk result (λ message. message ≡ message_in act.now) }
-{
     match act {
         Act::Hello {
             client,
             incarnation,
             version,
-        } => Ok(Some(Message::Hello {
-            client: *client,
-            incarnation: *incarnation,
-            version: *version,
-        })),
-        Act::Arrive { key, call } => Ok(Some(Message::Request {
-            key: *key,
-            call: call.copy(alloc)?,
-        })),
-        Act::Cancel { key } => Ok(Some(Message::Cancel { key: *key })),
-        Act::Tick => Ok(None),
+        } => {
+            let hello = Message::Hello {
+                client: *client,
+                incarnation: *incarnation,
+                version: *version,
+            };
+            encode_message(alloc, &hello)
+        }
+        Act::Arrive { key, call } => encode_request(alloc, key, call),
+        Act::Cancel { key } => encode_message(alloc, &Message::Cancel { key: *key }),
+        Act::Tick => String::from_str(alloc, "tick"),
     }
 }

@@ -1,18 +1,18 @@
 -- Since when each request has been found with no connection.
-use Rattle.std.specs.Prelude.{ℕ, ◌≡◌, ◌≢◌, ◌==◌, ◌&&◌, Option, None, Some, if◌then◌else◌, nat_eq}
-use Rattle.std.specs.Prelude.{option_and_then}
-use Rattle.std.specs.Map.{lookup}
+use Rattle.std.specs.Prelude.{ℕ, ◌≡◌, ◌≢◌, ◌==◌, ◌&&◌, Option, None, Some, if◌then◌else◌}
+use Rattle.std.specs.Ordering.{nat_cmp}
+use Rattle.std.specs.BTreeMap.{get}
 use Rattle.rv_status.specs.declared.status.WaitingRow.{WaitingRow}
 use Rattle.rv_survey.specs.declared.sights.Sight.{Sight}
 use Rattle.rv_survey.specs.declared.sights.Sights.{Sights}
 
 -- the sight that the last look at a client left, if it found a request with no connection
 abbrev pub last_sight : Sights → ℕ → Option Sight
-last_sight sights client = option_and_then (λ sight. sight) (lookup (nat_eq client) sights.sights.entries)
+last_sight sights client = get nat_cmp sights.sights client
 
 -- what is known of all other clients stays
 abbrev pub ChangesOnly : ℕ → Sights → Sights → Type 0
-ChangesOnly client old new = (other : ℕ) → client ≢ other → last_sight new other ≡ last_sight old other
+ChangesOnly client old new = (other : ℕ) → other ≢ client → last_sight new other ≡ last_sight old other
 
 -- the moment since which looks have found the request so: that of the last sight, if that was of the same
 -- request, else now

@@ -25,7 +25,7 @@ pub use call::{Call, MAX_EXCHANGER, MAX_QUEUE, MAX_WAIT, Side, Wait};
 pub use decode::{decode_answer, decode_call, decode_message};
 pub use encode::{
     BAD_TEXT_BODY, NO_MEMORY_BODY, bad_text_body, encode_answer, encode_answer_in, encode_message,
-    no_memory_body,
+    encode_reply_in, encode_request, no_memory_body,
 };
 pub use message::{Key, MAX_IDENTIFIER, Message, fits_identifier};
 pub use rv_json::{Item, Items, MAX_BODY_BYTES, MAX_DRAIN, NoMemory, TextFault};

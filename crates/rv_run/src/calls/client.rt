@@ -11,9 +11,7 @@ ghost use Rattle.rv_run.specs.calls.Records.{IsRequestBody};
 use crate::calls::end_word::EndWord;
 use rv_client::{CallOutcome, Idle, New, WelcomeOutcome, ask, call};
 use rv_frame::{Sink, Source};
-use rv_text::{
-    Answer, Call, Key, Message, NoMemory, TextFault, decode_call, encode_answer, encode_message,
-};
+use rv_text::{Answer, Call, Key, NoMemory, TextFault, decode_call, encode_answer, encode_request};
 use std::alloc::{AllocError, Global};
 use std::io::{Read, Write};
 
@@ -158,7 +156,7 @@ fn request_text(alloc: Global, key: Key, line: &[u8]) -> Result<String, Halt>
     ensures halted { IfErr result (HaltsReading line.now) }
 {
     let call = read_call(alloc, line)?;
-    Ok(encode_message(alloc, &Message::Request { key, call })?)
+    Ok(encode_request(alloc, &key, &call)?)
 }
 
 // The call that a line says.

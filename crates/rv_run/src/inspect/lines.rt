@@ -14,7 +14,7 @@ ghost use Rattle.rv_run.specs.inspect.Texts.{next_counts};
 use rv_audit::Rule;
 use rv_replies::findings::{AccountFinding, AccountVerdict, Fate, Finding, count_of};
 use rv_replies::{Beside, Flaw, Line, Records};
-use rv_text::{Answer, Key, Message, NoMemory, Reply, encode_answer, encode_message};
+use rv_text::{Key, NoMemory, Reply, encode_reply_in, encode_request};
 use std::alloc::Global;
 
 /// The lines of a verdict, with LF between them: the verdict, and whether the end is torn.
@@ -257,13 +257,13 @@ fn said_instead(
 fn reply_body(alloc: Global, key: Key, fate: &Fate) -> Result<Option<String>, NoMemory>
     ensures { IfOk result (λ said. option_map string_bytes said ≡ reply_said key fate.now) }
 {
-    let reply = match fate {
-        Fate::RepliedTo { reply, .. } => reply.copy(alloc)?,
-        Fate::CancelledUnseen => Reply::Cancelled,
-        Fate::Unnamed => return Ok(None),
-        Fate::Waits { .. } => return Ok(None),
-    };
-    Ok(Some(encode_answer(alloc, &Answer::Replied { key, reply })?))
+    let room = Vec::new(alloc);
+    match fate {
+        Fate::RepliedTo { reply, .. } => Ok(Some(encode_reply_in(room, &key, reply)?)),
+        Fate::CancelledUnseen => Ok(Some(encode_reply_in(room, &key, &Reply::Cancelled)?)),
+        Fate::Unnamed => Ok(None),
+        Fate::Waits { .. } => Ok(None),
+    }
 }
 
 // The body of a request as it came.
@@ -271,10 +271,10 @@ fn call_body(alloc: Global, key: Key, fate: &Fate) -> Result<Option<String>, NoM
     ensures { IfOk result (λ said. option_map string_bytes said ≡ call_said key fate.now) }
 {
     let call = match fate {
-        Fate::Waits { call } => call.copy(alloc)?,
-        Fate::RepliedTo { call, .. } => call.copy(alloc)?,
+        Fate::Waits { call } => call,
+        Fate::RepliedTo { call, .. } => call,
         Fate::Unnamed => return Ok(None),
         Fate::CancelledUnseen => return Ok(None),
     };
-    Ok(Some(encode_message(alloc, &Message::Request { key, call })?))
+    Ok(Some(encode_request(alloc, &key, call)?))
 }
