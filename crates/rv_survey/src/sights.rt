@@ -17,8 +17,8 @@ pub struct Sight {
     pub moment: u64,
 }
 
-/// For each client, the request that the last look at it found with no connection, if it found one. A look takes
-/// time logarithmic in the number of these clients, whatever numbers they have.
+/// For each client, the request that the last look at it found with no connection, if it found one. A look
+/// takes time logarithmic in the number of these clients, whatever numbers they have.
 #[derive(Drop)]
 pub struct Sights {
     sights: BTreeMap<u64, Sight>,

@@ -61,7 +61,8 @@ pub fn encode_answer_in(buffer: Vec<u8>, answer: &Answer) -> Result<String, NoMe
     write_answer(ObjectText::in_room(buffer)?, answer)
 }
 
-/// The body of a reply, as [`encode_answer_in`] writes it, by its key and the reply, of which no copy is made.
+/// The body of a reply, as [`encode_answer_in`] writes it, by its key and the reply, of which no copy is
+/// made.
 pub fn encode_reply_in(buffer: Vec<u8>, key: &Key, reply: &Reply) -> Result<String, NoMemory>
     ensures text { IfOk result (λ s. string_bytes s ≡ answer_text (Answer.Replied key.now reply.now)) }
     ensures short { FitsAnswer (Answer.Replied key.now reply.now)
@@ -94,20 +95,6 @@ pub fn encode_message(alloc: Global, message: &Message) -> Result<String, NoMemo
 {
     let mut body = ObjectText::new(alloc)?;
     put_message(&mut body, message)?;
-    body.finish()
-}
-
-/// The body of a request, as [`encode_message`] writes it, by its key and its call, of which no copy is made.
-/// Fails only if memory was refused.
-pub fn encode_request(alloc: Global, key: &Key, call: &Call) -> Result<String, NoMemory>
-    ensures text { IfOk result (λ s. string_bytes s ≡ message_text (Message.Request key.now call.now)) }
-    ensures short { FitsMessage (Message.Request key.now call.now)
-        → IfOk result (λ s. HasBodyLength (string_bytes s)) }
-    ensures shorter { FitsMessage (Message.Request key.now call.now)
-        → IfOk result (λ s. length (string_bytes s) < 65535) }
-{
-    let mut body = ObjectText::new(alloc)?;
-    put_request(&mut body, key, call)?;
     body.finish()
 }
 
