@@ -2,6 +2,7 @@
 ends, by which hellos, and what it prints, says and ends with.
 
 A server's status is looked at again until it has been looked through, so that a case takes some seconds: cases run side by side.
+Where there are very many looks the pauses between them end at once.
 """
 from __future__ import annotations
 
@@ -13,24 +14,29 @@ import subprocess
 import threading
 import time
 import unittest
-from collections.abc import Callable, Iterator, Sequence
+from collections.abc import Callable, Iterator, Mapping, Sequence
 from concurrent.futures import ThreadPoolExecutor
-from typing import Any, List, NamedTuple
+from typing import IO, Any, List, NamedTuple
 
 from tests.cases import Case, SideBySide
+from tests.faults.system import System, systems
 from tests.names import cases_of
 from tests.sockets.programs import taken_port
+from tests.sockets.wire import PATIENCE
 
-PATIENCE = 120
 GREATEST = 9_007_199_254_740_991
 # The seconds that the scripted server has been up, and the age of a request that is to be ended, as milliseconds and as a word.
 UP, AGE, OLDER = 1_000, 60_000, "60s"
 # The longest answer that is read, and the rows that a server's status shows at most.
 LONGEST, MOST = 4_194_304, 100
+# How often a server's status is looked at, at most.
+LOOKS = 1_800
 # A reset instead of an end, where a socket is closed.
 RESET = struct.pack("ii", 1, 0)
 
 Row = List[Any]
+# What answers a hello, and the same of one behind so many others.
+Answer = Callable[["dict[str, Any]"], bytes]
 Answers = Callable[[int, "dict[str, Any]"], bytes]
 
 
@@ -117,7 +123,10 @@ class Status(Listener):
     def serve(self, connection: socket.socket) -> None:
         asked = b""
         while not asked.endswith(b"\r\n\r\n"):
-            asked += connection.recv(4_096)
+            piece = connection.recv(4_096)
+            if not piece:
+                return
+            asked += piece
         self.asked.append(asked)
         connection.sendall(self.answers[min(len(self.asked), len(self.answers)) - 1])
         if self.reset:
@@ -148,6 +157,11 @@ def micros() -> int:
     return time.time_ns() // 1_000
 
 
+def words_of(status: str, connect: str, older: str = OLDER) -> list[str]:
+    """The words of `rv end` for these addresses and this age."""
+    return ["--status", status, "--connect", connect, "--older", older]
+
+
 def spoilt_rows() -> Iterator[bytes]:
     """Texts of a status of which one row is no row, or a number is none."""
     good = row(2)
@@ -171,14 +185,15 @@ AGES = {"0ms": 0, "1ms": 1, "999ms": 1, "1001ms": 2, "1s": 1, "0060s": 60, "10m"
 class Ends(Case):
     """What each expects is set beforehand. No wait lasts longer than `PATIENCE` seconds."""
 
-    def ran(self, words: Sequence[str], stdout: Any = subprocess.PIPE) -> Ran:
+    def ran(self, words: Sequence[str], stdout: int | IO[bytes] = subprocess.PIPE, env: Mapping[str, str] | None = None) -> Ran:
         """Runs `rv end` with these words."""
-        ran = subprocess.run([self.program, "end", *words], stdout=stdout, stderr=subprocess.PIPE, timeout=PATIENCE)
+        ran = subprocess.run([self.program, "end", *words], stdout=stdout, stderr=subprocess.PIPE, timeout=PATIENCE, env=env)
         return Ran((ran.stdout or b"").decode().split("\n")[:-1], ran.stderr.decode(), ran.returncode)
 
-    def ended(self, status: str, connect: str, older: str = OLDER, stdout: Any = subprocess.PIPE) -> Ran:
+    def ended(self, status: str, connect: str, older: str = OLDER, stdout: int | IO[bytes] = subprocess.PIPE,
+              env: Mapping[str, str] | None = None) -> Ran:
         """Runs it with these addresses and this age."""
-        return self.ran(["--status", status, "--connect", connect, "--older", older], stdout)
+        return self.ran(words_of(status, connect, older), stdout, env)
 
     def test_the_old_are_ended(self) -> None:
         """Those of the age and older are ended, in the order of the rows, over one connection; a younger one is not."""
@@ -224,6 +239,19 @@ class Ends(Case):
         for clients, looks in [(1, 3), (2_559, 3), (2_560, 4), (7_680, 6)]:
             with Status(answered(status_text([row(1)], clients))) as status, Server() as server:
                 self.check_equal(f"{clients} clients", (self.ended(status.address, server.address).status, status.came), (0, looks))
+
+    def test_more_are_left(self) -> None:
+        """After its last look it says that more are left, unless by then enough looks have shown no other request."""
+        with systems():
+            hasty = System()
+            hasty.be(sleep=1)
+            for vain, said in [(0, "more are left\n"), (1, "more are left\n"), (2, "")]:
+                clients = range(1, LOOKS - vain + 1)
+                looks = [*(status_text([row(client)]) for client in clients), *[status_text([])] * vain]
+                with Status(*map(answered, looks)) as status, Server() as server:
+                    found = self.ended(status.address, server.address, env=hasty.env), status.came
+                lines = [f"{client} 7 1 take 6 60 ended" for client in clients]
+                self.check_equal(f"{vain} looks in vain at the end", found, (Ran(lines, said, int(bool(said))), LOOKS))
 
     def test_what_comes_of_each(self) -> None:
         """A greater incarnation that is there, other refusals, and answers that say nothing; behind those the connection is another."""
@@ -308,7 +336,7 @@ class Ends(Case):
         for older in ["", "60", "s", "60x", "60S", "60 s", " 60s", "60s ", "-1s", "+1s", "1.5s", "1e3s", "60sm", "60sms", "1s1", "ms", "25h",
                       "1441m", "86401s", "86400001ms", "00000000000000000001s", "18446744073709551617s", "\u0661s", "60s\n"]:
             self.check_equal(f"an age of {older!r}", self.ended("127.0.0.1:1", "127.0.0.1:1", older), bad)
-        whole = ["--status", "127.0.0.1:1", "--connect", "127.0.0.1:1", "--older", "60s"]
+        whole = words_of("127.0.0.1:1", "127.0.0.1:1")
         wrong: list[list[str]] = [
             [], whole[2:], whole[:2] + whole[4:], whole[:4], [*whole, "x"], [*whole, *whole[:2]], [*whole, "--tries", "1"]]
         for words in wrong:

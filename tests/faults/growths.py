@@ -1,7 +1,7 @@
 """Runs the built program on 27 worked rows, each with the same lines again behind it, on the worked plays and on the worked
-account, a server that nobody comes to, an account beside a record, and a client that keeps a record, with each growth of memory
-refused in turn; on rows and plays as they are, with each growth refused and all behind it; and on lines that take no memory before their answer's text, with that and
-all growths behind it refused.
+account, a server that nobody comes to, an account beside a record, a client that keeps a record, and requests of the dead that are
+ended, with each growth of memory refused in turn; on rows and plays as they are, with each growth refused and all behind it; and on
+lines that take no memory before their answer's text, with that and all growths behind it refused.
 
 A run ends by a fault with nothing printed, and a play also by a fault behind the results of the lines before; or one line
 says that memory was refused, and the others what follows from the account's having taken that line's step or not; or
@@ -20,13 +20,15 @@ import socket
 import subprocess
 import tempfile
 import threading
-from collections.abc import Callable, Iterable, Iterator, Sequence
+from collections.abc import Callable, Iterable, Iterator, Mapping, Sequence
 from typing import Any, List, NamedTuple, Tuple
 
 from tests import ROOT
 from tests.cases import Case
+from tests.commands import ends as dead
 from tests.commands.replies import ACCOUNT, ALL_KEPT, KEPT
 from tests.faults.preload import built, switches
+from tests.faults.system import System, systems
 from tests.model.account import Account
 from tests.model.rows import (
     ANEW, DRAINED, DRAIN_ROW, LATER_ROWS, RESENT, ROWS, drain_texts, pairs_of, play_pairs)
@@ -121,6 +123,15 @@ NO_MEMORY = '{"code":11,"kind":"refused"}'
 GOOD, RUN_FAULT = (0, ""), (1, "run fault 3\n")
 BEFORE_THE_LINES = [(2, "command fault 2\n"), RUN_FAULT]
 MOST_GROWTHS = 10_000
+# Requests of the dead: the clients that each look at a status shows, and, of all clients in their order, what their hellos are
+# answered and the lines of their requests. After the third one the next hello goes over another connection.
+DEAD_LOOKS: list[list[int]] = [[2, 3], [3, 4, 5], [], []]
+DEAD = [2, 3, 4, 5]
+DEAD_ANSWERS: list[dead.Answer] = [dead.welcome, lambda _: dead.refused(4, current=8), lambda _: b"", dead.welcome]
+DEAD_LINES = [f"{client} 7 1 take 6 60 {what}" for client, what in zip(DEAD, ["ended", "replaced 8", "no answer", "ended"])]
+# How many lines stand where a status is asked for, and where a connection is made.
+ASKED_AT, CONNECTED_AT, DEAD_END = [0, 2, 4], [0, 2, 3, 4], (1, "")
+STATUS_FAULT, ADDRESS_FAULT, COMMAND_FAULT = (1, "status fault 3\n"), (1, "address fault\n"), (2, "command fault 2\n")
 # More refusals than a run has growths.
 ALL = 1_000_000
 # Rows where each growth is refused with all behind it.
@@ -269,6 +280,16 @@ def order_fault(words: Sequence[str], runs: Sequence[tuple[int, list[str], End]]
     return None if fronts or words[0] == "book" else "no run ends by want of memory behind the first results"
 
 
+def dead_ends() -> list[tuple[int, End, int]]:
+    """How a run may end that is to end requests of the dead, behind so many lines and so many hellos: where a hello, its answer or its
+    line found no memory, that may have been said."""
+    lines = range(len(DEAD_LINES))
+    return [(0, COMMAND_FAULT, 0), *((count, STATUS_FAULT, count) for count in ASKED_AT),
+            *((count, ADDRESS_FAULT, count) for count in CONNECTED_AT),
+            *((count, RUN_FAULT, said) for count in lines for said in (count, count + 1)),
+            (len(DEAD_LINES), DEAD_END, len(DEAD))]
+
+
 def answer(listener: socket.socket, answers: Iterable[bytes]) -> None:
     """Answers each frame of one connection by the next of these, and then closes it."""
     with contextlib.suppress(OSError), listener.accept()[0] as connection, connection.makefile("rb") as source:
@@ -297,13 +318,14 @@ class Growths(Case):
         built()
         self.folder = pathlib.Path(self.enterContext(tempfile.TemporaryDirectory(prefix="growths-")))
 
-    def ran(self, words: Sequence[str], text: bytes, growth: int, refusals: int = 1) -> tuple[list[str], End, bool]:
+    def ran(self, words: Sequence[str], text: bytes, growth: int, refusals: int = 1,
+            env: Mapping[str, str] = os.environ) -> tuple[list[str], End, bool]:
         """Runs the program with one growth refused, or so many from that on. Gives what it printed, how it ended, and whether
         it came so far. It reads a file, whose reading takes as many growths each time; a pipe hands it over in pieces."""
         given, reached = self.folder / "input", self.folder / "refused"
         given.write_bytes(text)
         reached.unlink(missing_ok=True)
-        room = {**os.environ, **switches(growth=growth, growths=refusals, refused=reached)}
+        room = {**env, **switches(growth=growth, growths=refusals, refused=reached)}
         with given.open("rb") as source:
             ran = subprocess.run([self.program, *words], stdin=source, capture_output=True, env=room)
         printed = ran.stdout.decode(errors="replace").split("\n")[:-1]
@@ -411,6 +433,35 @@ class Growths(Case):
             if not is_refused:
                 break
         self.assertGreater(growth, 1, "no growth was refused")
+
+    def ended_dead(self, growth: int, env: Mapping[str, str]) -> tuple[list[str], End, list[int], bool]:
+        """What is printed where requests of the dead are ended, with one growth refused, and how it ends; the clients that said hello;
+        and whether it came so far."""
+        looks = [dead.answered(dead.status_text([dead.row(client) for client in clients])) for clients in DEAD_LOOKS]
+        with dead.Status(*looks) as status, dead.Server(lambda number, hello: DEAD_ANSWERS[number](hello)) as server:
+            printed, end, is_refused = self.ran(["end", *dead.words_of(status.address, server.address)], b"", growth, env=env)
+        return printed, end, [hello["client"] for hello in server.hellos], is_refused
+
+    def test_requests_of_the_dead(self) -> None:
+        """What it printed is a front of its lines, which ends where the growth was refused, and each line had its hello."""
+        allowed, runs = dead_ends(), []
+        with systems():
+            hasty = System()
+            hasty.be(sleep=1)
+            for growth in range(1, MOST_GROWTHS):
+                printed, end, said, is_refused = self.ended_dead(growth, hasty.env)
+                if not is_refused:
+                    break
+                runs.append((len(printed), end))
+                with self.subTest(f"requests of the dead, growth {growth} refused"):
+                    self.assertEqual((printed, said), (DEAD_LINES[:len(printed)], DEAD[:len(said)]))
+                    self.assertIn((len(printed), end, len(said)), allowed)
+        with self.subTest("requests of the dead, with ample memory"):
+            self.assertEqual((printed, end, said, is_refused), (DEAD_LINES, DEAD_END, DEAD, False))
+            self.assertLessEqual({RUN_FAULT, STATUS_FAULT, COMMAND_FAULT}, {end for _, end in runs}, "some fault was never told")
+        with self.subTest("requests of the dead, the order of its lines"):
+            counts = [count for count, end in runs if end != DEAD_END]
+            self.assertEqual(counts, sorted(counts))
 
     def count_growths(self, lines: Iterable[str]) -> int:
         """How many growths a run over these lines makes."""
