@@ -32,8 +32,8 @@ QUICK_COMPILER = [f"-J{word}" for word in QUICK]
 # The variable that names the folders of classes that are built already, with colons between them.
 CLASSES = "RV_CLASSES"
 PATIENCE = 300
-# A patience that ends in a case, in milliseconds: long enough for a slow machine to ask.
-SHORT = 3_000
+# A patience that ends in a case, in milliseconds: long enough for a slow machine to ask. Where it isn't, this is.
+SHORT, ENOUGH = 3_000, 30_000
 # How often what has to be done in time is tried.
 TRIES = 5
 # The patience of other sessions in milliseconds: long, but where clients are tried that never end.
@@ -99,6 +99,16 @@ def in_time(case):
             with contextlib.suppress(Wrong):
                 return case(*given)
         return case(*given)
+    return tried
+
+
+def in_patience(case):
+    """A case that is given a patience too, which ends in it: a short one, and where a machine was too slow for that, a long one."""
+    @functools.wraps(case)
+    def tried(*given):
+        with contextlib.suppress(Wrong):
+            return case(*given, SHORT)
+        return case(*given, ENOUGH)
     return tried
 
 

@@ -74,10 +74,11 @@ def byte_by_byte(_program):
         demand(lines_of(path)[0].reply == {"reply": "item", "item": "é\né"}, f"{text[:300]}")
 
 
-def what_is_no_reply(_program):
+@java.in_patience
+def what_is_no_reply(_program, patience):
     """A request that is unsettled has its line once it is asked again; one that was never answered has none."""
     with recording() as (driver, path):
-        with opened(driver, waiting, patience=java.SHORT) as server:
+        with opened(driver, waiting, patience=patience) as server:
             driver.expect("take", "threw Unsettled 1/1/1/1 accepted")
             demand(not path.exists(), "there is a record")
             server.otherwise = deed = reply("item", item="a")
