@@ -5,10 +5,16 @@ for which nothing flies, which take in no answer, meet a few answers. A machine 
 the replies.
 """
 import json
+from collections.abc import Iterable
+from typing import Any
 
 from tests.clients.machine_rules import FRESH, step
 from tests.model.steps import refused
 from tests.model.texts import MAX_DRAIN, MAX_IDENTIFIER, TAKER
+
+# The members of a JSON object; and an event: a word, or a word with what it brings.
+Members = dict[str, Any]
+Event = str | Members
 
 KEY = {"epoch": 5, "client": 7, "incarnation": 3, "number": 4}
 FIRST = {**KEY, "number": 1}
@@ -20,35 +26,36 @@ PEEK = {"call": "peek", "queue": 3}
 DRAIN = {"call": "drain", "queue": 3, "max": 2}
 
 
-def transfer(wait):
+def transfer(wait: int | str) -> Members:
     """A transfer that waits so."""
     return {"call": "transfer", "queue": 3, "item": "a", "wait": wait}
 
 
-def take(wait):
+def take(wait: int | str) -> Members:
     """A take that waits so."""
     return {"call": "take", "queue": 3, "wait": wait}
 
 
-def swap(wait):
+def swap(wait: int | str) -> Members:
     """A swap that waits so."""
     return {"call": "swap", "exchanger": 63, "item": "a", "wait": wait}
 
 
 # ---- machines
 
-def machine(state, **members):
+def machine(state: str, **members: object) -> Members:
     """A machine of client 7 and incarnation 3 in this state; what is not named is as at its start."""
     whose = {"client": 7, "incarnation": 3, "version": 1}
     return {**whose, "state": state, "key": None, "call": None, **FRESH, "flying": "nothing", **members}
 
 
-def asking(call=None, **members):
+def asking(call: Members | None = None, **members: object) -> Members:
     """A machine with an outstanding request: a transfer that waits for ever, unless another call is named."""
-    return machine("outstanding", **{"key": KEY, "call": call or transfer("forever"), **members})
+    own: Members = {"key": KEY, "call": call or transfer("forever")}
+    return machine("outstanding", **{**own, **members})
 
 
-def said(call=None, **members):
+def said(call: Members | None = None, **members: object) -> Members:
     """A machine whose request flies for the first time, or with what else was sent."""
     return asking(call, **{"sent": True, "out": 1, "flying": "request", **members})
 
@@ -87,30 +94,31 @@ FLYING = [
     said(giving_up=True, flying="cancel"),
     said(giving_up=True, flying="cancel", accepted=True, out=2, version=2, doubtful=True),
 ]
-CALLING = [said(call, version=version) for call, version in [
+CALLS: list[tuple[Members, int]] = [
     (PUT, 1), (PUT, 2), (transfer(5), 1), (transfer(5), 2), (transfer(0), 2), (transfer("now"), 1),
     (transfer("now"), 2), (take("forever"), 1), (take(5), 2), (take(0), 1), (take("now"), 1),
-    (swap("forever"), 2), (swap(5), 1), (swap(0), 2), (COUNT, 1), (PEEK, 1), (DRAIN, 2)]]
+    (swap("forever"), 2), (swap(5), 1), (swap(0), 2), (COUNT, 1), (PEEK, 1), (DRAIN, 2)]
+CALLING = [said(call, version=version) for call, version in CALLS]
 
 
 # ---- events
 
-def reply(word, key=None, **members):
+def reply(word: str, key: Members | None = None, **members: object) -> Members:
     """A reply, of the request's own key unless another is named."""
     return {"kind": "reply", **(key or KEY), "reply": word, **members}
 
 
-def waiting(key):
+def waiting(key: Members) -> Members:
     """The answer that the request of a key waits."""
     return {"kind": "waiting", **key}
 
 
-def welcome(**members):
+def welcome(**members: object) -> Members:
     """A welcome, the machine's own unless something else is named."""
     return {"kind": "welcome", "epoch": 5, "client": 7, "incarnation": 3, **members}
 
 
-BY = dict(zip(TAKER, (8, 1, 2)))
+BY: Members = dict(zip(TAKER, (8, 1, 2)))
 # The key with each of its parts lower, and greater.
 OTHER_KEYS = [{**KEY, part: KEY[part] + more} for part in KEY for more in (-1, 1)]
 REPLIES = [
@@ -127,39 +135,40 @@ OTHER_REPLIES = [
 WELCOMES = [
     welcome(), welcome(version=2), welcome(epoch=6), welcome(client=8), welcome(incarnation=2),
     welcome(incarnation=4), welcome(incarnation=4, version=2)]
-REFUSALS = [refused(code, **detail) for code, detail in [
+REFUSED: list[tuple[int, dict[str, int]]] = [
     (1, {}), (2, {"current": 4}), (2, {"current": 5}), (2, {"current": 6}), (3, {}), (4, {"current": 2}),
     (4, {"current": 3}), (4, {"current": 4}), (5, {"last": 3}), (5, {"last": 4}), (5, {"last": 5}), (6, {}),
     (7, {"open": 3}), (7, {"open": 4}), (7, {"open": 5}), (8, {"last": 0}), (8, {"last": 2}),
     (8, {"last": 3}), (8, {"last": 4}), (9, {}), (10, {}), (11, {}), (12, {"current": 1}),
-    (12, {"current": 2})]]
+    (12, {"current": 2})]
+REFUSALS = [refused(code, **detail) for code, detail in REFUSED]
 ANSWERS = [*WELCOMES, *REFUSALS, *REPLIES, *OTHER_REPLIES, waiting(KEY)]
 # Replies and answers to wait: its own, one of the other version, one of another call, one of another key.
 SOME = [reply("received"), reply("received", **BY), reply("done"), waiting(KEY), waiting(OTHER_KEYS[-1])]
 # Each of these is taken in by a machine for which something flies.
-FEW = [welcome(), reply("received"), waiting(KEY), *(refused(code, **detail) for code, detail in [
-    (1, {}), (2, {"current": 6}), (3, {}), (4, {"current": 4}), (10, {}), (11, {})])]
-OWN = [{"ask": PUT}, "speak", "lose", "give up", "expire"]
+FEW = [welcome(), reply("received"), waiting(KEY), refused(1), refused(2, current=6), refused(3), refused(4, current=4),
+       refused(10), refused(11)]
+OWN: list[Event] = [{"ask": PUT}, "speak", "lose", "give up", "expire"]
 
 
 # ---- cases
 
-def heard(answers):
+def heard(answers: Iterable[Members]) -> list[Event]:
     """The events that these answers come."""
     return [{"hear": answer} for answer in answers]
 
 
-def crossed(machines, events):
+def crossed(machines: Iterable[Members], events: list[Event]) -> list[tuple[Members, Event]]:
     """Each machine with each event."""
     return [(given, event) for given in machines for event in events]
 
 
-def text_of(members):
+def text_of(members: Members) -> str:
     """A line of the table."""
     return json.dumps(members, ensure_ascii=False, sort_keys=True) + "\n"
 
 
-def machine_cases():
+def machine_cases() -> list[str]:
     """The cases of machines, none of them twice, each a line of JSON."""
     pairs = [*crossed(STILL, [*OWN, *heard(FEW)]), *crossed(MAIN, [*OWN, *heard(ANSWERS)]),
              *crossed(FLYING, [*OWN, *heard([*WELCOMES, *REFUSALS, *SOME])]),

@@ -1,8 +1,12 @@
 """What calls told beside the record that their clients kept: each call's own line tells what it gave or raised, and no other."""
+from __future__ import annotations
+
 import copy
 import json
+import os
 import pathlib
-from typing import NamedTuple
+from collections.abc import Callable, Sequence
+from typing import Any, Dict, List, NamedTuple, Tuple
 
 import rendezvous as rv
 from record_lines import Line, ending_of, read
@@ -14,23 +18,27 @@ from tests.sockets.wire import Wrong, demand
 IN_JAVA = {rv.Cancelled: "InterruptedException", rv.TimedOut: "TimeoutException"}
 
 
+# The members of a JSON object.
+Members = Dict[str, Any]
+
+
 class Ended(NamedTuple):
     """How a call ended: by a value or by an exception. `outcome` is what its session has of it, None where it was not settled;
     `again` tells whether it was asked again, and gave that outcome itself."""
 
     value: object
-    fault: object
-    outcome: object
+    fault: rv.RendezvousError | None
+    outcome: rv.Outcome | None
     again: bool = False
 
 
 class Reader:
     """Reads what is new in a record, of one client. Others append to it meanwhile."""
 
-    def __init__(self, path, client):
+    def __init__(self, path: str | os.PathLike[str], client: int):
         self.path, self.client, self.at = pathlib.Path(path), client, 0
 
-    def new(self):
+    def new(self) -> list[Line]:
         """The lines of the client that were appended since this was asked last."""
         if not self.path.exists():
             return []
@@ -41,11 +49,12 @@ class Reader:
         return [line for line in map(read, whole.split(b"\n") if whole else []) if line.key.client == self.client]
 
 
-def judged(lines, call, ended):
+def judged(lines: Sequence[Line], call: Members, ended: Ended) -> Line | None:
     """The line of a call, the only one that came with it, which must tell what the call told. None where nothing was settled:
     then no line may have come."""
     if ended.outcome is None:
-        return demand(not lines, f"{call} was not settled, and has lines: {lines}")
+        demand(not lines, f"{call} was not settled, and has lines: {lines}")
+        return None
     demand(len(lines) == 1, f"{call} has {len(lines)} lines: {lines}")
     line, = lines
     demand(line.call == call, f"{call} stands as {line.call}")
@@ -57,7 +66,7 @@ def judged(lines, call, ended):
     return line
 
 
-def in_java(line):
+def in_java(line: Line) -> Members:
     """What a call in Java has to give or throw by its line, as a crowd prints it."""
     value, raised = ending_of(line)
     if raised:
@@ -66,7 +75,7 @@ def in_java(line):
     return {"gave": line.told if word == "received" else value.items if word == "counted" else value}
 
 
-def judged_java(lines, printed):
+def judged_java(lines: Sequence[Line], printed: Sequence[Members]) -> None:
     """Each call that Java's crowd printed has one line of these, which tells what it told; and there are no others."""
     by_key = {line.key: line for line in lines}
     keys = [rv.Key(*(one["told"][name] for name in rv.Key._fields)) for one in printed]
@@ -82,15 +91,17 @@ def judged_java(lines, printed):
 # ---- the judges, tried on lies
 
 KEY = rv.Key(1, 2, 1, 1)
-ASKED = {"kind": "request", **KEY._asdict(), "call": "take", "queue": 3, "wait": "forever"}
-CALL = {"call": "take", "queue": 3, "wait": "forever"}
+CALL: Members = {"call": "take", "queue": 3, "wait": "forever"}
+ASKED: Members = {"kind": "request", **KEY._asdict(), **CALL}
 ITEM = Line(ASKED, {"kind": "reply", **KEY._asdict(), "reply": "item", "item": "a"})
 GONE = Line(ASKED, {"kind": "reply", **KEY._asdict(), "reply": "cancelled"})
-OTHER = Line(*({**members, "number": 2} for members in ITEM))
+OTHER = Line({**ITEM.asked, "number": 2}, {**ITEM.told, "number": 2})
+# The lines that came with a call, the call, and how it ended.
+Case = Tuple[List[Line], Members, Ended]
 TAKEN, CANCELLED = rv.replies.Item(KEY, "a"), rv.replies.Cancelled(KEY)
-TRUE = [([ITEM], CALL, Ended("a", None, TAKEN)), ([GONE], CALL, Ended(None, rv.Cancelled(KEY), CANCELLED)),
+TRUE: list[Case] = [([ITEM], CALL, Ended("a", None, TAKEN)), ([GONE], CALL, Ended(None, rv.Cancelled(KEY), CANCELLED)),
         ([ITEM], CALL, Ended(TAKEN, None, TAKEN, True)), ([], CALL, Ended(None, rv.NotAsked(), None))]
-LIES = [
+LIES: list[Case] = [
     ([ITEM], CALL, Ended("b", None, TAKEN)), ([ITEM], CALL, Ended(None, None, TAKEN)),
     ([ITEM], CALL, Ended("a", None, rv.replies.Item(KEY, "b"))), ([], CALL, Ended("a", None, TAKEN)),
     ([ITEM, ITEM], CALL, Ended("a", None, TAKEN)), ([ITEM], {**CALL, "queue": 4}, Ended("a", None, TAKEN)),
@@ -99,12 +110,12 @@ LIES = [
     ([GONE], CALL, Ended(None, rv.TimedOut(KEY), CANCELLED)), ([ITEM], CALL, Ended(None, rv.NotAsked(), None)),
     ([ITEM], CALL, Ended(CANCELLED, None, TAKEN, True)),
 ]
-PRINTED = [{"call": CALL, "told": ITEM.told, "ended": {"gave": "a"}}]
-LIES_IN_JAVA = [("ended", {"gave": "b"}), ("ended", {"threw": "InterruptedException"}), ("ended", {"again": GONE.told}),
+PRINTED: list[Members] = [{"call": CALL, "told": ITEM.told, "ended": {"gave": "a"}}]
+LIES_IN_JAVA: list[tuple[str, object]] = [("ended", {"gave": "b"}), ("ended", {"threw": "InterruptedException"}), ("ended", {"again": GONE.told}),
                 ("told", GONE.told), ("told", OTHER.told), ("call", {**CALL, "wait": "now"})]
 
 
-def is_found(judge, *given):
+def is_found(judge: Callable[..., object], *given: object) -> bool:
     """Whether a judge finds what is wrong."""
     try:
         judge(*given)
@@ -113,7 +124,7 @@ def is_found(judge, *given):
     return False
 
 
-def the_judges_find_lies():
+def the_judges_find_lies() -> None:
     """What is true they let pass, and no lie."""
     for given in TRUE:
         judged(*given)
@@ -126,7 +137,7 @@ def the_judges_find_lies():
         demand(is_found(judged_java, lines, PRINTED), f"a lie is not found: {lines}")
 
 
-def the_page_of_formats():
+def the_page_of_formats() -> None:
     """Its lines are of the example that it names: each with a request and the reply that this is told there."""
     page, examples = (ROOT / "docs/FORMATS.md").read_text(), ROOT / "examples"
     lines = [read(text.encode()) for text in page.split("\n") if text.startswith('{"asked":{')]

@@ -63,7 +63,8 @@ class DoubleHost:
     """A host: one thread, one poll."""
 
     def __init__(self, options: argparse.Namespace):
-        self.options, self.links, self.again, self.looked = options, {}, 0.0, 0.0
+        self.options, self.again, self.looked = options, 0.0, 0.0
+        self.links: dict[int, Link] = {}
         # how many bytes were unread when all were looked at
         self.unread = 0
         # how many bytes are held in all, as a turn goes on, and since when they are more than may be
@@ -261,7 +262,8 @@ class DoubleHost:
         link.setsockopt(socket.SOL_SOCKET, socket.SO_KEEPALIVE, 1)
         link.setsockopt(socket.IPPROTO_TCP, socket.TCP_NODELAY, WRONG != "lets packets wait")
         if WRONG != "has no user time-out":
-            link.setsockopt(socket.IPPROTO_TCP, socket.TCP_USER_TIMEOUT, 60_000)
+            # mypy's types of the library don't know this option
+            link.setsockopt(socket.IPPROTO_TCP, socket.TCP_USER_TIMEOUT, 60_000)  # type: ignore[attr-defined, unused-ignore]
 
     def pause(self) -> None:
         """Accepts nobody for a while."""
@@ -390,7 +392,9 @@ class DoubleHost:
             del held[number]
             self.drop(number)
             if WRONG == "closes all that hold anything":
-                held = {number: size for number, size in held.items() if size and not self.drop(number)}
+                for number in [number for number, size in held.items() if size]:
+                    self.drop(number)
+                held.clear()
         self.total = self.held_in_all()
 
     def is_over(self, number: int, now: float) -> bool:

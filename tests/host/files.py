@@ -9,13 +9,14 @@ import resource
 import socket
 import subprocess
 import tempfile
-from collections.abc import Callable
+from collections.abc import Callable, Mapping
 
 from tests.faults.limits import front_agrees
 from tests.faults.system import System
 from tests.host.counters import Counting
 from tests.host.status import numbers
 from tests.model.account import Key
+from tests.sockets.driver import Asked, Told
 from tests.sockets.hosts import Host
 from tests.sockets.programs import free_port
 from tests.sockets.wire import PATIENCE, demand, frame, give, replied, request, together, until
@@ -23,7 +24,6 @@ from tests.sockets.wire import PATIENCE, demand, frame, give, replied, request, 
 HEAD = b"epoch 1 opened 0\n"
 # The bytes that a file may have at most, and more than a line of a put has there.
 MOST, LONG = 4_000, 400
-Asked, Told = dict[Key, dict[str, object]], list[tuple[Key, dict[str, object]]]
 # What is said of a file that isn't in its place.
 SAID = b"looks that found the account removed, renamed or cut: "
 
@@ -33,9 +33,10 @@ def words_of(program: str, account: pathlib.Path, *more: str) -> list[str]:
     return [program, "host", "--listen", f"127.0.0.1:{free_port()}", "--epoch", "1", "--account", str(account), *more]
 
 
-def ends(words: list[str], **more: object) -> subprocess.CompletedProcess[bytes]:
+def ends(words: list[str], env: Mapping[str, str] | None = None,
+         preexec_fn: Callable[[], None] | None = None) -> subprocess.CompletedProcess[bytes]:
     """A host that can't start: its status is 1, and it says why."""
-    ran = subprocess.run(words, capture_output=True, timeout=PATIENCE, **more)
+    ran = subprocess.run(words, capture_output=True, timeout=PATIENCE, env=env, preexec_fn=preexec_fn)
     demand(ran.returncode == 1 and ran.stderr != b"", f"a start that has to fail: {ran}")
     return ran
 

@@ -2,6 +2,7 @@
 from __future__ import annotations
 
 import contextlib
+import os
 import pathlib
 import re
 import socket
@@ -162,7 +163,7 @@ def it_is_open_to_others(program: str) -> None:
         ends, said = time.monotonic() + PATIENCE, b""
         while b"authentication" not in said:
             demand(time.monotonic() < ends and process.poll() is None, f"it says {said!r}")
-            said += process.stderr.read1(4_096) if process.stderr else b""
+            said += os.read(process.stderr.fileno(), 4_096) if process.stderr else b""
     finally:
         process.kill()
         process.communicate()

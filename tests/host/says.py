@@ -30,7 +30,8 @@ def without_systemd() -> dict[str, str]:
 
 def lines_have_times(program: str) -> None:
     """Each line has its time in front, in UTC; under systemd, which adds its own, none has."""
-    for more, has_time in [({}, True), *(({name: "8:1"}, False) for name in OF_SYSTEMD)]:
+    ways: list[tuple[dict[str, str], bool]] = [({}, True), *(({name: "8:1"}, False) for name in OF_SYSTEMD)]
+    for more, has_time in ways:
         with Host(program, env={**without_systemd(), **more}) as host:
             host.greeted(1).close()
             host.ended()

@@ -59,15 +59,16 @@ class Measured:
         """Memory is within a bound, or where there is none flat behind the first tenth, and the last hand-overs are as prompt as the
         first."""
         demand(all(self.memory) and all(self.seconds), "a tenth was too short to measure")
-        least, most = max(self.memory[0]), max(map(max, self.memory[1:]))
+        least, most = max(self.memory[0]), max(max(tenth) for tenth in self.memory[1:])
         if bound is None:
             demand(most <= MORE * least + MORE_BYTES, f"memory grew from {least} to {most} bytes")
         else:
             demand(self.most <= bound, f"memory was {self.most} bytes, and may be {bound}")
         first, last = (statistics.median(self.seconds[tenth]) for tenth in (0, 9))
         demand(last <= SLOWER * first + SLOWER_SECONDS, f"a hand-over took {first:.6f} seconds, and takes {last:.6f}")
+        longest = max(max(tenth) for tenth in self.seconds)
         return (f"memory {least >> 10} KiB in the first tenth, {most >> 10} at most behind it; hand-overs "
-                f"{first * 1e6:.0f} µs in the first tenth, {last * 1e6:.0f} in the last, {max(map(max, self.seconds)) * 1e6:.0f} at most")
+                f"{first * 1e6:.0f} µs in the first tenth, {last * 1e6:.0f} in the last, {longest * 1e6:.0f} at most")
 
 
 class Probe:
@@ -212,8 +213,9 @@ def main() -> None:
     print(f"seed {asked.seed}", flush=True)
     if asked.seconds:
         count.run("crowds on bad links", bad_links, program, asked.seconds, asked.seed, asked.peers, asked.memory)
-    if asked.entries and driver.missing():
-        left_out.tell("the long load", driver.missing())
+    lacking = driver.missing()
+    if asked.entries and lacking:
+        left_out.tell("the long load", lacking)
     elif asked.entries:
         count.run("many entries", many_entries, program, asked.entries)
     count.end()

@@ -71,7 +71,7 @@ def memory_in_a_storm(program: str, count: int, mebibytes: int) -> str:
         with peers(host.port, kinds_of(count)) as sent:
             time.sleep(WARMING)
             demand(all(sent().values()), f"of some kinds nothing was sent: {sent()}")
-            held = numbers(status)["rv_buffer_bytes"]
+            held = int(numbers(status)["rv_buffer_bytes"])
         most = most_memory(host.process.pid)
         time.sleep(GONE)
         left = memory(host.process.pid)

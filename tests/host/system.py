@@ -18,10 +18,11 @@ from tests.faults.system import HostileHost, System
 from tests.host.many import closing, connected
 from tests.model.account import Key
 from tests.model.records import parted
+from tests.sockets.driver import Asked, Told
 from tests.sockets.hosts import Host
 from tests.sockets.plain import Looker, in_its_own_frame
 from tests.sockets.wire import (
-    PATIENCE, demand, frame, give, hello, replied, request, take, until, welcome)
+    PATIENCE, Peer, demand, frame, give, hello, replied, request, take, until, welcome)
 
 # Puts and takes of a talk, and of a piece.
 TALK, PIECE = 20, 16
@@ -31,6 +32,8 @@ HEAD = len(b"epoch 1 opened 0\n")
 # many it is found asleep.
 WATCHED, SHARE, SOME, ASLEEP = 1.0, 0.2, 0.05, 20
 HOUR, DAY = 3_600, 86_400
+# An epoch that no clock shows.
+GREAT = 10**15
 # So many seconds later a host has looked over its connections, and told what went wrong.
 SETTLES = 2
 # The status of `rv verify` where the end is torn.
@@ -105,11 +108,11 @@ def a_disk_that_fills(program: str) -> str:
     return f"{len(rooms)} disks, {torn} torn ends"
 
 
-def talked(host: Host) -> tuple[dict, list]:
+def talked(host: Host) -> tuple[Asked, Told]:
     """A client puts and takes one at a time, and then puts in one piece, for as long as the host answers: what it asked, and
     what it was told."""
-    asked: dict[Key, dict[str, object]] = {}
-    told: list[tuple[Key, dict[str, object]]] = []
+    asked: Asked = {}
+    told: Told = []
     try:
         with host.connect() as peer:
             peer.expect(hello(1), welcome(1))
@@ -129,11 +132,11 @@ def talked(host: Host) -> tuple[dict, list]:
     return asked, told
 
 
-def ask_one(peer, number: int, asked: dict, told: list) -> None:
+def ask_one(peer: Peer, number: int, asked: Asked, told: Told) -> None:
     """A put, or a take of what was put before it."""
     key = Key(1, 1, 1, number)
     asked[key] = give("put", f"item {number}") if number % 2 else take("now")
-    reply = {"reply": "done"} if number % 2 else {"reply": "item", "item": f"item {number - 1}"}
+    reply: dict[str, object] = {"reply": "done"} if number % 2 else {"reply": "item", "item": f"item {number - 1}"}
     peer.send(frame(request(key, asked[key])))
     got = peer.hear()
     if got is None:
@@ -189,8 +192,8 @@ def no_room_to_start(program: str) -> None:
 def killed(program: str) -> None:
     """Clients put for as long as it runs, and it is killed among them: whatever was told stands in the whole lines."""
     with Host(program) as host:
-        told: list[tuple[Key, dict[str, object]]] = []
-        asked: dict[Key, dict[str, object]] = {}
+        told: Told = []
+        asked: Asked = {}
 
         def put(client: int) -> None:
             try:
@@ -223,7 +226,8 @@ def a_clock_that_jumps(program: str) -> None:
     """The wall clock goes back an hour, and forward a day: waits end when they are to, and not before, and moments go on."""
     system = System()
     with HostileHost(program, system) as host, Looker(host) as looker:
-        asked, began = {}, time.monotonic()
+        asked: Asked = {}
+        began = time.monotonic()
         with host.greeted(1) as waits, host.greeted(2) as giver, host.greeted(3) as short:
             for number, wall in enumerate((-HOUR, DAY, 0), 1):
                 wish, gift, limit = (Key(1, client, 1, number) for client in (1, 2, 3))
@@ -245,18 +249,17 @@ def a_clock_that_jumps(program: str) -> None:
 def epochs_by_the_clock(program: str) -> None:
     """Without --epoch it is the wall clock's milliseconds; above --epoch-above, where the clock is behind that."""
     system = System()
-    for wall, above, least, most in [(0, None, 0, 0), (-HOUR, None, -HOUR, -HOUR), (DAY, None, DAY, DAY), (0, 1, 0, 0),
-                                     (0, 10**15, None, None)]:
+    for wall, above in [(0, None), (-HOUR, None), (DAY, None), (0, 1), (0, GREAT)]:
         system.be(wall=wall)
         before = time.time()
         options = () if above is None else ("--epoch-above", str(above))
         with HostileHost(program, system, epoch=None, options=options) as host, host.connect() as peer:
             epoch = peer.told(hello(1))["epoch"]
             after = time.time()
-        if least is None:
-            demand(epoch == above + 1, f"the epoch above {above} is {epoch}")
+        if above == GREAT:
+            demand(epoch == GREAT + 1, f"the epoch above {GREAT} is {epoch}")
         else:
-            demand(1_000 * (before + least) - 1 <= epoch <= 1_000 * (after + most) + 1, f"{wall}: the epoch is {epoch}")
+            demand(1_000 * (before + wall) - 1 <= epoch <= 1_000 * (after + wall) + 1, f"{wall}: the epoch is {epoch}")
 
 
 # ---- standard error

@@ -6,6 +6,7 @@ import time
 
 from tests.host.many import closing, connected, greeted
 from tests.model.account import Key
+from tests.sockets.driver import Asked
 from tests.sockets.hosts import Host
 from tests.sockets.plain import Looker, in_its_own_frame
 from tests.sockets.wire import (
@@ -51,7 +52,7 @@ def told_that_it_waits(program: str) -> None:
     """A take that waits is told so behind ten seconds, not before, and so is one over a link that sends nothing more; it is met
     when it is asked again, and each such word starts the time anew."""
     with Host(program) as host:
-        asked: dict[Key, dict[str, object]] = {}
+        asked: Asked = {}
 
         def waiting(client: int, ends: bool) -> None:
             key = Key(1, client, 1, 1)

@@ -50,7 +50,8 @@ class Hub:
         # Of the event that is being taken: those that were told, what is left of its piece and whose that is, its
         # entries, and what was seen before of the connections that may have changed.
         self.freed: deque[int] = deque()
-        self.piece, self.piece_of = b"", None
+        self.piece = b""
+        self.piece_of: int | None = None
         self.entries: list[Entry] = []
         self.before: dict[int, View | None] = {}
 
@@ -94,16 +95,16 @@ class Hub:
 
     def waits(self) -> dict[int, Wait]:
         """What each connection waits for that does, by number."""
-        return {number: self.connections[number].wait for number in sorted(self.connections) if self.connections[number].wait}
+        return {number: connection.wait for number, connection in sorted(self.connections.items()) if connection.wait}
 
     def view(self, number: int) -> View | None:
         """What is seen of a connection, if it is open."""
         connection = self.connections.get(number)
-        return connection and connection.view(self.written)
+        return connection.view(self.written) if connection else None
 
     def views(self) -> dict[int, View]:
         """What is seen of all open connections, by number."""
-        return {number: self.view(number) for number in sorted(self.connections)}
+        return {number: connection.view(self.written) for number, connection in sorted(self.connections.items())}
 
     # ---- events
 
@@ -227,8 +228,9 @@ class Hub:
     def tell(self, number: int) -> None:
         """A connection that waits is told what a repeat of its request would be, and waits no more."""
         connection = self.touch(number)
-        request, connection.wait = connection.wait.request, None
-        self.give(number, self.repeated(request))
+        wait, connection.wait = connection.wait, None
+        assert wait
+        self.give(number, self.repeated(wait.request))
         self.freed.append(number)
 
     def repeated(self, request: Request) -> dict:
@@ -254,7 +256,8 @@ class Hub:
 
     def changes(self) -> tuple[dict[int, View | None], dict[int, View | None]]:
         """The connections whose bytes to hand out, right to offer or end changed, and the others that were touched."""
-        changed, others = {}, {}
+        changed: dict[int, View | None] = {}
+        others: dict[int, View | None] = {}
         for number, before in sorted(self.before.items()):
             view = self.view(number)
             which = others if seen(view) == seen(before) else changed
@@ -262,6 +265,6 @@ class Hub:
         return changed, others
 
 
-def seen(view: View | None) -> tuple | None:
+def seen(view: View | None) -> tuple[bool, bytes] | None:
     """What a host acts by."""
-    return view and (view.may_offer, view.ready)
+    return (view.may_offer, view.ready) if view else None

@@ -54,7 +54,7 @@ class Peer:
 class Record:
     """The peers of all connections that there ever were, those that are open by their number, and all entries."""
 
-    def __init__(self):
+    def __init__(self) -> None:
         self.peers: list[Peer] = []
         self.open: dict[int, Peer] = {}
         self.entries: tuple[Entry, ...] = ()
@@ -96,7 +96,7 @@ def rest_fault(hub: Hub) -> str | None:
         if connection.held > 131_071:
             return f"too much is held for connection {number}"
         wait = connection.wait
-        there = wait and hub.state.waiting_of(wait.request.key.client)
+        there = hub.state.waiting_of(wait.request.key.client) if wait else None
         if wait and (there is None or there.key != wait.request.key or wait.until <= hub.now):
             return f"connection {number} waits for what is over, or too long"
     return "somebody was told and didn't go on" if hub.freed else None
@@ -111,7 +111,7 @@ def answers_fault(peer: Peer, entries: tuple[Entry, ...]) -> str | None:
         return f"{len(frames)} frames have {len(answers)} answers"
     for frame, body in zip(frames, answers):
         if not is_answer(frame, read_answer(body), entries):
-            return f"{body} is told to {frame}"
+            return f"{body!r} is told to {frame!r}"
     return None
 
 
@@ -125,7 +125,7 @@ def is_answer(frame: bytes, answer: dict, entries: tuple[Entry, ...]) -> bool:
         return answer["code"] not in (1, 11)
     if isinstance(message, Hello):
         return answer["kind"] == "welcome" and answer["client"] == message.client
-    if Key(*(answer.get(name) for name in KEY)) != message.key:
+    if {name: answer.get(name) for name in KEY} != vars(message.key):
         return False
     told = {name: value for name, value in answer.items() if name not in ("kind", *KEY)}
     return answer["kind"] == "waiting" or told == reply(entries, message.key)
@@ -158,4 +158,5 @@ def hub_fault(chance: random.Random, events: int) -> str | None:
     record.end(script.hub.connections)
     faults = (answers_fault(peer, record.entries) for peer in record.peers)
     account = Account(EPOCH, 0, record.entries)
+    assert isinstance(script.hub, Traced)
     return next(filter(None, faults), None) or book_fault(script.hub, record.entries) or audit(account)

@@ -7,8 +7,8 @@ ANSWER .. | N: ..`, where `closed` stands for its end; or `refused WHY`. ANSWER 
 DETAIL`, or a key and what its request is told. `[next MOMENT] [held COUNT] [unheard KEY ..]` may stand behind a `;`.
 """
 import re
-from collections.abc import Iterator
-from dataclasses import dataclass
+from collections.abc import Iterable, Iterator
+from dataclasses import dataclass, replace
 
 from tests.model.hub import EPOCH, Hub
 from tests.model.hub_events import Came, Ended, Event, Gone, Opened, Passed, Refusal, Terms, Took, Written
@@ -55,7 +55,8 @@ LATE_ROW = THREE + """
     """
 
 # Name, terms, lines.
-ROWS = [
+Row = tuple[str, Terms, str]
+ROWS: list[Row] = [
     ("whoever waits is told at once", TEN_SECONDS, TWO + """
         0 says hello 1/1; 1#1 take 3 forever => 0: welcome 1/1 ; next 10000
         1 says hello 2/1; 2#1 transfer 3 "a" forever => 0: 1#1 item "a" | 1: welcome 2/1, 2#1 received ; next -
@@ -164,7 +165,7 @@ ROWS = [
         """),
 ]
 # Those in which each growth is refused in turn.
-GROWTHS_ROWS = [
+GROWTHS_ROWS: list[Row] = [
     ("a transfer and all beside it", JOURNAL, GROWTHS_ROW),
     ("whoever's time is over ends, takes or goes", JOURNAL, LATE_ROW),
     ("the same without a journal", TEN_SECONDS, LATE_ROW),
@@ -186,7 +187,7 @@ class Step:
 def steps_of(lines: str) -> Iterator[Step]:
     """The lines of a row; one that begins with its sign goes on with the line before."""
     for line in filter(None, map(str.strip, re.sub(r"\n\s*=>", " =>", lines).splitlines())):
-        moment, line = line.removeprefix("@").split(" ", 1) if line.startswith("@") else (0, line)
+        moment, _, line = line.removeprefix("@").partition(" ") if line.startswith("@") else ("0", "", line)
         event, _, told = line.partition("=>")
         told, _, asked = told.partition(";")
         yield Step(int(moment), event.strip(), told.strip(), asked.strip())
@@ -208,7 +209,7 @@ def event_of(text: str, hub: Hub) -> Event:
         case [number, "takes", count]:
             return Took(int(number), int(count))
         case [number, "takes"]:
-            return Took(int(number), len(hub.view(int(number)).ready))
+            return Took(int(number), len(hub.connections[int(number)].ready(hub.written)))
         case [number, "ended"]:
             return Ended(int(number))
     return Gone(int(text.split(" ")[0]))
@@ -257,7 +258,7 @@ def told_fault(step: Step, hub: Hub, event: Event) -> str | None:
         return None if outcome == Refusal(step.told.removeprefix("refused ")) else f"got {outcome}"
     if isinstance(event, Took) and event.connection in hub.connections:
         view = before[event.connection]
-        before[event.connection] = type(view)(**{**vars(view), "ready": view.ready[event.count :]})
+        before[event.connection] = replace(view, ready=view.ready[event.count :])
     got = {n: new_bodies(seen.ready, before[n].ready) for n, seen in hub.views().items() if n in before}
     got = {n: bodies for n, bodies in got.items() if bodies} | {n: [] for n in before if n not in hub.connections}
     return None if got == bodies_of(step.told) else f"got {got}"
@@ -273,7 +274,7 @@ def asked_fault(step: Step, hub: Hub) -> str | None:
     return f"got {wrong}" if wrong else None
 
 
-def hub_row_faults(rows=tuple(ROWS), kind: type[Hub] = Hub) -> Iterator[tuple[str, str | None]]:
+def hub_row_faults(rows: Iterable[Row] = tuple(ROWS), kind: type[Hub] = Hub) -> Iterator[tuple[str, str | None]]:
     """Each row by its name, with what is wrong with it, if something is, in a hub of this kind."""
     for name, terms, lines in rows:
         hub, faults = kind(terms), []

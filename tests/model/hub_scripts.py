@@ -148,7 +148,8 @@ class HubScript:
         """Several connections wait for the same request, and it is met, cancelled, cut off or times out."""
         client, other = self.chance.choice(self.talk.clients), self.chance.choice(self.talk.clients)
         numbers, queue = self.some_peers(5), self.chance.randrange(64)
-        call = self.talk.take(queue, self.chance.choice([5, "forever"]))
+        waits: list[int | str] = [5, "forever"]
+        call = self.talk.take(queue, self.chance.choice(waits))
         asked = self.talk.asks(client, call)
         key = self.talk.last_key(client)
         for at, number in enumerate(numbers):
@@ -202,7 +203,7 @@ class HubScript:
         number = self.one_of([n for n, seen in self.hub.connections.items() if seen.held])
         if number is None:
             return Passed()
-        ready = len(self.hub.view(number).ready)
+        ready = len(self.ready(number))
         return Took(number, self.chance.choice([ready, ready, ready, ready // 2, min(1, ready)]))
 
     def written(self) -> Event:
@@ -225,11 +226,16 @@ class HubScript:
         """An event that mostly can't be."""
         number = self.chance.choice([*self.peers, len(self.peers), len(self.peers) + 1, NO_NUMBER])
         counts = [0, 1, self.hub.written, self.hub.state.length, self.hub.state.length + 1, 2**53]
-        ready = len(self.hub.view(number).ready) if number in self.hub.connections else 0
-        return self.chance.choice([
+        ready = len(self.ready(number)) if number in self.hub.connections else 0
+        events: list[Event] = [
             Came(number, b""), Ended(number), Took(number, ready + 1), Took(number, 0), Written(self.chance.choice(counts)),
             Took(number, 2**53), Written(max(0, self.hub.written - 1)), Written(self.hub.state.length + 1), Gone(NO_NUMBER),
-        ])
+        ]
+        return self.chance.choice(events)
+
+    def ready(self, number: int) -> bytes:
+        """What an open connection is offered."""
+        return self.hub.connections[number].ready(self.hub.written)
 
     def one_of(self, numbers: list[int]) -> int | None:
         """One of some connections, if there is one."""

@@ -129,7 +129,8 @@ class Talk:
 
     def hello(self, client: int, incarnation: int) -> dict:
         """A client's hello in an incarnation."""
-        spoken = self.chance.choice([{}, {}, {"version": 2}])
+        versions: list[dict[str, int]] = [{}, {}, {"version": 2}]
+        spoken = self.chance.choice(versions)
         self.ahead[client] = max(self.ahead.get(client, (0, 0)), (incarnation, 0))
         return {"kind": "hello", "client": client, "incarnation": incarnation, **spoken}
 

@@ -18,7 +18,7 @@ IN_HEX = {mark.encode().hex().encode(): name for mark, name in MARKS.items()}
 class Tally:
     """What was met so far."""
 
-    def __init__(self):
+    def __init__(self) -> None:
         self.events = 0
         self.met: Counter[str] = Counter()
 

@@ -13,7 +13,7 @@ from tests.model.state_after import state_of
 
 PUT, OTHER_PUT = Call("put", 3, "a"), Call("put", 3, "b")
 TAKE, TAKE_NOW = Call("take", 3, wait="forever"), Call("take", 3, wait="now")
-TRANSFER, TRANSFER_NOW, TRANSFER_5 = (Call("transfer", 3, "a", wait) for wait in ("forever", "now", 5))
+TRANSFER, TRANSFER_NOW, TRANSFER_5 = Call("transfer", 3, "a", "forever"), Call("transfer", 3, "a", "now"), Call("transfer", 3, "a", 5)
 COUNT = Call("count", 3)
 # A client's welcome: its hello is heard, stored and answered, and it hears that.
 STORED, SENT = ("store",), ("send",)
@@ -144,7 +144,8 @@ class HasALostTail(CrashWorld):
 
     def __init__(self) -> None:
         super().__init__()
-        self.lost, self.cut = (), 0
+        self.lost: tuple[Entry, ...] = ()
+        self.cut = 0
 
     def do_fall(self, left: int) -> None:
         self.cut = self.server.stored + left

@@ -11,7 +11,7 @@ import tempfile
 import time
 from collections.abc import Callable, Iterable, Iterator
 from multiprocessing.connection import Connection
-from typing import Any, Tuple
+from typing import Any, NoReturn, Tuple
 from unittest import mock
 
 from tests import ROOT
@@ -106,19 +106,19 @@ def double_faults(wrongs: Iterable[Tried], came_of_name: CameOfName, words: str 
 class Count:
     """What passed and what failed, of the cases with some words in their name."""
 
-    def __init__(self, only, verbose):
+    def __init__(self, only: str, verbose: bool):
         self.only, self.verbose, self.passed, self.failed = only, verbose, 0, 0
 
-    def wants(self, name):
+    def wants(self, name: str) -> bool:
         """Whether a case of this name is asked for."""
         return self.only in name
 
-    def run(self, name, case, *given):
+    def run(self, name: str, case: Callable[..., object], *given: object) -> None:
         """Runs a case, if it is asked for."""
         if self.wants(name):
             self.judge(name, *came_of(case, *given))
 
-    def judge(self, name, fault, gave=None, seconds=0):
+    def judge(self, name: str, fault: object, gave: object = None, seconds: float = 0) -> None:
         """Counts a case, and tells what came of it."""
         self.passed, self.failed = self.passed + (not fault), self.failed + bool(fault)
         if fault:
@@ -127,7 +127,7 @@ class Count:
             many = f"{gave}, " if gave else ""
             print(f"ok: {name}: {many}{seconds:.1f} seconds", flush=True)
 
-    def end(self):
+    def end(self) -> NoReturn:
         """Tells how many passed and failed, and ends."""
         print(f"{self.passed} passed, {self.failed} failed")
         sys.exit(self.failed > 0)

@@ -39,23 +39,33 @@ FEW, KEPT_BACK = 64, 49
 CROWD, WAITING, FIRST, SWAPS, KILLED, BUSY = 20, 1_500, 2_001, 40, 3, 120
 
 
+def shows(name: str, number: float) -> Callable[[Reading | None], bool]:
+    """Whether a reading has this number under a name."""
+    return lambda told: told is not None and told.get(name) == number
+
+
+def counts(name: str) -> Callable[[Reading | None], bool]:
+    """Whether a reading has more than nothing under a name."""
+    return lambda told: told is not None and told.get(name, 0) > 0
+
+
 def a_worker_was_killed(program: str) -> str:
     """The process of a worker is killed while it waits: its request is listed, and what the page says ends it."""
     with staged(program) as stage:
         with Caller(program, stage.host.port, 2, b'{"call":"take","queue":6,"wait":"forever"}\n', incarnation=7) as worker:
-            stage.lasts("the worker waits", lambda told: bool(told) and told['rv_queue_consumers{queue="6"}'] == 1, 1)
+            stage.lasts("the worker waits", shows('rv_queue_consumers{queue="6"}', 1), 1)
             worker.kill()
         began = time.monotonic()
-        stage.lasts("its request is unheard", lambda told: bool(told) and told["rv_requests_unheard"] == 1, 1)
+        stage.lasts("its request is unheard", shows("rv_requests_unheard", 1), 1)
         took = time.monotonic() - began
-        stage.lasts("it stays so", lambda told: bool(told) and told["rv_requests_unheard"] == 1, 8)
+        stage.lasts("it stays so", shows("rv_requests_unheard", 1), 8)
         rows = [row[:2] + row[3:6] for row in stage.status()["unheard"]]
         demand(rows == [["take", 6, 2, 7, 1]], f"what is unheard: {rows}")
         stage.raises({"RvUnheard": {}})
         told = f"unheard {took:.0f} s behind the kill, {stage.rise('rv_fault_link_total')}"
         words = f"call --connect 127.0.0.1:{stage.host.port} --client 2 --incarnation 8 --tries 1 --speak 1"
         subprocess.run([program, *words.split()], stdin=subprocess.DEVNULL, check=True, timeout=60)
-        stage.lasts("its words end it", lambda told: bool(told) and told["rv_requests_unheard"] == 0, 1)
+        stage.lasts("its words end it", shows("rv_requests_unheard", 0), 1)
         return told
 
 
@@ -108,7 +118,7 @@ def a_peer_takes_no_answers(program: str) -> str:
     """A peer asks and never reads: meanwhile its answers are held, and then it is closed."""
     with staged(program, "--stall", STALL) as stage, stage.host.connect(receive=KEPT) as peer, handing_over(stage, 4):
         threading.Thread(target=ask_and_never_read, args=(peer, 1_000), daemon=True).start()
-        stage.lasts("it is closed", lambda told: bool(told) and told["rv_fault_stall_total"] == 1, 2)
+        stage.lasts("it is closed", shows("rv_fault_stall_total", 1), 2)
         held = max(reading["rv_buffer_bytes"] for _, reading in stage.readings.good())
         demand(stage.status()["numbers"]["rv_fault_stall_total"] == 1, "the page doesn't tell it")
         stage.raises({"RvPeerTakesNothing": {}})
@@ -121,7 +131,7 @@ def a_peer_leaves_few_answers(program: str) -> str:
     with staged(program) as stage, stage.host.connect(receive=KEPT) as peer, handing_over(stage, 4):
         put, peek = Key(1, 1_000, 1, 1), frame(request(Key(1, 1_000, 1, 2), {"call": "peek", "queue": 7}))
         peer.send(frame(hello(1_000)) + frame(request(put, give("put", DEAF_ITEM, queue=7))) + peek * CROWD)
-        stage.lasts("it breaks", lambda told: bool(told) and told["rv_fault_link_total"] == 1, 2)
+        stage.lasts("it breaks", shows("rv_fault_link_total", 1), 2)
         demand(stage.status()["numbers"]["rv_fault_link_total"] == 1, "the page doesn't tell it")
         stage.raises({})
         return stage.rise("rv_fault_link_total")
@@ -136,7 +146,7 @@ def few_descriptors_at_the_start(program: str) -> str:
     """`ulimit -n` is small: so is the limit of connections, and a crowd uses it up. Somebody waits to be accepted."""
     with staged(program, preexec_fn=a_low_limit) as stage, many.closing(many.connected(stage.host.port, CROWD)) as peers:
         room = FEW - KEPT_BACK
-        stage.lasts("it is full", lambda told: bool(told) and told["rv_connections"] == room, 8)
+        stage.lasts("it is full", shows("rv_connections", room), 8)
         told = stage.status()["numbers"]
         demand(told["rv_connections_limit"] == room < len(peers), f"the limit is {told['rv_connections_limit']}")
         stage.raises({"RvAlmostFull": {}})
@@ -151,15 +161,12 @@ def no_descriptors(stage: Stage) -> contextlib.AbstractContextManager[None]:
 def descriptors_run_out_for_moments(program: str) -> str:
     """No descriptor is left, again and again, for less than a second: each accept that found none is counted."""
     with staged(program) as stage:
-        def is_told(told: Reading | None) -> bool:
-            return bool(told) and told["rv_fault_descriptor_total"] > 0
-
         while not stage.readings.good()[-1][1]["rv_fault_descriptor_total"]:
             with no_descriptors(stage):
                 time.sleep(PAUSE * 3)
             seen = len(stage.readings.taken)
             until("a further reading", lambda: len(stage.readings.taken) > seen)
-        stage.lasts("it is told", is_told, 2)
+        stage.lasts("it is told", counts("rv_fault_descriptor_total"), 2)
         demand(stage.status()["numbers"]["rv_fault_descriptor_total"] > 0, "the page doesn't tell it")
         stage.raises({"RvNoDescriptor": {}})
         return stage.rise("rv_fault_descriptor_total")
@@ -169,7 +176,7 @@ def descriptors_are_out(program: str) -> str:
     """No descriptor is left, for long: the page tells it, by the one that is held back."""
     with staged(program) as stage:
         with no_descriptors(stage):
-            stage.lasts("it is told", lambda told: bool(told) and told["rv_fault_descriptor_total"] > 0, 2)
+            stage.lasts("it is told", counts("rv_fault_descriptor_total"), 2)
             demand(stage.status()["numbers"]["rv_fault_descriptor_total"] > 0, "the page doesn't tell it")
             stage.raises({"RvNoDescriptor": {}})
         until("standard error says why", lambda: b"accepts without a descriptor" in stage.host.said)

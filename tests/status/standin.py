@@ -31,7 +31,7 @@ def serving(status: bytes) -> Iterator[Tuple[str, int]]:
         thread = threading.Thread(target=server.serve_forever, daemon=True)
         thread.start()
         try:
-            yield server.server_address[:2]
+            yield "127.0.0.1", server.server_port
         finally:
             server.shutdown()
             thread.join()
