@@ -58,7 +58,7 @@ deb: build
 
 # that package, installed, used and removed in a bare Debian: it needs root, and debootstrap with a network, or a Debian in the folder BARE
 package-test: deb
-	@tests/package/tried.py out/rv_*_amd64.deb $(BARE)
+	@python3 -B -m tests.package.tried out/rv_*_amd64.deb $(BARE)
 
 # what a machine and rv verify take as entries grow, and what a machine holds; what a hub's connection holds and its events cost; the
 # instructions of a line, if valgrind is there;

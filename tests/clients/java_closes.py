@@ -18,7 +18,7 @@ from tests.sockets.hosts import Host, HostProgram
 from tests.sockets.standing import Replies
 from tests.sockets.wire import demand
 
-DOUBLE = HostProgram(ROOT / "tests/host/double.py")
+DOUBLE = HostProgram(ROOT / "tests/host/double.sh")
 # So many takes are cancelled in the gate, at the double of the host, and in one epoch of the long form.
 TAKES, FEW, EACH_EPOCH = 150, 5, 2_500
 LIMIT = 1_200

@@ -21,7 +21,7 @@ from tests.sockets.hosts import Host, HostProgram
 from tests.sockets.standing import Replies
 from tests.sockets.wire import PATIENCE, demand, together, until
 
-DOUBLE = HostProgram(ROOT / "tests/host/double.py")
+DOUBLE = HostProgram(ROOT / "tests/host/double.sh")
 QUEUE = 3
 # Who is killed, or waits in pieces; and another client. The presence in seconds.
 WORKER, OTHER, PRESENCE = 1, 2, 1

@@ -1,8 +1,7 @@
-#!/usr/bin/env python3
 """Builds the library that is loaded before a program, so that memory, devices or the system fail it. Its source,
 tests/faults/preload.c, tells its switches.
 
-usage: tests/faults/preload.py     builds out/preload.so
+usage: python3 -m tests.faults.preload     builds out/preload.so
 """
 from __future__ import annotations
 

@@ -1,10 +1,9 @@
-#!/usr/bin/env python3
 """A test double of `rv host`, over the model's hub: for the tests of tests/host themselves. All other commands are those of the
-double of tests/sockets, but for `verify` of an account alone.
+double of tests/sockets, but for `verify` of an account alone. double.sh beside it is the program.
 
 RV_WRONG in the environment names what it does wrong; `python3 -m tests --selftest host` sees that a case fails for each of these.
 
-usage: tests/host/double.py host --listen ADDR [--epoch E] [--epoch-above N] [--account FILE] [--connections N] [--memory MIB]
+usage: python3 -m tests.host.double host --listen ADDR [--epoch E] [--epoch-above N] [--account FILE] [--connections N] [--memory MIB]
        [--idle SECONDS] [--stall SECONDS] [--quiet]
 """
 from __future__ import annotations
@@ -20,16 +19,14 @@ import sys
 import time
 from dataclasses import dataclass, field
 
-ROOT = pathlib.Path(__file__).resolve().parents[2]
-sys.dont_write_bytecode, sys.path[0] = True, str(ROOT)
-from tests.model import hub as model  # noqa: E402
-from tests.model.hub_events import Came, Ended, Event, Gone, Opened, Passed, Terms, Took, Written  # noqa: E402
-from tests.model.limits import Limits  # noqa: E402
-from tests.model.lines import entry_line  # noqa: E402
-from tests.model.records import parted  # noqa: E402
-from tests.model.state import State  # noqa: E402
-from tests.model.tables import table_audit  # noqa: E402
-from tests.sockets.accounts import read_account  # noqa: E402
+from tests.model import hub as model
+from tests.model.hub_events import Came, Ended, Event, Gone, Opened, Passed, Terms, Took, Written
+from tests.model.limits import Limits
+from tests.model.lines import entry_line
+from tests.model.records import parted
+from tests.model.state import State
+from tests.model.tables import table_audit
+from tests.sockets.accounts import read_account
 
 WRONG = os.environ.get("RV_WRONG", "")
 PATIENCES = {"tells early that it waits": 5_000, "tells late that it waits": 25_000, "never tells that it waits": 10**9}
@@ -437,8 +434,7 @@ def main() -> None:
     if words[:1] == ["verify"] and len(words) == 2:
         sys.exit(verify(words[1]))
     if words[:1] != ["host"]:
-        other = str(ROOT / "tests/sockets/double.py")
-        os.execv(sys.executable, [sys.executable, other, *words])
+        os.execv(sys.executable, [sys.executable, "-B", "-m", "tests.sockets.double", *words])
     try:
         DoubleHost(options_of(words[1:])).run()
     except HostEnds as end:
@@ -446,4 +442,5 @@ def main() -> None:
         sys.exit(1)
 
 
-main()
+if __name__ == "__main__":
+    main()

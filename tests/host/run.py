@@ -82,7 +82,7 @@ WRONGS = [
     ("closes the first who holds anything", "memory, the largest is closed"),
     ("counts no answers", "memory, answers count"),
 ]
-DOUBLE = HostProgram(ROOT / "tests/host/double.py")
+DOUBLE = HostProgram(ROOT / "tests/host/double.sh")
 # Silent connections, where descriptors allow them; spoilt frames; how long a crowd of the clients asks, in seconds, and the
 # scripts that the JDK's classes run too.
 SILENT, SPOILT, CROWD, SCRIPTS = 2_000, 2_000, 10, 300

@@ -1,4 +1,3 @@
-#!/usr/bin/env python3
 """Tries the Debian package in a bare Debian, in a folder of its own, where nothing of the kit is: it is installed, its service's
 program starts as the service starts it, a hand-over goes over it by the Python client's wheel, it starts again beside the account of
 the last time, and it is removed, with nothing left behind. It needs root, for chroot, and listens on loopback alone.
@@ -6,10 +5,11 @@ the last time, and it is removed, with nothing left behind. It needs root, for c
 A bare Debian is a folder that debootstrap makes, from the network, with Python and no more. One that is given is copied, not changed;
 FOLDER that isn't there is made, and kept.
 
-usage: tests/package/tried.py PACKAGE [FOLDER]
+usage: python3 -m tests.package.tried PACKAGE [FOLDER]
 """
 from __future__ import annotations
 
+import argparse
 import contextlib
 import os
 import pathlib
@@ -24,7 +24,8 @@ import tempfile
 import time
 from typing import Iterator
 
-ROOT = pathlib.Path(__file__).resolve().parents[2]
+from tests import ROOT
+
 # What the package owns in the system.
 OWNED = ("usr/bin/rv", "usr/share/man/man1/rv.1.gz", "lib/systemd/system/rv.service", "etc/default/rv")
 UNIT, OPTIONS, STATE = "lib/systemd/system/rv.service", "etc/default/rv", "/var/lib/rv"
@@ -142,20 +143,23 @@ def tried(package: pathlib.Path, base: pathlib.Path, room: pathlib.Path) -> None
 
 
 def main() -> None:
-    if len(sys.argv) not in (2, 3):
-        sys.exit(__doc__.strip().split("\n")[-1])
-    package = pathlib.Path(sys.argv[1])
+    parser = argparse.ArgumentParser(prog="python3 -m tests.package.tried", description=__doc__,
+                                     formatter_class=argparse.RawDescriptionHelpFormatter)
+    parser.add_argument("package", metavar="PACKAGE", type=pathlib.Path)
+    parser.add_argument("folder", metavar="FOLDER", type=pathlib.Path, nargs="?", help="default: one that is made for this trial")
+    asked = parser.parse_args()
     demand(os.geteuid() == 0, "it needs root, for chroot")
     with tempfile.TemporaryDirectory(prefix="rv-package-") as folder:
         room = pathlib.Path(folder)
-        bare = pathlib.Path(sys.argv[2]) if len(sys.argv) == 3 else room / "bare"
+        bare = asked.folder or room / "bare"
         if not bare.exists():
             demand(shutil.which(BARE[0]) is not None, f"{BARE[0]} is missing: it is in Debian's package {BARE[0]}")
             made = subprocess.run([*BARE, str(bare)], capture_output=True, text=True)
             demand(made.returncode == 0, f"{BARE[0]} ended by {made.returncode}: {made.stdout[-1000:]}")
         subprocess.run(["cp", "--archive", str(bare), str(room / "base")], check=True)
-        tried(package, room / "base", room)
+        tried(asked.package, room / "base", room)
     print("the package was installed, served three hand-overs, and left nothing but its accounts behind")
 
 
-main()
+if __name__ == "__main__":
+    main()

@@ -17,7 +17,7 @@ from unittest import mock
 from tests import ROOT
 from tests.sockets.wire import PATIENCE, Wrong
 
-DOUBLE = str(ROOT / "tests/sockets/double.py")
+DOUBLE = str(ROOT / "tests/sockets/double.sh")
 # How many doubles are tried at once: most of them wait.
 AT_ONCE = 8
 # How long a client waits for a double that is wrong, in seconds: it may never answer, and whatever the case then finds, the

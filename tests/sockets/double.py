@@ -1,13 +1,15 @@
-#!/usr/bin/env python3
-"""A test double of `rv serve` and `rv call`, over the book of the model: for the tests of tests/sockets themselves.
+"""A test double of `rv serve` and `rv call`, over the book of the model: for the tests of tests/sockets themselves. double.sh beside it
+is the program.
 
 RV_WRONG in the environment names what it does wrong; `python3 -m tests --selftest sockets` sees that a test fails for each of these.
 
-usage: tests/sockets/double.py serve --listen ADDR --epoch E --workers W --connections N
-       tests/sockets/double.py call --connect ADDR --client C --incarnation I --tries T --speak V
-       tests/sockets/double.py audit
-       tests/sockets/double.py verify FILE --replies FILE
+usage: python3 -m tests.sockets.double serve --listen ADDR --epoch E --workers W --connections N
+       python3 -m tests.sockets.double call --connect ADDR --client C --incarnation I --tries T --speak V
+       python3 -m tests.sockets.double audit
+       python3 -m tests.sockets.double verify FILE --replies FILE
 """
+from __future__ import annotations
+
 import json
 import os
 import pathlib
@@ -19,21 +21,19 @@ import sys
 import threading
 import time
 
-ROOT = pathlib.Path(__file__).resolve().parents[2]
-sys.dont_write_bytecode, sys.path[0] = True, str(ROOT)
-from tests.model.account import Account, Call, Hello, Key, Request  # noqa: E402
-from tests.model.answers import read_answer  # noqa: E402
-from tests.model.lines import account_text  # noqa: E402
-from tests.model.state import State  # noqa: E402
-from tests.model.state_steps import step  # noqa: E402
-from tests.model.steps import refused  # noqa: E402
-from tests.model.tables import table_audit  # noqa: E402
-from tests.model.texts import (  # noqa: E402
+from tests.model.account import Account, Call, Hello, Key, Request
+from tests.model.answers import read_answer
+from tests.model.lines import account_text
+from tests.model.state import State
+from tests.model.state_steps import step
+from tests.model.steps import refused
+from tests.model.tables import table_audit
+from tests.model.texts import (
     KEY, MAX_BODY_BYTES, MAX_IDENTIFIER, NoReading, demand, members_of, read_call, read_json, read_message, written)
-from tests.model.world import is_own  # noqa: E402
-from tests.sockets.accounts import call_members, read_account  # noqa: E402
-from tests.sockets.standing import Replies  # noqa: E402
-from tests.sockets.wire import key_of, reply_of  # noqa: E402
+from tests.model.world import is_own
+from tests.sockets.accounts import call_members, read_account
+from tests.sockets.standing import Replies
+from tests.sockets.wire import key_of, reply_of
 
 WRONG = os.environ.get("RV_WRONG", "")
 # One that is wrong pauses so that its test's patience ends before it answers, however slow the machine.
@@ -498,4 +498,5 @@ def main():
         sys.exit(1)
 
 
-main()
+if __name__ == "__main__":
+    main()

@@ -61,7 +61,7 @@ final class Served implements AutoCloseable {
         }
         Path here = Path.of("").toAbsolutePath();
         return Stream.iterate(here, path -> path != null, Path::getParent)
-            .flatMap(path -> Stream.of(path.resolve("crates/rv_app/out/rv_app"), path.resolve("tests/sockets/double.py")))
+            .flatMap(path -> Stream.of(path.resolve("crates/rv_app/out/rv_app"), path.resolve("tests/sockets/double.sh")))
             .filter(Files::isExecutable).findFirst().map(Path::toString)
             .orElseThrow(() -> new IOException("no program above " + here + ": RV_PROGRAM is to name one"));
     }
