@@ -1,6 +1,7 @@
 #!/usr/bin/env python3
 """Checks what a machine can of the documents: words, names, files, laws, edits, printed lists, public functions, links, limits, rows
-of commands, lengths and the logic of the kit; that none says 'behind' for 'after'; that no source makes want of memory of nothing.
+of commands and of crates, lengths and the logic of the kit; that none says 'behind' for 'after'; that no source makes want of memory
+of nothing.
 
 usage: tools/docs.py [--behind]
 
@@ -408,6 +409,12 @@ def sizes():
         check(lines <= (greatest(row["Lines at most"]) or 0), f"{crate} has {lines} lines, and may have {row['Lines at most']}")
 
 
+def sentences() -> None:
+    """Each crate's page, crates/README.md and ARCHITECTURE say of the crates what tools/crates.py writes."""
+    ran = subprocess.run([ROOT / "tools/crates.py", "--check"], capture_output=True, text=True)
+    check(ran.returncode == 0, (ran.stdout + ran.stderr).strip())
+
+
 def widths():
     """No line of the sources, of the definitions and of the proofs is wider than it may be."""
     for form in ("src/**/*.rt", "specs/**/*.antt", "proofs/**/*.antt"):
@@ -522,8 +529,8 @@ def versions():
     check(len(found[0]) == 1 and all(each == found[0] for each in found), f"there are more versions than one: {told}")
 
 
-PARTS = [words, names, places, files, refusals, laws, promises, edits, made, functions, links, limits, standing, commands, sizes, widths,
-         growths, behind, lengths, kit, versions]
+PARTS = [words, names, places, files, refusals, laws, promises, edits, made, functions, links, limits, standing, commands, sizes,
+         sentences, widths, growths, behind, lengths, kit, versions]
 if sys.argv[1:] == ["--behind"]:
     print("\n".join(late_comments()))
     sys.exit()
