@@ -1,5 +1,5 @@
--- Calls of an engine, one after another: of the hub the run of exactly the events that were handed on, and of
--- the account the lines of all entries that these made, in order.
+-- Calls of an engine, one after another: to the hub, the run of exactly the events that were handed on, and
+-- to the account, the lines of all entries that these made, in order.
 use Rattle.std.specs.Prelude.{ℕ, ◌≡◌, ◌≤◌, ◌+◌, Bool, true, List, [], ◌∷◌, ◌++◌, Some, length}
 use Rattle.std.specs.List.{All}
 use Rattle.rv_account.specs.declared.entry.Entry.{Entry}
@@ -31,12 +31,13 @@ pub data EngineEffect : Type 0 where
   NotTaken : (what : HubEvent) (why : EngineFault) → EngineEffect
   -- lines of entries were gathered
   GatheredLines : EngineEffect
-  -- the device took all lines that are gathered, which are these bytes, and so of so many entries in all
+  -- the device took all lines that are gathered, which are these bytes, and so the lines of so many entries
+  -- in all
   StoredLines : (bytes : List ℕ) (entries : ℕ) → EngineEffect
-  -- others are to be looked at
+  -- other connections are to be looked at
   Looked : EngineEffect
 
--- all but whom to look at is as it was
+-- nothing changed but which connections are to be looked at
 pub record ChangesLooks (s t : EngineState) : Type 0 where
   pub hub : t.hub ≡ s.hub
   pub lines : t.lines ≡ s.lines
@@ -93,13 +94,13 @@ abbrev pub EnginesAreRuns : Type 0
 EnginesAreRuns = (journal : Bool) (terms : DispatcherTerms) (effects : List EngineEffect) (s t : EngineState)
     → RunsEngine journal terms s effects t → IsEngineRun journal terms s effects t
 
--- ---- the account, where one is kept, from an engine on of which all is written
+-- ---- the account, if one is kept, from an engine on for which all is written
 
 pub record IsAllWritten (s : EngineState) : Type 0 where
   pub lines : s.lines ≡ []
   pub left : s.left ≡ []
 
--- what is written and gathered are the lines of a front of the entries: of all, where none is left
+-- what is written and gathered are the lines of a front of the entries: of all, if none is left
 pub record AreCounted (s : EngineState) (made : List Entry) (bytes : List ℕ) (t : EngineState) : Type 0 where
   pub gathers : GathersFront made [] t.left (bytes ++ t.lines)
   pub count : gathered_count t ≡ s.hub.book.length + length gathers.front
@@ -125,14 +126,14 @@ AccountsAreKept = (terms : DispatcherTerms) (effects : List EngineEffect) (s t :
 
 -- ---- what is told as written was stored
 
--- an engine of which all is written, and the hub told of no more
+-- an engine for which all is written, and whose hub was told of no more
 pub record BeginsStored (s : EngineState) : Type 0 where
   pub all : IsAllWritten s
   pub stored : s.stored ≡ s.hub.book.length
   pub told : s.hub.open_wires.written ≤ s.hub.book.length
 
--- what the device took are the lines of a front of these entries, in order, and so many are stored; and the
--- hub was told of no more
+-- the device took the lines of a front of these entries, in order, and so many are stored; and the hub was
+-- told of no more
 pub record AreStored (s : EngineState) (made : List Entry) (bytes : List ℕ) (t : EngineState) : Type 0 where
   pub front : List Entry
   pub behind : List Entry
@@ -146,8 +147,8 @@ ToldIsStored = (terms : DispatcherTerms) (effects : List EngineEffect) (s t : En
     → RunsEngine true terms s effects t → BeginsStored s
     → AreStored s (made_in (answers_in effects)) (bytes_written effects) t
 
--- what left of a connection, and what may leave, are the first bytes of its answers, of those alone that rest
--- on entries that are stored
+-- what left of a connection, and what may leave, are the first bytes of its answers, and only of those that
+-- rest on entries that are stored
 pub record LeavesStored (stored : ℕ) (past : Past) (wire : Traffic) : Type 0 where
   pub left : List ℕ
   pub sent : length left ≡ past.sent
@@ -175,7 +176,7 @@ LeftIsStored = (terms : DispatcherTerms) (effects : List EngineEffect) (s t : En
 
 -- ---- want of memory
 
--- where no entry is left the next event is handed on: it isn't refused for want of memory to earlier lines
+-- if no entry is left, the next event is handed on: it isn't refused for want of memory for earlier lines
 abbrev pub HandsOnNext : Type 0
 HandsOnNext = (old new : EngineState) (what : HubEvent) → old.left ≡ []
     → ¬ IsRefused old what fault.NoMemory new

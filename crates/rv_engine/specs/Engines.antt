@@ -1,4 +1,4 @@
--- What the parts of an engine hold.
+-- The parts of an engine.
 use Rattle.std.specs.Prelude.{ℕ, ◌≡◌, ◌≤◌, List, [], drop, false, length, string_bytes, vec_capacity}
 use Rattle.rv_account.specs.declared.entry.Entry.{Entry}
 use Rattle.rv_server_connections.specs.Flags.{AreListed}
@@ -12,10 +12,10 @@ pub record EngineState : Type 0 where
   pub hub : DispatcherState
   -- the lines that are gathered and not written
   pub lines : List ℕ
-  -- the entries of the last event of which no line is gathered yet
+  -- the entries of the last event whose lines aren't gathered yet
   pub left : List Entry
-  -- of how many entries the device took the lines, where an account is kept: those that there were at first
-  -- count as well
+  -- how many entries' lines the device took, if an account is kept: those that there were at first count as
+  -- well
   pub stored : ℕ
   -- the connections to look at in the next round, and those of this round that are left
   pub looks : List ℕ
@@ -38,7 +38,7 @@ engine_state e = record {
 abbrev pub IsLooks : LookList → Type 0
 IsLooks list = AreListed list.flags.items list.numbers.items (vec_capacity list.numbers)
 
--- where no account is kept no line is gathered, and no entry is left
+-- if no account is kept, no line is gathered, and no entry is left
 pub record KeepsNothing (e : EngineParts) : Type 0 where
   pub lines : string_bytes e.lines ≡ []
   pub left : drop e.gathered e.hub.dispatcher.entries.items ≡ []

@@ -1,4 +1,4 @@
--- What comes of an event that a shell tells an engine.
+-- What comes of an event that a shell hands to an engine.
 use Rattle.std.specs.Prelude.{ℕ, ◌≡◌, ◌<◌, ◌≤◌, ◌-◌, ◌↔◌, ◌⊎◌, Bool, false, true, List, [], ◌++◌, Contains}
 use Rattle.std.specs.Prelude.{length}
 use Rattle.std.specs.Prelude.{None, Option, Some, map, take}
@@ -19,7 +19,7 @@ use Rattle.rv_engine.specs.declared.events.LinkEvent.{LinkEvent}
 use Rattle.rv_engine.specs.declared.events.LinkEvent.TheVariants as link
 use Rattle.rv_engine.specs.Engines.{EngineState}
 
--- the same event, as the hub is told
+-- the same event, as it is handed to the hub
 abbrev pub told_hub : LinkEvent → HubEvent
 told_hub link.Opened = event.Opened
 told_hub (link.Came connection piece) = event.Came connection piece
@@ -28,7 +28,7 @@ told_hub (link.Gone connection) = event.Gone connection
 told_hub (link.Took connection count) = event.Took connection count
 told_hub link.Passed = event.Passed
 
--- any event but that a connection is to be opened
+-- any event but the opening of a connection
 abbrev pub IsNoOpening : HubEvent → Type 0
 IsNoOpening event.Opened = ⊥
 IsNoOpening (event.Came connection piece) = Unit {0}
@@ -54,11 +54,11 @@ TellsStored event.Passed stored = Unit {0}
 abbrev pub entry_lines : List Entry → List ℕ
 entry_lines entries = printed_lines (map entry_text entries)
 
--- all lines that aren't written: those that are gathered, and of the entries that are left
+-- all lines that aren't written: those that are gathered, and those of the entries that are left
 abbrev pub unwritten : EngineState → List ℕ
 unwritten s = s.lines ++ entry_lines s.left
 
--- the entries that are to be written, where an account is kept; else none
+-- the entries that are to be written, if an account is kept; else none
 abbrev pub entries_kept : Bool → List Entry → List Entry
 entries_kept true made = made
 entries_kept false made = []
@@ -75,9 +75,9 @@ pub record GathersFront (entries : List Entry) (before : List ℕ) (left : List 
 abbrev pub gathered_count : EngineState → ℕ
 gathered_count s = s.hub.book.length - length s.left
 
--- ---- whom to look at
+-- ---- which connections to look at
 
--- listed are those that were, and of these all below the room
+-- the list has those that it had, and all of these that are below the room
 abbrev pub AddsLooks : ℕ → List ℕ → List ℕ → List ℕ → Type 0
 AddsLooks room old numbers new = (n : ℕ)
     → Contains new n ↔ (Contains old n ⊎ (Contains numbers n × (n < room)))
@@ -102,9 +102,9 @@ pub record Gathers (old new : EngineState) : Type 0 where
   pub stored : new.stored ≡ old.stored
   pub looks : SameLooks old new
 
--- the event was handed on, once all lines of earlier entries were gathered, and the hub took it: that entries
--- are written only of those that are stored. Of the entries that it made the lines are gathered too, or they
--- are left; and each that changed is to be looked at
+-- the event was handed on, once all lines of earlier entries were gathered, and the hub took it; an event
+-- that entries are written is about stored ones alone. The lines of the entries that it made are gathered
+-- too, or these entries are left; and each connection that changed is to be looked at
 pub record HandsOn (journal : Bool) (terms : DispatcherTerms) (old : EngineState) (handed : ℕ) (what :
     HubEvent)
     (made : List Entry) (given : ℕ) (new : EngineState) : Type 0
@@ -117,7 +117,7 @@ pub record HandsOn (journal : Bool) (terms : DispatcherTerms) (old : EngineState
     pub listed : ListsChanged (begun old.hub) new.hub
     pub looks : LooksAt old new.hub.changed new
 
--- memory was refused to lines of earlier entries: the event wasn't handed on
+-- memory was refused for lines of earlier entries: the event wasn't handed on
 pub record NotHandedOn (old new : EngineState) : Type 0 where
   pub gathers : Gathers old new
   pub some : 0 < length new.left
@@ -140,7 +140,8 @@ IsRefused old what (fault.NotWritten why) new = ⊥
 
 -- ---- writing
 
--- of the lines that aren't written these are now, first ones, and of those left some may be gathered
+-- these are the first of the lines that weren't written, and they are written now; lines of entries that were
+-- left may have been gathered
 pub record WritesLines (old : EngineState) (bytes : List ℕ) (new : EngineState) : Type 0 where
   pub gathers : GathersFront old.left old.lines new.left (bytes ++ new.lines)
   pub hub : new.hub ≡ old.hub
@@ -161,11 +162,11 @@ lines_gone s = record s { lines = []; stored = gathered_count s }
 abbrev pub all_gone : EngineState → EngineState
 all_gone s = record s { lines = []; left = []; stored = s.hub.book.length }
 
--- the hub is told of all its entries
+-- the event that all the hub's entries are written
 abbrev pub written_event : EngineState → HubEvent
 written_event s = event.Written s.hub.book.length
 
--- the hub is told that all its entries are written, and gives this, where it knows of fewer
+-- if the hub knows of fewer entries as written, it is told that all are, and gives this
 abbrev pub TellsWritten : Bool → DispatcherTerms → EngineState → ℕ → List Entry → Option ℕ → EngineState
     → Type 0
 TellsWritten journal terms old now made None new =
@@ -179,8 +180,8 @@ pub record HasWorked {W : Type 0} (before after : Sink W) : Type 0 where
   pub worked : sink_failed before ≡ false
   pub works : sink_failed after ≡ false
 
--- the device took a part alone of the lines that are gathered, and has failed, or had before: then it took
--- none. They are gathered still, and no entry more is stored
+-- the device took only a part of the lines that are gathered and has failed, or had failed before and took
+-- none. They stay gathered, and no further entry is stored
 pub record WritesInPart {W : Type 0} (contents : W → Option (List ℕ)) (old : EngineState) (before : Sink W)
     (sent : ℕ) (new : EngineState) (after : Sink W) : Type 0
   where
@@ -189,7 +190,7 @@ pub record WritesInPart {W : Type 0} (contents : W → Option (List ℕ)) (old :
     pub failed : sink_failed after ≡ true
     pub refused : sink_failed before ≡ true → sent ≡ 0
 
--- the device took all lines that were gathered, but memory was refused to others
+-- the device took all lines that were gathered, but memory for others was refused
 pub record StoresSome {W : Type 0} (contents : W → Option (List ℕ)) (old : EngineState) (before : Sink W)
     (new : EngineState) (after : Sink W) : Type 0
   where

@@ -27,7 +27,7 @@ event_effects journal terms s handed what made result t takes =
     ++ goes_effects terms takes.after_own handed what made takes.taken takes.after_turns takes.goes_on)
     ++ last_effects journal takes.after_turns
 
--- what of an effect leads the account on: time alone, or the message of a step that was made
+-- what leads the account on in an effect: time alone, or the message of a step that was made
 abbrev pub causes_of : Effect → List Cause
 causes_of (Elapsed moment entries settled) = Time moment ∷ []
 causes_of effect = map (λ step. Heard step.message) (option_to_list (step_of effect))

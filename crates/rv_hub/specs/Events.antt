@@ -1,4 +1,4 @@
--- What happens to a hub, and which of it can't be.
+-- What happens to a hub, and which events can't be.
 use Rattle.std.specs.Prelude.{ℕ, ◌≡◌, ◌<◌, ◌≤◌, ◌⊎◌, None, false, length, true}
 use Rattle.rv_server_connections.specs.Connections.{HasWire}
 use Rattle.rv_hub.specs.dispatcher.View.{DispatcherState}
@@ -11,7 +11,7 @@ use Rattle.rv_hub.specs.declared.events.HubEvent.TheVariants as event
 abbrev pub IsNotOpen : DispatcherState → ℕ → Type 0
 IsNotOpen s connection = s.open_wires.wires connection ≡ None
 
--- why an event can't be; for want of memory is another cause
+-- why an event can't be; want of memory is another matter
 abbrev pub EventCannotBe : DispatcherState → HubEvent → EventRefusal → Type 0
 EventCannotBe s event.Opened why = ⊥
 EventCannotBe s (event.Came connection piece) why =
@@ -29,7 +29,7 @@ EventCannotBe s (event.Written entries) why =
     ⊎ ((s.book.length < entries) × (why ≡ refused.NotMade))
 EventCannotBe s event.Passed why = ⊥
 
--- what an event that can be rests on
+-- what must hold for an event to be possible
 abbrev pub EventCan : DispatcherState → HubEvent → Type 0
 EventCan s event.Opened = Unit {0}
 EventCan s (event.Came connection piece) = HasWire s.open_wires connection (λ wire. wire.ended ≡ false)

@@ -1,4 +1,4 @@
--- What is told of a key in a run is its public reply in the run's account.
+-- What a connection is told of a key in a run is the key's public reply in the run's account.
 use Rattle.std.specs.Prelude.{ℕ, ◌≡◌, ◌≤◌, List, All, flat_map, length, take}
 use Rattle.rv_text.specs.declared.message.Key.{Key}
 use Rattle.rv_text.specs.declared.answer.Answer.{Answer}
@@ -19,8 +19,8 @@ use Rattle.rv_hub.specs.HubRuns.{AddsEntries, DoesEvents, IsHubAccount}
 use Rattle.rv_hub.specs.Pasts.{Past, past_after}
 use Rattle.rv_hub.specs.Turns.{made_by}
 
--- what was given to a frame is the text of an answer within its limits, and rests on some of the entries; and
--- if the answer is a reply, it is the reply of its key in the account of just those entries
+-- a frame's answer is the text of an answer within its limits, and rests on some of the entries; and if that
+-- answer is a reply, it is its key's reply in the account of exactly those entries
 pub record IsPublic (entries : List Entry) (given : Given) : Type 0 where
   pub said : Answer
   pub fits : FitsAnswer said
@@ -29,11 +29,11 @@ pub record IsPublic (entries : List Entry) (given : Given) : Type 0 where
   pub replies : (key : Key) (reply : Reply) → said ≡ Replied key reply
       → HasReply (take given.rests_on entries) key reply
 
--- so is each answer of a connection's past
+-- each answer in a connection's past is public
 abbrev pub ArePublic : Account → Past → Type 0
 ArePublic a past = All (IsPublic a.entries) past.answers
 
--- effects keep that, where the account after them has their entries
+-- effects keep the answers public, in an account with their entries added
 abbrev pub EffectsTellPublicly : Type 0
 EffectsTellPublicly = (terms : DispatcherTerms) (effects : List Effect) (s t : DispatcherState)
     (a b : Account)

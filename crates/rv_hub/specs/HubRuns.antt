@@ -1,4 +1,4 @@
--- Events of a hub, one after another: their effects, and what they are of the account.
+-- Events of a hub, one after another: their effects, and what they are to the account.
 use Rattle.std.specs.Prelude.{ℕ, ◌≡◌, ◌≤◌, ◌⊎◌, Bool, List, [], ◌∷◌, ◌++◌, Some, flat_map}
 use Rattle.rv_text.specs.declared.call.Call.{Call}
 use Rattle.rv_text.specs.declared.message.Key.{Key}
@@ -23,7 +23,7 @@ use Rattle.rv_hub.specs.EventEffects.{all_effects, causes_of, event_effects}
 use Rattle.rv_hub.specs.Turns.{TakesEvent, made_by}
 use Rattle.rv_hub.specs.Pasts.{HasPast, Past, past_after}
 
--- what came of an event that was handed over
+-- what came of an event that was handed in
 pub data HubAnswer : Type 0 where
   -- it was taken at a moment, made these entries and gave this
   TookEvent : (handed : ℕ) (what : HubEvent) (made : List Entry) (given : ℕ) → HubAnswer
@@ -44,13 +44,13 @@ made_in [] = []
 made_in (TookEvent handed what made given ∷ events) = made ++ made_in events
 made_in (RefusedEvent ∷ events) = made_in events
 
--- effects of events, where before each no connection has changed yet
+-- effects of events, where before each event no connection has changed yet
 abbrev pub DoesEvents : DispatcherTerms → DispatcherState → List (List Effect) → DispatcherState → Type 0
 DoesEvents terms s [] t = t ≡ s
 DoesEvents terms s (effects ∷ events) t =
     (between : DispatcherState) × DoesAll terms (begun s) effects between × DoesEvents terms between events t
 
--- the effects of the events of a run, event by event: one that was refused has none
+-- the effects of the events of a run, event by event: a refused one has none
 abbrev pub run_effects : (journal : Bool) (terms : DispatcherTerms) (answers : List HubAnswer)
     (s t : DispatcherState)
     → RunsHub journal terms s answers t → List (List Effect)
@@ -61,8 +61,8 @@ run_effects journal terms (TookEvent handed what made given ∷ answers) s t (be
 run_effects journal terms (RefusedEvent ∷ answers) s t more =
     [] ∷ run_effects journal terms answers (begun s) t more
 
--- what these effects of events are, which make these entries in order: of the account one run of time and of
--- their messages alone; and of each connection its past through all of them
+-- what these effects of events are, which make these entries in order: to the account, one run of time and of
+-- their messages alone; to each connection, its past through all of them
 pub record AreHubEffects (terms : DispatcherTerms) (s : DispatcherState) (made : List Entry) (events :
     List (List Effect))
     (t : DispatcherState) : Type 0
@@ -81,8 +81,7 @@ HubsAreRuns = (journal : Bool) (terms : DispatcherTerms) (answers : List HubAnsw
 
 -- ---- the account of the run
 
--- a legal account whose state is that of the hub, which a machine can resume from, and in which nothing is
--- due
+-- a legal account whose state is the hub's; a machine can resume from that state, and nothing is due in it
 pub record IsHubAccount (a : Account) (s : DispatcherState) : Type 0 where
   pub legal : Legal a
   pub state : state_of a ≡ s.book
@@ -90,18 +89,18 @@ pub record IsHubAccount (a : Account) (s : DispatcherState) : Type 0 where
   pub later : s.book.moment ≤ s.now
   pub none_due : due_at s.book s.now ≡ []
 
--- so is a legal account at a hub's beginning, which has the account's state and that state's moment
+-- a legal account is such a one when a hub begins with its state and at that state's moment
 abbrev pub BeginsAccount : Type 0
 BeginsAccount = (a : Account) (s : DispatcherState) → Legal a → state_of a ≡ s.book → CanResume s.book
     → s.now ≡ s.book.moment → IsHubAccount a s
 
--- an account with these entries more
+-- an account with these entries added
 pub record AddsEntries (a : Account) (made : List Entry) (b : Account) : Type 0 where
   pub epoch : b.epoch ≡ a.epoch
   pub opened : b.opened ≡ a.opened
   pub entries : b.entries ≡ a.entries ++ made
 
--- effects lead from a legal account to one with their entries more
+-- effects lead from a legal account to one with their entries added
 pub record LeadsToAccount (a : Account) (made : List Entry) (t : DispatcherState) : Type 0 where
   pub after : Account
   pub adds : AddsEntries a made after
@@ -119,8 +118,8 @@ EventsLeadOn = (terms : DispatcherTerms) (events : List (List Effect)) (s t : Di
     → AreStepLimits terms.limits → DoesEvents terms s events t → t.now ≤ max_moment → IsHubAccount a s
     → LeadsToAccount a (made_by events) t
 
--- what whoever waited for a request is told is what the account says of it: its reply, or that it waits; or
--- the refusal that the account has due for a lower incarnation than its session's
+-- a connection that waited for a request is told what the account says of it: its reply, or that it waits, or
+-- the refusal that the account has for an incarnation lower than its session's
 abbrev pub TellsPublicReply : Type 0
 TellsPublicReply = (terms : DispatcherTerms) (s t : DispatcherState) (a : Account) (connection : ℕ)
     (key : Key)
@@ -129,8 +128,8 @@ TellsPublicReply = (terms : DispatcherTerms) (s t : DispatcherState) (a : Accoun
     ⊎ ((refusal : Refusal) × OldIncarnationDue a key.client key.incarnation refusal
     × (said ≡ answer.Refused refusal))
 
--- it is what a repeat of its request would be told: there is a step with it, which leaves the account, and
--- has this answer
+-- it is told what a repeat of its request would be told: there is a step with the repeat that leaves the
+-- account as it is and has this answer
 abbrev pub TellsAsARepeat : Type 0
 TellsAsARepeat = (terms : DispatcherTerms) (s t : DispatcherState) (a : Account) (connection : ℕ) (key : Key)
     (said : Answer) (call : Call) (place : ℕ) → s.now ≤ max_moment → IsHubAccount a s

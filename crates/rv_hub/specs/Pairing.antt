@@ -1,4 +1,4 @@
--- The answers of a connection beside its frames, each at the place of its own.
+-- The answers of a connection beside its frames, each at its own frame's place.
 use Rattle.std.specs.Prelude.{ℕ, ◌≡◌, ◌≤◌, ◌⊎◌, List, Some, length, slice_get}
 use Rattle.rv_text.specs.declared.call.Call.{Call}
 use Rattle.rv_text.specs.declared.message.Key.{Key}
@@ -25,12 +25,12 @@ use Rattle.rv_hub.specs.HubRuns.{AddsEntries, DoesEvents, IsHubAccount}
 use Rattle.rv_hub.specs.Pasts.{HasPast, Past, no_past, past_after}
 use Rattle.rv_hub.specs.Turns.{made_by}
 
--- the second account is the first, or that with more entries
+-- the second account is the first, or the first with more entries
 abbrev pub IsFrontOf : Account → Account → Type 0
 IsFrontOf a b = (made : List Entry) × AddsEntries a made b
 
--- what was given is the answer of a step with this message between two fronts of the account, and rests on
--- all entries of the later one; its moment is none before the earlier one's, and at most this one
+-- this is the answer of a step with this message between two fronts of the account, and rests on all entries
+-- of the later one; the step's moment is no earlier than the earlier front's, and at most this one
 pub record IsAnswerOfStep (limits : StepLimits) (a : Account) (time : ℕ) (message : Message)
     (given : Given) :
     Type 0 where
@@ -50,15 +50,15 @@ pub record IsAnswerOfStep (limits : StepLimits) (a : Account) (time : ℕ) (mess
 abbrev pub on_nothing : Refusal → Given
 on_nothing refusal = record { body = answer_text (Refused refusal); rests_on = 0 }
 
--- what a frame of this body was given by a moment: where that is no message's, the answer to bad text; or
--- that for want of memory; or the answer of a step with its message
+-- the answer that a frame of this body got by a moment: that to bad text, if the body isn't a message's; or
+-- that for want of memory; or that of a step with its message
 abbrev pub IsAnswerTo : StepLimits → Account → ℕ → List ℕ → Given → Type 0
 IsAnswerTo limits a time body given =
     (((message : Message) → ¬ IsMessageBody body message) × (given ≡ on_nothing BadText))
     ⊎ ((given ≡ on_nothing NoMemory)
     ⊎ ((message : Message) × IsMessageBody body message × IsAnswerOfStep limits a time message given))
 
--- each answer is that to the frame at its place
+-- each answer is the answer to the frame at its place
 abbrev pub ArePaired : StepLimits → Account → ℕ → List (List ℕ) → List Given → Type 0
 ArePaired limits a time frames answers = (i : ℕ) (body : List ℕ) (given : Given)
     → slice_get frames i ≡ Some body → slice_get answers i ≡ Some given → IsAnswerTo limits a time body given
@@ -72,7 +72,7 @@ pub record WaitsFor (a : Account) (frames : List (List ℕ)) (answers : List Giv
   pub is : IsMessageBody body (Request key call)
   pub arrived : act_at a.entries place ≡ Some (Arrive key call)
 
--- that holds of a connection, and where it waits, it is open and does so for that frame
+-- the answers of a connection are so paired; and if it waits, it is open and waits for that frame
 pub record InPairs (limits : StepLimits) (a : Account) (s : DispatcherState) (n : ℕ) (frames : List (List ℕ))
     (answers : List Given) : Type 0 where
   pub paired : ArePaired limits a s.now frames answers
@@ -85,14 +85,14 @@ pub record HasPairs (limits : StepLimits) (a : Account) (s : DispatcherState) (n
   pub has : HasPast s n past
   pub pairs : InPairs limits a s n past.frames past.answers
 
--- where a number is free, and nobody waits under it, it has the past of none
+-- if a number is free, and nobody waits under it, it has an empty past
 abbrev pub BeginsPairs : Type 0
 BeginsPairs = (limits : StepLimits) (a : Account) (s : DispatcherState) (n : ℕ)
     → ((subscription : Subscription) → ¬ (s.hears n ≡ Some subscription))
     → ¬ HasWire s.open_wires n (λ wire. Unit {0})
     → HasPairs limits a s n no_past
 
--- the events of a hub keep it, in the account with their entries
+-- the events of a hub keep this, in the account with their entries added
 abbrev pub FramesAreAnswered : Type 0
 FramesAreAnswered = (terms : DispatcherTerms) (events : List (List Effect)) (s t : DispatcherState)
     (a b : Account)

@@ -1,4 +1,4 @@
--- What the effects of a run were of one connection, from its opening on.
+-- What the effects of a run were to one connection, since it was opened.
 use Rattle.std.specs.Prelude.{ℕ, ◌≡◌, ◌+◌, List, [], ◌∷◌, ◌++◌, Some, cond, false, length, nat_eq}
 use Rattle.std.specs.Prelude.{Bool}
 use Rattle.rv_text.specs.declared.answer.Answer.{Answer}
@@ -15,7 +15,7 @@ use Rattle.rv_hub.specs.dispatcher.Effects.{ReadNothing, Told, TookIn, Wrote}
 pub record Past : Type 0 where
   -- all bytes that were taken of its input
   pub came : List ℕ
-  -- the bodies of the frames that were taken of these, and the answers to them, with what they rest on
+  -- the bodies of the frames taken from these, and the answers to them, with what they rest on
   pub frames : List (List ℕ)
   pub answers : List Given
   -- how many bytes left
@@ -43,7 +43,7 @@ with_said past entries (answer.Welcome epoch client incarnation version) =
 with_said past entries (answer.Refused refusal) =
     with_answer past (rests_on (answer.Refused refusal) entries) (answer.Refused refusal)
 
--- whether an effect is one of a connection's own
+-- whether an effect is one of the connection's own
 abbrev pub is_effect_of : ℕ → Effect → Bool
 is_effect_of n (Elapsed moment entries settled) = false
 is_effect_of n (Opened connection) = nat_eq n connection
@@ -75,7 +75,7 @@ past_by past entries (Lost connection body step) = past
 past_by past entries (Told connection key said) = with_answer past entries said
 past_by past entries (Closed connection) = past
 
--- all effects, from an account of so many entries on
+-- what all effects add, beginning with an account of so many entries
 abbrev pub past_after : ℕ → Past → ℕ → List Effect → Past
 past_after n past entries [] = past
 past_after n past entries (effect ∷ effects) =
@@ -83,23 +83,23 @@ past_after n past entries (effect ∷ effects) =
     (cond (is_effect_of n effect) (past_by past (entries + length (entries_of_effect effect)) effect) past)
     (entries + length (entries_of_effect effect)) effects
 
--- the history of a past, of which these bytes left
+-- the history in a past, if these bytes left
 abbrev pub history_of : Past → List ℕ → History
 history_of past left = record { came = past.came; frames = past.frames; answers = past.answers; left = left }
 
--- the connection's bytes are those of this past: what was taken of its input are the frames and what is
--- unread; they have these answers, one each, in order; and what left, and then what may leave, are of the
--- answers' frames exactly those before the first that rests on more entries than are written
+-- the connection's bytes are those of this past: the bytes taken of its input are the frames and the unread
+-- ones; the frames have these answers, one each, in order; what left, and then what may leave, are exactly
+-- the frames of the answers before the first that rests on more entries than are written
 pub record IsPast (written : ℕ) (past : Past) (wire : Traffic) : Type 0 where
   pub left : List ℕ
   pub sent : length left ≡ past.sent
   pub history : IsHistory written (history_of past left) wire
 
--- that holds of it, if it is open
+-- the connection has this past, if it is open
 abbrev pub HasPast : DispatcherState → ℕ → Past → Type 0
 HasPast s n past = (wire : Traffic) → s.open_wires.wires n ≡ Some wire → IsPast s.open_wires.written past wire
 
--- effects that do this of each connection keep its past
+-- effects lead each connection's past on to one that it has after them
 abbrev pub EffectsKeepPasts : Type 0
 EffectsKeepPasts = (terms : DispatcherTerms) (effects : List Effect) (s t : DispatcherState)
     → DoesAll terms s effects t

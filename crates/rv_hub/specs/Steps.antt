@@ -1,4 +1,4 @@
--- What the parts of an event leave of a dispatcher.
+-- What the parts of an event leave in a dispatcher.
 use Rattle.std.specs.Prelude.{ℕ, ◌≡◌, ◌<◌, ◌≤◌, ◌⊎◌, List, [], ◌++◌, None, Option, Some, Contains}
 use Rattle.std.specs.Prelude.{drop, length}
 use Rattle.rv_hub.specs.declared.dispatcher.Dispatcher.{Dispatcher}
@@ -14,7 +14,7 @@ use Rattle.rv_hub.specs.Turns.{EventGoesOn, Offered, RunsTurns, made_by, own_eff
 abbrev pub offer_from : ℕ → List ℕ → Offered
 offer_from source piece = record { connection = source; piece = piece }
 
--- what is left of what was offered, where so many bytes were taken
+-- what is left of an offer after so many bytes were taken
 abbrev pub less_by : Offered → ℕ → Offered
 less_by offer count = record offer { piece = drop count offer.piece }
 
@@ -22,12 +22,12 @@ less_by offer count = record offer { piece = drop count offer.piece }
 abbrev pub IsGoing : DispatcherState → List ℕ → Type 0
 IsGoing s row = (connection : ℕ) → HasComeToStop s connection ⊎ Contains row connection
 
--- where bytes of a piece are left, its connection takes no more of them, or is to go on
+-- if bytes of a piece are left, its connection takes no more of them, or is to go on
 abbrev pub IsOffering : DispatcherState → List ℕ → Offered → Type 0
 IsOffering s row offer = 0 < length offer.piece
     → TakesNoMore s offer.connection ⊎ Contains row offer.connection
 
--- connections went on, first these and then those that were freed, until nobody was to go on any more
+-- connections went on, first these and then those that were freed, until none was to go on
 pub record TurnsOn (old : Dispatcher) (first : List ℕ) (offer : Offered) (count : ℕ) (new : Dispatcher) :
     Type 0 where
   pub turns : List (List Effect)

@@ -18,12 +18,12 @@ use Rattle.rv_hub.specs.declared.events.HubEvent.{HubEvent}
 use Rattle.rv_hub.specs.declared.events.HubEvent.TheVariants as event
 use Rattle.rv_hub.specs.Events.{EventCan, EventCannotBe}
 
--- a connection, and what is left of the piece that came of it
+-- a connection, and what is left of the piece that came from it
 pub record Offered : Type 0 where
   pub connection : ℕ
   pub piece : List ℕ
 
--- what is offered to a connection's turn: the piece to the one of which it came
+-- what is offered to a connection's turn: the piece, if it came from that connection
 abbrev pub offered_to : Offered → ℕ → List ℕ
 offered_to offer connection = cond (nat_eq offer.connection connection) offer.piece []
 
@@ -55,8 +55,8 @@ pub record HasTurn (terms : DispatcherTerms) (states : ℕ → DispatcherState) 
     pub turn : IsWholeTurn terms (states place) connection (offered_behind offer before connection) effects
         (length (bytes_in effects)) (states (suc place))
 
--- turns of connections, first of this row and then of those that were told, each of whom has one, in the
--- order in which they were told. Of the piece so many bytes are taken
+-- turns of connections, first of this row and then of those that were told, one turn each, in the order in
+-- which they were told. So many bytes of the piece are taken
 pub record RunsTurns (terms : DispatcherTerms) (old : DispatcherState) (offer : Offered) (row : List ℕ)
     (turns : List (List Effect)) (count : ℕ) (new : DispatcherState) : Type 0
   where
@@ -73,7 +73,7 @@ pub record RunsTurns (terms : DispatcherTerms) (old : DispatcherState) (offer : 
 abbrev pub made_by : List (List Effect) → List Entry
 made_by turns = flat_map (λ effects. flat_map entries_of_effect effects) turns
 
--- what an event offers: a piece that came, else nothing
+-- what an event offers: a piece that came, or else nothing
 abbrev pub offer_in : HubEvent → Offered
 offer_in event.Opened = record { connection = 0; piece = [] }
 offer_in (event.Came connection piece) = record { connection = connection; piece = piece.now }
@@ -113,9 +113,9 @@ abbrev pub last_effects : Bool → DispatcherState → List Effect
 last_effects true s = []
 last_effects false s = Wrote s.book.length ∷ []
 
--- time goes on to a moment, and all whom that ends are told; whoever has waited as long as it may is told;
--- then the event's connection goes on until it stops, and then those that were freed, in the order in which
--- they were told. Of the event's piece so many bytes are taken
+-- time goes on to a moment, and those whose requests that ends are told; those that have waited as long as
+-- they may are told; then the event's connection goes on until it stops, and then those that were freed, in
+-- the order in which they were told. So many bytes of the event's piece are taken
 pub record EventGoesOn (terms : DispatcherTerms) (old : DispatcherState) (handed : ℕ) (what : HubEvent)
     (made : List Entry) (taken : ℕ) (new : DispatcherState) : Type 0
   where
@@ -154,7 +154,7 @@ pub record TakesEvent (journal : Bool) (terms : DispatcherTerms) (old : Dispatch
 abbrev pub EventRefused : DispatcherState → HubEvent → EventRefusal → Type 0
 EventRefused s what why = EventCannotBe s what why ⊎ ((what ≡ event.Opened) × (why ≡ refused.NoMemory))
 
--- a connection takes no more bytes: it waits or is full, with a whole frame unread, or has a bad length
+-- a connection takes no more bytes: a whole frame is unread while it waits or is full, or the length is bad
 abbrev pub CanTakeNone : Traffic → Type 0
 CanTakeNone wire =
     (IsWholeFrame wire.unread × ((wire.owes ≡ true) ⊎ (most_held < held_count wire))) ⊎ IsBad wire.unread
@@ -167,14 +167,14 @@ TakesPiece what count new = Unit {0}
 
 -- what holds after each event
 pub record IsAtRest (journal : Bool) (s : DispatcherState) : Type 0 where
-  -- no whole frame is to be answered now, and of each open connection something is left to do
+  -- no whole frame is to be answered now, and each open connection still has something to do
   pub stopped : (connection : ℕ) → HasComeToStop s connection
-  -- whoever waits owes an answer, does so for a request that waits, and not longer than it may; whoever owes
-  -- one waits
+  -- each connection that waits owes an answer, waits for a request that waits, and no longer than it may;
+  -- each that owes one waits
   pub subscribers_owe : SubscribersOwe s
   pub owers_hear : OwersHear s
   pub waits : SubscribersWait s
   pub in_time : SubscribersInTime s
-  -- no more is written than was made, and all without a journal
+  -- no more entries are written than were made, and without a journal all are
   pub written : s.open_wires.written ≤ s.book.length
   pub all_written : journal ≡ false → s.open_wires.written ≡ s.book.length

@@ -5,11 +5,11 @@ use Rattle.rv_server_connections.specs.connection.Traffic.{AnswerByte, Traffic, 
 use Rattle.rv_server_connections.specs.connection.Steps.{HoldsBack, Releases, fresh_traffic}
 
 pub record WiresState : Type 0 where
-  -- of each number the bytes of the connection that is open under it, if one is
+  -- the bytes of the connection that is open under each number, if one is
   pub wires : ℕ → Option Traffic
   -- how many entries are written
   pub written : ℕ
-  -- the connections that the last `release` let bytes go of
+  -- the connections with bytes that the last `release` let go
   pub released : List ℕ
 
 -- no connection is open
@@ -47,7 +47,7 @@ pub record OpensWire (old : WiresState) (connection : ℕ) (new : WiresState) : 
 
 -- ---- so many entries are written
 
--- what may leave of a connection, if it is open, leaves
+-- what may leave of a connection, if it is open, becomes ready
 abbrev pub ReleasesOpen : ℕ → Option Traffic → Option Traffic → Type 0
 ReleasesOpen written None new = new ≡ None
 ReleasesOpen written (Some wire) new = IsSomeAnd new (λ after. Releases written wire after)
@@ -61,8 +61,8 @@ pub record IsReleased (s : WiresState) (written connection : ℕ) : Type 0 where
   pub behind : wire.behind ≡ first ∷ more
   pub free : first.rests_on ≤ written
 
--- so many entries are written: each connection is released, and those of which bytes are free now are
--- listed, once each
+-- so many entries are written: each connection is released, and those with bytes that may leave now and might
+-- not before are listed, once each
 pub record ReleasesAll (old : WiresState) (written : ℕ) (new : WiresState) : Type 0 where
   pub each : (connection : ℕ) → ReleasesOpen written (old.wires connection) (new.wires connection)
   pub written_is : new.written ≡ written
@@ -76,7 +76,7 @@ abbrev pub count_at : (Traffic → ℕ) → Option Traffic → ℕ
 count_at count None = 0
 count_at count (Some wire) = count wire
 
--- the sum of it over the connections of the numbers below this one
+-- the sum of a count over the connections with numbers below this one
 abbrev pub total_below : (Traffic → ℕ) → (ℕ → Option Traffic) → ℕ → ℕ
 total_below count wires zero = 0
 total_below count wires (suc n) = total_below count wires n + count_at count (wires n)
@@ -95,28 +95,29 @@ IsTotalHeld wires total = IsTotalOf held_count wires total
 abbrev pub unread_count : Traffic → ℕ
 unread_count wire = length wire.unread
 
--- so many bytes of all that are open are unread
+-- so many bytes are unread over all that are open
 abbrev pub IsTotalUnread : (ℕ → Option Traffic) → ℕ → Type 0
 IsTotalUnread wires total = IsTotalOf unread_count wires total
 
 -- ---- the list of those that changed
 
--- one number is listed with those that were
+-- one number is listed besides those that were
 abbrev pub ListsOne : List ℕ → ℕ → List ℕ → Type 0
 ListsOne old number new = (other : ℕ) → Contains new other ↔ (Contains old other ⊎ (other ≡ number))
 
--- these numbers are listed with those that were
+-- these numbers are listed besides those that were
 abbrev pub ListsAll : List ℕ → List ℕ → List ℕ → Type 0
 ListsAll old numbers new = (other : ℕ) → Contains new other ↔ (Contains old other ⊎ Contains numbers other)
 
--- what is kept of all connections beside their bytes
+-- what is kept about all connections besides their bytes
 pub record Tally : Type 0 where
   -- those that changed since the list was cleared
   pub changed : List ℕ
   -- the sum of their unread bytes
   pub unread : ℕ
 
--- one connection changed: it is listed with those that were, and the sum counts its unread bytes as they are
+-- one connection changed: it is listed besides those that were, and the sum counts its unread bytes as they
+-- are
 pub record Notes (old : WiresState) (before : Tally) (connection : ℕ) (new : WiresState) (after : Tally) :
     Type 0
   where
@@ -124,7 +125,7 @@ pub record Notes (old : WiresState) (before : Tally) (connection : ℕ) (new : W
     pub unread : after.unread + count_at unread_count (old.wires connection)
         ≡ before.unread + count_at unread_count (new.wires connection)
 
--- those of which bytes are free now are listed with those that were
+-- those with bytes that may leave now and might not before are listed besides those that were
 pub record NotesReleased (old : WiresState) (before : Tally) (written : ℕ) (after : Tally) : Type 0 where
   pub changed : (connection : ℕ) → Contains after.changed connection
       ↔ (Contains before.changed connection ⊎ IsReleased old written connection)

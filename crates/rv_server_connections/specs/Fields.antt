@@ -57,7 +57,7 @@ pub record Remarks (old : Pairs) (connection : ℕ) (mark : Option ℕ) (new : P
   pub others : (entries other : ℕ) → other ≢ connection
       → stands_under new entries other ≡ stands_under old entries other
 
--- it stands under this mark no longer
+-- it is no longer under this mark
 pub record Drops (old : Pairs) (connection : ℕ) (mark : Option ℕ) (new : Pairs) : Type 0 where
   pub own : (entries : ℕ) → has_mark mark entries ≡ true → stands_under new entries connection ≡ false
   pub others : (entries other : ℕ) → (other ≢ connection) ⊎ (has_mark mark entries ≡ false)
@@ -86,14 +86,15 @@ pub record IsHeldIn (s : Slots) : Type 0 where
   pub each : AreSound (get s.slots)
   pub held : AreHeld (get s.slots) s.slots.room s.held
 
--- and the index leads to each connection that holds something back, with room for all to which it leads
+-- and the index leads to each connection that holds something back, and the list has room for all that it
+-- leads to
 pub record HasIndex (s : Slots) : Type 0 where
   pub counted : IsHeldIn s
   pub indexed : IsIndexOf s.index (get s.slots)
   pub room : pair_count s.index ≤ vec_capacity s.released
   pub looks : pair_count s.index ≤ vec_capacity s.reached
 
--- what may not leave of a connection rests on more entries than are written
+-- what a connection holds back rests on more entries than are written
 abbrev pub IsHeldBack : ℕ → WireSlot → Type 0
 IsHeldBack written slot = (entries : ℕ) → first_rests_on slot.wire.behind ≡ Some entries → written < entries
 
@@ -152,13 +153,13 @@ pub record Gives (old : Slots) (connection entries : ℕ) (body : List ℕ) (mar
       held = held;
     }
 
--- of one connection what may leave leaves
+-- what may leave of one connection becomes ready
 pub record ReleasesOne (written : ℕ) (old : Slots) (connection : ℕ) (new : Slots) : Type 0 where
   pub own : ReleasesOpen written (wires_at (get old.slots) connection) (wires_at (get new.slots) connection)
   pub others : (other : ℕ) → other ≢ connection → get new.slots other ≡ get old.slots other
 
--- of those that the index led to, the last were looked at: what may leave of them and of those to which it
--- didn't lead leaves, the others are as they were, and listed are those of which something was let go
+-- the last of those that the index led to were looked at: what may leave of them, and of those to which it
+-- didn't lead, is ready; the others are as they were; and those with bytes that were let go are listed
 pub record IsReaching (written : ℕ) (start : ℕ → Option WireSlot) (s : Slots) : Type 0 where
   pub indexed : HasIndex s
   pub apart : AllPairs (λ one other. one ≢ other) s.reached.items

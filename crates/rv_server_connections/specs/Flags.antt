@@ -1,4 +1,4 @@
--- A list of numbers, beside which a flag tells of each number whether it is listed.
+-- A list of numbers, and for each number a flag that says whether it is listed.
 use Rattle.std.specs.Prelude.{ℕ, ◌≡◌, ◌≢◌, ◌≤◌, Bool, List, [], ◌∷◌, false, true, suc}
 use Rattle.std.specs.Prelude.{AllPairs, length, if◌then◌else◌, nat_eq, slice_index_or}
 

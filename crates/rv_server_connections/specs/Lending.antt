@@ -1,4 +1,4 @@
--- What a table of connections ends as, where one of them is lent.
+-- The final value of a table of connections while one of them is lent.
 use Rattle.std.specs.Prelude.{ℕ, Option}
 use Rattle.std.specs.Borrow.{Fml, Lends, MutBor}
 use Rattle.std.specs.Option.Follows.{option_follows_value}

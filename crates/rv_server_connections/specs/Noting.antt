@@ -1,4 +1,4 @@
--- What the list of those that changed holds, for the proofs.
+-- The fields of the list of connections that changed, for the proofs.
 use Rattle.std.specs.Prelude.{ℕ, ◌≡◌, ◌≤◌, ◌<◌, ◌^◌, None, length, vec_capacity}
 use Rattle.rv_server_connections.specs.Table.{get}
 use Rattle.rv_server_connections.specs.Flags.{AreListed}
@@ -24,7 +24,7 @@ pub record IsNoted (n : Noted) : Type 0 where
   pub room : (connection : ℕ) → length n.changes.flags.items ≤ connection
       → wires_at (get n.slots.slots) connection ≡ None
 
--- so many bytes are unread of all, and of each no more than a count may tell
+-- so many bytes are unread over all connections, and on each no more than a count can hold
 pub record IsUnreadIn (n : Noted) (unread : ℕ) : Type 0 where
   pub few : (connection : ℕ) → count_at unread_count (wires_at (get n.slots.slots) connection) < 2 ^ 64
   pub total_is : unread ≡ (tally_of n).unread

@@ -5,7 +5,7 @@ use Rattle.rv_server_connections.specs.declared.table.WireSlot.{WireSlot}
 pub record TableState : Type 0 where
   -- what is under each number from 0 on
   pub places : List (Option WireSlot)
-  -- the numbers under which nothing is, the next to be given last
+  -- the numbers that are free, of which the last is the next to be given
   pub free : List ℕ
   -- all numbers are below this one
   pub room : ℕ

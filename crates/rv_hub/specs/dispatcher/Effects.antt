@@ -21,7 +21,7 @@ use Rattle.rv_server_connections.specs.Connections.{ReleasesAll, SetsWire}
 use Rattle.rv_hub.specs.dispatcher.View.{ChangesBytes, DispatcherState, DispatcherTerms}
 use Rattle.rv_hub.specs.dispatcher.Telling.{IsToldAgain}
 
--- a step of the book: its message, its entries, and whom it settled
+-- a step of the book: its message, its entries, and the keys that it settled
 pub record Stepped : Type 0 where
   pub message : Message
   pub entries : List Entry
@@ -42,13 +42,14 @@ pub data Effect : Type 0 where
   Wrote : (entries : ℕ) → Effect
   -- the frame of this body was taken: a step with its message was made, and this is its answer
   Asked : (connection : ℕ) (body : List ℕ) (step : Stepped) (said : Answer) → Effect
-  -- it is no message's
+  -- the frame of this body was taken, and isn't a message's
   ReadNothing : (connection : ℕ) (body : List ℕ) → Effect
-  -- memory was refused for it: no step was made, or one with its message of which the answer found no room
+  -- memory was refused for it: no step was made, or one was made with its message and there was no room for
+  -- the answer
   Lacked : (connection : ℕ) (body : List ℕ) (step : Option Stepped) → Effect
   -- a step with its message was made, and its connection closed, since memory for the answer was refused
   Lost : (connection : ℕ) (body : List ℕ) (step : Stepped) → Effect
-  -- whoever waited is told
+  -- a connection that waited is told
   Told : (connection : ℕ) (key : Key) (said : Answer) → Effect
   -- it is closed: its peer is gone, or nothing is left to do, or memory was refused for it
   Closed : (connection : ℕ) → Effect
@@ -60,7 +61,7 @@ pub record IsDueWith (wire : Traffic) (body : List ℕ) : Type 0 where
   pub due : IsDue wire
   pub body_is : due.whole.body ≡ body
 
--- that frame was taken, and has this answer at once, by its text, which rests on so many entries
+-- that frame was taken, and is answered at once by this text, which rests on so many entries
 pub record AnswersNow (old : DispatcherState) (connection : ℕ) (body : List ℕ) (entries : ℕ) (text : List ℕ)
     (new : DispatcherState) : Type 0
   where
@@ -80,7 +81,7 @@ pub record WaitsNow (patience : ℕ) (old : DispatcherState) (connection : ℕ) 
         new.hears
     pub rest : new ≡ record old { open_wires = new.open_wires; changed = new.changed; hears = new.hears }
 
--- by the answer
+-- it waits or is answered, depending on the answer
 abbrev pub AnswersOrWaits : DispatcherTerms → DispatcherState → ℕ → List ℕ → Answer → DispatcherState → Type 0
 AnswersOrWaits terms old connection body (answer.Waiting key) new =
     WaitsNow terms.patience old connection body key new
@@ -93,7 +94,7 @@ AnswersOrWaits terms old connection body (answer.Refused refusal) new =
     AnswersNow old connection body (rests_on (answer.Refused refusal) old.book.length)
     (answer_text (answer.Refused refusal)) new
 
--- it is closed, and waits no more
+-- it is closed, and no longer waits
 pub record DoesClose (old : DispatcherState) (connection : ℕ) (new : DispatcherState) : Type 0 where
   pub there : HasWire old.open_wires connection (λ wire. Unit {0})
   pub sets : SetsWire old.open_wires connection None new.open_wires
@@ -103,7 +104,7 @@ pub record DoesClose (old : DispatcherState) (connection : ℕ) (new : Dispatche
 
 -- ---- the book
 
--- a step with this message, as its own move, after which the book is this
+-- a step with this message, by its own move, after which this is the book
 pub record MakesStep (terms : DispatcherTerms) (old : DispatcherState) (step : Stepped) (said : Answer)
     (new : DispatcherState) :
     Type 0
@@ -182,7 +183,7 @@ pub record DoesReadNothing (old : DispatcherState) (connection : ℕ) (body : Li
   pub none : (message : Message) → ¬ IsMessageBody body message
   pub answers : AnswersNow old connection body 0 (answer_text (answer.Refused BadText)) new
 
--- whoever waited has this answer, which rests on all entries so far, and waits no more
+-- a connection that waited has this answer, which rests on all entries so far, and no longer waits
 pub record DoesTell (old : DispatcherState) (connection : ℕ) (key : Key) (said : Answer)
     (new : DispatcherState) :
     Type 0 where
@@ -255,7 +256,7 @@ abbrev pub settled_by : Effect → List Key
 settled_by (Elapsed moment entries settled) = settled
 settled_by effect = step_settled (step_of effect)
 
--- who was told, in order
+-- the connections that were told, in order
 abbrev pub told_of_effect : Effect → List ℕ
 told_of_effect (Told connection key said) = connection ∷ []
 told_of_effect effect = []

@@ -32,7 +32,7 @@ pub record IsBook (m : Machine) (now : ℕ) : Type 0 where
   pub later : (state_in m).moment ≤ now
   pub time : now ≤ max_moment
 
--- what always holds: whoever waits can be told
+-- what always holds: each connection that waits can be told
 pub record IsDispatcherSound (d : Dispatcher) : Type 0 where
   pub book : IsBook d.machine d.latest
   pub patient : 0 < d.patience
@@ -43,7 +43,8 @@ pub record IsDispatcherSound (d : Dispatcher) : Type 0 where
       → subscribers_of d.subscribers connection ≡ Some subscription
       → IsTellable (state_in d.machine) subscription.key
 
--- between events: whoever waits does so for a request that waits, and there is room for the entry of a tick
+-- between events: each connection that waits does so for a request that waits, and there is room for a tick's
+-- entry
 pub record IsDispatcherReady (d : Dispatcher) : Type 0 where
   pub sound : IsDispatcherSound d
   pub waits : SubscribersWait (dispatcher_state d)

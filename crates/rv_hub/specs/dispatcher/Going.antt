@@ -1,4 +1,5 @@
--- What the calls on a dispatcher leave: their effects, the entries that these made, and who is free to go on.
+-- What the calls on a dispatcher leave: their effects, the entries that these made, and the connections free
+-- to go on.
 use Rattle.std.specs.Prelude.{ℕ, ◌≡◌, ◌+◌, ◌<◌, ◌≤◌, ◌⊎◌, List, [], ◌∷◌, ◌++◌, All, Option, Some, slice_get}
 use Rattle.std.specs.Prelude.{AllPairs, Contains}
 use Rattle.std.specs.Prelude.{Result, flat_map, length, take, true, vec_capacity}
@@ -42,7 +43,7 @@ use Rattle.rv_hub.specs.dispatcher.Order.{TellsOneSubscriber, TellsOverdue, IsTu
 abbrev pub unread_of : Option Traffic → ℕ
 unread_of = count_at unread_count
 
--- and of all
+-- and over all connections
 abbrev pub unread_total : Wires → ℕ
 unread_total all = (tally_in all).unread
 
@@ -50,7 +51,7 @@ unread_total all = (tally_in all).unread
 abbrev pub NotesOne : Wires → ℕ → Wires → Type 0
 NotesOne old connection new = Notes (wires_in old) (tally_in old) connection (wires_in new) (tally_in new)
 
--- the work that is left: bytes that are unread, those that wait, and those that are free to go on
+-- the work that is left: unread bytes, connections that wait, and connections that are free to go on
 abbrev pub work_left : Dispatcher → ℕ
 work_left d = unread_total d.wires + subscribers_count d.subscribers + length d.freed.items
 
@@ -58,7 +59,7 @@ work_left d = unread_total d.wires + subscribers_count d.subscribers + length d.
 abbrev pub unread_at : Dispatcher → ℕ → ℕ
 unread_at d connection = unread_of ((wires_in d.wires).wires connection)
 
--- beside the effects
+-- what changes besides the effects
 pub record Goes (old : Dispatcher) (effects : List Effect) (new : Dispatcher) : Type 0 where
   pub made : new.entries.items ≡ old.entries.items ++ flat_map entries_of_effect effects
   pub freed : new.freed.items ≡ old.freed.items ++ told_in_effects effects
@@ -73,7 +74,7 @@ pub record IsSameDispatcher (old new : Dispatcher) : Type 0 where
   pub freed : new.freed.items ≡ old.freed.items
   pub rest : new ≡ record old { wires = new.wires; freed = new.freed }
 
--- the text is what the request of the key is told
+-- the text is what the key's request is told
 pub record IsToldText (s : State) (key : Key) (text : List ℕ) : Type 0 where
   pub said : Answer
   pub told : IsToldAgain s key said
@@ -98,7 +99,7 @@ pub record GivesTold (old : Dispatcher) (connection : ℕ) (key : Key) (new : Di
   pub freed : new.freed.items ≡ old.freed.items ++ connection ∷ []
   pub rest : new ≡ record old { wires = new.wires; freed = new.freed }
 
--- whoever waits was told: the machine and what was made stay, and no more work is left
+-- connections that waited were told: the machine and the entries stay, and no more work is left than before
 pub record GoesTelling (old : Dispatcher) (effects : List Effect) (new : Dispatcher) : Type 0 where
   pub rest : new ≡ record old { wires = new.wires; subscribers = new.subscribers; freed = new.freed }
   pub freed : new.freed.items ≡ old.freed.items ++ told_in_effects effects
@@ -153,7 +154,7 @@ pub record IsNextOverdue (s : DispatcherState) (connection : ℕ) : Type 0 where
 
 -- ---- asking
 
--- but for the room of texts nothing changed
+-- nothing changed but the room for texts
 pub record IsSameButRoom (old new : Dispatcher) : Type 0 where
   pub wires : wires_in new.wires ≡ wires_in old.wires
   pub tally : tally_in new.wires ≡ tally_in old.wires
@@ -172,7 +173,7 @@ pub record IsMessageAt (d : Dispatcher) (connection : ℕ) (read : Result Messag
   pub asked : IsFrameDue d connection body
   pub reads : Decodes Message IsMessageBody body read
 
--- the text of the answer to a frame of which no message was read
+-- the text of the answer to a frame that wasn't read as a message
 abbrev pub fault_answer : TextFault → List ℕ
 fault_answer fault.NoMemory = answer_text (answer.Refused NoMemory)
 fault_answer fault.NotJson = answer_text (answer.Refused BadText)
@@ -215,7 +216,7 @@ pub record WaitsIt (old : Dispatcher) (connection : ℕ) (key : Key) (new : Disp
       ⊎ DoesClose (dispatcher_state old) connection (dispatcher_state new)
   pub takes : TakesDueFrame old connection new
 
--- it was answered by what is said, or let wait; or memory for that was refused
+-- it was answered as said, or left to wait; or memory for that was refused
 abbrev pub SaysOrLacks : DispatcherTerms → DispatcherState → ℕ → List ℕ → Answer → DispatcherState → Type 0
 SaysOrLacks terms old connection body said new =
     AnswersOrWaits terms old connection body said new
@@ -227,12 +228,12 @@ pub record SaysIt (old : Dispatcher) (connection : ℕ) (said : Answer) (new : D
       → SaysOrLacks (dispatcher_terms old) (dispatcher_state old) connection body said (dispatcher_state new)
   pub takes : TakesDueFrame old connection new
 
--- what is said can be: it fits, and what waits is a request that waits
+-- this can be said: it fits, and if it says that a request waits, the request does
 pub record MaySay (d : Dispatcher) (said : Answer) : Type 0 where
   pub fits : FitsAnswer said
   pub waits : (key : Key) → said ≡ answer.Waiting key → WaitsOn (state_in d.machine) key
 
--- a step with a message was made: this is said of it, and who waits still does so or is listed as settled
+-- a step with a message was made: this is said of it, and each that waits still does or is listed as settled
 pub record StepsIt (old : Dispatcher) (message : Message) (said : Said) (new : Dispatcher) : Type 0 where
   pub move : Move
   pub moves : StateNextAtUnder (dispatcher_terms old).limits (state_in old.machine) old.latest message move
@@ -243,7 +244,7 @@ pub record StepsIt (old : Dispatcher) (message : Message) (said : Said) (new : D
   pub after : state_in new.machine ≡ move.after
   pub rest : new ≡ record old { machine = new.machine; entries = new.entries }
 
--- all that is due by the moment was ended, which a lower one than before counts as that
+-- all that is due by the moment was ended; a moment lower than before counts as the one before
 pub record ElapsesIt (old : Dispatcher) (handed : ℕ) (new : Dispatcher) : Type 0 where
   pub now : new.latest ≡ moment_now old.latest handed
   pub entries : new.entries.items ≡ (ticked_at (state_in old.machine) new.latest).entries
@@ -255,13 +256,14 @@ pub record ElapsesIt (old : Dispatcher) (handed : ℕ) (new : Dispatcher) : Type
 abbrev pub IsAmongKeys : List Key → Key → Type 0
 IsAmongKeys keys key = (i : ℕ) × (slice_get keys i ≡ Some key)
 
--- whoever waits does so for a request that waits, or is listed as settled
+-- each connection that waits does so for a request that waits, or that is listed as settled
 abbrev pub SubscribersWaitOr : List Key → DispatcherState → Type 0
 SubscribersWaitOr settled s = (connection : ℕ) (subscription : Subscription)
     → s.hears connection ≡ Some subscription
     → WaitsOn s.book subscription.key ⊎ IsAmongKeys settled subscription.key
 
--- nothing is due, and whoever waits does so for a request that waits, or is listed as settled
+-- nothing is due, and each connection that waits does so for a request that waits, or that is listed as
+-- settled
 pub record StillGoes (old new : Dispatcher) : Type 0 where
   pub waits : SubscribersWaitOr new.machine.settled.items (dispatcher_state new)
   pub none_due : due_at (state_in new.machine) new.latest ≡ []
@@ -282,7 +284,7 @@ pub record Strides (old : Dispatcher) (connection : ℕ) (new : Dispatcher) : Ty
   pub had : 3 ≤ unread_at old connection
   pub emptied : unread_at new connection ≡ 0
 
--- bytes of a piece were taken, or none where it is closed
+-- bytes of a piece were taken, or none if the connection is closed
 pub record FeedsPiece (old : Dispatcher) (connection : ℕ) (piece : List ℕ) (count : ℕ) (new : Dispatcher) :
     Type 0 where
   pub strides : List (Effect × List Effect)
@@ -294,7 +296,7 @@ pub record FeedsPiece (old : Dispatcher) (connection : ℕ) (piece : List ℕ) (
   pub unread : unread_at new connection ≤ unread_at old connection + count
   pub work : work_left new ≤ work_left old + count
 
--- nothing, or it was closed, since nothing was left to do
+-- nothing happened, or the connection was closed, since nothing was left to do
 pub record Finishes (old : Dispatcher) (connection : ℕ) (new : Dispatcher) : Type 0 where
   pub did : (new ≡ old)
       ⊎ (HasWire (wires_in old.wires) connection IsFinished
@@ -313,7 +315,8 @@ pub record TakesItsTurn (old : Dispatcher) (connection : ℕ) (piece : List ℕ)
   pub goes : Goes old effects new
   pub work : work_left new ≤ work_left old + count
 
--- time went on: all whom that ended were told, and then those that have waited as long as they may
+-- time went on: those whose requests that ended were told, and then those that have waited as long as they
+-- may
 pub record PassesIt (old : Dispatcher) (handed : ℕ) (new : Dispatcher) : Type 0 where
   pub entries : List Entry
   pub settled : List Key

@@ -14,7 +14,7 @@ use Rattle.rv_hub.specs.dispatcher.Effects.{Lacked, Lost, ReadNothing, Told, Too
 
 -- ---- telling
 
--- one is told, or closed where memory for its answer was refused
+-- a connection is told, or closed if memory for its answer was refused
 abbrev pub TellsOneSubscriber : ℕ → Effect → Type 0
 TellsOneSubscriber connection (Told n key said) = n ≡ connection
 TellsOneSubscriber connection (Closed n) = n ≡ connection
@@ -26,8 +26,8 @@ TellsEach [] effects = effects ≡ []
 TellsEach (connection ∷ row) [] = ⊥
 TellsEach (connection ∷ row) (effect ∷ effects) = TellsOneSubscriber connection effect × TellsEach row effects
 
--- all that wait for a request of the client of one of these keys, each once: in the order of the keys, and
--- those of one client by number
+-- all that wait for a request of one of these keys' clients, each once: in the order of the keys, and those
+-- of one client by number
 pub record TellsKeys (terms : DispatcherTerms) (old : DispatcherState) (keys : List Key) (effects :
     List Effect)
     (new : DispatcherState) :
@@ -47,9 +47,9 @@ pub record IsStride (terms : DispatcherTerms) (old : DispatcherState) (effect : 
     pub does : Does terms old effect between
     pub told : TellsKeys terms between (settled_by effect) tells new
 
--- ---- who has waited as long as it may
+-- ---- those that have waited as long as they may
 
--- each is told that its request waits, or closed where memory for that was refused
+-- each is told that its request waits, or closed if memory for that was refused
 abbrev pub TellsStillWaiting : List (ℕ × Subscription) → List Effect → Type 0
 TellsStillWaiting [] effects = effects ≡ []
 TellsStillWaiting (subscriber ∷ subscribers) [] = ⊥
@@ -62,7 +62,7 @@ TellsStillWaiting (subscriber ∷ subscribers) (effect ∷ effects) =
 abbrev pub WaitsSooner : ℕ × Subscription → ℕ × Subscription → Type 0
 WaitsSooner one other = (one.1.until < other.1.until) ⊎ ((one.1.until ≡ other.1.until) × (one.0 < other.0))
 
--- whoever has waited as long as it may by now, in order
+-- those that have waited as long as they may by now, in order
 pub record AreOverdue (s : DispatcherState) (subscribers : List (ℕ × Subscription)) : Type 0 where
   pub order : AllPairs WaitsSooner subscribers
   pub wait : All (λ h. (s.hears h.0 ≡ Some h.1) × (h.1.until ≤ s.now)) subscribers
@@ -80,9 +80,9 @@ pub record TellsOverdue (terms : DispatcherTerms) (old : DispatcherState) (effec
 
 -- ---- turns
 
--- a connection is closed in its own turn only where nothing is left of it to do, or where memory may have
--- been refused: for the answer to its frame, which is due, or for bytes of its piece, of which these are
--- left, if it takes more
+-- a connection is closed in its own turn only if nothing is left for it to do, or if memory may have been
+-- refused: for the answer to its frame, which is due, or for bytes of its piece, of which these are left, if
+-- it takes more
 abbrev pub MayClose : List ℕ → Traffic → Type 0
 MayClose left wire = IsFinished wire ⊎ (IsDue wire ⊎ (IsUnfinished wire.unread × (0 < length left)))
 
@@ -90,11 +90,11 @@ abbrev pub MayDo : DispatcherState → List ℕ → Effect → Type 0
 MayDo s left (Closed n) = HasWire s.open_wires n (MayClose left)
 MayDo s left effect = Unit {0}
 
--- the bytes of a piece that are left behind effects which took some
+-- the bytes of a piece that are left after effects that took some
 abbrev pub left_behind : List ℕ → List Effect → List ℕ
 left_behind piece effects = drop (length (bytes_in effects)) piece
 
--- one after another, where these bytes of a piece are left
+-- strides one after another, where these bytes of a piece are left
 abbrev pub RunsStrides : DispatcherTerms → DispatcherState → List ℕ → List (Effect × List Effect)
     → DispatcherState → Type 0
 RunsStrides terms old left [] new = new ≡ old
@@ -116,9 +116,8 @@ IsOwnEffect connection effect = ⊥
 abbrev pub effects_of : List (Effect × List Effect) → List Effect
 effects_of strides = flat_map (λ s. s.0 ∷ s.1) strides
 
--- a connection goes on until it stops: its effects are of its own bytes and frames, each with whom it
--- settles,
--- and of a piece that came so many bytes are taken
+-- a connection goes on until it stops: its effects are of its own bytes and frames, each followed by the
+-- tellings of those that it settles, and so many bytes of a piece that came are taken
 pub record IsTurn (terms : DispatcherTerms) (old : DispatcherState) (connection : ℕ) (piece : List ℕ)
     (effects : List Effect)
     (count : ℕ) (new : DispatcherState) : Type 0

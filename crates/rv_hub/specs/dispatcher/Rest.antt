@@ -12,17 +12,17 @@ abbrev pub SubscribersOwe : DispatcherState → Type 0
 SubscribersOwe s = (connection : ℕ) (subscription : Subscription) → s.hears connection ≡ Some subscription
     → HasWire s.open_wires connection (λ wire. wire.owes ≡ true)
 
--- and whoever owes an answer waits
+-- and each that owes an answer waits
 abbrev pub OwersHear : DispatcherState → Type 0
 OwersHear s = (connection : ℕ) (wire : Traffic) → s.open_wires.wires connection ≡ Some wire → wire.owes ≡ true
     → IsSome (s.hears connection)
 
--- whoever waits does so for a request that waits
+-- each that waits does so for a request that waits
 abbrev pub SubscribersWait : DispatcherState → Type 0
 SubscribersWait s = (connection : ℕ) (subscription : Subscription) → s.hears connection ≡ Some subscription
     → WaitsOn s.book subscription.key
 
--- and not longer than it may
+-- and no longer than it may
 abbrev pub SubscribersInTime : DispatcherState → Type 0
 SubscribersInTime s = (connection : ℕ) (subscription : Subscription) → s.hears connection ≡ Some subscription
     → s.now < subscription.until
@@ -37,8 +37,8 @@ abbrev pub TakesNoMore : DispatcherState → ℕ → Type 0
 TakesNoMore s connection = (wire : Traffic) → s.open_wires.wires connection ≡ Some wire
     → IsWholeFrame wire.unread ⊎ IsBad wire.unread
 
--- the next moment at which time has to go on: the least of the book's limits and of those up to which one
--- waits
+-- the next moment at which time must go on: the earliest of the book's limits and of the moments up to which
+-- a connection waits
 pub record IsNextMoment (s : DispatcherState) (moment : ℕ) : Type 0 where
   pub not_sooner : (earlier : ℕ) → earlier < moment → due_at s.book earlier ≡ []
   pub nobody_sooner : (connection : ℕ) (subscription : Subscription) → s.hears connection ≡ Some subscription

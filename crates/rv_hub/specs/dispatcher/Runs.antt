@@ -1,4 +1,4 @@
--- What the effects of a dispatcher are of the account: steps of messages and time alone, one after another.
+-- What the effects of a dispatcher are to the account: steps of messages and time alone, one after another.
 use Rattle.std.specs.Prelude.{ℕ, ◌≡◌, ◌≢◌, ◌≤◌, ◌⊎◌, List, [], ◌∷◌, ◌++◌, Contains, IsSome, None, Some}
 use Rattle.std.specs.Prelude.{flat_map}
 use Rattle.rv_text.specs.declared.message.Message.{Message}
@@ -12,7 +12,7 @@ use Rattle.rv_hub.specs.dispatcher.Effects.{Effect, DoesAll, entries_of_effect, 
 use Rattle.rv_hub.specs.dispatcher.Order.{IsTurn}
 
 -- what leads from one state of the account to the next: time alone up to a moment, or a message at the moment
--- up to which time went
+-- to which time has gone on
 pub data Cause : Type 0 where
   Time : (moment : ℕ) → Cause
   Heard : (message : Message) → Cause
@@ -27,7 +27,7 @@ RunsBook limits now s (Heard message ∷ causes) entries later t =
     (move : Move) × (rest : List Entry) × StateNextAtUnder limits s now message move
     × (entries ≡ move.entries ++ rest) × RunsBook limits now move.after causes rest later t
 
--- the effects are, of the book, one such run, and make its entries
+-- to the book the effects are one such run, and they make its entries
 abbrev pub EffectsAreOneRun : Type 0
 EffectsAreOneRun = (terms : DispatcherTerms) (effects : List Effect) (old new : DispatcherState)
     → DoesAll terms old effects new
@@ -39,7 +39,7 @@ abbrev pub StaysOrTold : DispatcherState → List ℕ → ℕ → DispatcherStat
 StaysOrTold s told n t = (t.open_wires.wires n ≡ s.open_wires.wires n)
     ⊎ ((t.open_wires.wires n ≡ None) ⊎ Contains told n)
 
--- so does each connection through a turn of another
+-- so it is with each connection through another's turn
 abbrev pub OthersStay : Type 0
 OthersStay = (terms : DispatcherTerms) (old new : DispatcherState) (connection : ℕ) (piece : List ℕ)
     (effects : List Effect)
@@ -47,7 +47,7 @@ OthersStay = (terms : DispatcherTerms) (old new : DispatcherState) (connection :
     → IsTurn terms old connection piece effects count new → (other : ℕ) → other ≢ connection
     → StaysOrTold old (told_in_effects effects) other new
 
--- and one that was closed so had waited, before the turn: its answer was due, and memory was refused to that
+-- and one that was closed so had waited before the turn: its answer was due, and memory for it was refused
 abbrev pub OthersWaited : Type 0
 OthersWaited = (terms : DispatcherTerms) (old new : DispatcherState) (connection : ℕ) (piece : List ℕ)
     (effects : List Effect)
@@ -56,12 +56,12 @@ OthersWaited = (terms : DispatcherTerms) (old new : DispatcherState) (connection
     → (wire : Traffic) → old.open_wires.wires other ≡ Some wire → new.open_wires.wires other ≡ None
     → IsSome (old.hears other)
 
--- whoever was among those that changed still is, and whoever isn't has the same bytes
+-- each that was listed as changed still is, and each that isn't has the same bytes
 pub record ListsChanged (s t : DispatcherState) : Type 0 where
   pub still : (n : ℕ) → Contains s.changed n → Contains t.changed n
   pub others : (n : ℕ) → ¬ Contains t.changed n → t.open_wires.wires n ≡ s.open_wires.wires n
 
--- that holds of all effects, one after another
+-- this holds through all effects, one after another
 abbrev pub EffectsAreListed : Type 0
 EffectsAreListed = (terms : DispatcherTerms) (effects : List Effect) (s t : DispatcherState)
     → DoesAll terms s effects t

@@ -1,4 +1,4 @@
--- What whoever waits for a request is told, and who waits.
+-- What connections that wait for a request are told, and which ones wait.
 use Rattle.std.specs.Prelude.{ℕ, ◌≡◌, ◌≢◌, ◌<◌, ◌↔◌, ◌⊎◌, List, Some, All, AllPairs, Contains, length}
 use Rattle.std.specs.Prelude.{slice_get}
 use Rattle.rv_text.specs.declared.message.Key.{Key}
@@ -15,7 +15,7 @@ use Rattle.rv_server_connections.specs.subscribers.Subscription.{SubscribesTo, W
 -- the request with this key waits
 pub use Rattle.rv_state.specs.waiting.Waiting.{WaitsOn}
 
--- it was the last of its session, or that is one of a greater incarnation now
+-- it was the last of its session, or its session now has a greater incarnation
 abbrev pub WasLast : ClientState → Key → Type 0
 WasLast session key = ((session.incarnation ≡ key.incarnation) × (session.last ≡ key.number))
     ⊎ (key.incarnation < session.incarnation)
@@ -27,7 +27,7 @@ pub record IsTellable (s : State) (key : Key) : Type 0 where
   pub there : client_at s key.client ≡ Some session
   pub last : WasLast session key
 
--- what a repeat of the request is told, or that its session is one of a greater incarnation
+-- what a repeat of the request is told, or that its session has a greater incarnation
 pub record IsToldAgain (s : State) (key : Key) (said : Answer) : Type 0 where
   pub fits : FitsKey key
   pub epoch : key.epoch ≡ s.epoch
@@ -38,7 +38,7 @@ pub record IsToldAgain (s : State) (key : Key) (said : Answer) : Type 0 where
       ⊎ ((key.incarnation < session.incarnation)
       × (said ≡ answer.Refused (OldIncarnation session.incarnation)))
 
--- a connection waits for a request of the client of the key at this place, the first key of that client
+-- a connection waits for a request of the client of the key at this place, the first place with that client
 pub record HearsAt (who : WhoHears) (keys : List Key) (connection place : ℕ) : Type 0 where
   pub key : Key
   pub at : slice_get keys place ≡ Some key
@@ -46,7 +46,7 @@ pub record HearsAt (who : WhoHears) (keys : List Key) (connection place : ℕ) :
   pub first : (sooner : ℕ) (other : Key) → sooner < place → slice_get keys sooner ≡ Some other
       → other.client ≢ key.client
 
--- of two that do so the one comes sooner: by the places of their keys, and at one place by number
+-- of two such connections the first comes sooner: by the places of their keys, and at one place by number
 abbrev pub HearsSooner : WhoHears → List Key → ℕ → ℕ → Type 0
 HearsSooner who keys one other = (i : ℕ) × (j : ℕ) × HearsAt who keys one i × HearsAt who keys other j
     × ((i < j) ⊎ ((i ≡ j) × (one < other)))
@@ -62,18 +62,18 @@ pub record AreSubscribersOf (who : WhoHears) (keys : List Key) (row : List ℕ) 
 abbrev pub DoesWait : LastRequest → Type 0
 DoesWait request = (place : ℕ) × (call : Call) × (request ≡ Waits place call)
 
--- a request of the client waits for which no connection does
+-- a request of the client waits, and no connection waits for it
 pub record IsUnheard (s : State) (who : WhoHears) (client : ℕ) : Type 0 where
   pub session : ClientState
   pub there : client_at s client ≡ Some session
   pub waits : DoesWait session.request
   pub nobody : (connection : ℕ) → ¬ SubscribesTo who client connection
 
--- these are the clients of whom such a request waits, each once
+-- these are the clients with such a request, each once
 pub record AreUnheard (s : State) (who : WhoHears) (clients : List ℕ) : Type 0 where
   pub once : AllPairs (λ one other. one ≢ other) clients
   pub each : (client : ℕ) → Contains clients client ↔ IsUnheard s who client
 
--- so many clients are
+-- so many clients have one
 abbrev pub CountsUnheard : State → WhoHears → ℕ → Type 0
 CountsUnheard s who count = (clients : List ℕ) × AreUnheard s who clients × (length clients ≡ count)

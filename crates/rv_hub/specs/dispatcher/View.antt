@@ -14,9 +14,9 @@ pub record DispatcherState : Type 0 where
   pub now : ℕ
   -- the open connections, and how many entries are written
   pub open_wires : WiresState
-  -- those that changed since that was last let go
+  -- the connections that changed since this list was last cleared
   pub changed : List ℕ
-  -- of each connection the request that it waits for, if it waits
+  -- the request that each connection waits for, if it waits
   pub hears : WhoHears
 
 -- what doesn't change: the limits of each step, and for how long a request waits before it is told so
@@ -33,7 +33,7 @@ pub record ChangesBytes (old : DispatcherState) (connection : ℕ) (so : Traffic
     pub lists : ListsOne old.changed connection new.changed
     pub rest : new ≡ record old { open_wires = new.open_wires; changed = new.changed }
 
--- a moment that is handed in, at most 2^62, or the greatest before
+-- a moment that is handed in, at most 2^62, or the greatest so far if that is later
 abbrev pub moment_now : ℕ → ℕ → ℕ
 moment_now now handed = max now (min handed max_moment)
 

@@ -30,7 +30,7 @@ pub record FreesSome (written : ℕ) (old new : Outgoing) : Type 0 where
   pub ready : ready_in new ≡ ready_in old ++ bytes_of front
   pub bytes : new.bytes.items ≡ old.bytes.items
 
--- of these bytes, which come after those that may leave, all go that may
+-- of these bytes, which come after those that may leave, all that may leave are passed on
 pub record PassesOn (written : ℕ) (old : Outgoing) (held : List AnswerByte) (new : Outgoing) : Type 0 where
   pub front : List AnswerByte
   pub frees : Frees written held front (behind_in new)

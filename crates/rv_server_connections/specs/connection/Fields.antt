@@ -15,21 +15,21 @@ told_size [] = None
 told_size (high ∷ []) = None
 told_size (high ∷ low ∷ bytes) = Some (256 * high + low + 2)
 
--- no more than that frame is there
+-- no more than that frame has come
 abbrev pub IsBegun : List ℕ → Type 0
 IsBegun bytes = IfSome (told_size bytes) (λ size. length bytes ≤ size)
 
--- just that frame is there
+-- exactly that frame has come
 abbrev pub IsComplete : List ℕ → Type 0
 IsComplete bytes = told_size bytes ≡ Some (length bytes)
 
--- of a piece so many bytes are wanted
+-- so many bytes of a piece are wanted
 pub record IsWanted (unread piece : List ℕ) (count : ℕ) : Type 0 where
   pub within : count ≤ length piece
   pub front : IsBegun (unread ++ take count piece)
   pub stops : count < length piece → IsComplete (unread ++ take count piece)
 
--- of a piece so many bytes are taken: all, or as many as end a frame or a bad length
+-- so many bytes of a piece are taken: all, or as many as end a frame or a bad length
 pub record LeavesOne (unread piece : List ℕ) (count : ℕ) : Type 0 where
   pub wanted : IsWanted unread piece count
   pub one : IsOneAtMost (unread ++ take count piece)

@@ -1,4 +1,4 @@
--- What a connection was, from its opening on: its frames and its answers, each in order, and what has left.
+-- The past of a connection since it was opened: its frames and its answers, each in order, and what has left.
 use Rattle.std.specs.Prelude.{ℕ, ◌≡◌, ◌+◌, ◌≤◌, Bool, false, true, List, [], ◌∷◌, ◌++◌, length, take}
 use Rattle.std.specs.List.{All}
 use Rattle.rv_frame.specs.Cut.{Bad, Cut, IsFrameBody, IsUnfinished, Open, frame_bytes, row_bytes}
@@ -20,7 +20,7 @@ given_bytes (a ∷ answers) = resting a.rests_on (frame_bytes a.body) ++ given_b
 pub record History : Type 0 where
   -- all bytes that were taken of its input
   pub came : List ℕ
-  -- the bodies of the frames that were taken of these, and the answers to them
+  -- the bodies of the frames taken from these, and the answers to them
   pub frames : List (List ℕ)
   pub answers : List Given
   -- all bytes that left

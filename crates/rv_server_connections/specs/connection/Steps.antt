@@ -1,4 +1,4 @@
--- What each call makes of a connection.
+-- How each call changes a connection.
 use Rattle.std.specs.Prelude.{ℕ, ◌≡◌, ◌<◌, ◌≤◌, ◌⊎◌, false, true, List, [], ◌∷◌, ◌++◌, length, take, drop}
 use Rattle.std.specs.List.{All}
 use Rattle.rv_frame.specs.Cut.{frame_bytes}
@@ -9,7 +9,7 @@ use Rattle.rv_server_connections.specs.connection.Traffic.{Traffic, bytes_of, re
 abbrev pub fresh_traffic : Traffic
 fresh_traffic = record { unread = []; owes = false; ready = []; behind = []; ended = false }
 
--- of a piece so many bytes are taken: all, or as many as end a frame or a bad length
+-- so many bytes of a piece are taken: all, or as many as end a frame or a bad length
 pub record TakesIn (old : Traffic) (piece : List ℕ) (count : ℕ) (new : Traffic) : Type 0 where
   pub within : count ≤ length piece
   pub unread : new ≡ record old { unread = old.unread ++ take count piece }
@@ -21,13 +21,13 @@ abbrev pub HoldsBack : ℕ → List AnswerByte → Type 0
 HoldsBack written [] = Unit {0}
 HoldsBack written (b ∷ behind) = written < b.rests_on
 
--- of bytes in order those leave that stand before the first that rests on more entries than are written
+-- of bytes in order, those before the first that rests on more entries than are written leave
 pub record Frees (written : ℕ) (held front rest : List AnswerByte) : Type 0 where
   pub parts : held ≡ front ++ rest
   pub free : All (λ b. b.rests_on ≤ written) front
   pub held_back : HoldsBack written rest
 
--- so many entries are written, and what may leave then is ready
+-- so many entries are written, and what may leave by that is ready
 pub record Releases (written : ℕ) (old new : Traffic) : Type 0 where
   pub front : List AnswerByte
   pub frees : Frees written old.behind front new.behind

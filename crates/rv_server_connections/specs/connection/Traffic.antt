@@ -1,28 +1,29 @@
--- What contracts see of a connection: what came of its input, and what is there of its answers.
+-- What contracts see of a connection: its input that came, and its answers that are held.
 use Rattle.std.specs.Prelude.{ℕ, ◌≡◌, ◌+◌, ◌≤◌, ◌⊎◌, Bool, false, true, List, ◌∷◌, ◌++◌}
 use Rattle.std.specs.Prelude.{None, Option, Some, [], length, map}
 use Rattle.rv_frame.specs.Cut.{IsFrameBody, IsUnfinished, frame_bytes, length_bytes}
 use Rattle.rv_server_connections.specs.declared.connection.unread.Coming.{Coming}
 use Rattle.rv_server_connections.specs.declared.connection.unread.Coming.TheVariants.{BadLength, Frame, Part}
 
--- a byte of an answer, and how many entries that rests on: so many have to be written before it may leave
+-- a byte of an answer, and how many entries the answer rests on: so many must be written before the byte may
+-- leave
 pub record AnswerByte : Type 0 where
   pub byte : ℕ
   pub rests_on : ℕ
 
 pub record Traffic : Type 0 where
-  -- the bytes that came and were not taken as a frame
+  -- the bytes that came and weren't taken as a frame
   pub unread : List ℕ
   -- a frame was taken, and its answer isn't there yet
   pub owes : Bool
   -- the bytes of answers that may leave, in order
   pub ready : List ℕ
-  -- those after them
+  -- the bytes of answers that may not leave yet, which come after those
   pub behind : List AnswerByte
   -- the input ended
   pub ended : Bool
 
--- the bytes, of answers that rest on so many entries
+-- these bytes, as bytes of answers that rest on so many entries
 abbrev pub resting : ℕ → List ℕ → List AnswerByte
 resting entries bytes = map (λ byte. record { byte = byte; rests_on = entries }) bytes
 
@@ -53,7 +54,7 @@ pub record IsWholeFrame (bytes : List ℕ) : Type 0 where
 abbrev pub IsBad : List ℕ → Type 0
 IsBad bytes = bytes ≡ length_bytes 0
 
--- each front that lacks a byte of them is unfinished: no frame ends there, and no length is bad
+-- each proper front of them is unfinished: no frame ends there, and no length is bad
 abbrev pub IsOneAtMost : List ℕ → Type 0
 IsOneAtMost bytes = (front more : List ℕ) (byte : ℕ) → bytes ≡ front ++ byte ∷ more → IsUnfinished front
 
@@ -77,7 +78,7 @@ pub record MayOffer (t : Traffic) : Type 0 where
   pub open_input : t.ended ≡ false
   pub good_length : ¬ IsBad t.unread
 
--- nothing is left to do: all answers left, none is owed, and no more can come of the input
+-- nothing is left to do: all answers left, none is owed, and the input can bring no more frames
 pub record IsFinished (t : Traffic) : Type 0 where
   pub all_left : held_count t ≡ 0
   pub none_owed : t.owes ≡ false

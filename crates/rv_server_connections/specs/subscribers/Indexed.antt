@@ -9,11 +9,11 @@ use Rattle.rv_server_connections.specs.declared.subscribers.counted.Counted.{Cou
 use Rattle.rv_server_connections.specs.subscribers.Subscription.{WhoHears}
 use Rattle.rv_server_connections.specs.subscribers.Pairs.{ChangesPairs, SamePairs, some_under, stands_under}
 
--- who waits
+-- which connections wait, and for what
 abbrev pub who_hears : Tables → WhoHears
 who_hears t connection = get nat_cmp t.subscriptions connection
 
--- whether one waits for a request of the client; up to the moment
+-- whether a connection waits for a request of the client; whether it waits up to the moment
 abbrev pub is_of : Option Subscription → ℕ → Bool
 is_of None client = false
 is_of (Some subscription) client = nat_eq subscription.key.client client
@@ -36,12 +36,12 @@ pub record StandsAs (stands : Bool) (old : Tables) (connection : ℕ) (subscript
     pub clients : ChangesPairs old.clients new.clients subscription.key.client connection stands
     pub moments : ChangesPairs old.moments new.moments subscription.until connection stands
 
--- the same stand under the same numbers
+-- the same connections are under the same numbers
 pub record SameTables (old new : Tables) : Type 0 where
   pub clients : SamePairs old.clients new.clients
   pub moments : SamePairs old.moments new.moments
 
--- the tables are indexed, and the set has each client under whom some connection stands
+-- the tables are indexed, and the set has each client that has some connection under it
 pub record IsCounted (c : Counted) : Type 0 where
   pub indexed : IsIndexed c.tables
   pub heard : (client : ℕ) → contains nat_eq c.heard client ≡ some_under c.tables.clients client

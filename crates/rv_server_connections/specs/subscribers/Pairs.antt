@@ -21,12 +21,12 @@ abbrev pub SamePairs : Pairs → Pairs → Type 0
 SamePairs old new = (number connection : ℕ) → stands_under new number connection ≡ stands_under old number
     connection
 
--- one connection stands under one number more, or under one less
+-- one connection is under one more number, or under one fewer
 pub record ChangesPairs (old new : Pairs) (number connection : ℕ) (stands : Bool) : Type 0 where
   pub own : stands_under new number connection ≡ stands
   pub others : (n c : ℕ) → (n ≢ number) ⊎ (c ≢ connection) → stands_under new n c ≡ stands_under old n c
 
--- the lowest that stands under the number; none does
+-- the lowest connection that is under the number; none is
 pub record IsLowestUnder (p : Pairs) (number connection : ℕ) : Type 0 where
   pub there : stands_under p number connection ≡ true
   pub lowest : (c : ℕ) → stands_under p number c ≡ true → connection ≤ c
@@ -34,7 +34,7 @@ pub record IsLowestUnder (p : Pairs) (number connection : ℕ) : Type 0 where
 abbrev pub NoneUnder : Pairs → ℕ → Type 0
 NoneUnder p number = (c : ℕ) → stands_under p number c ≡ false
 
--- the lowest under the lowest number; none stands under any
+-- the lowest under the lowest number; none is under any
 pub record IsLeastPair (p : Pairs) (least : ℕ × ℕ) : Type 0 where
   pub there : stands_under p least.0 least.1 ≡ true
   pub lowest : (n c : ℕ) → stands_under p n c ≡ true → (least.0 < n) ⊎ ((least.0 ≡ n) × (least.1 ≤ c))

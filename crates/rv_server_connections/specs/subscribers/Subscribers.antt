@@ -5,10 +5,10 @@ use Rattle.rv_server_connections.specs.declared.subscribers.Subscribers.{Subscri
 use Rattle.rv_server_connections.specs.subscribers.Subscription.{WhoHears}
 use Rattle.rv_server_connections.specs.subscribers.Indexed.{who_hears}
 
--- of each connection, for what it waits
+-- what each connection waits for
 abbrev pub subscribers_of : Subscribers → WhoHears
 subscribers_of subscribers = who_hears subscribers.counted.tables
 
--- how many wait
+-- how many connections wait
 abbrev pub subscribers_count : Subscribers → ℕ
 subscribers_count subscribers = btree_map_len subscribers.counted.tables.subscriptions

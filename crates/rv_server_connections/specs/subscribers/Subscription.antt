@@ -1,4 +1,4 @@
--- Of each connection, for which request it waits and up to which moment, if it waits.
+-- For each connection, the request that it waits for and the moment up to which it waits, if it waits.
 use Rattle.std.specs.Prelude.{ℕ, ◌≡◌, ◌≢◌, ◌<◌, ◌≤◌, ◌⊎◌, ◌↔◌, List, AllPairs, Contains, length, None}
 use Rattle.std.specs.Prelude.{Option, Some}
 use Rattle.rv_server_connections.specs.declared.subscribers.tables.Subscription.{Subscription}
@@ -6,11 +6,11 @@ use Rattle.rv_server_connections.specs.declared.subscribers.tables.Subscription.
 abbrev pub WhoHears : Type 0
 WhoHears = ℕ → Option Subscription
 
--- nobody waits
+-- no connection waits
 abbrev pub nobody : WhoHears
 nobody connection = None
 
--- one connection's waiting is this now, and all others are as they were
+-- one connection waits for this now, or for nothing, and all others are as they were
 pub record SetsSubscription (old : WhoHears) (connection : ℕ) (subscription : Option Subscription)
     (new : WhoHears) : Type 0
   where
@@ -23,7 +23,7 @@ pub record SubscribesTo (who : WhoHears) (client connection : ℕ) : Type 0 wher
   pub there : who connection ≡ Some subscription
   pub same : subscription.key.client ≡ client
 
--- it is the one of the lowest number that does
+-- it is the lowest connection that does
 pub record IsFirstSubscriber (who : WhoHears) (client connection : ℕ) : Type 0 where
   pub hears : SubscribesTo who client connection
   pub first : (other : ℕ) → SubscribesTo who client other → connection ≤ other
@@ -32,17 +32,17 @@ pub record IsFirstSubscriber (who : WhoHears) (client connection : ℕ) : Type 0
 abbrev pub HasSubscriber : WhoHears → ℕ → Type 0
 HasSubscriber who client = (connection : ℕ) × SubscribesTo who client connection
 
--- these are the clients for a request of whom some connection waits, each once
+-- these are the clients with a request for which some connection waits, each once
 pub record AreHeard (who : WhoHears) (clients : List ℕ) : Type 0 where
   pub once : AllPairs (λ one other. one ≢ other) clients
   pub each : (client : ℕ) → Contains clients client ↔ HasSubscriber who client
 
--- so many clients are
+-- so many clients have one
 abbrev pub CountsHeard : WhoHears → ℕ → Type 0
 CountsHeard who count = (clients : List ℕ) × AreHeard who clients × (length clients ≡ count)
 
--- the connection waits up to this moment, and none up to an earlier one; of those up to this moment it is the
--- one of the lowest number
+-- the connection waits up to this moment, and none up to an earlier one; it is the lowest of those that wait
+-- up to this moment
 pub record IsNextUntil (who : WhoHears) (moment connection : ℕ) : Type 0 where
   pub subscription : Subscription
   pub there : who connection ≡ Some subscription
