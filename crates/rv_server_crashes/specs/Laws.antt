@@ -23,7 +23,8 @@ use Rattle.rv_server_crashes.specs.Room.{LetsGoOn}
 use Rattle.rv_server_crashes.specs.Serving.{IsHeldFor, IsHubServer, LeadsServer, MayLeave, RunsServer}
 use Rattle.rv_server_crashes.specs.Serving.{messages_in, new_hub}
 
--- the events of a hub are effects of such a server: of messages that came before, and of those of its steps
+-- the events of a hub are effects of such a server, with messages that came before and those of the hub's own
+-- steps
 abbrev pub HubsAreServers : Type 0
 HubsAreServers = (terms : DispatcherTerms) (events : List (List Effect)) (s t : DispatcherState)
     (a b : Account)
@@ -34,7 +35,7 @@ HubsAreServers = (terms : DispatcherTerms) (events : List (List Effect)) (s t : 
     → LeadsServer terms.limits (messages ++ messages_in events) server b t
     (λ n. past_after n (pasts n) s.book.length (all_effects events))
 
--- want of memory may be held back for any message that came
+-- the answer that memory was refused may be held back for any message that came
 abbrev pub LacksMemory : Type 0
 LacksMemory = (messages : List Message) (message : Message) (server : Server) (a : Account)
     (s : DispatcherState)
@@ -44,8 +45,9 @@ LacksMemory = (messages : List Message) (message : Message) (server : Server) (a
     × RunsServer came server (Lacked message ∷ []) later × IsHubServer came later a s pasts
     × IsHeldFor later message (on_nothing NoMemory)
 
--- of an answer no byte leaves before the server may send it: of an open connection's answers, each of which a
--- byte left or may leave, since those before it are fewer bytes than these
+-- no byte of an answer leaves before the server may send that answer. This holds of each answer of an open
+-- connection of which a byte left or may leave, as is so when the answers before it have fewer bytes than
+-- these
 abbrev pub SentMayLeave : Type 0
 SentMayLeave = (messages : List Message) (server : Server) (a : Account) (s : DispatcherState) (pasts : ℕ
     → Past)
@@ -62,12 +64,12 @@ pub record BeginsHub (messages : List Message) (server : Server) (a : Account) :
   pub is : IsHubServer messages server a (new_hub a) (λ n. no_past)
   pub pairs : (limits : StepLimits) (n : ℕ) → HasPairs limits a (new_hub a) n no_past
 
--- so is one of an epoch in which nothing happened yet
+-- so is a hub of an epoch in which nothing has happened yet
 abbrev pub HubsBegin : Type 0
 HubsBegin = (messages : List Message) (epoch : ℕ) → FitsIdentifier epoch
     → BeginsHub messages (server_in epoch) (empty_account epoch)
 
--- and one that goes on from what a crash leaves of what was not written, once that is stored
+-- and a hub that goes on, after a crash, from what is left of the unwritten entries, once these are stored
 abbrev pub HubsGoOn : Type 0
 HubsGoOn = (messages : List Message) (server : Server) (a : Account) (s : DispatcherState) (pasts : ℕ → Past)
     (left : ℕ) → HadRoom a → IsHubServer messages server a s pasts

@@ -12,14 +12,14 @@ use Rattle.rv_hub.specs.dispatcher.Effects.{Effect, DoesAll, entries_of_effect}
 use Rattle.rv_hub.specs.HubRuns.{AddsEntries, DoesEvents, IsHubAccount}
 use Rattle.rv_hub.specs.Turns.{made_by}
 
--- the effects of a hub keep that there was room after each entry of its account
+-- if there was room after each entry of a hub's account, so there is after those that its effects add
 abbrev pub EffectsKeepRoom : Type 0
 EffectsKeepRoom = (terms : DispatcherTerms) (effects : List Effect) (s t : DispatcherState) (a b : Account)
     → AreStepLimits terms.limits
     → DoesAll terms s effects t → t.now ≤ max_moment → IsHubAccount a s
     → AddsEntries a (flat_map entries_of_effect effects) b → HadRoom a → HadRoom b
 
--- so do its events
+-- so there is after those that its events add
 abbrev pub EventsKeepRoom : Type 0
 EventsKeepRoom = (terms : DispatcherTerms) (events : List (List Effect)) (s t : DispatcherState)
     (a b : Account)
@@ -32,6 +32,6 @@ pub record LetsGoOn (a : Account) : Type 0 where
   pub had_room : HadRoom a
   pub resumes : CanResume (state_of a)
 
--- so is each front of a legal account of which there was room after each entry
+-- so is each front of a legal account in which there was room after each entry
 abbrev pub FrontsGoOn : Type 0
 FrontsGoOn = (a : Account) (count : ℕ) → Legal a → HadRoom a → LetsGoOn (before a count)

@@ -28,14 +28,14 @@ use Rattle.rv_server_crashes.specs.crashes.Laws.{IsServer}
 abbrev pub messages_of : Effect → List Message
 messages_of effect = map (λ step. step.message) (option_to_list (step_of effect))
 
--- those of effects, and of events, in order
+-- the messages of effects, and of events, in order
 abbrev pub messages_by : List Effect → List Message
 messages_by effects = flat_map messages_of effects
 
 abbrev pub messages_in : List (List Effect) → List Message
 messages_in events = messages_by (all_effects events)
 
--- effects of a server lead from the one to the other, each of these messages
+-- effects of a server, each with one of these messages if it has one, lead from the one to the other
 abbrev pub RunsServer : List Message → Server → List ServerEffect → Server → Type 0
 RunsServer messages s [] t = t ≡ s
 RunsServer messages s (effect ∷ effects) t = IsOfMessages messages effect × (between : Server)
@@ -51,7 +51,7 @@ pub record IsHeldFor (server : Server) (message : Message) (given : Given) : Typ
   pub body_is : given.body ≡ answer_text packet.answer
   pub held : Contains server.withheld (packet, given.rests_on)
 
--- what a frame of this body was given: where that is no message's, the answer to bad text; or that for want
+-- the answer that a frame of this body got: that to bad text, if the body isn't a message's; or that for want
 -- of memory; or one that is held back for its message
 abbrev pub IsHeldAtServer : Server → List ℕ → Given → Type 0
 IsHeldAtServer server body given =
@@ -59,7 +59,7 @@ IsHeldAtServer server body given =
     ⊎ ((given ≡ on_nothing NoMemory)
     ⊎ ((message : Message) × IsMessageBody body message × IsHeldFor server message given))
 
--- so is each answer of a connection's past, at the place of its frame
+-- each answer in a connection's past is such a one for the frame at its place
 abbrev pub AreHeldAtServer : Server → List (List ℕ) → List Given → Type 0
 AreHeldAtServer server frames answers = (place : ℕ) (body : List ℕ) (given : Given)
     → slice_get frames place ≡ Some body → slice_get answers place ≡ Some given
@@ -75,14 +75,14 @@ pub record IsHubServer (messages : List Message) (server : Server) (a : Account)
   pub stored_is : length server.stored.entries ≡ s.open_wires.written
   pub answers : (n : ℕ) → AreHeldAtServer server (pasts n).frames (pasts n).answers
 
--- a step under these limits, time alone, or entries that are stored: no crash, and no want of memory
+-- a step under these limits, time alone, or entries that are stored, but no crash and no want of memory
 abbrev pub IsOfHub : StepLimits → ServerEffect → Type 0
 IsOfHub limits (Stepped own moment message) = own ≡ limits
 IsOfHub limits (Lacked message) = ⊥
 IsOfHub limits (Crashed left) = ⊥
 IsOfHub limits effect = Unit {0}
 
--- such effects, each of these messages, lead from this server to one that the hub is
+-- such effects, each with one of these messages if it has one, lead from this server to one that the hub is
 pub record LeadsServer (limits : StepLimits) (messages : List Message) (server : Server) (b : Account)
     (t : DispatcherState) (pasts : ℕ → Past) : Type 0 where
   pub effects : List ServerEffect
@@ -100,7 +100,7 @@ pub record MaySendFor (server : Server) (message : Message) (given : Given) : Ty
   pub body_is : given.body ≡ answer_text packet.answer
   pub may : MaySend server packet
 
--- what a frame of this body was given may be sent, but for bad text and for want of memory
+-- the answer that a frame of this body got may be sent; answers to bad text and for want of memory always may
 abbrev pub MayLeave : Server → List ℕ → Given → Type 0
 MayLeave server body given =
     (((message : Message) → ¬ IsMessageBody body message) × (given ≡ on_nothing BadText))

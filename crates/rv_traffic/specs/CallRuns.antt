@@ -26,7 +26,7 @@ pub record RunsBehind (journal : Bool) (terms : DispatcherTerms) (s : EngineStat
     pub runs : RunsEngine journal terms s effects t
     pub bytes_are : bytes_written effects ≡ bytes
 
--- so is the engine behind sockets, where the device took nothing
+-- so does the engine behind sockets, while the device took nothing
 pub record OnlyCalls {S : Type 0} (old new : Switchboard S) : Type 0 where
   pub terms : SameTerms old new
   pub runs : RunsBehind old.engine.hub.has_journal (hub_terms old.engine.hub) (engine_state old.engine) []
@@ -76,7 +76,7 @@ WriteRoundsAreRuns {S} contents = (journal : Bool) (terms : DispatcherTerms) (no
     (broken : ℕ) → WritesRound contents journal terms now old broken new
     → RunsBehind journal terms old.engine [] new.engine
 
--- all lines of the account are written, and the hub is told so where it knew of fewer
+-- all lines of the account are written, and the hub is told so if it knew of fewer
 abbrev pub WrittenLinesAreRuns : Type 0
 WrittenLinesAreRuns = (journal : Bool) (terms : DispatcherTerms) (s t : EngineState) (now : ℕ) (made :
     List Entry)
@@ -85,8 +85,8 @@ WrittenLinesAreRuns = (journal : Bool) (terms : DispatcherTerms) (s t : EngineSt
 
 -- ---- over one device
 
--- a run in which the device took the lines, and then these bytes, with which it failed: first ones of the
--- lines that aren't written. One that hasn't failed took each line whole, and one that had takes none
+-- a run in which the device took these lines, and then, if it failed, some first bytes of the lines that
+-- aren't written. A device that hasn't failed took each line whole, and one that had failed before takes none
 pub record RunsOver {W : Type 0} (contents : W → Option (List ℕ)) (journal : Bool) (terms : DispatcherTerms)
     (s : EngineState) (before : Sink W) (t : EngineState) (after : Sink W) : Type 0
   where
@@ -134,7 +134,7 @@ pub record RunsOnDevice {S W : Type 0} (contents : W → Option (List ℕ)) (old
     pub over : RunsOver contents old.engine.hub.has_journal (hub_terms old.engine.hub)
         (engine_state old.engine) before (engine_state new.engine) after
 
--- over the device of its account, if one is kept; else no line is written
+-- over the device of its account, if one is kept; if not, no line is written
 abbrev pub RunsWith : {S W : Type 0} → (W → Option (List ℕ)) → Switchboard S → Option (Sink W)
     → Switchboard S → Option (Sink W) → Type 0
 RunsWith contents old None new None = OnlyCalls old new

@@ -1,4 +1,4 @@
--- What is read, written and told of one connection, and of all.
+-- What is read from, written to and reported of one connection, and of all.
 use Rattle.std.specs.Prelude.{ℕ, ◌≡◌, ◌<◌, ◌≤◌, ◌⊎◌, Bool, List, [], ◌∷◌, ◌++◌, None, Option, Some}
 use Rattle.std.specs.Prelude.{◌+◌, drop, false, length, take, true}
 use Rattle.std.specs.List.{sum_by}
@@ -37,7 +37,7 @@ abbrev pub IsReadable : {S : Type 0} → Option (Socket S) → Type 0
 IsReadable None = ⊥
 IsReadable (Some link) = link.is_readable ≡ true
 
--- its socket is another value now, and that of all others as it was
+-- its socket has changed so, and all others are as they were
 pub record ChangesLink {S : Type 0} (old : List (Option (Socket S))) (number : ℕ)
     (so : Socket S → Socket S → Type 0) (new : List (Option (Socket S))) : Type 0
   where
@@ -48,14 +48,14 @@ pub record ChangesLink {S : Type 0} (old : List (Option (Socket S))) (number : �
     pub is : link_at new number ≡ Some after
     pub others : ChangesOne old number new
 
--- its readiness, and when bytes last left or none were there to leave, are as they were
+-- its readiness, and the moment when bytes last left or there were none to send, are as they were
 pub record SameFlags {S : Type 0} (link after : Socket S) : Type 0 where
   pub readable : after.is_readable ≡ link.is_readable
   pub writable : after.is_writable ≡ link.is_writable
   pub moved : after.moved ≡ link.moved
   pub sent : after.sent ≡ link.sent
 
--- it has none
+-- its socket is let go
 pub record LetsGo {S : Type 0} (old : List (Option (Socket S))) (number : ℕ)
     (new : List (Option (Socket S))) :
     Type 0
@@ -65,7 +65,8 @@ pub record LetsGo {S : Type 0} (old : List (Option (Socket S))) (number : ℕ)
 
 -- ---- memory
 
--- so many bytes are held of all connections: of answers, of frames that aren't whole, and pending
+-- so many bytes are held over all connections: bytes of answers, of frames that aren't whole, and pending
+-- ones
 pub record HoldsInAll {S : Type 0} (s : TrafficState S) (total : ℕ) : Type 0 where
   pub answers : ℕ
   pub unread : ℕ
@@ -73,7 +74,7 @@ pub record HoldsInAll {S : Type 0} (s : TrafficState S) (total : ℕ) : Type 0 w
   pub are_unread : IsTotalUnread s.engine.hub.open_wires.wires unread
   pub all : total ≡ answers + unread + sum_by pending_at s.table
 
--- more is held than this, or no more
+-- more bytes are held than this; no more are
 abbrev pub IsOverfull : {S : Type 0} → TrafficState S → ℕ → Type 0
 IsOverfull s most = (total : ℕ) × HoldsInAll s total × (most < total)
 
@@ -89,8 +90,8 @@ pub record Hands (journal : Bool) (terms : DispatcherTerms) (old : EngineState) 
     pub made : List Entry
     pub hands : HandsOn journal terms old now what made given new
 
--- a small piece came of a connection that may be offered more, of which nothing was pending, and is offered;
--- the hub takes some of it, and the others are pending
+-- a small piece came from a connection that may be offered more and had nothing pending. The piece is
+-- offered: the hub takes some of it, and the rest is pending
 pub record Offers {S : Type 0} (remaining : S → Option (List ℕ)) (journal : Bool) (terms : DispatcherTerms)
     (now number : ℕ) (old new : TrafficState S) : Type 0
   where
@@ -105,7 +106,7 @@ pub record Offers {S : Type 0} (remaining : S → Option (List ℕ)) (journal : 
         (remaining after.stream) bytes × IsPieceOf what number (link.pending.items ++ bytes)
         × (after.pending.items ≡ drop given (link.pending.items ++ bytes)) × SameFlags link after) new.table
 
--- memory is refused to lines of the account, or a connection isn't open: it is to be looked at
+-- memory for lines of the account is refused, or a connection isn't open: it is to be looked at
 pub record LooksLater (old : EngineState) (number : ℕ) (new : EngineState) : Type 0 where
   pub mid : EngineState
   pub gathers : Gathers old mid
@@ -116,12 +117,12 @@ pub record LooksLater (old : EngineState) (number : ℕ) (new : EngineState) : T
   pub left : new.left ≡ mid.left
   pub stored : new.stored ≡ mid.stored
 
--- the hub is told that a connection is gone, or that is done later
+-- the hub is told that a connection's peer is gone, or will be told later
 abbrev pub TellsGone : Bool → DispatcherTerms → EngineState → ℕ → ℕ → EngineState → Type 0
 TellsGone journal terms old now number new =
     ((given : ℕ) × Hands journal terms old now (event.Gone number) given new) ⊎ LooksLater old number new
 
--- a connection is given up: its socket is let go, and the hub is told that it is gone, or will be
+-- a connection is given up: its socket is let go, and the hub is told that its peer is gone, or will be
 pub record GivesUp {S : Type 0} (journal : Bool) (terms : DispatcherTerms) (now number : ℕ)
     (old new : TrafficState S) : Type 0
   where
@@ -130,7 +131,7 @@ pub record GivesUp {S : Type 0} (journal : Bool) (terms : DispatcherTerms) (now 
 
 -- ---- accepting
 
--- a socket that was accepted stands under a number that has room, in place of one that was there
+-- an accepted socket is under a number that has room, in place of any that was there
 pub record PutsUnder {S : Type 0} (now number : ℕ) (stream : S) (old new : TrafficState S) : Type 0 where
   pub room : number < length old.table
   pub fresh : IsFreshSlot stream now (link_at new.table number)
@@ -152,13 +153,13 @@ Attaches journal terms now number stream old false new = HasNoRoom journal terms
 
 -- ---- reading
 
--- no byte came of the socket, if there is one, and what is pending is as it was
+-- no byte came from the socket, if there is one, and what is pending is as it was
 pub record GaveNone {S : Type 0} (remaining : S → Option (List ℕ)) (link after : Socket S) : Type 0 where
   pub keeps : Keeps (remaining link.stream) (remaining after.stream)
   pub rest : KeepsOutput link after
   pub heard : after.heard ≡ link.heard
 
--- nothing came of its socket, or it has none
+-- nothing came from its socket, or it has none
 abbrev pub NoneCame : {S : Type 0} → (S → Option (List ℕ)) → ℕ → List (Option (Socket S))
     → List (Option (Socket S))
     → Type 0
@@ -172,8 +173,8 @@ pub record GaveEnd {S : Type 0} (remaining : S → Option (List ℕ)) (link afte
   pub rest : KeepsOutput link after
   pub heard : after.heard ≡ link.heard
 
--- why a connection isn't read: more is held of all than there is room for, or it may not be offered more, or
--- bytes of it are pending, which wait for their share
+-- why a connection isn't read: more is held over all than there is room for, or it may not be offered more,
+-- or it has bytes pending, which wait for their share
 abbrev pub IsNotRead : {S : Type 0} → TrafficState S → ℕ → ℕ → Type 0
 IsNotRead s room number = IsOverfull s room ⊎ ((¬ MayBeOffered s.engine.hub number)
     ⊎ (0 < length (pending_of (link_at s.table number))))
@@ -187,8 +188,8 @@ pub record ReadsNothing {S : Type 0} (remaining : S → Option (List ℕ)) (room
         ⊎ (HasRoomLeft old room × (pending_of (link_at old.table number) ≡ [])
         × NoneCame remaining number old.table new.table)
 
--- a piece came that isn't small, of a connection that may be offered more, of which nothing was pending: all
--- of it is pending now
+-- a piece that isn't small came from a connection that may be offered more and had nothing pending: all of it
+-- is pending now
 pub record LaysPieceBy {S : Type 0} (remaining : S → Option (List ℕ)) (number : ℕ)
     (old new : TrafficState S) : Type 0
   where
@@ -200,7 +201,7 @@ pub record LaysPieceBy {S : Type 0} (remaining : S → Option (List ℕ)) (numbe
     pub link : ChangesLink old.table number (λ link after. Consumes (remaining link.stream)
         (remaining after.stream) bytes × (after.pending.items ≡ bytes) × SameFlags link after) new.table
 
--- its input ended, of which nothing was pending, and the hub is told so
+-- the input of a connection with nothing pending ended, and the hub is told so
 pub record EndsInput {S : Type 0} (remaining : S → Option (List ℕ)) (journal : Bool) (terms : DispatcherTerms)
     (now number : ℕ) (old new : TrafficState S) : Type 0
   where
@@ -210,7 +211,7 @@ pub record EndsInput {S : Type 0} (remaining : S → Option (List ℕ)) (journal
     pub hands : Hands journal terms old.engine now (event.Ended number) given new.engine
     pub link : ChangesLink old.table number (GaveEnd remaining) new.table
 
--- a small piece was offered, of which the hub takes some: the others are pending
+-- a small piece was offered, of which the hub takes some: the rest is pending
 pub record KeepsUntaken {S : Type 0} (journal : Bool) (terms : DispatcherTerms) (now number : ℕ) (bytes :
     List ℕ)
     (old new : TrafficState S) : Type 0
@@ -230,7 +231,7 @@ pub record KeepsWhole {S : Type 0} (number : ℕ) (bytes : List ℕ) (old new : 
   pub link : ChangesLink old.table number (λ link after. (after.stream ≡ link.stream)
       × (after.pending.items ≡ bytes) × SameFlags link after) new.table
 
--- or memory was refused to the others, of which there are some: the connection is given up
+-- or there is such a rest, but memory for it was refused: the connection is given up
 pub record LosesRest {S : Type 0} (journal : Bool) (terms : DispatcherTerms) (now number : ℕ) (bytes : List ℕ)
     (old new : TrafficState S) : Type 0
   where
@@ -244,7 +245,7 @@ pub record LosesRest {S : Type 0} (journal : Bool) (terms : DispatcherTerms) (no
     pub others : ChangesOne old.table number between.table
     pub gives_up : GivesUp journal terms now number between new
 
--- or to a piece that isn't small, which was not offered
+-- or memory was refused for a piece that isn't small and wasn't offered
 pub record LosesWhole {S : Type 0} (journal : Bool) (terms : DispatcherTerms) (now number : ℕ) (bytes :
     List ℕ)
     (old new : TrafficState S) : Type 0
@@ -258,8 +259,8 @@ abbrev pub LosesBytes : {S : Type 0} → Bool → DispatcherTerms → ℕ → �
 LosesBytes journal terms now number bytes old new = LosesRest journal terms now number bytes old new
     ⊎ LosesWhole journal terms now number bytes old new
 
--- a piece came of its socket, of which nothing was pending, but memory was refused to it, or to what the hub
--- didn't take of it
+-- a piece came from the socket of a connection with nothing pending, but memory was refused for it, or for
+-- what the hub didn't take of it
 pub record LosesPiece {S : Type 0} (remaining : S → Option (List ℕ)) (journal : Bool) (terms :
     DispatcherTerms)
     (now number : ℕ) (old new : TrafficState S) : Type 0
@@ -272,7 +273,7 @@ pub record LosesPiece {S : Type 0} (remaining : S → Option (List ℕ)) (journa
         (λ link after. Consumes (remaining link.stream) (remaining after.stream) bytes) read
     pub loses : LosesBytes journal terms now number bytes (record old { table = read }) new
 
--- a read of its socket failed, of which nothing was pending: the connection is given up
+-- a read from the socket of a connection with nothing pending failed: the connection is given up
 pub record FailsToRead {S : Type 0} (journal : Bool) (terms : DispatcherTerms) (now number : ℕ)
     (old new : TrafficState S) : Type 0
   where
@@ -281,7 +282,7 @@ pub record FailsToRead {S : Type 0} (journal : Bool) (terms : DispatcherTerms) (
     pub readable : IsReadable (link_at old.table number)
     pub gives_up : GivesUp journal terms now number old new
 
--- what comes of one connection of which nothing is pending, and which may be offered more
+-- what comes of one connection that has nothing pending and may be offered more
 abbrev pub ReadsNew : {S : Type 0} → (S → Option (List ℕ)) → Bool → DispatcherTerms → ℕ → ℕ → TrafficState S
     → Reading → TrafficState S → Type 0
 ReadsNew remaining journal terms now number old reading.Nothing new =
@@ -296,8 +297,8 @@ ReadsNew remaining journal terms now number old reading.Broken new =
 ReadsNew remaining journal terms now number old reading.NoMemory new =
     LosesPiece remaining journal terms now number old new
 
--- what comes of one connection's turn to be read, where there is room for so many bytes in all: if something
--- came, no more were held
+-- what comes of one connection's turn to be read, if there is room for so many bytes in all: if something
+-- came, no more bytes than that were held
 abbrev pub ReadsOne : {S : Type 0} → (S → Option (List ℕ)) → ℕ → Bool → DispatcherTerms → ℕ → ℕ
     → TrafficState S
     → Reading → TrafficState S → Type 0
@@ -314,7 +315,7 @@ ReadsOne remaining room journal terms now number old reading.Broken new =
 ReadsOne remaining room journal terms now number old reading.NoMemory new =
     HasRoomLeft old room × LosesPiece remaining journal terms now number old new
 
--- what comes of a piece that was read of a connection of which nothing was pending
+-- what comes of a piece that was read from a connection with nothing pending
 abbrev pub OffersPiece : {S : Type 0} → Bool → DispatcherTerms → ℕ → ℕ → List ℕ → TrafficState S → Reading
     → TrafficState S → Type 0
 OffersPiece journal terms now number bytes old reading.Nothing new = ⊥
@@ -328,8 +329,8 @@ OffersPiece journal terms now number bytes old reading.NoMemory new =
 
 -- ---- shares
 
--- the first of what is pending of a connection that may be offered more are offered, at most a share; the hub
--- takes some of them, and the others are pending with the rest
+-- the first pending bytes of a connection that may be offered more are offered, at most a share of them; the
+-- hub takes some, and those that it doesn't take stay pending with the rest
 pub record OffersShare {S : Type 0} (journal : Bool) (terms : DispatcherTerms) (now number : ℕ)
     (old new : TrafficState S) : Type 0
   where
@@ -343,7 +344,7 @@ pub record OffersShare {S : Type 0} (journal : Bool) (terms : DispatcherTerms) (
         × (after.pending.items ≡ drop given (take SHARE link.pending.items) ++ drop SHARE link.pending.items)
         × SameFlags link after) new.table
 
--- or it may not be offered more, or nothing of it is pending
+-- or the connection may not be offered more, or has nothing pending
 pub record OffersNone {S : Type 0} (number : ℕ) (old new : TrafficState S) : Type 0 where
   pub engine : new.engine ≡ old.engine
   pub table : new.table ≡ old.table
@@ -367,8 +368,7 @@ pub record TookSome {S : Type 0} (contents : S → Option (List ℕ)) (now : ℕ
     pub moved : after.moved ≡ now
     pub sent : after.sent ≡ now
 
--- the socket took the first of the bytes that the hub offers, at least one, and the hub is told exactly how
--- many
+-- the socket took the first of the bytes that may leave, at least one, and the hub is told exactly how many
 pub record Sends {S : Type 0} (contents : S → Option (List ℕ)) (journal : Bool) (terms : DispatcherTerms)
     (now number : ℕ) (old new : TrafficState S) : Type 0
   where
@@ -381,7 +381,7 @@ pub record Sends {S : Type 0} (contents : S → Option (List ℕ)) (journal : Bo
     pub hands : Hands journal terms old.engine now (event.Took number count) given new.engine
     pub link : ChangesLink old.table number (TookSome contents now (take count wire.ready)) new.table
 
--- the socket took none of these bytes: there were none at this moment, or a write at it took none
+-- the socket took none of these bytes: there were none at this moment, or a write took none
 pub record TookNone {S : Type 0} (contents : S → Option (List ℕ)) (now : ℕ) (ready : List ℕ)
     (link after : Socket S) : Type 0
   where
@@ -390,8 +390,8 @@ pub record TookNone {S : Type 0} (contents : S → Option (List ℕ)) (now : ℕ
     pub why : ((ready ≡ []) × (after ≡ rested link now))
         ⊎ ((0 < length ready) × WritesOnce contents now link ready output.Nothing after)
 
--- nothing is written or told: the connection is closed and has no socket, or it is open, and its socket took
--- none of what may leave
+-- nothing is written or reported: the connection is closed and has no socket, or it is open, and its socket
+-- took none of what may leave
 pub record SendsNothing {S : Type 0} (contents : S → Option (List ℕ)) (now number : ℕ)
     (old new : TrafficState S) : Type 0
   where
@@ -409,7 +409,7 @@ pub record FailsToWrite {S : Type 0} (journal : Bool) (terms : DispatcherTerms) 
     pub writable : IsWritable (link_at old.table number)
     pub gives_up : GivesUp journal terms now number old new
 
--- a connection that isn't open has no socket any more
+-- a connection that isn't open loses its socket
 pub record ClosesSocket {S : Type 0} (number : ℕ) (old new : TrafficState S) : Type 0 where
   pub closed : old.engine.hub.open_wires.wires number ≡ None
   pub engine : new.engine ≡ old.engine

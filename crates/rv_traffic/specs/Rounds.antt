@@ -20,19 +20,19 @@ use Rattle.rv_traffic.specs.Views.{TrafficState}
 
 -- ---- a turn
 
--- whose turn it was, and what came of it: nothing is read or written while lines of the account find no
--- memory
+-- which connection's turn it was, and what came of it: nothing is read or written while memory for lines of
+-- the account is refused
 pub record Turn (A : Type 0) : Type 0 where
   pub number : ℕ
   pub came : Option A
 
--- where no entry is left a read or a write is made, else none
+-- if no entry is left, a read or a write is made, else none
 abbrev pub DoesWhere : {S A : Type 0} → (TrafficState S → A → TrafficState S → Type 0) → TrafficState S
     → Option A → TrafficState S → Type 0
 DoesWhere does old None new = (0 < length old.engine.left) × (new ≡ old)
 DoesWhere does old (Some came) new = (old.engine.left ≡ []) × does old came new
 
--- lines of entries that are left are gathered before, as far as memory allows
+-- before that, lines of entries that are left are gathered, as far as memory allows
 pub record DoesIfReady {S A : Type 0} (does : TrafficState S → A → TrafficState S → Type 0)
     (old : TrafficState S) (came : Option A) (new : TrafficState S) : Type 0
   where
@@ -41,19 +41,19 @@ pub record DoesIfReady {S A : Type 0} (does : TrafficState S → A → TrafficSt
     pub made : DoesWhere does (record old { engine = ready }) came new
     pub waits : new.waits ≡ old.waits
 
--- a connection is to be looked at once more, and nothing else changes
+-- a connection is to be looked at again, and nothing else changes
 pub record LooksAgain {S : Type 0} (old : TrafficState S) (number : ℕ) (new : TrafficState S) : Type 0 where
   pub looks : LooksAt old.engine (number ∷ []) new.engine
   pub same : ChangesLooks old.engine new.engine
   pub table : new.table ≡ old.table
   pub waits : new.waits ≡ old.waits
 
--- a connection of which bytes are pending that may be offered waits for a share
+-- a connection with pending bytes that may be offered waits for a share
 abbrev pub WaitsForMore : {S : Type 0} → TrafficState S → ℕ → TrafficState S → Type 0
 WaitsForMore old number new =
     (HasToWait old number × IsToWait old number new) ⊎ ((¬ HasToWait old number) × (new ≡ old))
 
--- nothing is pending of a connection and more can be read of its socket at once, or written to it
+-- a connection has nothing pending and more can be read from its socket at once, or more can be written to it
 abbrev pub CanDoMore : {S : Type 0} → TrafficState S → ℕ → Type 0
 CanDoMore s number =
     (MayBeOffered s.engine.hub number × HasInput (link_at s.table number)
@@ -61,19 +61,20 @@ CanDoMore s number =
     ⊎ (HasWire s.engine.hub.open_wires number (λ wire. 0 < length wire.ready)
     × IsWritable (link_at s.table number))
 
--- after a turn a connection is to be looked at again, unless it was written to and no more can be done
+-- after its turn a connection is to be looked at again, unless it was written to and no more can be done
 abbrev pub LooksForMore : {S : Type 0} → Option Writing → TrafficState S → ℕ → TrafficState S → Type 0
 LooksForMore None old number new = LooksAgain old number new
 LooksForMore (Some what) old number new =
     (CanDoMore old number × LooksAgain old number new) ⊎ ((¬ CanDoMore old number) × (new ≡ old))
 
--- a connection waits if more is pending, and is to be written to
+-- a connection waits for a share if more is pending, and is to be written to
 pub record ComesToRest {S : Type 0} (old : TrafficState S) (number : ℕ) (new : TrafficState S) : Type 0 where
   pub between : TrafficState S
   pub waits : WaitsForMore old number between
   pub again : LooksAgain between number new
 
--- something is made of a connection's input, which waits if more is pending, and is to be written to
+-- a connection's input has its turn; the connection waits for a share if more is pending, and is to be
+-- written to
 pub record MakesTurn {S A : Type 0} (does : ℕ → TrafficState S → A → TrafficState S → Type 0)
     (old : TrafficState S) (turn : Turn A) (new : TrafficState S) : Type 0
   where
@@ -81,7 +82,7 @@ pub record MakesTurn {S A : Type 0} (does : ℕ → TrafficState S → A → Tra
     pub made : DoesIfReady (does turn.number) old turn.came after
     pub settles : ComesToRest after turn.number new
 
--- it is read once, where there is room for so many bytes in all
+-- it is read once, if there is room for so many bytes in all
 abbrev pub ReadsTurn : {S : Type 0} → (S → Option (List ℕ)) → ℕ → Bool → DispatcherTerms → ℕ → TrafficState S
     → Turn Reading → TrafficState S → Type 0
 ReadsTurn {S} remaining room journal terms now old turn new =
@@ -106,7 +107,7 @@ pub record WritesTurn {S : Type 0} (contents : S → Option (List ℕ)) (journal
 
 -- ---- all turns
 
--- the last of the round is looked at no longer, and has its turn
+-- the last connection of the round leaves it, and has its turn
 pub record TakesNext {S A : Type 0} (takes : TrafficState S → Turn A → TrafficState S → Type 0)
     (old : TrafficState S) (turn : Turn A) (new : TrafficState S) : Type 0
   where
@@ -114,14 +115,15 @@ pub record TakesNext {S A : Type 0} (takes : TrafficState S → Turn A → Traff
     pub last : old.engine.round ≡ round ++ turn.number ∷ []
     pub taken : takes (record old { engine = record old.engine { round = round } }) turn new
 
--- turns, of which the last is taken first, each where the one before it ended
+-- turns, the last of the list first, each beginning where the one before it ended
 abbrev pub TakesTurns : {S A : Type 0} → (TrafficState S → Turn A → TrafficState S → Type 0)
     → TrafficState S → List (Turn A) → TrafficState S → Type 0
 TakesTurns takes old [] new = new ≡ old
 TakesTurns {S} takes old (turn ∷ turns) new =
     (between : TrafficState S) × TakesTurns takes old turns between × TakesNext takes between turn new
 
--- those that are to be looked at are the round, and those of an earlier one are to be looked at in the next
+-- the connections that are to be looked at are the round, and those of an earlier round are to be looked at
+-- in the next
 abbrev pub round_begun : {S : Type 0} → TrafficState S → TrafficState S
 round_begun s = record s { engine = record s.engine { looks = s.engine.round; round = s.engine.looks } }
 
@@ -137,7 +139,7 @@ pub record GoesRound {S A : Type 0} (takes : TrafficState S → Turn A → Traff
 
 -- ---- shares
 
--- the last of those whose share is due has its turn
+-- the last connection whose share is due has its turn
 pub record TakesDue {S A : Type 0} (takes : TrafficState S → Turn A → TrafficState S → Type 0)
     (old : TrafficState S) (turn : Turn A) (new : TrafficState S) : Type 0
   where
@@ -145,25 +147,25 @@ pub record TakesDue {S A : Type 0} (takes : TrafficState S → Turn A → Traffi
     pub last : old.waits.due ≡ due ++ turn.number ∷ []
     pub taken : takes (record old { waits = record old.waits { due = due } }) turn new
 
--- so have those before it, of which the last is taken first
+-- so do those before it, the last of the list first
 abbrev pub TakesShares : {S A : Type 0} → (TrafficState S → Turn A → TrafficState S → Type 0)
     → TrafficState S → List (Turn A) → TrafficState S → Type 0
 TakesShares takes old [] new = new ≡ old
 TakesShares {S} takes old (turn ∷ turns) new =
     (between : TrafficState S) × TakesShares takes old turns between × TakesDue takes between turn new
 
--- one has its share
+-- one connection gets its share
 abbrev pub SharesNext : {S : Type 0} → Bool → DispatcherTerms → ℕ → TrafficState S → TrafficState S → Type 0
 SharesNext journal terms now old new =
     (turn : Turn Bool) × TakesDue (SharesTurn journal terms now) old turn new
 
--- or none has: more is held of all than there is room for, or no share is due
+-- or none does: more is held over all than there is room for, or no share is due
 pub record SharesNone {S : Type 0} (room : ℕ) (old new : TrafficState S) : Type 0 where
   pub same : new ≡ old
   pub why : (old.waits.due ≡ []) ⊎ IsOverfull old room
 
--- so many of those that wait have a share, one each and the last first, unless more is held of all than there
--- is room for; those of the next round follow where none of this one is left
+-- so many waiting connections get a share, one each and the last first, unless more is held over all than
+-- there is room for; when none of this round is left, those of the next follow
 pub record SharesOut {S : Type 0} (room : ℕ) (journal : Bool) (terms : DispatcherTerms) (now : ℕ)
     (old new : TrafficState S) : Type 0
   where
@@ -175,7 +177,7 @@ pub record SharesOut {S : Type 0} (room : ℕ) (journal : Bool) (terms : Dispatc
     pub most : length turns ≤ SHARES
     pub whole : (length turns ≡ SHARES) ⊎ ((new.waits.due ≡ []) ⊎ IsOverfull new room)
 
--- ---- what is told of them
+-- ---- what is counted of them
 
 abbrev pub is_read_broken : Option Reading → Bool
 is_read_broken None = false
@@ -203,7 +205,7 @@ is_write_broken (Some writing.Closed) = false
 is_write_broken (Some writing.Gone) = false
 is_write_broken (Some writing.Broken) = true
 
--- how many sockets failed, and to how many memory was refused
+-- how many sockets failed, and for how many connections memory was refused
 abbrev pub read_faults : List (Turn Reading) → ReadFaults
 read_faults turns = record {
   broken = count_by (λ turn. is_read_broken turn.came) turns;

@@ -10,7 +10,7 @@ use Rattle.rv_traffic.specs.declared.waiting.WaitingLists.{WaitingLists}
 
 -- the connections that wait for a share of input, each list without repeats
 pub record WaitLists : Type 0 where
-  -- whose share of this round is due, and who waits for one of the next
+  -- those whose share of this round is due, and those that wait for one of the next round
   pub due : List ℕ
   pub next : List ℕ
   -- only connections below this number are listed
@@ -25,7 +25,7 @@ waits_of w = record {
 
 pub record TrafficState (S : Type 0) : Type 0 where
   pub engine : EngineState
-  -- the socket of each number, if there is one
+  -- the socket under each number, if there is one
   pub table : List (Option (Socket S))
   pub waits : WaitLists
 
@@ -36,7 +36,7 @@ traffic_state t = record {
   waits = waits_of t.waits;
 }
 
--- what doesn't change of the hub
+-- the parts of the hub that don't change
 pub record SameTerms {S : Type 0} (old new : Switchboard S) : Type 0 where
   pub terms : hub_terms new.engine.hub ≡ hub_terms old.engine.hub
   pub journal : new.engine.hub.has_journal ≡ old.engine.hub.has_journal

@@ -1,4 +1,4 @@
--- Who waits for a share of a server's turns.
+-- Which connections wait for a share of a server's turns.
 use Rattle.std.specs.Prelude.{ℕ, ◌≡◌, ◌<◌, List, [], ◌∷◌, length}
 use Rattle.rv_engine.specs.Handing.{AddsLooks}
 use Rattle.rv_traffic.specs.links.Table.{link_at, pending_of}
@@ -15,11 +15,11 @@ abbrev pub due_or_next : List ℕ → WaitLists → WaitLists
 due_or_next [] w = record w { due = w.next; next = [] }
 due_or_next (number ∷ rest) w = w
 
--- where no share of a round is due any more, those of the next are
+-- when no share of a round is due any more, those of the next round are
 abbrev pub shares_begun : WaitLists → WaitLists
 shares_begun w = due_or_next w.due w
 
--- bytes of a connection are pending, and may be offered
+-- a connection has pending bytes, and may be offered more
 abbrev pub HasToWait : {S : Type 0} → TrafficState S → ℕ → Type 0
 HasToWait s number =
     MayBeOffered s.engine.hub number × (0 < length (pending_of (link_at s.table number)))

@@ -19,14 +19,14 @@ use Rattle.rv_world.specs.parts.Events.{IsTold, Steps, sender}
 
 -- ---- a server
 
--- the account that no crash takes; the entries that were made after it; and each answer that was given since
--- the server began, or went on after a crash, with how many entries it rests on
+-- the account, which no crash takes away; the entries that were made after it; and each answer that was given
+-- since the server began, or went on after a crash, with how many entries it rests on
 pub record Server : Type 0 where
   pub stored : Account
   pub unstored : List Entry
   pub withheld : List (Packet × ℕ)
 
--- one that begins
+-- a server that begins
 abbrev pub server_in : ℕ → Server
 server_in epoch = record { stored = empty_account epoch; unstored = []; withheld = [] }
 
@@ -34,8 +34,9 @@ server_in epoch = record { stored = empty_account epoch; unstored = []; withheld
 abbrev pub made : Server → Account
 made s = record s.stored { entries = s.stored.entries ++ s.unstored }
 
--- a step with a message; time alone; want of memory, told for a message with no step; of its entries so many
--- are stored; and a crash, after which it goes on with so many of those that were not stored
+-- a step with a message; time alone; want of memory, answered to a message without a step; the storing of so
+-- many of its entries; and a crash, after which the server goes on with so many of the entries that weren't
+-- stored
 pub data ServerEffect : Type 0 where
   Stepped : (limits : StepLimits) (moment : ℕ) (message : Message) → ServerEffect
   Passed : (moment : ℕ) → ServerEffect
@@ -43,11 +44,11 @@ pub data ServerEffect : Type 0 where
   Stored : (count : ℕ) → ServerEffect
   Crashed : (left : ℕ) → ServerEffect
 
--- what is held back, with one answer more
+-- what is held back, with one more answer
 abbrev pub withholds : Server → Message → Answer → ℕ → List (Packet × ℕ)
 withholds s message told count = s.withheld ++ (record { client = sender message; answer = told }, count) ∷ []
 
--- what was made goes on by a step under these limits, whose answer is held back
+-- all that was made goes on by a step under these limits, whose answer is held back
 pub record TakesMessage (s : Server) (limits : StepLimits) (moment : ℕ) (message : Message) (t : Server)
     : Type 0 where
   pub said : Answer
@@ -89,15 +90,15 @@ pub record CrashWorld : Type 0 where
 abbrev pub first_crash_world : ℕ → CrashWorld
 first_crash_world epoch = record { around = first_world epoch; server = server_in epoch }
 
--- the network world, of whose server is seen what is stored, or all that it made
+-- the network world in which the server's account is what is stored; the one in which it is all that was made
 abbrev pub stored_world : CrashWorld → World
 stored_world c = record c.around { present = c.server.stored }
 
 abbrev pub made_world : CrashWorld → World
 made_world c = record c.around { present = made c.server }
 
--- the server does something; an answer is sent; a client or the link does, or a server of a greater epoch
--- begins
+-- the server does something; an answer is sent; or a client or the link does something, or a server of a
+-- greater epoch begins
 pub data Occurrence : Type 0 where
   AtServer : (effect : ServerEffect) → Occurrence
   Sends : (packet : Packet) → Occurrence
@@ -118,7 +119,7 @@ Occurs c (Sends packet) d = MaySend c.server packet
 Occurs c (Outside e) d = (shows : Seen) × Steps (stored_world c) e d.around shows × LeavesServer e c.server
     d.server
 
--- all of it does, one after the other
+-- all that occurs, one after another, leads from one world to the other
 abbrev pub RunsAcross : CrashWorld → List Occurrence → CrashWorld → Type 0
 RunsAcross c [] d = d ≡ c
 RunsAcross c (o ∷ occurrences) d = (between : CrashWorld) × Occurs c o between × RunsAcross between

@@ -1,4 +1,4 @@
--- The laws: of a server's effects, whatever messages came; and the parts of the headline, after whatever
+-- The laws: on a server's effects, whatever messages came, and the parts of the headline, after whatever
 -- occurs.
 use Rattle.std.specs.Prelude.{◌≡◌, ◌⊎◌, ◌≤◌, ℕ, List, Some, length}
 use Rattle.std.specs.List.{Contains}
@@ -30,8 +30,8 @@ use Rattle.rv_server_crashes.specs.crashes.Crashes.{made_world, server_in, store
 
 -- ---- a server's effects, whatever messages came
 
--- the answer is that of a step with one of these messages, which was its client's, from a front of the
--- account to that of so many entries
+-- the answer is that of a step with one of these messages, sent by the answer's client, from a front of the
+-- account to its front of so many entries
 pub record IsHeldStep (messages : List Message) (a : Account) (packet : Packet) (count : ℕ) : Type 0 where
   pub message : Message
   pub limits : StepLimits
@@ -45,13 +45,13 @@ pub record IsHeldStep (messages : List Message) (a : Account) (packet : Packet) 
   pub next : NextUnder limits (before a early) moment message (before a count) said
   pub is_told : IsTold said packet.answer
 
--- it is that, or want of memory
+-- it is the answer of such a step, or the one for want of memory
 abbrev pub IsHeldRightly : List Message → Account → Packet → ℕ → Type 0
 IsHeldRightly messages a packet count =
     (packet.answer ≡ Refused NoMemory) ⊎ IsHeldStep messages a packet count
 
--- what the server made is legal, its arrivals and hellos came by these messages, and so did the answers that
--- it holds back
+-- what the server made is legal; its arrivals and hellos came by these messages; and each answer that it
+-- holds back is right by them
 pub record IsServer (messages : List Message) (s : Server) : Type 0 where
   pub legal : Legal (made s)
   pub arrivals : (r : ℕ) (key : Key) (call : Call) → ArrivesAt (made s).entries key r call
@@ -62,7 +62,7 @@ pub record IsServer (messages : List Message) (s : Server) : Type 0 where
   pub answers : (packet : Packet) (count : ℕ) → Contains s.withheld (packet, count)
       → IsHeldRightly messages (made s) packet count
 
--- each server begins as such a one
+-- each server is such a one when it begins
 abbrev pub ServersBegin : Type 0
 ServersBegin = (messages : List Message) (epoch : ℕ) → IsServer messages (server_in epoch)
 
@@ -71,12 +71,13 @@ pub record KeepsServer (messages : List Message) (s t : Server) : Type 0 where
   pub server : IsServer messages t
   pub stored : Extends s.stored t.stored
 
--- no effect ends that
+-- each effect keeps that
 abbrev pub EffectsKeepServers : Type 0
 EffectsKeepServers = (messages : List Message) (s t : Server) (effect : ServerEffect) → IsServer messages s
     → IsOfMessages messages effect → ServerDoes s effect t → KeepsServer messages s t
 
--- an answer that may be sent is that of a step between fronts of what is stored, or want of memory
+-- an answer that may be sent is that of a step between fronts of what is stored, or the one for want of
+-- memory
 abbrev pub SentIsStored : Type 0
 SentIsStored = (messages : List Message) (s : Server) (packet : Packet) → IsServer messages s
     → MaySend s packet
@@ -98,7 +99,7 @@ LegalAccountsAcross = AfterAll (λ c. LegalAccounts (made_world c))
 abbrev pub ReceivedMeansAssignedAcross : Type 0
 ReceivedMeansAssignedAcross = AfterAll (λ c. ReceivedMeansAssigned (stored_world c))
 
--- what is answered a no meets nobody in all that is made, then and after whatever occurs further
+-- a request that is answered with a no meets nobody in all that is made, then or after whatever else occurs
 abbrev pub MeetsNobodyAcross : CrashWorld → Type 0
 MeetsNobodyAcross c = (key : Key) (told : Reply) (further : List Occurrence) (d : CrashWorld)
     → IsAnswered (stored_world c) key told → IsNo told → RunsAcross c further d
@@ -131,7 +132,7 @@ EveryAnswer w = (packet : Packet) → Contains w.to_client packet
 abbrev pub EveryAnswerAcross : Type 0
 EveryAnswerAcross = AfterAll (λ c. EveryAnswer (stored_world c))
 
--- refused so, a client that keeps the protocol was forgotten: refusals 3, 6, 7, 8 and 12
+-- refusals that a client which keeps the protocol gets only if it was forgotten: refusals 3, 6, 7, 8 and 12
 abbrev pub ForgetsClient : Refusal → Type 0
 ForgetsClient NoSession = Unit {0}
 ForgetsClient OtherCall = Unit {0}
@@ -149,7 +150,7 @@ NobodyForgottenAcross = AfterAll (λ c. NobodyForgotten (stored_world c))
 
 -- ---- a server that stores and sends at once
 
--- what happens in the network world occurs so, and leaves it the same
+-- whatever happens in the network world occurs here too, and leaves the same world
 abbrev pub TodayIsTheCase : Type 0
 TodayIsTheCase = (epoch : ℕ) (happenings : List Happening) (w : World)
     → RunsAnyhow (first_world epoch) happenings w → (occurrences : List Occurrence) × (c : CrashWorld)

@@ -5,7 +5,7 @@ use Rattle.rv_traffic.specs.declared.links.link.ReadOutcome.{ReadOutcome}
 use Rattle.rv_traffic.specs.declared.links.link.ReadOutcome.TheVariants as input
 use Rattle.rv_traffic.specs.declared.links.link.Socket.{Socket}
 
--- a socket that was accepted at a moment, of which nothing is pending
+-- a socket that was accepted at a moment, with nothing pending
 abbrev pub fresh_link : {S : Type 0} → S → ℕ → ℕ → Socket S
 fresh_link stream now spare = record {
   stream = stream;
@@ -43,7 +43,7 @@ heard_after now before input.End = before
 heard_after now before input.Nothing = before
 heard_after now before input.Broken = before
 
--- whether the socket may be read stays as it was; where nothing came it may have been found to block
+-- whether the socket may be read stays as it was; if nothing came, it may have been found to block
 abbrev pub StaysReadable : ReadOutcome → Bool → Bool → Type 0
 StaysReadable input.Piece before after = after ≡ before
 StaysReadable input.End before after = after ≡ before

@@ -15,11 +15,11 @@ use Rattle.rv_traffic.specs.links.Writing.{WritesOnce}
 abbrev pub link_at : {S : Type 0} → List (Option (Socket S)) → ℕ → Option (Socket S)
 link_at table number = get_or table number None
 
--- what is under all other numbers is as it was
+-- under all other numbers nothing changed
 abbrev pub ChangesOne : {S : Type 0} → List (Option (Socket S)) → ℕ → List (Option (Socket S)) → Type 0
 ChangesOne old number new = new ≡ slice_set old number (link_at new number)
 
--- what was read of a socket and not taken
+-- the bytes that were read from a socket and not taken
 abbrev pub pending_of : {S : Type 0} → Option (Socket S) → List ℕ
 pending_of None = []
 pending_of (Some link) = link.pending.items
@@ -40,7 +40,7 @@ WritesSlot contents now None ready what new = (what ≡ output.Nothing) × (new 
 WritesSlot contents now (Some link) ready what new =
     (after : _) × WritesOnce contents now link ready what after × (new ≡ Some after)
 
--- these bytes are pending of the socket now, and nothing else of it changed
+-- these are the socket's pending bytes now, and nothing else of it changed
 pub record HasPending {S : Type 0} (old : Socket S) (bytes : List ℕ) (new : Socket S) : Type 0 where
   pub stream : new.stream ≡ old.stream
   pub pending : new.pending.items ≡ bytes
@@ -54,19 +54,19 @@ abbrev pub PendsSlot : {S : Type 0} → Option (Socket S) → List ℕ → Optio
 PendsSlot None bytes new = new ≡ None
 PendsSlot (Some link) bytes new = (after : _) × HasPending link bytes after × (new ≡ Some after)
 
--- a socket of which a poll told: it may be read, or written to, if it could be or the poll says so, and all
--- else is as it was
+-- a socket that a poll reported: it may be read, or written to, if it could be before or the poll says so,
+-- and all else is as it was
 abbrev pub heeded : {S : Type 0} → Socket S → Bool → Bool → Socket S
 heeded link is_readable is_writable = record link {
   is_readable = link.is_readable || is_readable;
   is_writable = link.is_writable || is_writable;
 }
 
--- a socket for which nothing was there to leave at a moment
+-- a socket with no bytes to send at a moment
 abbrev pub rested : {S : Type 0} → Socket S → ℕ → Socket S
 rested link now = record link { moved = now }
 
--- a socket that was accepted at a moment, of which nothing is pending, and which may be read and written to
+-- a socket that was accepted at a moment, with nothing pending, and that may be read and written to
 abbrev pub IsFreshSlot : {S : Type 0} → S → ℕ → Option (Socket S) → Type 0
 IsFreshSlot stream now None = ⊥
 IsFreshSlot stream now (Some link) = link ≡ fresh_link stream now link.pending.spare
@@ -90,11 +90,11 @@ one_at (Some link) = 1
 abbrev pub pending_at : {S : Type 0} → Option (Socket S) → ℕ
 pending_at slot = length (pending_of slot)
 
--- how many bytes more than a buffer may have
+-- how many bytes more are pending than a buffer may have
 abbrev pub over_at : {S : Type 0} → Option (Socket S) → ℕ
 over_at slot = pending_at slot - (2 ^ 63 - 1)
 
--- so many sockets there are, and so many bytes are pending of all
+-- there are so many sockets, and so many bytes are pending over all of them
 pub record AreTallied {S : Type 0} (table : List (Option (Socket S))) (count pending : ℕ) : Type 0 where
   pub counts : count ≡ sum_by one_at table
   pub pends : pending ≡ sum_by pending_at table

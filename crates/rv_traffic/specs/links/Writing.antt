@@ -26,7 +26,7 @@ moved_after now before (output.Took count) = now
 moved_after now before output.Nothing = before
 moved_after now before output.Broken = before
 
--- whether the socket may be written to stays as it was; where it took nothing it may have been found to block
+-- whether the socket may be written to stays as it was; if it took nothing, it may have been found to block
 abbrev pub StaysWritable : WriteOutcome → Bool → Bool → Type 0
 StaysWritable (output.Took count) before after = after ≡ before
 StaysWritable output.Nothing before after = after ≡ true → before ≡ true

@@ -1,5 +1,5 @@
--- What one event does to the world, where the server's step is made under whatever limits and under a
--- book's, and what is seen of it; and for what it is refused.
+-- What one event does to the world, with the server's step made under any limits and under a book's; what is
+-- seen of it, and why it may be refused.
 use Rattle.std.specs.Prelude.{◌≡◌, ◌≢◌, ◌⊎◌, ◌<◌, ◌≤◌, ◌++◌, ◌∷◌, [], ℕ, Option, Some, None, Result, Ok, Err}
 use Rattle.std.specs.Prelude.{length, slice_get}
 use Rattle.std.specs.List.{Contains}
@@ -29,7 +29,7 @@ use Rattle.rv_world.specs.parts.World.{World, accounts, empty_account, process_o
 
 -- ---- what events change
 
--- of the clients' processes that of this one alone is another: this process, or none
+-- of the clients' processes only this one changes: it is this process now, or none
 pub record OnlyChangesProcess (w v : World) (client : ℕ) (process : Option Process) : Type 0 where
   pub own : process_of v client ≡ process
   pub others : (other : ℕ) → other ≢ client → process_of v other ≡ process_of w other
@@ -39,11 +39,11 @@ pub record ChangesProcess (w : World) (client : ℕ) (process : Option Process) 
   pub changes : OnlyChangesProcess w v client process
   pub rest : v ≡ record w { clients = v.clients }
 
--- the world in which one message more was sent
+-- the world in which one more message was sent
 abbrev pub with_message : World → Message → World
 with_message w said = record w { to_server = w.to_server ++ said ∷ [] }
 
--- the number of the message that is sent next, and of the answer
+-- the number of the message that is sent next; the number of the answer that is sent next
 abbrev pub next_message : World → Seen
 next_message w = sees.Sent (length w.to_server)
 
@@ -106,7 +106,8 @@ sender (message.Hello client incarnation version) = client
 sender (message.Request key call) = key.client
 sender (message.Cancel key) = key.client
 
--- what was said is told, or, where that has texts for which there was no memory, the refusal of that name
+-- the answer that is sent is what was said, or, if that has texts for which there was no memory, the refusal
+-- of that name
 abbrev pub IsTold : Answer → Answer → Type 0
 IsTold said told = (told ≡ said) ⊎ (HasText said × (told ≡ answers.Refused refusals.NoMemory))
 
@@ -136,7 +137,7 @@ pub record Takes (w : World) (client : ℕ) (answer : Answer) (next : Option Key
   pub rest : v ≡ record w { clients = v.clients; held = w.held ++ (key, reply) ∷ [] }
   pub shown : shows ≡ sees.Settled key
 
--- what becomes of the world by an outcome of the client's process
+-- what an outcome of the client's process makes of the world
 abbrev pub WorldBecomes : World → ℕ → Answer → Outcome → World → Seen → Type 0
 WorldBecomes w client answer (Welcomed next) v shows =
     ChangesProcess w client (Some (Idle next)) v × (shows ≡ sees.Welcomed)
@@ -156,7 +157,7 @@ pub record IsHeard (w : World) (process : Process) (packet : Packet) (v : World)
   pub hears : Hears process packet.answer outcome
   pub becomes : WorldBecomes w packet.client packet.answer outcome v shows
 
--- where no process of the client runs the answer is ignored
+-- if no process of the client runs, the answer is ignored
 abbrev pub ComesTo : Option Process → World → Packet → World → Seen → Type 0
 ComesTo None w packet v shows = (v ≡ w) × (shows ≡ sees.Ignored)
 ComesTo (Some process) w packet v shows = IsHeard w process packet v shows
@@ -177,8 +178,8 @@ pub record OpensEpoch (w : World) (epoch : ℕ) (v : World) (shows : Seen) : Typ
 
 -- ---- one event
 
--- the event leads from the one world to the other, where the server's step is made under these limits, and
--- this is seen of it
+-- the event leads from one world to the other, with the server's step made under these limits, and this is
+-- seen of it
 abbrev pub StepsUnder : StepLimits → World → Event → World → Seen → Type 0
 StepsUnder limits w (event.Start client incarnation version) v shows =
     Starts w client incarnation version v shows
@@ -216,7 +217,7 @@ pub record RunsBut (w : World) (client : ℕ) (Is : Process → Type 0) : Type 0
 abbrev pub RunsNone : World → ℕ → WorldRefusal → Type 0
 RunsNone w client refusal = (process_of w client ≡ None) × (refusal ≡ refuses.NoSuchClient)
 
--- for what an event is refused
+-- the refusal that is due for an event
 abbrev pub RefusalDue : World → Event → WorldRefusal → Type 0
 RefusalDue w (event.Start client incarnation version) refusal =
     WasStarted w client incarnation × (refusal ≡ refuses.IncarnationNotGreater)
@@ -241,7 +242,7 @@ pub record IsAwaited (w : World) (packet : ℕ) : Type 0 where
   pub process : Process
   pub runs : process_of w sent.client ≡ Some process
 
--- the event needs memory: for what is sent, asked or held, or for a process or a server; a crash needs none,
+-- the event needs memory: for what is sent, asked or held, or for a process or a server. A crash needs none,
 -- nor does an answer whose client has no process
 abbrev pub NeedsMemory : World → Event → Type 0
 NeedsMemory w (event.Crash client) = ⊥
@@ -254,7 +255,7 @@ pub record EventLacksMemory (w : World) (e : Event) (refusal : WorldRefusal) : T
   pub needs : NeedsMemory w e
   pub is : refusal ≡ refuses.NoMemory
 
--- the event is refused: that is due, or, only where nothing is, memory was
+-- the event is refused: this refusal is due, or, only if none is, memory was refused
 abbrev pub IsEventRefused : World → Event → WorldRefusal → Type 0
 IsEventRefused w e refusal = RefusalDue w e refusal ⊎ EventLacksMemory w e refusal
 
@@ -268,7 +269,7 @@ EventComesToUnder limits w e v (Err refusal) = IsEventRefused w e refusal × (v 
 abbrev pub ReachesServer : World → ℕ → ℕ → World → Seen → Type 0
 ReachesServer = ReachesServerUnder book_limits
 
--- the event leads from the one world to the other, and this is seen of it
+-- the event leads from one world to the other, and this is seen of it
 abbrev pub Steps : World → Event → World → Seen → Type 0
 Steps = StepsUnder book_limits
 

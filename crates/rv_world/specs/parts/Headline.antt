@@ -1,5 +1,5 @@
--- The headline: what holds of the world after every list of events, and between it and every later world;
--- and the same of whatever happens.
+-- The headline: what holds of the world after every list of events, and between it and every later world; and
+-- what holds likewise after whatever happens.
 use Rattle.std.specs.Prelude.{◌≡◌, ◌⊎◌, ◌++◌, ℕ, List, Some, length, slice_get}
 use Rattle.std.specs.List.{Contains}
 use Rattle.std.specs.List.Sorted.{IsStrictlyIncreasing}
@@ -21,7 +21,7 @@ use Rattle.rv_world.specs.declared.parts.event.Event.{Event}
 use Rattle.rv_world.specs.parts.World.{World, accounts, IsAccountOf, WasAsked, IsHeld}
 use Rattle.rv_world.specs.parts.Runs.{Happening, Runs, RunsAnyhow}
 
--- some answer packet that was ever sent is replied with this key and this reply
+-- some answer that was ever sent is this reply to the request with this key
 abbrev pub IsAnswered : World → Key → Reply → Type 0
 IsAnswered w key told =
     (client : ℕ) × Contains w.to_client (record { client = client; answer = answers.Replied key told })
@@ -32,19 +32,19 @@ ArrivesAt entries key r call = act_at entries r ≡ Some (Arrive key call)
 
 -- ---- 1: no two replies
 
--- the entries of the list have keys of their own
+-- each key is in the list at most once
 abbrev pub HasEachKeyOnce : {X : Type 0} → List (Key × X) → Type 0
 HasEachKeyOnce {X} list = (i j : ℕ) (key : Key) (one other : X) → slice_get list i ≡ Some (key, one)
     → slice_get list j ≡ Some (key, other) → i ≡ j
 
--- the reply is that of the request with this key in the account of its epoch
+-- the reply is the one to the request with this key, in the account of the key's epoch
 pub record IsReplyOf (w : World) (key : Key) (told : Reply) : Type 0 where
   pub account : Account
   pub is_of : IsAccountOf w key.epoch account
   pub has : HasReply account.entries key told
 
--- no key was asked twice, nor under two calls, and none is held twice; what is held was answered; what
--- is answered was asked, and is the reply in the account; no key is answered with two different replies
+-- no key was asked twice, nor with two calls, and none is held twice; what is held was answered; what is
+-- answered was asked, and is the reply in the account; no key is answered with two different replies
 pub record NoTwoReplies (w : World) : Type 0 where
   pub asked_once : HasEachKeyOnce w.asked
   pub held_once : HasEachKeyOnce w.held
@@ -57,7 +57,7 @@ pub record NoTwoReplies (w : World) : Type 0 where
 
 -- ---- 2: legal accounts
 
--- each epoch has one account; each account is legal, and the key and call of each arrival were asked
+-- each epoch has one account; each account is legal; and each arrival's key and call were asked
 pub record LegalAccounts (w : World) : Type 0 where
   pub one_each : (a b : Account) → Contains (accounts w) a → Contains (accounts w) b → a.epoch ≡ b.epoch
       → a ≡ b
@@ -71,7 +71,8 @@ pub record LegalAccounts (w : World) : Type 0 where
 abbrev pub IsPair : List Entry → ℕ → ℕ → Type 0
 IsPair entries g t = (queue p : ℕ) × PairAt entries queue p g t
 
--- the drain of this key, at t, is told a list in which the item stands where g stands among its partners
+-- the drain with this key, at t, gets a list in which the item is at the place that g has among the drain's
+-- partners
 pub record IsToldAmong (entries : List Entry) (key : Key) (g t : ℕ) (item : List ℕ) : Type 0 where
   pub partners : List ℕ
   pub named : partners_at entries t ≡ Some partners
@@ -81,7 +82,7 @@ pub record IsToldAmong (entries : List Entry) (key : Key) (g t : ℕ) (item : Li
   pub giver_there : slice_get partners place ≡ Some g
   pub item_there : slice_get items place ≡ Some item
 
--- the taker of this key, at t, is told the item of the giver at g: alone, or in the giver's place of a list
+-- the taker with this key, at t, gets the item of the giver at g: alone, or in the giver's place of a list
 abbrev pub IsToldItem : List Entry → Key → ℕ → ℕ → List ℕ → Type 0
 IsToldItem entries key g t item = HasReply entries key (reply.Item item) ⊎ IsToldAmong entries key g t item
 
@@ -91,13 +92,14 @@ IsReceipt reply.Received = Unit {0}
 IsReceipt (reply.ReceivedBy taker) = Unit {0}
 IsReceipt _ = ⊥
 
--- the consumer that the reply names, if it names one, is this
+-- this is the consumer that the reply names, if it names one
 abbrev pub NamesTaker : Reply → Key → Type 0
 NamesTaker (reply.ReceivedBy named) taker = named ≡ taker
 NamesTaker _ taker = Unit {0}
 
--- of the account of its epoch exactly one pair has the arrival of this key as its giver; its taker, which the
--- reply names if it names one, is told the item that was asked under the key, or a list with it in its place
+-- in the account of the key's epoch, exactly one pair has the arrival with this key as its giver. Its taker,
+-- which the reply names if it names one, gets the item that was asked with the key, or a list with that item
+-- in its place
 pub record IsAssigned (w : World) (key : Key) (told : Reply) : Type 0 where
   pub account : Account
   pub is_of : IsAccountOf w key.epoch account
@@ -117,7 +119,7 @@ pub record IsAssigned (w : World) (key : Key) (told : Reply) : Type 0 where
   pub only : (g t : ℕ) (other : Call) → IsPair account.entries g t → ArrivesAt account.entries key g other
       → (g ≡ giver) × (t ≡ taker)
 
--- exactly one pair has the arrival of this key as its taker, and the item is its giver's
+-- exactly one pair has the arrival with this key as its taker, and the item is its giver's
 pub record IsGiven (w : World) (key : Key) (item : List ℕ) : Type 0 where
   pub account : Account
   pub is_of : IsAccountOf w key.epoch account
@@ -133,7 +135,7 @@ pub record IsGiven (w : World) (key : Key) (item : List ℕ) : Type 0 where
   pub only : (g t : ℕ) (other : Call) → IsPair account.entries g t → ArrivesAt account.entries key t other
       → (g ≡ giver) × (t ≡ taker)
 
--- the giver at g stands at a place of the list and hands over the item there
+-- the giver at g is at a place of the list, and hands over the item there
 pub record HandsOverAt (entries : List Entry) (items : List (List ℕ)) (place g : ℕ) : Type 0 where
   pub key : Key
   pub call : Call
@@ -142,7 +144,7 @@ pub record HandsOverAt (entries : List Entry) (items : List (List ℕ)) (place g
   pub hands_over : item_of call ≡ Some item
   pub there : slice_get items place ≡ Some item
 
--- the givers of the pairs that have the arrival of this key as their taker, in the order of their arrival,
+-- the givers of the pairs that have the arrival with this key as their taker, in the order of their arrival,
 -- are as many as the items, and each hands over the item in its place
 pub record IsDrained (w : World) (key : Key) (items : List (List ℕ)) : Type 0 where
   pub account : Account
@@ -159,8 +161,9 @@ pub record IsDrained (w : World) (key : Key) (items : List (List ℕ)) : Type 0 
   pub only : (g t : ℕ) (other : Call) → IsPair account.entries g t → ArrivesAt account.entries key t other
       → Among givers g × (t ≡ taker)
 
--- what is answered received was assigned to one taker, which the answer names if it names one; what is
--- answered an item has one giver, and what is answered drained has one giver for each item
+-- a request that is answered received was assigned to one taker, which the answer names if it names one; a
+-- request that is answered with an item has one giver, and one that is answered drained has one giver for
+-- each item
 pub record ReceivedMeansAssigned (w : World) : Type 0 where
   pub received : (key : Key) (told : Reply) → IsAnswered w key told → IsReceipt told → IsAssigned w key told
   pub items : (key : Key) (item : List ℕ) → IsAnswered w key (reply.Item item) → IsGiven w key item
@@ -174,12 +177,12 @@ abbrev pub IsNo : Reply → Type 0
 IsNo told =
     (told ≡ reply.Cancelled) ⊎ ((told ≡ reply.TimedOut) ⊎ ((told ≡ reply.Nobody) ⊎ (told ≡ reply.Empty)))
 
--- no pair and no swap of the world has the arrival of this key
+-- no pair and no swap of the world has the arrival with this key
 abbrev pub MeetsNobody : World → Key → Type 0
 MeetsNobody w key = (a : Account) (r : ℕ) (call : Call) → Contains (accounts w) a
     → ArrivesAt a.entries key r call → ¬ Met a.entries r
 
--- what is answered a no meets nobody, in this world and after any further events
+-- a request that is answered with a no meets nobody, in this world and after any further events
 abbrev pub NeverHandedOver : World → Type 0
 NeverHandedOver w = (key : Key) (told : Reply) (events : List Event) (v : World) → IsAnswered w key told
     → IsNo told → Runs w events v → MeetsNobody v key
@@ -197,8 +200,8 @@ abbrev pub IsSwap : List Entry → ℕ → ℕ → Type 0
 IsSwap entries r s = (exchanger : ℕ) × SideAt entries (Exchanges exchanger) r
     × SideAt entries (Exchanges exchanger) s × Meet entries r s
 
--- of the account of its epoch exactly one swap has the arrival of this key; the other was asked with the
--- item, and its reply is the item that was asked under this key
+-- in the account of the key's epoch, exactly one swap has the arrival with this key. The other was asked with
+-- the item, and its reply is the item that was asked with this key
 pub record IsExchanged (w : World) (key : Key) (item : List ℕ) : Type 0 where
   pub account : Account
   pub is_of : IsAccountOf w key.epoch account
@@ -219,7 +222,7 @@ pub record IsExchanged (w : World) (key : Key) (item : List ℕ) : Type 0 where
   pub only : (r s : ℕ) (same : Call) → IsSwap account.entries r s → ArrivesAt account.entries key r same
       → (r ≡ own) × (s ≡ other)
 
--- who is answered that it swapped got the item of its one partner, which got its own
+-- a request that is answered swapped got the item of its one partner, which got its own
 abbrev pub TrueExchange : World → Type 0
 TrueExchange w = (key : Key) (item : List ℕ) → IsAnswered w key (reply.Swapped item) → IsExchanged w key item
 
@@ -230,7 +233,7 @@ pub record GoesOn {X : Type 0} (before after : List X) : Type 0 where
   pub more : List X
   pub is : after ≡ before ++ more
 
--- an account that extends this one is there
+-- the world has an account that extends this one
 pub record IsExtended (w : World) (a : Account) : Type 0 where
   pub account : Account
   pub is_there : Contains (accounts w) account
@@ -256,12 +259,12 @@ pub record Headline (w : World) : Type 0 where
 
 -- ---- whatever happens
 
--- what is answered a no meets nobody, in this world and after whatever happens further
+-- a request that is answered with a no meets nobody, in this world and after whatever else happens
 abbrev pub NeverHandedOverAnyhow : World → Type 0
 NeverHandedOverAnyhow w = (key : Key) (told : Reply) (happenings : List Happening) (v : World)
     → IsAnswered w key told → IsNo told → RunsAnyhow w happenings v → MeetsNobody v key
 
--- the parts together, where further steps may be made under whatever limits and time may pass
+-- the parts together, if further steps may be made under any limits and time may pass
 pub record HeadlineAnyhow (w : World) : Type 0 where
   pub no_two_replies : NoTwoReplies w
   pub legal_accounts : LegalAccounts w

@@ -29,13 +29,13 @@ pub record SentNoMemory (w v : World) : Type 0 where
   pub sent : v.to_client
       ≡ w.to_client ++ record { client = client; answer = answers.Refused refusals.NoMemory } ∷ []
 
--- what came of an event that led from the one world to the other is no want of memory
+-- what came of an event that led from one world to the other isn't want of memory
 pub record HadMemory (w v : World) (result : Result Seen WorldRefusal) : Type 0 where
   pub not_refused : result ≢ Err refuses.NoMemory
   pub not_sent : ¬ SentNoMemory w v
 
--- an event leaves no choice, want of memory aside: of worlds that are the same it makes worlds that are the
--- same, and the same is seen of it, or it is refused for the same
+-- an event leaves no choice, want of memory aside: from worlds that are the same it makes worlds that are the
+-- same, and the same is seen of it, or it is refused for the same reason
 abbrev pub OneStepUnder : StepLimits → Type 0
 OneStepUnder limits = (w x u v : World) (e : Event) (one other : Result Seen WorldRefusal) → AreSame w x
     → EventComesToUnder limits w e u one → EventComesToUnder limits x e v other → HadMemory w u one
@@ -65,7 +65,7 @@ abbrev pub TimeCanPass : Type 0
 TimeCanPass = (w : World) (moment : ℕ) → Legal w.present → own_moment w.present ≤ moment
     → moment ≤ max_moment → (v : World) × TimePasses w moment v
 
--- of worlds that are the same whatever happens makes worlds that are the same, want of memory aside
+-- from worlds that are the same, whatever happens makes worlds that are the same, want of memory aside
 abbrev pub OneRunAnyhow : Type 0
 OneRunAnyhow = (w x u v : World) (happenings : List Happening) → AreSame w x → RunsAnyhow w happenings u
     → RunsAnyhow x happenings v → NeverLacked u → NeverLacked v → AreSame u v
@@ -80,7 +80,7 @@ abbrev pub RunsOnlyGrowAnyhow : Type 0
 RunsOnlyGrowAnyhow = (w : World) (happenings : List Happening) (v : World) → RunsAnyhow w happenings v
     → OnlyGrows w v
 
--- events lead where they lead as what happens under a book's limits
+-- events lead to the same worlds as the same events do as what happens under a book's limits
 abbrev pub EventsHappen : Type 0
 EventsHappen = (w : World) (events : List Event) (v : World)
     → Runs w events v ↔ RunsAnyhow w (by_a_book events) v
@@ -96,7 +96,7 @@ CanStep = CanStepUnder book_limits
 abbrev pub StepsExist : Type 0
 StepsExist = StepsExistUnder book_limits
 
--- of worlds that are the same a list of events makes worlds that are the same, want of memory aside
+-- from worlds that are the same, a list of events makes worlds that are the same, want of memory aside
 abbrev pub OneRun : Type 0
 OneRun = (w x u v : World) (events : List Event) → AreSame w x → Runs w events u → Runs x events v
     → NeverLacked u → NeverLacked v → AreSame u v

@@ -1,4 +1,4 @@
--- What a process that is kept between events makes of an answer.
+-- What an answer makes of a process that is kept between events.
 use Rattle.std.specs.Prelude.{◌≡◌, ℕ, Option, Some, None, option_map}
 use Rattle.rv_text.specs.declared.message.Key.{Key}
 use Rattle.rv_text.specs.declared.message.Message.{Message}
@@ -40,7 +40,7 @@ event_saying saying.Cancel client = event.CancelSent client
 abbrev pub IsIdle : Process → Type 0
 IsIdle process = (next : Option Key) × (process ≡ Idle next)
 
--- this process then runs, or none; and this is seen
+-- this process then runs, or none; and this is held and seen
 pub record LeavesProcess (told : HeardAnswer) (then : Option Process) (held : Option (Key × Reply))
     (seen : Seen)
     : Type 0 where
@@ -48,7 +48,7 @@ pub record LeavesProcess (told : HeardAnswer) (then : Option Process) (held : Op
   pub holds : told.held ≡ held
   pub shows : told.seen ≡ seen
 
--- what is left of an outcome of the answer
+-- what an outcome of the answer leaves
 abbrev pub LeavesBy : Answer → Outcome → HeardAnswer → Type 0
 LeavesBy answer (Welcomed next) told = LeavesProcess told (Some (process.Idle next)) None sees.Welcomed
 LeavesBy answer (TurnedAway same refusal) told =

@@ -1,4 +1,4 @@
--- What holds of a world after every list of events, as far as its further steps need it.
+-- What holds of a world after every list of events, as far as further steps need it.
 use Rattle.std.specs.Prelude.{◌≡◌, ◌<◌, ◌≤◌, ℕ, Some, None, slice_get}
 use Rattle.std.specs.List.{Contains}
 use Rattle.rv_text.specs.declared.message.Key.{Key}
@@ -58,12 +58,12 @@ abbrev pub AskedBelow : World → Key → Type 0
 AskedBelow w next = (key : Key) (call : Call) → WasAsked w key call
     → IsOfStart key next.client next.incarnation → (key.epoch ≡ next.epoch) × (key.number < next.number)
 
--- the same, but for the key itself
+-- the same, except that the number may be the key's own
 abbrev pub AskedUpTo : World → Key → Type 0
 AskedUpTo w last = (key : Key) (call : Call) → WasAsked w key call
     → IsOfStart key last.client last.incarnation → (key.epoch ≡ last.epoch) × (key.number ≤ last.number)
 
--- the request was asked in its client's last start, as its last, and has no reply that is held
+-- the request was asked in its client's last start, as the last one there, and no reply to it is held
 pub record IsOwed (w : World) (client : ℕ) (asking : Asking) : Type 0 where
   pub client_is : asking.key.client ≡ client
   pub last_start : IsLastStart w client asking.key.incarnation
@@ -71,7 +71,7 @@ pub record IsOwed (w : World) (client : ℕ) (asking : Asking) : Type 0 where
   pub last : AskedUpTo w asking.key
   pub not_held : (told : Reply) → ¬ IsHeld w asking.key told
 
--- the key is that of its client's last start, and above all that were asked there
+-- the key is of its client's last start, with a number above all that were asked there
 pub record IsUnasked (w : World) (client : ℕ) (next : Key) : Type 0 where
   pub client_is : next.client ≡ client
   pub last_start : IsLastStart w client next.incarnation

@@ -1,4 +1,4 @@
--- The table of clients: of each its process, and the greatest incarnation that it was started in.
+-- The table of clients: each one's process, and the greatest incarnation in which it was started.
 use Rattle.std.specs.Prelude.{◌≡◌, ◌≢◌, ◌≤◌, ℕ, List, Option, Some, None, nat_eq, map, option_map}
 use Rattle.std.specs.Prelude.{IsSome, option_and_then}
 use Rattle.std.specs.List.{Contains}
@@ -9,7 +9,7 @@ use Rattle.rv_world.specs.parts.Events.{IsAsking, IsReady}
 use Rattle.rv_world.specs.parts.Processes.{process_in}
 use Rattle.rv_world.specs.declared.parts.clients.Client.{Client}
 
--- each client's process, and its greatest incarnation, of what the table keeps
+-- each client's process, and each one's greatest incarnation, read off what the table keeps
 abbrev pub processes_in : List (ℕ × Client) → List (ℕ × Option Process)
 processes_in clients = map (λ entry. (entry.0, option_map process_in entry.1.process)) clients
 
@@ -38,7 +38,7 @@ pub record SaysIn (table : ClientTable) (client : ℕ) (says : Asking → Messag
   pub outstanding : running_of table client ≡ Some (Outstanding asking)
   pub is : message ≡ says asking
 
--- the client stands in the table
+-- the client is in the table
 abbrev pub StandsInTable : ClientTable → ℕ → Type 0
 StandsInTable table client = IsSome (lookup (nat_eq client) table.processes)
 
@@ -46,7 +46,7 @@ StandsInTable table client = IsSome (lookup (nat_eq client) table.processes)
 abbrev pub newest_of : ClientTable → ℕ → Option ℕ
 newest_of table client = lookup (nat_eq client) table.newest
 
--- the table in which the process of a client that stands there is another
+-- the table with another process for a client that is in it
 abbrev pub with_process : ClientTable → ℕ → Option Process → ClientTable
 with_process table client process =
     record table { processes = set_value (nat_eq client) table.processes process }
