@@ -43,14 +43,14 @@ pub(crate) fn opposite(side: Side) -> Option<Side>
     }
 }
 
-// Whether a call stays where nobody is met.
+// Whether a call stays if it meets nobody.
 fn stays(call: &Call) -> bool
     ensures { result ≡ (is_some (opposite (side_of call.now)) && lasts_by (wait_of call.now)) }
 {
     opposite(call.side()).is_some() && lasts(call.wait())
 }
 
-// Whose request waits where this call stays, if one does.
+// The client whose request waits if this call stays, if the call waits at all.
 fn waiting_client(key: &Key, call: &Call) -> Option<u64>
     ensures { result ≡ option_map (λ wait. key.now.client) (wait_of call.now) }
 {

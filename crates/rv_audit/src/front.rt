@@ -22,7 +22,7 @@ pub struct Front<'a> {
     account: &'a Account,
     // The moment of the last entry, or the opening moment.
     moment: u64,
-    // Of each place whether its entry was named as a partner or names one.
+    // Whether the entry at each place was named as a partner or names one.
     taken: Vec<bool>,
     opens: Opens,
     sessions: AuditSessions,

@@ -66,7 +66,7 @@ impl OpenLines {
         }
     }
 
-    // The place is open on its side no more.
+    // The place is no longer open on its side.
     pub(crate) fn close(&mut self, side: Side, place: Place)
         ensures { Closes self.old self.new side place }
     {

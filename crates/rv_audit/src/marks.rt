@@ -12,7 +12,7 @@ use std::alloc::{AllocError, Global};
 use std::collections::BTreeSet;
 use std::ops::Bound;
 
-// Where the places begin that are marked under the number, behind another if one is handed in.
+// Where the places that are marked under the number begin, or those after another place if one is given.
 fn bound_behind(number: u64, last: Option<Place>) -> Bound<(u64, Place)>
     ensures { result ≡ bound_behind number last }
 {
@@ -63,7 +63,7 @@ impl Marks {
         self.marks.remove(&(number, place));
     }
 
-    // The lowest place that is marked under the number, behind another if one is handed in.
+    // The lowest place that is marked under the number, after another if one is given.
     fn first_behind(&self, number: u64, last: Option<Place>) -> Option<Place>
         ensures some { IfSome result (IsFirstBehind self.now number last) }
         ensures none { IfNone result (NoneBehind self.now number last) }
@@ -109,7 +109,7 @@ fn is_named(places: &[Place], at: usize, place: Place) -> bool
     places.get(at) == Some(&place) || places.contains(&place)
 }
 
-// The place is no longer marked under the number, if one is handed in.
+// The place is no longer marked under the number, if one is given.
 pub(crate) fn drop_limit(limits: &mut Marks, limit: Option<u64>, place: Place)
     ensures { LosesIf limits.old limits.new limit place }
 {
@@ -118,7 +118,7 @@ pub(crate) fn drop_limit(limits: &mut Marks, limit: Option<u64>, place: Place)
     }
 }
 
-// Marks the place under the number, if one is handed in.
+// Marks the place under the number, if one is given.
 pub(crate) fn add_limit(
     limits: &mut Marks,
     limit: Option<u64>,

@@ -85,7 +85,7 @@ impl Opens {
         add_limit(&mut self.limits, there.limit, place)
     }
 
-    // This is open at the place from now on, if it is handed in.
+    // This is open at the place from now on, if it is given.
     pub(crate) fn open_if(&mut self, place: Place, there: Option<AuditOpen>) -> Result<(), NoMemory>
         requires indexed { AreTabled self.old }
         requires free { opening_at self.old place ≡ None }

@@ -53,7 +53,7 @@ impl AuditSessions {
     }
 }
 
-// The client's session is this one, if one is handed in.
+// The client's session is this one, if one is given.
 pub(crate) fn enter_session(
     sessions: &mut AuditSessions,
     entry: Option<(u64, AuditSession)>,

@@ -39,7 +39,7 @@ pub enum EngineFault {
     NotWritten(WriteFault),
 }
 
-// The same event, as the hub is told. None says that entries are written.
+// The same event, as it is handed to the hub. None says that entries are written.
 pub(crate) fn hub_event<'a>(event: LinkEvent<'a>) -> HubEvent<'a>
     ensures same { result ≡ told_hub event.entry }
     ensures tells { (stored : ℕ) → TellsStored result stored }

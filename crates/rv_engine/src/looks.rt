@@ -12,7 +12,7 @@ use std::alloc::{AllocError, Global};
 #[derive(Drop)]
 pub struct LookList {
     pub(crate) numbers: Vec<ConnectionNumber>,
-    // Of each number whether it is listed.
+    // Whether each number is listed.
     pub(crate) flags: Vec<bool>,
 }
 

@@ -14,9 +14,9 @@ pub struct EngineParts {
     pub(crate) has_account: bool,
     // The lines that are gathered and not written.
     pub(crate) lines: String,
-    // Of how many entries of the last event the lines are gathered.
+    // How many entries of the last event have their lines gathered.
     pub(crate) gathered: usize,
-    // Of how many entries the device took the lines, or those that there were at first.
+    // How many entries' lines the device took; those that there were at first count too.
     pub(crate) stored: usize,
     // How many requests of each call its entries record.
     pub(crate) calls: CallCounts,

@@ -31,7 +31,7 @@ const MOST_CLIENTS: usize = 100_000;
 // The most open places.
 const MOST_OPEN_PLACES: usize = 100_000;
 
-// Whether there is space for so many entries more.
+// Whether there is space for so many more entries.
 fn has_space(machine: &Machine, need: usize) -> bool
     requires resumes { CanResume (state_in machine.now) }
     requires small { need ≤ 2 }
@@ -134,7 +134,7 @@ fn cancel_fits(machine: &Machine, key: &Key) -> bool
     has_place(machine, key.client)
 }
 
-// Whether an arrival that meets nobody does.
+// Whether the state after an arrival that meets nobody has room.
 fn alone_fits(machine: &Machine, key: &Key, call: &Call) -> bool
     requires resumes { CanResume (state_in machine.now) }
     requires alone { met_by (state_in machine.now) call.now ≡ [] }

@@ -51,7 +51,7 @@ fn first_broken(machine: &Machine, entry: &Entry) -> Option<Rule>
     None
 }
 
-// The first rule behind P1 that the entry breaks, where each place that it names is open.
+// The first rule after P1 that the entry breaks, if each place that it names is open.
 fn first_misnamed(machine: &Machine, entry: &Entry) -> Option<Rule>
     requires resumes { CanResume (state_in machine.now) }
     requires fits { FitsEntry entry.now }

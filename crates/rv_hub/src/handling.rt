@@ -19,7 +19,7 @@ use crate::events::{EventRefusal, HubEvent};
 use crate::progress::turn_all;
 use rv_server_connections::subscribers::ConnectionNumber;
 
-// The connection that goes on behind time, before those that were freed.
+// The connection that goes on after time, before those that were freed.
 fn first_of(event: &HubEvent<'_>) -> Option<ConnectionNumber>
     ensures { result ≡ goes_on_first event.now }
 {
@@ -34,7 +34,7 @@ fn first_of(event: &HubEvent<'_>) -> Option<ConnectionNumber>
     }
 }
 
-// The piece that an event offers, behind the connection of which it came.
+// The piece that an event offers, after the connection that it came from.
 fn piece_of<'a>(event: &HubEvent<'a>) -> (ConnectionNumber, &'a [u8])
     ensures { offer_from result.0 result.1.now ≡ offer_in event.now }
 {

@@ -95,7 +95,7 @@ impl Fates {
         Ok(())
     }
 
-    // Notes the replies of those whom the act settled.
+    // Notes the replies to the requests that the act settled.
     fn tell_each(&mut self, alloc: Global, machine: &Machine, act: &Act) -> Result<(), NoMemory>
         ensures { OnOk result (EndsEach self.old self.new machine.now.settled.items
             (told_now (state_in machine.now) act.now)) }

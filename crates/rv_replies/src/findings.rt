@@ -116,14 +116,14 @@ fn is_counted(reply: &Reply, items: u64, consumers: u64) -> bool
     }
 }
 
-// Whether that was told a request with this call and this reply.
+// Whether a request with this call and this reply is the one of that record.
 fn is_told(told: &Told, call: &Call, reply: &Reply) -> bool
     ensures { IsTrue result ↔ (call.now ≡ told.now.call) × (reply.now ≡ told.now.reply) }
 {
     call.is_same(&told.call) && is_same_reply(reply, &told.reply)
 }
 
-// Whether a request of which this became was told that, with that call.
+// Whether a request of which this became got that reply, with that call.
 fn tells_same(told: &Told, fate: &Fate) -> bool
     ensures { IsTrue result ↔ TellsSame told.now fate.now }
 {
@@ -158,7 +158,7 @@ fn by_call(told: &Told, call: &Call, same: Finding) -> Finding
     }
 }
 
-// What is said by what became of the request, if it wasn't told that.
+// The finding by what became of the request, if it didn't get that reply.
 fn instead(told: &Told, fate: &Fate) -> Finding
     ensures { SaidInstead told.now fate.now result }
 {

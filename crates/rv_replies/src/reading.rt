@@ -39,7 +39,7 @@ pub enum Flaw {
 
 /// Why a line wasn't read.
 pub(crate) enum NotRead {
-    /// It is no record.
+    /// It isn't a record.
     Flawed(Flaw),
     /// Memory was refused, for a line that may be one.
     NoMemory,

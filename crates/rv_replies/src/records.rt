@@ -180,7 +180,7 @@ impl Records {
         }
     }
 
-    // The same of a reply that the line tells.
+    // The same for a line that records a reply.
     fn told_beside(&self, told: &Told, index: usize) -> Option<(Beside, usize)>
         ensures { (a : Account) → slice_get self.now.lines.items index ≡ Some (kinds.Told told.now)
             → HasNoted self.now a → StandsBeside self.now.lines.items index told.now result }
@@ -202,7 +202,7 @@ impl Records {
         }
     }
 
-    // The reply that the line with an index tells, if it tells one.
+    // The reply that the line with an index records, if it records one.
     fn told_at(&self, index: usize) -> Option<&Told>
         ensures some { IfSome result
             (λ told. slice_get self.now.lines.items index ≡ Some (kinds.Told told.now)) }
@@ -240,7 +240,7 @@ impl Records {
     }
 }
 
-// How the line with an index, which tells this, stands to the first one, which tells that.
+// How the line with an index, which records this reply, compares with the first one, which records that.
 fn compared(told: &Told, index: usize, own: &Told, first: usize) -> Option<(Beside, usize)>
     ensures { own.now.key ≡ told.now.key → IsBeside told.now index own.now first result }
 {

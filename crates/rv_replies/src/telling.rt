@@ -11,7 +11,7 @@ use rv_session::LastRequest;
 use rv_text::{Key, NoMemory, Reply};
 use std::alloc::Global;
 
-// What a last request is told again.
+// The reply that a last request gets again.
 fn told_again(alloc: Global, request: &LastRequest) -> Result<Option<Reply>, NoMemory>
     ensures { IfOk result (λ told. told ≡ told_again request.now) }
 {

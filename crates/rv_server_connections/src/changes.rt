@@ -11,7 +11,7 @@ use std::alloc::Global;
 #[derive(Drop)]
 pub(crate) struct ChangeList {
     pub(crate) numbers: Vec<ConnectionNumber>,
-    // Of each number whether it is listed.
+    // Whether each number is listed.
     pub(crate) flags: Vec<bool>,
 }
 

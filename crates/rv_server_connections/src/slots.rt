@@ -306,7 +306,7 @@ impl Slots {
         }
     }
 
-    // Lets what may leave of a connection leave, and tells whether something may.
+    // Makes ready what may leave of a connection, and gives whether any of it may.
     fn release_one(&mut self, written: u64, connection: ConnectionNumber) -> bool
         requires indexed { HasIndex self.old }
         requires there { IsSome (get self.old.slots connection) }

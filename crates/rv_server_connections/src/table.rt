@@ -1,4 +1,4 @@
-//! A table of connections under numbers: a number is given anew once nothing is under it.
+//! A table of connections under numbers: a number is given again once nothing is under it.
 use crate::connection::{NoMemory, Wire};
 use crate::subscribers::ConnectionNumber;
 use std::alloc::Global;

@@ -29,7 +29,7 @@ fn tell_gone(engine: &mut Engine, now: u64, number: ConnectionNumber)
     engine.hand(now, LinkEvent::Gone(number));
 }
 
-// Lets a connection's socket go, and tells the hub that it is gone.
+// Lets go of a connection's socket, and tells the hub that its peer is gone.
 pub(crate) fn give_up<S: Drop>(traffic: &mut Switchboard<S>, now: u64, number: ConnectionNumber)
     ensures gives_up { GivesUp traffic.old.engine.hub.has_journal (hub_terms traffic.old.engine.hub) now
         number

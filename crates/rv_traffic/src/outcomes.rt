@@ -26,7 +26,7 @@ pub enum Writing {
     Sent,
     /// It isn't open: its socket is let go.
     Closed,
-    /// It has no socket: the hub was told that it is gone.
+    /// It has no socket: the hub was told that its peer is gone.
     Gone,
     /// Its socket failed: it is given up.
     Broken,

@@ -29,7 +29,7 @@ StandsBehind lines (Some v) (Some n) r = IsBadAt lines n × HasReadNoting (take 
 abbrev pub HasReadLines : List (List ℕ) → Stage → Records → Type 0
 HasReadLines lines s r = StandsBehind lines s.verifier s.bad r
 
--- a line more can be read
+-- one more line can be read
 abbrev pub CanTakeLine : Stage → Type 0
 CanTakeLine s = IfSome s.verifier CanReadOn
 

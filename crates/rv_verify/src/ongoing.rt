@@ -78,7 +78,7 @@ impl OngoingAudit {
         self.read_until(alloc, reader, records, Until::Fault)
     }
 
-    // The same, or on behind faults.
+    // The same, or goes on reading after faults.
     pub(crate) fn read_until<B: BufRead>(
         &mut self,
         alloc: Global,
@@ -148,7 +148,7 @@ impl OngoingAudit {
         self.finish(alloc, records)
     }
 
-    // What is told of an account that ends here: of its last bytes too, unless they are torn.
+    // The finding on an account that ends here: its last bytes count too, unless they are torn.
     fn finish(
         &mut self,
         alloc: Global,
@@ -187,7 +187,7 @@ impl OngoingAudit {
     }
 }
 
-// What is told of the lines that were read, with this of the end.
+// The finding on the lines that were read, with an end that is torn or not.
 fn finding_on(stage: &mut Stage, torn: bool) -> AccountFinding
     ensures torn { result.torn ≡ torn }
     ensures verdict { (read : List (List ℕ)) (r : records.Records) → HasReadLines read stage.old r

@@ -132,7 +132,7 @@ impl Stage {
     }
 }
 
-// Reads one line more by a verifier, and tells its number if it is bad.
+// Reads one more line by a verifier, and gives its number if it is bad.
 fn bad_behind(
     alloc: Global,
     verifier: &mut Verifier,

@@ -152,7 +152,7 @@ impl Verifier {
     }
 }
 
-// Follows the entry that a line says, and hands it to the records, or tells why it doesn't go on.
+// Follows the entry that a line says, and hands it to the records, or says why it doesn't go on.
 fn stop_at(
     alloc: Global,
     machine: &mut Machine,
@@ -179,8 +179,8 @@ fn stop_at(
     }
 }
 
-// Hands the entry that a line says to the records, by the machine that has followed it. Where they ask about
-// nothing, it is not read once more.
+// Hands the entry that a line says to the records, by the machine that has followed it. If they ask about
+// nothing, it isn't read again.
 fn hand_on(
     alloc: Global,
     machine: &Machine,
@@ -200,7 +200,7 @@ fn hand_on(
     Ok(())
 }
 
-// The entry that a line says, once more.
+// The entry that a line says, read again.
 fn entry_again(alloc: Global, line: &[u8]) -> Result<Entry, VerifyFault>
     requires says { (e : entries.Entry) × ReadsLongEntry line.now e }
     ensures same { IfOk result (λ again. (e : entries.Entry) → ReadsLongEntry line.now e → again ≡ e) }

@@ -12,7 +12,7 @@ use rv_account::{Place, may_name};
 use rv_machine::Machine;
 use rv_text::Call;
 
-// The place of the first that the call might meet behind a place, or of the first of all.
+// The place of the first that the call might meet, after the given place if there is one.
 fn next_facing(machine: &Machine, call: &Call, after: Option<Place>) -> Option<Place>
     requires resumes { CanResume (state_in machine.now) }
     requires fits { FitsCall call.now }

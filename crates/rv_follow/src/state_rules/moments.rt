@@ -25,7 +25,7 @@ pub(crate) fn keeps_time(machine: &Machine, entry: &Entry) -> bool
     machine.moment() <= entry.moment
 }
 
-/// Whether the entry, if it is no tick, passes no limit of what waits.
+/// Whether the entry, if it isn't a tick, passes no limit of what waits.
 pub(crate) fn keeps_limits(machine: &Machine, entry: &Entry) -> bool
     ensures { IsTrue result ↔ KeepsRule M2 (state_in machine.now) entry.now }
 {

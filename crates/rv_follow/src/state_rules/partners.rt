@@ -160,7 +160,7 @@ pub(crate) fn names_well(machine: &Machine, entry: &Entry) -> bool
     partners.is_empty() || meets(entry)
 }
 
-// ---- whom it names
+// ---- which places it names
 
 // Whether something is open at a place.
 fn is_open(machine: &Machine, place: Place) -> bool

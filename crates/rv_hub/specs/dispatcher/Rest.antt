@@ -32,7 +32,7 @@ abbrev pub HasComeToStop : DispatcherState → ℕ → Type 0
 HasComeToStop s connection = (wire : Traffic) → s.open_wires.wires connection ≡ Some wire
     → (¬ IsDue wire) × (¬ IsFinished wire)
 
--- it takes no more bytes of its input: a whole frame is unread, or a bad length, or it is closed
+-- it takes no more bytes of its input: the unread bytes are a whole frame or a bad length, or it is closed
 abbrev pub TakesNoMore : DispatcherState → ℕ → Type 0
 TakesNoMore s connection = (wire : Traffic) → s.open_wires.wires connection ≡ Some wire
     → IsWholeFrame wire.unread ⊎ IsBad wire.unread

@@ -203,7 +203,7 @@ impl Dispatcher {
         }
     }
 
-    // Makes the step of the frame that is due, answers it, and tells all whom it settled.
+    // Makes the step of the frame that is due, answers it, and tells all that it settled.
     fn hear(&mut self, connection: ConnectionNumber, message: Message)
         requires steady { IsSteady self.old }
         requires asked { (body : List ℕ) × IsFrameDue self.old connection body × IsMessageBody body message }
@@ -242,7 +242,7 @@ impl Dispatcher {
         Some(decode_message(self.alloc, body))
     }
 
-    // Answers the frame that is due, by what it was read as, and tells all whom that settles.
+    // Answers the frame that is due, by what it was read as, and tells all that this settles.
     fn take_up(&mut self, connection: ConnectionNumber, read: Result<Message, TextFault>)
         requires steady { IsSteady self.old }
         requires message { IsMessageAt self.old connection read }
@@ -255,7 +255,7 @@ impl Dispatcher {
         }
     }
 
-    // Answers the frame that is due on a connection, and tells all whom that settles, if one is due.
+    // Answers the frame that is due on a connection, if one is, and tells all that this settles.
     pub(crate) fn ask(&mut self, connection: ConnectionNumber) -> bool
         requires { IsSteady self.old }
         ensures steady { IsSteady self.new }

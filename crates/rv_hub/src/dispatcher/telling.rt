@@ -62,7 +62,7 @@ fn told_text(alloc: Global, machine: &Machine, key: Key) -> Result<String, NoMem
 
 impl Dispatcher {
     // Gives a connection what a repeat of a request is told, which rests on all entries so far, and puts it
-    // behind those that are free to go on.
+    // after those that are free to go on.
     fn give_told(&mut self, connection: ConnectionNumber, key: Key) -> Result<(), NoMemory>
         requires { MayGive self.old connection key }
         ensures given { OnOk result (GivesTold self.old connection key self.new) }
@@ -76,7 +76,7 @@ impl Dispatcher {
         Ok(())
     }
 
-    // Tells the connection that waits what its request is told now. If memory is refused it is closed.
+    // Tells the connection that waits what its request is told now. If memory is refused, it is closed.
     fn tell(&mut self, connection: ConnectionNumber)
         requires sound { IsDispatcherSound self.old }
         requires waits { IsSome (subscribers_of self.old.subscribers connection) }
@@ -101,7 +101,7 @@ impl Dispatcher {
         }
     }
 
-    // Tells all whom the last step or time settled, in the order of their requests.
+    // Tells all that the last step or time settled, in the order of their requests.
     pub(crate) fn tell_settled(&mut self)
         requires { IsDispatcherSound self.old }
         ensures sound { IsDispatcherSound self.new }

@@ -8,18 +8,18 @@ use rv_audit::Rule;
 // The status of an account in which a rule is broken, or that has a bad line.
 const BROKEN: u8 = 1;
 
-// That of one with a torn end, and that of one whose state has no room behind some place.
+// The status for a torn end, and the one for an account whose state has no room after some place.
 const TORN: u8 = 3;
 
 const BEYOND: u8 = 4;
 
-// That of an entry that breaks P1, P2 or S1, where the entries before it can't be read once more.
+// The status for an entry that breaks P1, P2 or S1, if the entries before it can't be read again.
 const UNTOLD: u8 = 5;
 
-// That of a record of which a legal account doesn't keep each line, or of which two lines differ.
+// The status for a record with a line that a legal account doesn't keep, or with two lines that differ.
 const UNKEPT: u8 = 6;
 
-// This, or what tells that the end is torn.
+// The status for a torn end, or else this one.
 fn torn_or(torn: bool, own: u8) -> u8
     ensures { result ≡ torn_or torn own }
 {

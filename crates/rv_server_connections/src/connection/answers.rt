@@ -29,7 +29,7 @@ pub(crate) struct Outgoing {
     pub(crate) bytes: BytesMut,
     // How many of them may leave.
     pub(crate) ready: usize,
-    // The answers behind these.
+    // The answers whose bytes come after these.
     pub(crate) marks: VecDeque<Mark>,
 }
 
@@ -46,7 +46,7 @@ impl Outgoing {
         }
     }
 
-    // Whether an answer that rests on so many entries, of which so many are written, has to stand behind the
+    // Whether an answer that rests on so many entries, of which so many are written, has to wait after the
     // bytes that may leave.
     fn must_wait(&self, written: u64, entries: u64) -> bool
         ensures yes { OnTrue result ((written < entries) ⊎ (0 < length self.now.marks.items)) }
@@ -68,7 +68,7 @@ impl Outgoing {
         self.bytes.reserve(count)
     }
 
-    // Writes a body's frame behind all bytes, for which there is room.
+    // Writes a body's frame after all bytes; there is room for it.
     fn write(&mut self, body: &[u8])
         requires fits { IsFrameBody body.now }
         requires room { length body.now + 2 ≤ self.old.bytes.spare }

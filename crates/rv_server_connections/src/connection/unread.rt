@@ -36,7 +36,7 @@ fn size_in(bytes: &[u8]) -> Option<usize>
     }
 }
 
-// The size of the frame that the unread bytes and a piece behind them begin, if they have its length.
+// The size of the frame that the unread bytes and a piece after them begin, if they have its length.
 fn size_over(unread: &[u8], piece: &[u8]) -> Option<usize>
     ensures { result ≡ told_size (unread.now ++ piece.now) }
 {

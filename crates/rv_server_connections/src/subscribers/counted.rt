@@ -76,7 +76,7 @@ impl Counted {
         self.heard.contains(&client)
     }
 
-    // How many clients there are for a request of whom some connection waits.
+    // How many clients have a request for which some connection waits.
     pub(crate) fn heard(&self) -> usize
         requires { IsCounted self.now }
         ensures { CountsHeard (who_hears self.now.tables) result }

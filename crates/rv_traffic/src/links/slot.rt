@@ -41,7 +41,7 @@ pub(crate) fn write_slot<S: Write>(
     }
 }
 
-// Adds what is pending behind what was. If memory is refused nothing changes.
+// Adds bytes after the pending ones. If memory is refused, nothing changes.
 pub(crate) fn keep_slot<S>(slot: &mut Option<Socket<S>>, rest: &[u8]) -> Result<(), AllocError>
     ensures kept { OnOk result (PendsSlot slot.old (pending_of slot.old ++ rest.now) slot.new) }
     ensures refused { OnErr result (PendsSlot slot.old (pending_of slot.old) slot.new) }

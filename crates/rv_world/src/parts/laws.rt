@@ -18,8 +18,8 @@ pub fn steps_exist()
     ensures { StepsExist }
 {}
 
-/// A list of events has one outcome too: from one world it leads to at most one in which no answer tells want
-/// of memory.
+/// A list of events has one outcome too: from one world it leads to at most one in which no answer is the
+/// refusal for want of memory.
 pub fn one_run()
     ensures { OneRun }
 {}
@@ -54,8 +54,8 @@ pub fn time_can_pass()
     ensures { TimeCanPass }
 {}
 
-/// Whatever happens has one outcome: from one world it leads to at most one in which no answer tells want of
-/// memory.
+/// Whatever happens has one outcome: from one world it leads to at most one in which no answer is the refusal
+/// for want of memory.
 pub fn one_run_anyhow()
     ensures { OneRunAnyhow }
 {}
