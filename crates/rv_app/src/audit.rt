@@ -61,7 +61,7 @@ pub fn audit_run<R: Read, W: Write>(
     }
 }
 
-// What an audit of the input's lines says, and the line with its LF that tells it.
+// What an audit of the input's lines finds, and the line that says so, with its LF.
 fn tell_input(alloc: Global, input: &[u8]) -> Result<(AuditSaid, String), RunFault>
     ensures ok { IfOk result (HasLine input.now) }
     ensures fault { IfErr result (λ fault. fault ≡ RunFault.NoMemory) }

@@ -60,7 +60,7 @@ fn look(rt: &HostRuntime, status: &str) -> Result<StatusTold, ProgramFault>
     Ok(ask_status(rt.alloc(), status, &mut from, &mut to)?)
 }
 
-// The microseconds since 1970; 0 if the clock doesn't tell.
+// The microseconds since 1970; 0 if the clock can't be read.
 fn micros(rt: &HostRuntime) -> u64 {
     match rt.since_1970() {
         Ok(since) => u64::try_from(since.as_micros()).unwrap_or(0),
@@ -100,7 +100,7 @@ impl<'a> EndingRun<'a> {
         }
     }
 
-    // Ends those of a look that are due, and gives whether there were any.
+    // Ends the requests of a look that are due, and returns whether there were any.
     fn end_due(&mut self, told: StatusTold, older: u64) -> Result<bool, ProgramFault>
         requires { All IsKeyed told.unheard.items }
     {

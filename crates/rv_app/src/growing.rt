@@ -17,7 +17,7 @@ use std::{thread, time};
 // The milliseconds that pass before a file is asked again.
 const PAUSE_MILLIS: u64 = 200;
 
-// How many seconds pass at least before it is told again how far it is.
+// How many seconds pass at least before it says again how far it is.
 const TELL_SECONDS: u64 = 60;
 
 /// Reads an account as its file grows, until a rule is broken, a line is bad, or its state has no room. It
@@ -49,7 +49,7 @@ pub(crate) fn follow<T: Wait + time::Clock, F: Read + Drop>(
     unreachable!()
 }
 
-// Whether it is told how far it is: nothing was told yet, or other than so many entries, so many seconds ago.
+// Whether to say how far it is: nothing was said yet, or another number of entries was, so many seconds ago.
 fn is_due(told: Option<u64>, entries: u64, seconds: u64) -> bool
     ensures { IsTrue result ↔ IsProgressDue told entries seconds }
 {
@@ -59,7 +59,7 @@ fn is_due(told: Option<u64>, entries: u64, seconds: u64) -> bool
     }
 }
 
-// How many entries were told last, if any were, and when.
+// How many entries were reported last, if any were, and when.
 #[derive(Drop)]
 struct HowFar {
     told: Option<u64>,
@@ -84,7 +84,7 @@ impl HowFar {
         self.at = Instant::now(rt).ok();
     }
 
-    // How many seconds ago they were told, or 0 if the clock doesn't tell.
+    // How many seconds ago they were reported, or 0 if the clock can't be read.
     fn seconds(&self, rt: &HostRuntime) -> u64 {
         match self.at {
             None => 0,

@@ -50,7 +50,7 @@ use std::{env, io, time};
 use thiserror::Error;
 use verify::run_verify;
 
-// If standard error takes nothing, the status alone tells the fault.
+// If standard error takes nothing, only the status shows the fault.
 fn main(rt: HostRuntime) -> ExitCode {
     match run_program(&rt, &rt) {
         Ok(code) => code,
@@ -144,7 +144,7 @@ fn tell_version(rt: &HostRuntime) -> Result<ExitCode, ProgramFault> {
     Ok(ExitCode::SUCCESS)
 }
 
-// Prints help, if the words ask for it, and gives the status.
+// Prints help, if the words ask for it, and returns the status.
 fn run_help(rt: &HostRuntime, words: &[&str]) -> Result<Option<ExitCode>, CommandFault> {
     match read_help(rt.alloc(), words)? {
         Some(help) => Ok(Some(tell_help(rt, &help))),
@@ -212,7 +212,7 @@ fn run_serve<T: Threads + Wait + AllocGlobal + time::Clock + Sync>(
     }
 }
 
-// The status tells whether the account is legal.
+// The status says whether the account is legal.
 fn run_audit(rt: &HostRuntime) -> Result<ExitCode, ProgramFault> {
     let mut source = Source::new(rt.stdin());
     let mut sink = Sink::new(rt.stdout());

@@ -32,7 +32,7 @@ use std::process::ExitCode;
 use std::sync::Wait;
 use std::time;
 
-// The status that tells that a file can't be opened.
+// The status if a file can't be opened.
 const UNREAD: u8 = 1;
 
 /// `rv verify`: verifies the account in a file or on standard input, and prints what it finds, and what the
@@ -102,7 +102,7 @@ struct About<A> {
     again: Option<A>,
 }
 
-// Tells what is found of the bytes of an input, and of the record if one is named, and gives the status.
+// Prints what is found of the bytes of an input, and of the record if one is named, and returns the status.
 fn verify_bytes<T: Wait + time::Clock, F: Read + Drop, A: Again + Drop, W: Write>(
     rt: &HostRuntime,
     waits: &T,

@@ -20,7 +20,7 @@ pub(crate) struct Watch<'a> {
     size: u64,
     bytes: u64,
     lines: u64,
-    // When the reading began, if it is told how far it is.
+    // When the reading began, if it shows how far it is.
     start: Option<Instant>,
     // The second at which the next line is due.
     due: u64,
@@ -44,7 +44,7 @@ impl<'a> Watch<'a> {
         }
     }
 
-    // Counts what was read, and tells how far it is, if that is due.
+    // Counts what was read, and shows how far it is, if that is due.
     fn note(&mut self, piece: &[u8]) {
         let Some(start) = self.start else {
             return;

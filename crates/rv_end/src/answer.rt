@@ -59,7 +59,7 @@ fn gather<R: Read>(alloc: Global, from: &mut Source<R>) -> Result<Vec<u8>, Statu
     }
 }
 
-// What an answer tells.
+// What an answer says.
 fn read_answer(alloc: Global, answer: &[u8]) -> Result<StatusTold, StatusFault>
     ensures { GivesStatus (IsStatusAnswer answer.now) result }
 {

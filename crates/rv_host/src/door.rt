@@ -16,7 +16,7 @@ const ENFILE: i32 = 23;
 // When the listener may be asked.
 #[derive(Clone, Copy)]
 enum DoorState {
-    // It told that someone waits.
+    // The poll reported that someone waits.
     Now,
     // Nobody waits.
     WhenTold,
@@ -80,7 +80,7 @@ impl Door {
         }
     }
 
-    /// The moment at which it is to be asked again without being told, if there is one.
+    /// The moment at which it is to be asked again without a report from the poll, if there is one.
     pub(crate) fn again(&self) -> Option<u64> {
         match self.state {
             DoorState::At(moment) => Some(moment),

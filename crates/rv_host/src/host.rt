@@ -74,7 +74,7 @@ fn go_on(rt: &HostRuntime, options: &HostOptions<'_>, shell: &mut Shell<File>) -
     }
 }
 
-// Says why a server ends. What the system had against a write it still tells.
+// Says why a server ends. The system's error number still says why a write failed.
 fn tell_end(rt: &HostRuntime, options: &HostOptions<'_>, report: &HostReport, end: &HostEnd) {
     let why = io::Error::from_raw_os_error(errno());
     let text = match (end, options.account) {

@@ -37,7 +37,7 @@ pub(crate) struct OpenAccount {
     pub(crate) place: AccountPlace,
 }
 
-// What is seen of a file by what the system tells.
+// What a look at a file shows, by what the system reports.
 fn seen_of(told: &Metadata) -> FileSeen {
     FileSeen {
         device: told.dev(),

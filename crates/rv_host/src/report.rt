@@ -12,10 +12,10 @@ use std::time::Clock;
 
 const STANDARD_ERROR: i32 = 2;
 
-// What the poll tells of a descriptor that takes no line.
+// What the poll reports for a descriptor that takes no lines.
 const GONE: i16 = POLLERR | POLLHUP | POLLNVAL;
 
-// Refusals by their numbers less one, and as what kind of fault they are told.
+// Refusals, by their numbers less one, and the kind of fault as which each is reported.
 const REFUSALS: [(usize, FaultKind); 3] = [
     (8, FaultKind::ClientsFull),
     (9, FaultKind::BookFull),
@@ -34,7 +34,7 @@ pub(crate) struct HostReport {
     is_there: bool,
 }
 
-// What the poll tells of standard error: where it takes a line at once that bit is set.
+// What the poll reports for standard error: if it takes a line at once, that bit is set.
 fn told_of_standard_error() -> i16 {
     let mut asked = [pollfd {
         fd: STANDARD_ERROR,
@@ -131,7 +131,7 @@ impl HostReport {
         let _ = self.write(rt, text);
     }
 
-    // Writes a line, if standard error takes it at once, and gives whether it did.
+    // Writes a line, if standard error takes it at once. Returns whether it did.
     fn write(&self, rt: &HostRuntime, text: &str) -> bool {
         if !self.is_there || !is_taking() {
             return false;
@@ -164,7 +164,7 @@ impl HostReport {
         }
     }
 
-    // How often a kind came, if it is to be told.
+    // How often a kind came, if it is to be reported.
     fn take(&mut self, now: u64, kind: FaultKind) -> Option<u64> {
         self.tallies.get_mut(kind as usize)?.take(now)
     }

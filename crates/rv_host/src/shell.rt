@@ -81,7 +81,7 @@ fn write_to<S: Drop, W: Write>(
     }
 }
 
-// The poll told of a connection's socket.
+// The poll reported a connection's socket.
 fn heed_one(traffic: &mut Switchboard<CountedStream<TcpStream>>, event: &Event)
     ensures { OnlyCalls traffic.old traffic.new }
 {
@@ -91,7 +91,7 @@ fn heed_one(traffic: &mut Switchboard<CountedStream<TcpStream>>, event: &Event)
     traffic.heed(event.token().0, is_readable, is_writable);
 }
 
-// The poll told that something may be done.
+// The poll reported that something may be done.
 #[tactic(auto, using(crate::proofs::Turning::none_called))]
 fn heed_event(
     door: &mut Door,
@@ -112,7 +112,7 @@ fn heed_event(
     heed_one(traffic, event);
 }
 
-// Takes in all that the poll told.
+// Takes in all that the poll reported.
 fn heed_all(
     events: &Events,
     door: &mut Door,
@@ -126,7 +126,7 @@ fn heed_all(
     }
 }
 
-// The poll told that someone waits at the status address.
+// The poll reported that someone waits at the status address.
 fn knock(status: &mut Option<StatusDesk>) {
     if let Some(desk) = status {
         desk.door.knock();
@@ -190,7 +190,7 @@ pub(crate) struct ShellDoors {
 }
 
 impl ShellDoors {
-    // A poll tells of both from now on.
+    // The poll reports both from now on.
     fn register(&mut self, poll: &Poll) -> io::Result<()> {
         self.door.register(poll, LISTENER)?;
         match &mut self.status {
@@ -200,7 +200,7 @@ impl ShellDoors {
     }
 }
 
-// A poll that tells of the doors.
+// A poll that watches the doors.
 fn watching(rt: &HostRuntime, doors: &mut ShellDoors) -> io::Result<Poll> {
     let poll = Poll::new(rt)?;
     doors.register(&poll)?;
@@ -353,7 +353,7 @@ impl<W: Drop> Shell<W> {
         self.memory.saturating_add(pending)
     }
 
-    // Waits until something is to be done, and gives the moment.
+    // Waits until there is something to do, and returns the moment.
     fn poll(&mut self, rt: &HostRuntime) -> Result<u64, HostEnd>
         ensures runs { OnlyCalls self.old.traffic self.new.traffic }
         ensures account { self.new.account ≡ self.old.account }
@@ -379,7 +379,7 @@ impl<W: Drop> Shell<W> {
         }
     }
 
-    // Takes in what the poll tells.
+    // Takes in what the poll reports.
     fn heed(&mut self)
         ensures runs { OnlyCalls self.old.traffic self.new.traffic }
         ensures account { self.new.account ≡ self.old.account }
@@ -443,7 +443,7 @@ impl<W: Drop> Shell<W> {
         }
     }
 
-    // Asks for one connection, if one may be, and gives whether one was asked for.
+    // Asks for one connection, if there may be one more. Returns whether one was asked for.
     fn accept_one(&mut self, now: u64) -> bool
         ensures runs { OnlyCalls self.old.traffic self.new.traffic }
         ensures account { self.new.account ≡ self.old.account }
@@ -492,7 +492,7 @@ impl<W: Drop> Shell<W> {
         self.report.note(FaultKind::NotOpened);
     }
 
-    // The poll tells of a socket from now on, by the number of its connection.
+    // The poll reports a socket from now on, by the number of its connection.
     fn register(&self, number: ConnectionNumber, stream: &mut TcpStream) -> bool {
         let both = Interest::READABLE | Interest::WRITABLE;
         self.poll

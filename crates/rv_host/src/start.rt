@@ -108,7 +108,7 @@ fn descriptors_of(options: &HostOptions<'_>) -> Descriptors {
     }
 }
 
-// Says that a server has begun, and has a poll tell who comes.
+// Says that a server has started, and makes a poll that reports who comes.
 fn open_doors(
     rt: &HostRuntime,
     options: &HostOptions<'_>,
@@ -170,7 +170,7 @@ fn spare(options: &HostOptions<'_>) -> u64 {
     }
 }
 
-// What is told at a status address, of which is said where it is.
+// What answers at the status address, if there is one. Standard error says where that is.
 fn status_desk(
     rt: &HostRuntime,
     options: &HostOptions<'_>,
@@ -206,8 +206,8 @@ fn account_of(
     }
 }
 
-// The account of an epoch, begun in an open file, which is as it was before if that fails. What the system
-// had against a write it still tells.
+// The account of an epoch, begun in an open file. If that fails, the file is as it was before, and the
+// system's error number still says why a write failed.
 fn begun(
     rt: &HostRuntime,
     path: &str,
@@ -272,7 +272,7 @@ fn engine_of(
     Ok(engine)
 }
 
-// What the system limits, or so much if it doesn't tell.
+// The system's limit, or `usual` if it doesn't say.
 fn limit_of(resource: i32, usual: u64) -> u64 {
     let mut limit = rlimit {
         rlim_cur: 0,
@@ -285,7 +285,7 @@ fn limit_of(resource: i32, usual: u64) -> u64 {
     }
 }
 
-// Says where a server listens, and its limits; and that nobody is asked who he is, if others reach it.
+// Says where a server listens, and its limits; and, if other machines reach it, that nobody is authenticated.
 fn tell_start(
     rt: &HostRuntime,
     options: &HostOptions<'_>,

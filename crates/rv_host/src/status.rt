@@ -183,8 +183,8 @@ impl StatusDesk {
         }
     }
 
-    // Visits the first in line, and gives whether an answer was to be sent. A descriptor that is free then is
-    // held back.
+    // Visits the first in line, and returns whether there was something to send. A descriptor that is free
+    // then is held back.
     fn visit(&mut self, rt: &HostRuntime, now: u64) -> bool {
         let mut pages = StatusPages {
             alloc: self.alloc,
@@ -196,7 +196,7 @@ impl StatusDesk {
         is_answered
     }
 
-    // Accepts one more, and gives whether one came. A descriptor that nobody took is held back again.
+    // Accepts one more, and returns whether one came. A descriptor that nobody took is held back again.
     fn accept(&mut self, rt: &HostRuntime, now: u64) -> bool {
         match self.ask_door(now) {
             Accepted::Stream(stream, _) => {

@@ -135,8 +135,8 @@ impl<W: Drop> Shell<W> {
             .saturating_add(pending)
     }
 
-    // Closes the connection that holds most, where all hold more than they may, and gives whether one was
-    // closed. Where lines of the account are left the hub can't be told, and nothing more comes.
+    // Closes the connection that holds most, if all hold more than they may, and returns whether one was
+    // closed. While lines of the account are left, the hub can't be told, and nothing more comes.
     #[tactic(auto, using(crate::proofs::Turning::none_called))]
     fn close_largest(&mut self, now: u64) -> bool
         ensures runs { OnlyCalls self.old.traffic self.new.traffic }

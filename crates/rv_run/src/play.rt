@@ -36,7 +36,7 @@ pub fn play_run<R: Read, W: Write>(
     ensures played { OnOk result
         (Played R.remaining W.contents source.old source.new sink.old sink.new) }
 
-    // Of the texts of some first turns exactly the first `sent` bytes went out, and not all.
+    // Exactly the first `sent` bytes of the texts of some first turns went out, and not all.
     ensures stopped_writing { (fault : _) → result ≡ Err (RunFault.WriteFault fault) →
         StoppedPrinting R.remaining W.contents source.old source.new sink.old sink.new fault.sent }
 

@@ -17,7 +17,7 @@ use std::sync::ledger::Ledger;
 /// The most pauses for one frame whose request waits.
 pub(crate) const MAX_PAUSES: usize = 200;
 
-// Whether it is told that the request waits.
+// Whether the answer says that the request waits.
 fn waits(told: &FrameAnswer) -> bool
     ensures { IsTrue result → Waits told.now }
 {

@@ -15,7 +15,7 @@ pub struct Served<D: Desk> {
 impl<D: Desk> Served<D> {
     ghost use Rattle.std.specs.Prelude.{◌≡◌, []};
 
-    // Nothing is told yet.
+    // Nothing was served yet.
     pub(crate) fn nothing(alloc: Global) -> Served<D>
         ensures items { result.items.items ≡ [] }
         ensures stamps { result.stamps.items ≡ [] }

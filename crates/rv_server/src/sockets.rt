@@ -108,8 +108,8 @@ fn limit(stream: &TcpStream) -> io::Result<()> {
 }
 
 impl<'a, T: Wait, D: Desk, L: Ledger, C: Clock, G: Gate> WorkerContext<'a, T, D, L, C, G> {
-    // Accepts so many connections, and hands each to the next worker that is free. Then the listener is
-    // closed, so that later peers are refused, and the workers are told that no more will come.
+    // Accepts this many connections, and hands each to the next worker that is free. Then the listener is
+    // closed, so that later peers are refused, and the workers learn that no more will come.
     fn accept_all(&self, listener: TcpListener, to: Sender<TcpStream>, connections: u32) {
         for _ in 0..connections {
             match listener.accept() {
@@ -122,7 +122,7 @@ impl<'a, T: Wait, D: Desk, L: Ledger, C: Clock, G: Gate> WorkerContext<'a, T, D,
         }
     }
 
-    // Answers the frames of a connection, and tells whether it came to its end and all answers were sent.
+    // Answers the frames of a connection. Returns whether it came to its end and all answers were sent.
     fn serve_connection(&self, seat: &mut Seat<L>, stream: TcpStream) -> bool {
         if limit(&stream).is_err() {
             return false;

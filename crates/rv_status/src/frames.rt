@@ -37,7 +37,7 @@ impl FrameMeter {
         }
     }
 
-    // The next byte of a length came, or bytes up to the end of a body. It gives how many.
+    // The next byte of a length came, or bytes up to the end of a body. Returns how many.
     fn step(&mut self, rest: &[u8]) -> usize
         requires { 0 < length rest.now }
         ensures some { 1 ≤ result }

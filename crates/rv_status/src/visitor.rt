@@ -68,7 +68,7 @@ fn breaks(error: &Error) -> bool {
 }
 
 impl<S: Read + Write> Visitor<S> {
-    // Reads once, answers, and writes once, if there is something to be sent, and gives whether there was.
+    // Reads once, answers, and writes once, if there is something to send. Returns whether there was.
     pub(crate) fn turn<P: Service>(&mut self, pages: &mut P) -> bool
         ensures { IsVisit S.remaining S.contents P.answers self.old self.new pages.old pages.new result }
     {

@@ -26,7 +26,7 @@ pub(crate) fn answer_of(alloc: Global, machine: &Machine, said: Said) -> Result<
     }
 }
 
-// What a session's last request was told, or that it waits.
+// The answer to a session's last request: its reply, or that it waits.
 fn told(alloc: Global, key: Key, request: &LastRequest) -> Result<Answer, NoMemory>
     ensures { IfOk result (λ answer. answer ≡ answer_told key (told_again request.now)) }
 {

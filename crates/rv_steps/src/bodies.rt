@@ -30,7 +30,7 @@ pub(crate) fn read_bodies(rt: &HostRuntime) -> anyhow::Result<ExitCode> {
     Ok(ExitCode::SUCCESS)
 }
 
-// The line that tells what bytes are read as.
+// The line that says what bytes are read as.
 fn readings_of(alloc: Global, body: &[u8]) -> Result<String, NoMemory> {
     let message = message_of(alloc, body)?;
     let answer = answer_of(alloc, body)?;

@@ -114,7 +114,7 @@ fn answer_event(
     }
 }
 
-// Hands the hub the event of a line, with its piece, and tells whether it says one.
+// Hands the hub the event of a line, with its piece. Returns whether the line says one.
 fn handle(
     alloc: Global,
     text: &mut Vec<u8>,

@@ -60,7 +60,7 @@ const USAGE: &str = "usage: rv_steps machine ENTRIES CLIENTS OPEN|none [anew | t
        rv_steps bodies
 with limits that a step may have";
 
-// Other words than those of a task, or limits that no step may have, are told on standard error.
+// Words that name no task, or limits that no step may have, get the usage on standard error.
 fn main(rt: HostRuntime) -> anyhow::Result<ExitCode> {
     let words: Vec<String> = env::args(&rt)?.collect(rt.alloc())?;
     if is_json(&words) {
@@ -98,8 +98,7 @@ fn run_lines(rt: &HostRuntime, limits: Limits, beginning: Beginning) -> anyhow::
     answer_all(rt, &mut driver, &input)
 }
 
-// Does what each line says, and prints what is told of that. Why a line ends the run is told on standard
-// error.
+// Does what each line says, and prints what came of it. If a line ends the run, standard error says why.
 fn answer_all(rt: &HostRuntime, driver: &mut Driver, input: &[u8]) -> anyhow::Result<ExitCode> {
     let mut output = BufWriter::new(rt.alloc(), rt.stdout())?;
     let mut rest = input;
@@ -113,7 +112,7 @@ fn answer_all(rt: &HostRuntime, driver: &mut Driver, input: &[u8]) -> anyhow::Re
     Ok(ExitCode::SUCCESS)
 }
 
-// Does what a line says, and prints what is told of it. False if it ends the run.
+// Does what a line says, and prints what came of it. False if it ends the run.
 fn print_answer<W: Write>(
     alloc: Global,
     output: &mut W,

@@ -14,7 +14,7 @@ use rv_text::{
 };
 use std::alloc::Global;
 
-/// What a line made, but for whom its message settled, which the machine tells.
+/// What a line made, except the requests that its message settled, which the machine has.
 #[derive(Drop)]
 pub(crate) struct Made {
     /// The entry of its tick.
@@ -25,9 +25,9 @@ pub(crate) struct Made {
     pub(crate) entry: Option<Entry>,
 }
 
-/// Makes the step of a line, and gives the body that answers it and what it made. A line of another form
-/// than a moment of 1 to 19 digits, one space and a message's body makes nothing, nor does one for which
-/// memory was refused when it was read, and both are told so.
+/// Makes the step of a line, and returns the body that answers it and what it made. A line of another form
+/// than a moment of 1 to 19 digits, one space and a message's body makes nothing, and neither does one for
+/// which memory was refused when it was read. The body says so for both.
 pub(crate) fn answer_line(
     alloc: Global,
     limits: &Limits,

@@ -1,12 +1,12 @@
 //! Writes what a hub did, and what it is, into a text.
 //!
-//! Each event is told in lines, `ok RESULT` or `refused WHY` first. Then come `+ ENTRY` for each entry, as
+//! Each event has its lines, `ok RESULT` or `refused WHY` first. Then come `+ ENTRY` for each entry, as
 //! an account has it, and for each connection that changed `N closed` or `N open WAITS UNREAD HELD OFFERS
 //! BYTES`: 0 or 1 for whether it waits and may offer, and the bytes to hand out, in digits, or where they
 //! are over 2,000 as `COUNT:HIGH.LOW`, by the halves of their Adler-32 sum. The last is `= HELD MOMENT COUNT
 //! KEYS`: the bytes held for all; the next moment, or `-`; how many requests wait for which no connection
-//! does, and their keys by client, as `CLIENT.INCARNATION.NUMBER`. `show` is told so too: by `shown`, the
-//! open connections among so many numbers, and the last line.
+//! does, and their keys by client, as `CLIENT.INCARNATION.NUMBER`. `show` has lines too: `shown`, the open
+//! connections among so many numbers, and the last line.
 use crate::hexes::{written_hex, written_sum};
 use rv_account::Entry;
 use rv_hub::{EventRefusal, Hub};
@@ -16,7 +16,7 @@ use rv_server_connections::subscribers::ConnectionNumber;
 use rv_text::NoMemory;
 use std::alloc::Global;
 
-// More bytes to hand out are told by their sum.
+// More bytes to hand out are shown as their sum.
 const MOST_SHOWN: usize = 2_000;
 
 // The word of a refusal.

@@ -33,9 +33,9 @@ pub(crate) enum Beginning {
     },
     /// As a hub.
     Hub {
-        /// For how many milliseconds a request waits before it is told so.
+        /// For how many milliseconds a request waits before the answer says that it does.
         patience: u32,
-        /// Whether it is told what is written.
+        /// Whether it hears what was written.
         has_journal: bool,
     },
 }

@@ -71,7 +71,7 @@ fn answer<'a>(alloc: Global, words: &'a [&'a str]) -> Result<HelpAnswer, Command
     }
 }
 
-// Why a command, of which clap tells each fault, doesn't take the words.
+// Why a command, for which `clap` reports each fault, doesn't accept the words.
 fn refusal_of<'a>(command: clap::Command<'a>, words: &'a [&'a str]) -> Option<clap::Error>
     requires { is_simple_and_free (app_of command) ≡ true }
     ensures some { IfSome result (HasKind (fault_of (app_of command.entry) (texts words.entry.now))) }
@@ -83,7 +83,7 @@ fn refusal_of<'a>(command: clap::Command<'a>, words: &'a [&'a str]) -> Option<cl
     }
 }
 
-// The program with all its commands, as help tells them.
+// The program with all its commands, as help shows them.
 fn whole_program<'a>(alloc: Global) -> Result<clap::Command<'a>, AllocError>
     ensures { IfOk result (λ c. app_of c ≡ help_app) }
 {

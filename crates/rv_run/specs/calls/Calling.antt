@@ -160,8 +160,8 @@ module _ {R W : Type 0} (remaining : R → Option (List ℕ)) (contents : W → 
       × FitsIdentifier epoch
   WelcomesOrNot starting tries before after (Err word) = IsTurnedAway starting tries word before after
 
-  -- the call of a line has no text: for a word; or for want of memory, before it was made or once it was
-  -- settled
+  -- the call of a line has no text: because of a word; or because memory was refused, before it was made or
+  -- once it was settled
   abbrev pub HaltsAt : ℕ → Key → List ℕ → Halt → Link R W → Link R W → Type 0
   HaltsAt tries key line (halt.Word word) before after = StopsWithWord tries key line word before after
   HaltsAt tries key line halt.NoMemory before after =

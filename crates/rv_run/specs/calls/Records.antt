@@ -38,7 +38,7 @@ pub record IsRequestBody (key : Key) (line body : List ℕ) : Type 0 where
   pub said : IsCallBody line call
   pub body_is : body ≡ message_text (messages.Request key call)
 
--- the entry tells the text of a reply, and the request of the reply's key with the call that the line says
+-- the entry says the text of a reply, and the request of the reply's key with the call that the line says
 pub record IsRecorded (line text entry : List ℕ) : Type 0 where
   pub key : Key
   pub reply : Reply
@@ -177,7 +177,7 @@ module _ {L O R W F : Type 0} (given : L → Option (List ℕ)) (taken : O → O
     pub nothing : DidNothing before after old.out new.out
     pub recorded_nothing : new.file ≡ old.file
 
-  -- what a run leaves, by what it answers; where reading the input ends it, nothing was done
+  -- what a run leaves, for each of its results; if reading the input ends it, nothing was done
   abbrev pub RecordsRun : Source L → Source L → Link R W → Link R W → Outlets O F → Outlets O F
       → Result CallSaid RecordingFault → Type 0
   RecordsRun source source' before after old new (Ok said) =

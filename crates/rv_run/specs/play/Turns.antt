@@ -83,7 +83,7 @@ abbrev pub TellsLineOutcome : World → LineOutcome → List ℕ → Type 0
 TellsLineOutcome v NoEvent text = text ≡ codes "bad line"
 TellsLineOutcome v (Given e shown) text = TellsResult v shown text
 
--- the turn leads from the one world to the other, its text tells what came of its line, and is one line: it
+-- the turn leads from the one world to the other, and its text says what came of its line, in one line: it
 -- has no LF (10) in it
 pub record TakesTurn (w : World) (turn : LineTurn) (v : World) : Type 0 where
   pub leads : LeadsTo turn.line w v turn.came

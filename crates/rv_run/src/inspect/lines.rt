@@ -34,7 +34,7 @@ pub(crate) fn verdict_lines(
     }
 }
 
-// The line of a verdict. Which rule is broken at a closed place a second reading tells, if there was one.
+// The line of a verdict. A second reading, if there was one, says which rule is broken at a closed place.
 fn verdict_line(
     alloc: Global,
     verdict: &AccountVerdict,
@@ -95,7 +95,7 @@ fn kept_counts(alloc: Global, findings: &[Finding]) -> Result<String, NoMemory>
     format!(in alloc; "kept {kept}\n{words} {unseen}")
 }
 
-// How many lines tell another reply or another call, or of no such request.
+// How many lines say another reply or another call, or name no request of the account.
 fn first_counts(alloc: Global, findings: &[Finding]) -> Result<String, NoMemory>
     ensures { IfOk result (λ s. string_bytes s ≡ first_counts findings.now) }
 {
@@ -105,7 +105,7 @@ fn first_counts(alloc: Global, findings: &[Finding]) -> Result<String, NoMemory>
     format!(in alloc; "another reply {reply}\nanother call {call}\nno such request {none}")
 }
 
-// The same of those of which the request waits, or which are of another epoch or tell what can't be.
+// The same for lines whose request still waits, which are of another epoch, or which say what can't be.
 fn next_counts(alloc: Global, findings: &[Finding]) -> Result<String, NoMemory>
     ensures { IfOk result (λ s. string_bytes s ≡ next_counts findings.now) }
 {
@@ -164,7 +164,7 @@ fn with_other(
     format!(in alloc; "{line}\n{other}")
 }
 
-// The line which tells how a line of a record stands to the first one of its key.
+// The line that says how a line of a record compares to the first one of its key.
 fn beside_line(alloc: Global, how: Beside, index: usize, first: usize) -> Result<String, NoMemory>
     ensures { IfOk result (λ s. string_bytes s ≡ beside_text how (index + 1) (first + 1)) }
 {

@@ -26,7 +26,7 @@ pub(crate) fn play_line(alloc: Global, world: &mut World, line: &[u8]) -> Result
     }
 }
 
-// Gives the world an event, and tells its result.
+// Gives the world an event, and returns the text of its result.
 fn play_event(alloc: Global, world: &mut World, event: &Event) -> Result<String, NoMemory>
     requires { FitsEvent event.now }
     ensures { IfOk result (PlaysEvent world.old event.now world.new) }

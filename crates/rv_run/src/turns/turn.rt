@@ -15,9 +15,9 @@ use std::alloc::Global;
 // The body that answers a line.
 #[derive(Drop)]
 pub(crate) enum LineBody {
-    // Of a line that says no message.
+    // That of a line that says no message.
     BadText,
-    // Of a line for which memory was refused.
+    // That of a line for which memory was refused.
     NoMemory,
     // The text of the book's answer.
     Text(String),
