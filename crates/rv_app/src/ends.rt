@@ -16,7 +16,7 @@ use std::process::ExitCode;
 use std::thread;
 use std::time::{Clock, Duration};
 
-// How often the status is looked at, at most.
+// The most looks at the status.
 const LOOKS: usize = 1_800;
 
 // The seconds between two looks.

@@ -74,7 +74,7 @@ impl HowFar {
         }
     }
 
-    // Tells how many entries there were, if that is due.
+    // Says how many entries there were, if that is due.
     fn tell(&mut self, rt: &HostRuntime, entries: u64) {
         if !is_due(self.told, entries, self.seconds(rt)) {
             return;

@@ -61,7 +61,7 @@ fn main(rt: HostRuntime) -> ExitCode {
     }
 }
 
-// The leave to start threads and to wait is handed in by itself.
+// The permission to start threads and to wait is handed in separately.
 fn run_program<T: Threads + Wait + AllocGlobal + time::Clock + Sync>(
     rt: &HostRuntime,
     threads: &T,
@@ -163,7 +163,7 @@ fn tell_help(rt: &HostRuntime, help: &HelpAnswer) -> ExitCode {
     ExitCode::from(status)
 }
 
-// The words of the command line. Words that are no UTF-8 name no command.
+// The words of the command line. Words that aren't UTF-8 name no command.
 fn words_of(rt: &HostRuntime) -> Result<Vec<String>, CommandFault> {
     match env::args(rt) {
         Ok(words) => Ok(words.collect(rt.alloc())?),
@@ -222,7 +222,7 @@ fn run_audit(rt: &HostRuntime) -> Result<ExitCode, ProgramFault> {
     }
 }
 
-// A server that says nothing for so many seconds, or takes nothing, is a fault of the link.
+// The seconds after which a server that says nothing, or takes nothing, is a fault of the link.
 const LINK_SECONDS: u64 = 60;
 
 // Sets how long a server is waited for.

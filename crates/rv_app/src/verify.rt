@@ -96,9 +96,9 @@ fn verify_beside<T: Wait + time::Clock>(
 // What is known of an input.
 #[derive(Drop)]
 struct About<A> {
-    // How many bytes it has, or 0 if nobody knows.
+    // How many bytes it has, or 0 if that isn't known.
     size: u64,
-    // Where its bytes may be read once more, if they may be.
+    // From where its bytes may be read once more, if they may be.
     again: Option<A>,
 }
 
@@ -127,7 +127,7 @@ fn verify_bytes<T: Wait + time::Clock, F: Read + Drop, A: Again + Drop, W: Write
     tell_file(rt, words, about, &found, records, sink)
 }
 
-// What is found of an input's bytes: of all, or as they grow.
+// What is found of an input's bytes: of all, or of those of a growing file.
 fn found_by<T: Wait + time::Clock, F: Read + Drop>(
     rt: &HostRuntime,
     waits: &T,
@@ -147,7 +147,7 @@ fn found_by<T: Wait + time::Clock, F: Read + Drop>(
     }
 }
 
-// Tells what was found of an input, or nothing where it can't be read once more, as standard error says.
+// Prints what was found of an input, or nothing if it can't be read once more, as standard error says.
 fn tell_file<A: Again + Drop, W: Write>(
     rt: &HostRuntime,
     words: &VerifyWords<'_>,
@@ -195,7 +195,7 @@ fn rule_again<A: Again>(
     }
 }
 
-// The rule that the entry at a place breaks, which names a closed place, by reading the bytes once more.
+// The rule that the entry at a place breaks, where it names a closed place. Reads the bytes once more.
 fn read_once_more<A: Again>(
     rt: &HostRuntime,
     path: &str,
@@ -225,7 +225,7 @@ fn record_named<'a>(words: &VerifyWords<'_>, records: &'a Records) -> Option<&'a
     words.replies.map(|_| records)
 }
 
-// The record that the lines of a reader are, which has so many bytes, or 0 if nobody knows how many.
+// The record that a reader's lines are. It has `size` bytes, or 0 if their number isn't known.
 fn records_in<F: Read + Drop>(rt: &HostRuntime, size: u64, input: F) -> Result<Records, RunFault>
     ensures record { IfSome (F.remaining input) (λ bytes. IfOk result (IsRecordOf bytes)) }
     ensures are_new { IfOk result AreNew }
@@ -252,7 +252,7 @@ fn records_watched<F: Read + Drop>(
     }
 }
 
-// What the account is whose bytes a reader has: so many, or 0 if nobody knows how many.
+// What the account is whose bytes a reader has: `size` bytes, or 0 if their number isn't known.
 fn found_in<F: Read + Drop>(
     rt: &HostRuntime,
     size: u64,

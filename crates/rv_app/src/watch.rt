@@ -9,14 +9,14 @@ use std::time::Instant;
 // How many seconds pass at least between two lines.
 const PAUSE_SECONDS: u64 = 2;
 
-// Takes a line of a terminal away.
+// Erases a line of a terminal.
 const ERASED: &str = "\r\x1b[K";
 
 /// How far the reading of a file is, which is shown on standard error now and then, if that is a terminal.
 #[derive(Drop)]
 pub(crate) struct Watch<'a> {
     rt: &'a HostRuntime,
-    // How many bytes there are, or 0 if nobody knows.
+    // How many bytes there are, or 0 if that isn't known.
     size: u64,
     bytes: u64,
     lines: u64,
@@ -59,7 +59,7 @@ impl<'a> Watch<'a> {
         }
     }
 
-    // Tells how far it is after so many seconds.
+    // Shows how far it is after so many seconds.
     fn tell(&self, seconds: u64) {
         if let Ok(text) = progress_text(
             self.rt.alloc(),

@@ -5,7 +5,7 @@ use mio::{Interest, Poll, Token};
 use std::io;
 use std::io::ErrorKind;
 
-// After so many milliseconds accepting is tried again, where the system lacked what it takes.
+// The milliseconds until accepting is tried again, if the system lacked what that takes.
 const ACCEPT_AGAIN: u64 = 100;
 
 // No descriptor was left to the process, or to the system.
@@ -20,7 +20,7 @@ enum DoorState {
     Now,
     // Nobody waits.
     WhenTold,
-    // There was no descriptor: at this moment.
+    // There was no descriptor: it may be asked again at this moment.
     At(u64),
 }
 

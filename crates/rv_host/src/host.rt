@@ -33,7 +33,7 @@ fn tell_fault(rt: &HostRuntime, fault: &HostFault<'_>) -> u8
     ensures { result ≡ status_of fault.now }
 {
     let status = fault.status();
-    // What clap says ends by LF.
+    // What `clap` says ends with LF.
     let end = match fault {
         HostFault::Refused(_) => "",
         _ => "\n",

@@ -16,7 +16,7 @@ pub(crate) fn number_of(address: &SocketAddr) -> u128 {
     }
 }
 
-/// The address from which each connection came, by the connection's number, and how many may be open from one
+/// For each connection, by its number, the address from which it came; and how many may be open from one
 /// address, if that is bounded.
 #[derive(Drop)]
 pub(crate) struct Origins {

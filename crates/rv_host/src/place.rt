@@ -93,7 +93,7 @@ impl AccountPlace {
         }
     }
 
-    // No other server has taken it, nor can it from now on. Where the system has no locks it goes on without.
+    // No other server has taken it, nor can it from now on. If the system has no locks, it goes on without.
     fn claim(&self) -> io::Result<()> {
         let locked = try_lock_range(self.file.as_raw_fd(), RangeLock::Exclusive, 0, 1);
         if (locked != 0 && errno() == EAGAIN) || self.file.metadata()?.len() > 0 {

@@ -35,17 +35,17 @@ const EVENTS: usize = 1_024;
 
 const ACCEPTS: usize = 64;
 
-// Connections are looked over every so many milliseconds, and no poll waits longer than the other.
+// How many milliseconds pass between looks over all connections, and the longest that a poll waits.
 pub(crate) const LOOK_OVER: u64 = 1_000;
 
 const LONGEST_WAIT: u64 = 60_000;
 
-// Lines that found no memory are tried again after so many milliseconds, and so is a read for which there was
-// no room.
+// The milliseconds after which lines that found no memory are tried again, and a read for which there was no
+// room.
 const MEMORY_AGAIN: u64 = 10;
 
-// The system asks a silent peer whether it is there, and gives up one that takes nothing for a minute. If it
-// refuses to, the connection goes on without.
+// The system asks a silent peer whether it is there, and gives up a peer that takes nothing for a minute. If
+// the system refuses to, the connection goes on without that.
 fn keep_alive(stream: &TcpStream) {
     let number = stream.as_raw_fd();
     let mut value = [0u8; 16];
@@ -142,18 +142,18 @@ pub(crate) struct Shell<W> {
     door: Door,
     pub(crate) traffic: Switchboard<CountedStream<TcpStream>>,
     pub(crate) answers: AnswerTally,
-    // What the clock showed as the poll of this turn ended, if it could be read; and how long turns took.
+    // What the clock showed when the poll of this turn ended, if it could be read; and how long turns took.
     woke: Option<Duration>,
     pub(crate) turns: Histogram,
     pub(crate) account: Option<Journal<W>>,
     pub(crate) status: Option<StatusDesk>,
     pub(crate) report: HostReport,
-    // At most so many connections are open.
+    // The most connections that are open.
     pub(crate) connections: usize,
     pub(crate) memory: u128,
-    // Since when more is held than that, if it is.
+    // Since when more is held than the memory above, if more is.
     pub(crate) full_since: Option<u64>,
-    // When it was last.
+    // When more was held last.
     pub(crate) last_full: u64,
     pub(crate) limits: TimeLimits,
     // How many connections were accepted, and in how many turns the clock failed.
@@ -302,7 +302,7 @@ impl<W: Drop> Shell<W> {
         self.time_to_wait(now)
     }
 
-    // The same, where no line is left.
+    // The same, if no line of the account is left.
     fn time_to_wait(&self, now: u64) -> u64 {
         let may_accept = self.traffic.links().len() < self.connections;
         if self.is_asked_at_once() || (may_accept && self.door.is_asked(now)) {
@@ -329,13 +329,13 @@ impl<W: Drop> Shell<W> {
         until.saturating_sub(now).min(LONGEST_WAIT)
     }
 
-    // Whether nobody is to be looked at, or waits for a share.
+    // Whether no connection is to be looked at, and none waits for a share.
     fn is_quiet(&self) -> bool {
         self.traffic.engine().is_quiet() && self.traffic.has_none_waiting()
     }
 
-    // Whether something is to be done at once: entries are to be written, or somebody waits for a share or is
-    // to be looked at. Where there is no room for what comes of that, it has time.
+    // Whether there is something to do at once: entries are to be written, or a connection waits for a share
+    // or is to be looked at. If there is no room for what comes of that, it can wait.
     fn is_asked_at_once(&self) -> bool {
         let hub = self.traffic.engine().hub();
         if hub.written() < hub.machine().length() as u64 {
@@ -347,7 +347,7 @@ impl<W: Drop> Shell<W> {
         !self.traffic.engine().is_quiet() && !self.traffic.is_over(self.memory)
     }
 
-    // Room for answers to what is pending where there is none for more to be pending.
+    // Room for answers to what is pending, when there is no room for more to be pending.
     fn room_to_answer(&self) -> u128 {
         let pending = self.connections.saturating_mul(SHARE) as u128;
         self.memory.saturating_add(pending)
@@ -367,7 +367,7 @@ impl<W: Drop> Shell<W> {
         Ok(now)
     }
 
-    // The turn is over: so long it took since its poll, where the clock could be read.
+    // The turn is over. Notes how long it took since its poll, if the clock could be read.
     fn end_turn(&mut self, rt: &HostRuntime)
         ensures traffic { self.new.traffic ≡ self.old.traffic }
         ensures account { self.new.account ≡ self.old.account }
@@ -392,7 +392,7 @@ impl<W: Drop> Shell<W> {
         );
     }
 
-    // Time goes on, where no line is left.
+    // Time goes on, if no line of the account is left.
     fn elapse(&mut self, now: u64)
         ensures runs { OnlyCalls self.old.traffic self.new.traffic }
         ensures account { self.new.account ≡ self.old.account }
@@ -415,7 +415,7 @@ impl<W: Drop> Shell<W> {
         self.traffic.catch_up()
     }
 
-    // Takes in a connection that was accepted, unless its address has as many as it may.
+    // Takes in a connection that was accepted, unless its address has as many as it may have.
     #[tactic(auto, using(crate::proofs::Turning::none_called))]
     fn admit(&mut self, now: u64, stream: TcpStream, from: u128)
         ensures runs { OnlyCalls self.old.traffic self.new.traffic }
@@ -429,7 +429,7 @@ impl<W: Drop> Shell<W> {
         self.open(now, stream, from);
     }
 
-    // Takes in what came of asking for one.
+    // Handles what came of asking for one.
     #[tactic(auto, using(crate::proofs::Turning::none_called))]
     fn take_in(&mut self, now: u64, accepted: Accepted)
         ensures runs { OnlyCalls self.old.traffic self.new.traffic }
@@ -501,7 +501,7 @@ impl<W: Drop> Shell<W> {
             .is_ok()
     }
 
-    // Reads once from each that is looked at, where there is room for it.
+    // Reads once from each connection that is to be looked at, if there is room for it.
     fn read_all(&mut self, now: u64)
         ensures runs { OnlyCalls self.old.traffic self.new.traffic }
         ensures account { self.new.account ≡ self.old.account }
@@ -511,7 +511,7 @@ impl<W: Drop> Shell<W> {
         self.report.note_all(FaultKind::NotOpened, faults.no_memory);
     }
 
-    // Some of those that sent more than a little have a share of it answered.
+    // Answers a share of what came over some of the connections that sent more than a little.
     fn share_out(&mut self, now: u64)
         ensures runs { OnlyCalls self.old.traffic self.new.traffic }
         ensures account { self.new.account ≡ self.old.account }
@@ -520,7 +520,7 @@ impl<W: Drop> Shell<W> {
         self.traffic.share_out(room, now);
     }
 
-    // Writes once to each that is looked at.
+    // Writes once to each connection that is to be looked at.
     fn write_all(&mut self, now: u64)
         ensures runs { OnlyCalls self.old.traffic self.new.traffic }
         ensures account { self.new.account ≡ self.old.account }

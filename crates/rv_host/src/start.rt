@@ -30,7 +30,7 @@ use std::io::IsTerminal;
 use std::net::ToSocketAddrs;
 use std::time::Clock;
 
-// The descriptors that a server needs beside its connections, and those of its status address.
+// The descriptors that a server needs besides its connections, and those of its status address.
 const SPARE: u64 = 16;
 
 const STATUS_SPARE: u64 = 33;
@@ -138,7 +138,7 @@ fn wall_clock(rt: &HostRuntime) -> u64 {
     }
 }
 
-// A listener at the first address of a name that takes one.
+// A listener at the first address of a name that allows one.
 fn listening(rt: &HostRuntime, name: &str) -> Result<TcpListener, HostEnd> {
     let addresses = match name.to_socket_addrs(rt) {
         Ok(addresses) => addresses,

@@ -16,16 +16,16 @@ use rv_words::options::{HostOptions, VERSION};
 use std::alloc::{AllocError, Global};
 use std::hash::RandomState;
 
-// Numbers are read off once in so many milliseconds, and so many clients are looked at meanwhile, so many of
-// them in one turn.
+// The milliseconds between two readings of the numbers, how many clients are looked at in that time, and how
+// many of them in one turn.
 const SECOND: u64 = 1_000;
 
 const CLIENTS_A_SECOND: usize = 2_560;
 
 const CLIENTS_A_TURN: usize = 256;
 
-// Once in so many milliseconds so many are accepted at most, each of whom is visited at once, until one is
-// answered; and then so many of those who stand in line are visited at most, until one is answered.
+// The milliseconds between two rounds. In each, at most so many connections are accepted, and each is visited
+// at once, until one is answered; and then at most so many in the line are visited, until one is answered.
 const PAUSE: u64 = 20;
 
 const ACCEPTS: usize = 256;
@@ -44,10 +44,10 @@ pub(crate) struct StatusDesk {
     sights: Sights,
     // The names under which it is asked.
     names: Vec<String>,
-    // How far the clients are looked at, and how many more are to be.
+    // The last client that was looked at, and how many more are to be.
     after: Option<u64>,
     left: usize,
-    // When numbers are to be read off next, and when somebody is to be visited.
+    // When numbers are to be read next, and when a connection is to be visited.
     next_second: u64,
     next_visit: u64,
 }
@@ -210,7 +210,7 @@ impl StatusDesk {
         }
     }
 
-    // Asks for one connection, where no other descriptor is left by the one that is held back.
+    // Asks for one connection. If no other descriptor is left, it uses the one that is held back.
     fn ask_door(&mut self, now: u64) -> Accepted {
         let accepted = self.door.accept(now);
         if matches!(accepted, Accepted::NoDescriptor) && self.reserve.let_go() {

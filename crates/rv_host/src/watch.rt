@@ -38,7 +38,7 @@ impl<W: Drop> Shell<W> {
         }
     }
 
-    // Ends all whose time is over.
+    // Closes all connections whose time is over.
     fn look_over_all(&mut self, now: u64)
         ensures runs { OnlyCalls self.old.traffic self.new.traffic }
         ensures account { self.new.account ≡ self.old.account }
@@ -48,8 +48,8 @@ impl<W: Drop> Shell<W> {
         }
     }
 
-    // Ends a connection whose time is over. Where lines of the account are left nobody is read or written to,
-    // so nobody's time is, and a frame has all of its own anew.
+    // Closes a connection whose time is over. While lines of the account are left, none is read or written
+    // to, so no time is over, and a frame's time starts anew.
     fn look_over_one(&mut self, now: u64, number: ConnectionNumber)
         ensures runs { OnlyCalls self.old.traffic self.new.traffic }
         ensures account { self.new.account ≡ self.old.account }
@@ -65,7 +65,7 @@ impl<W: Drop> Shell<W> {
         self.traffic.give_up(now, number);
     }
 
-    // Why a connection is to be ended by time, if it is.
+    // Why a connection's time is over, if it is.
     fn overdue(&mut self, now: u64, number: ConnectionNumber) -> Option<FaultKind>
         ensures traffic { self.new.traffic ≡ self.old.traffic }
         ensures account { self.new.account ≡ self.old.account }
@@ -80,8 +80,8 @@ impl<W: Drop> Shell<W> {
         overdue(wire, heard.max(unread), moved, seen, now, self.limits)
     }
 
-    // The moment at which bytes of a connection that came may not have been read last: there was no room for
-    // them, or they wait for their share.
+    // The last moment at which bytes that came over a connection may not have been read: there was no room
+    // for them, or they wait for their share.
     fn unread_at(&self, number: ConnectionNumber, now: u64) -> u64 {
         if self.traffic.links().pending(number).is_empty() {
             return self.last_full;

@@ -95,10 +95,10 @@ fn unseated<L: Ledger>(workers: Vec<Worker<L>>, seats: &mut Vec<Seat<L>>) -> u32
     all
 }
 
-// After so many seconds a read of a connection whose peer says nothing fails.
+// The seconds after which a read of a connection fails if its peer says nothing.
 const READ_SECONDS: u64 = 600;
 
-// After so many seconds a write to a connection whose peer takes nothing fails.
+// The seconds after which a write to a connection fails if its peer takes nothing.
 const WRITE_SECONDS: u64 = 60;
 
 // Sets how long a connection is waited for.
@@ -158,8 +158,8 @@ where
     C: Clock + Sync,
     G: Gate + Sync,
 {
-    // Starts a thread for each worker, accepts so many connections, and returns when all of them were served.
-    // It is false if no thread could be started: then none is accepted.
+    // Starts a thread for each worker, accepts this many connections, and returns when all of them were
+    // served. It is false if no thread could be started: then none is accepted.
     fn run(
         &self,
         workers: &mut [Worker<L>],
@@ -183,7 +183,7 @@ where
         })
     }
 
-    // Serves so many connections, and counts those that came to their end. The seats come back in each case.
+    // Serves this many connections, and counts those that came to their end. The seats come back either way.
     fn serve_all(
         &self,
         seats: &mut Vec<Seat<L>>,

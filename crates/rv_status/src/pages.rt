@@ -79,7 +79,7 @@ impl Service for StatusPages<'_> {
     }
 }
 
-// The page that a request is for, where the server has these names.
+// The page that a request is for, if the server has these names.
 fn asked(request: &Request<Bytes>, names: &[String]) -> StatusPage
     ensures { IsToAnswerBy names.now request.now result }
 {
@@ -127,7 +127,7 @@ fn page_at(path: &str) -> StatusPage
     }
 }
 
-// Answers by a page. Fails only if memory was refused.
+// Answers with a page. Fails only if memory was refused.
 fn show(
     alloc: Global,
     status: &HostStatus,
@@ -218,7 +218,7 @@ impl StatusPage {
     }
 }
 
-// Whether a server takes what is new, as a status.
+// The HTTP status that says whether a server is full.
 fn ready_code(is_full: bool) -> StatusCode
     ensures { result ≡ ready_code is_full }
 {
@@ -229,7 +229,7 @@ fn ready_code(is_full: bool) -> StatusCode
     }
 }
 
-// The same in a word.
+// The word that says the same.
 fn ready_word(is_full: bool) -> &'static [u8]
     ensures { result.now ≡ ready_word is_full }
 {

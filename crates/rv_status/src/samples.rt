@@ -5,7 +5,7 @@ ghost use Rattle.rv_status.specs.Samples.{IsSampleDue, Samples, kept_samples};
 use crate::status::StatusSample;
 use std::alloc::AllocError;
 
-// A sample is taken once in so many seconds, and so many are kept.
+// The seconds between two samples, and how many are kept.
 const PAUSE: u64 = 10;
 
 const MOST: usize = 61;

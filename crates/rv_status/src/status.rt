@@ -7,7 +7,7 @@ use crate::histogram::Histogram;
 use crate::numbers::StatusNumbers;
 use std::alloc::{AllocError, Global};
 
-// A list has room for so many rows, one of which is taken out again; there are so many queues and samples.
+// The room of a list: that many rows, one of which is taken out again; that many queues; that many samples.
 const ROWS: usize = 101;
 
 const QUEUES: usize = 64;

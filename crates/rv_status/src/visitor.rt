@@ -8,10 +8,10 @@ use std::alloc::Global;
 use std::hash::RandomState;
 use std::io::{Error, ErrorKind, Read, Write};
 
-// A request's head has so many bytes at most, and as many are read at once.
+// The most bytes of a request's head, which is also how many are read at once.
 const MOST_HEAD: usize = 4_096;
 
-// A connection lasts so many milliseconds at most, and says within so many what it asks for.
+// The most milliseconds that a connection lasts, and those within which it says what it asks for.
 const LONGEST: u64 = 10_000;
 
 const LONGEST_SILENCE: u64 = 1_000;

@@ -10,7 +10,7 @@ use std::collections::VecDeque;
 use std::hash::RandomState;
 use std::io::{Read, Write};
 
-// So many stand in line at most.
+// The most connections in the line.
 const MOST: usize = 32;
 
 /// Connections in a line, the first of which is visited next. Room for all of them was made at the start.

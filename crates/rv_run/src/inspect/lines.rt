@@ -83,7 +83,7 @@ pub(crate) fn count_lines(
     format!(in alloc; "{kept}\n{first}\n{next}\n{last}")
 }
 
-// How many lines are kept, by their request or by a cancel.
+// How many lines are kept, and how many by a cancel that came before its request.
 fn kept_counts(alloc: Global, findings: &[Finding]) -> Result<String, NoMemory>
     ensures { IfOk result (λ s. string_bytes s ≡ kept_counts findings.now) }
 {
@@ -118,7 +118,7 @@ fn next_counts(alloc: Global, findings: &[Finding]) -> Result<String, NoMemory>
     format!(in alloc; "still waiting {waiting}\nanother epoch {epoch}\n{words} {never}")
 }
 
-// The same of those that are no record, that differ from the first one of their key, or that repeat it.
+// The same for lines that are no record, that differ from the first one of their key, or that repeat it.
 fn last_counts(
     alloc: Global,
     findings: &[Finding],
@@ -149,7 +149,7 @@ pub(crate) fn record_lines(
     }
 }
 
-// A line, and after it how the line of a record with an index stands to that one.
+// A line, and after it how the line of a record with an index compares to the first one of its key.
 fn with_other(
     alloc: Global,
     line: &str,

@@ -50,7 +50,7 @@ pub fn tell_found<W: Write>(
 }
 
 // Prints the first lines, and what is found of a record, if one stood beside an account that says an epoch.
-// Tells whether all of it is kept.
+// Returns whether all of it is kept.
 fn tell_beside<W: Write>(
     alloc: Global,
     first: &str,
@@ -74,7 +74,7 @@ fn tell_beside<W: Write>(
     }
 }
 
-// Prints the first lines alone: of no record anything isn't kept.
+// Prints only the first lines. With no record, there is nothing that isn't kept.
 fn tell_alone<W: Write>(alloc: Global, first: &str, sink: &mut Sink<W>) -> Result<bool, RunFault>
     ensures kept { IfOk result (λ kept. kept ≡ true) }
     ensures all { (lines : List (List ℕ)) → IsOneText lines first.now → OnOk result
@@ -88,8 +88,8 @@ fn tell_alone<W: Write>(alloc: Global, first: &str, sink: &mut Sink<W>) -> Resul
     Ok(true)
 }
 
-// Prints the first lines, what the account of this epoch says of each line of a record, and the counts. Tells
-// whether all lines are kept. Where two lines of one key differ, one isn't.
+// Prints the first lines, what the account of this epoch says of each line of a record, and the counts.
+// Returns whether all lines are kept. If two lines of one key differ, one of them isn't.
 fn tell_records<W: Write>(
     alloc: Global,
     first: &str,

@@ -59,7 +59,7 @@ pub fn book_run<R: Read, W: Write>(
     Ok(answer_lines(alloc, &mut book, &mut input, &mut output, sink)?)
 }
 
-// Answers each line of the input, and sends all that was gathered. What was answered is let go.
+// Answers each line of the input, and sends all that was gathered. What was answered is freed.
 fn answer_lines<W: Write>(
     alloc: Global,
     book: &mut Book,

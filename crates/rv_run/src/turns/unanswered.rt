@@ -1,7 +1,7 @@
 //! An input whose lines are answered one after another: what was answered is freed.
 ghost use Rattle.std.specs.Prelude.{◌≡◌, ◌≤◌, ◌-◌, drop, length};
 
-// How many bytes were answered at least before they are let go.
+// The least number of answered bytes that are freed at once.
 const LEAST: usize = 65_536;
 
 /// The bytes of an input, the first of which are answered. At most half of what it keeps is answered, or at
@@ -41,7 +41,7 @@ impl Unanswered {
         }
     }
 
-    // Lets go of the bytes that are answered, and gives their memory back.
+    // Frees the bytes that are answered.
     fn let_go(&mut self)
         ensures { unanswered self.new ≡ unanswered self.old }
     {
