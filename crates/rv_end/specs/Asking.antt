@@ -64,7 +64,7 @@ module _ {R : Type 0} (remaining : R → Option (List ℕ)) where
   GathersAnswer old new (Err NotUnderstood) = ⊥
 
 module _ {R W : Type 0} (remaining : R → Option (List ℕ)) (contents : W → Option (List ℕ)) where
-  -- the whole request for the status went out, and the bytes that came in answer are these
+  -- the whole request for the status went out, and the bytes that came in answer have this property
   pub record HasAsked (host : List ℕ) (to to' : Sink W) (from : Source R) (Is : List ℕ → Type 0) : Type 0
     where
       pub sent : SinkTakes contents to to' (request_text host)

@@ -28,8 +28,8 @@ is_old uptime older row = is_old_at uptime older row.unheard
 abbrev pub is_due : ℕ → ℕ → List WaitingRow → WaitingRow → Bool
 is_due uptime older tried row = is_old uptime older row && not (was_tried tried row)
 
--- a look found nothing to end; and nothing was ever tried, or more looks found nothing than a server takes to
--- look at all clients, 2,560 at a time, and one more
+-- a look found nothing to end; and nothing was ever tried, or the looks that found nothing are more than the
+-- clients divided by 2,560, rounded down, and one
 pub record IsLookedThrough (tried in_vain clients : ℕ) : Type 0 where
   pub some : 0 < in_vain
   pub all : (tried ≡ 0) ⊎ (clients / 2560 + 1 < in_vain)
