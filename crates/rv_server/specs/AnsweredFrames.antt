@@ -16,7 +16,7 @@ pub record AnsweredFrame : Type 0 where
   pub item : Item
   pub answer : List ℕ
 
--- what the answer's body says, of which frame
+-- what the answer's body says, by its kind, the frame's body and the stamps
 abbrev pub BodySays : Item → List ℕ → List Numbered → List ℕ → Type 0
 BodySays BadText body stamps answer = IsNoMessage body × (answer ≡ refused_text refusal.BadText)
 BodySays NoMemory body stamps answer = answer ≡ refused_text refusal.NoMemory
