@@ -1,7 +1,7 @@
 #!/usr/bin/env python3
 """Writes what the documents say of all crates from two sources: the sections of crates.txt, and each crate's one sentence, the first
 of the comment that its src/lib.rt or src/main.rt begins with. It writes crates/README.md, the first paragraph of each crate's page,
-and the order and the purposes in ARCHITECTURE's table of crates: there a long sentence is cut at its first colon or semicolon.
+and the order and the purposes in ARCHITECTURE's table of crates: there a long sentence is cut at its first colon or semicolon, or at its first comma.
 
 usage: tools/crates.py [--check]
 
@@ -16,7 +16,7 @@ from typing import Dict, Iterator, List, NamedTuple, Tuple
 ROOT = pathlib.Path(__file__).resolve().parents[1]
 CRATES, ARCHITECTURE = ROOT / "crates", ROOT / "docs/ARCHITECTURE.md"
 # How wide a line of a document is at most, and how many words a sentence may have that ARCHITECTURE's table has whole.
-WIDTH, WHOLE = 128, 16
+WIDTH, WHOLE = 128, 10
 INDEX_HEAD = """# The crates
 
 The lowest first; `crates.txt` says which stand on which. Each sees only the contracts of those below it.
@@ -65,8 +65,10 @@ def sentence(crate: str) -> str:
 
 def purpose(crate: str) -> str:
     """What ARCHITECTURE's table says of a crate."""
-    whole = sentence(crate).rstrip(".")
-    return whole if len(whole.split()) <= WHOLE else re.split(r"[:;] ", whole)[0]
+    text = sentence(crate).rstrip(".")
+    for mark in (r"[:;] ", ", "):
+        text = text if len(text.split()) <= WHOLE else re.split(mark, text)[0]
+    return text
 
 
 def wrapped(text: str, indent: str = "") -> str:
