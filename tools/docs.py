@@ -1,7 +1,7 @@
 #!/usr/bin/env python3
-"""Checks what a machine can of the documents: words, names, files, laws, edits, printed lists, public functions, links, limits, rows
-of commands and of crates, lengths and the logic of the kit; that none says 'behind' for 'after'; that no source makes want of memory
-of nothing.
+"""Checks what a machine can of the documents: words, pages, names, files, laws, edits, printed lists, public functions, links, limits,
+rows of commands and of crates, lengths and the logic of the kit; that none says 'behind' for 'after'; that no source makes want of
+memory of nothing.
 
 usage: tools/docs.py [--behind]
 
@@ -193,6 +193,17 @@ def words() -> None:
         check(word in known, f"MODEL: there is no {word} in crates/*/specs, nor in crates/*/src")
 
 
+def pages() -> None:
+    """Each name that a crate's page has in its text stands in the sources or the definitions of some crate."""
+    code = [path.read_text(encoding="utf-8") for form in ("src/**/*.rt", "specs/**/*.antt") for path in ROOT.glob(f"crates/*/{form}")]
+    known = set(re.findall(r"[A-Za-z_]\w*", "\n".join(code)))
+    for path in sorted(ROOT.glob("crates/*/README.md")):
+        parts = [part for name in re.findall(r"`([A-Za-z_][\w:.]*)`", "\n".join(prose(path))) for part in re.split(r"::|\.", name)]
+        for part in sorted(set(filter(None, parts)) - known):
+            check(False, f"{path.relative_to(ROOT)}: there is no {part} in crates/*/src, nor in crates/*/specs")
+        check(f"](../{path.parent.name}/" not in path.read_text(encoding="utf-8"), f"{path.relative_to(ROOT)} links to itself")
+
+
 def names():
     """A name of a type or a definition is declared in one crate, but for those that are shared, and in its specs once."""
     form = (r"^ *(?:pub(?:\([a-z]+\))? )?(?:struct|enum|trait|type|abbrev|record|data|unfoldable) +"
@@ -222,7 +233,7 @@ def places():
     """Each function and definition that a document's table names behind a file's link stands in that file."""
     for path in documents():
         for header, rows in tables(path):
-            for column in {"Function", "Definition"} & set(header):
+            for column in {"Function", "Definition", "Look in"} & set(header):
                 for row in rows:
                     for at, names in re.findall(r"\]\(\.\./crates/([^)]+)\) ((?:`\w+`(?:, )?)+)", row[header.index(column)]):
                         for name in quoted(names):
@@ -529,8 +540,8 @@ def versions():
     check(len(found[0]) == 1 and all(each == found[0] for each in found), f"there are more versions than one: {told}")
 
 
-PARTS = [words, names, places, files, refusals, laws, promises, edits, made, functions, links, limits, standing, commands, sizes,
-         sentences, widths, growths, behind, lengths, kit, versions]
+PARTS = [words, pages, names, places, files, refusals, laws, promises, edits, made, functions, links, limits, standing, commands,
+         sizes, sentences, widths, growths, behind, lengths, kit, versions]
 if sys.argv[1:] == ["--behind"]:
     print("\n".join(late_comments()))
     sys.exit()
