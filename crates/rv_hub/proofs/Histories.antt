@@ -255,7 +255,7 @@ abbrev Behind : DispatcherState → ℕ → Past → ℕ → Effect → Type 0
 Behind t n past entries effect = HasPast t n (cond (is_effect_of n effect) (past_by past entries effect) past)
 
 at_length : (t : DispatcherState) (n : ℕ) (past : Past) (effect : Effect) (a b : ℕ) → a ≡ b
-    → Behind t n past an effect
+    → Behind t n past a effect
     → Behind t n past b effect
 at_length t n past effect a b same behind = subst (λ k. Behind t n past k effect) same behind
 
