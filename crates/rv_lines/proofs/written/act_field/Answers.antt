@@ -23,4 +23,5 @@ pub returns-in-Cancel-clause-short : goal.returns-in-Cancel-clause-short
 returns-in-Cancel-clause-short c act_fits =
     let fits = subst (λ (a : Act). IfSome (message_in a) FitsMessage) c.in-Cancel.is
     (message_fits c.args.act.now act_fits) in
-    IfOk-weaker c.encode_message.result _ _ (λ s body. body.1) (c.encode_message.ensures.short fits)
+    IfOk-weaker c.encode_message-in-Cancel.result _ _ (λ s body. body.1)
+    (c.encode_message-in-Cancel.ensures.short fits)
