@@ -8,7 +8,7 @@ import struct
 import tempfile
 import unittest
 from collections.abc import Iterator
-from typing import ClassVar
+from typing import IO, Any, ClassVar
 
 from tests.faults import preload
 from tests.sockets.hosts import Host, HostProgram
@@ -34,33 +34,37 @@ class System:
 
     folder: ClassVar[str | None] = None
 
-    def __init__(self, seed=1):
+    def __init__(self, seed: int = 1):
         file, name = tempfile.mkstemp(dir=System.folder)
         os.truncate(file, PAGE.size)
         self.page = mmap.mmap(file, PAGE.size)
         os.close(file)
         self.env = {**os.environ, **preload.switches(page=name, seed=seed)}
 
-    def be(self, **numbers):
+    def be(self, **numbers: int) -> None:
         """Sets these numbers, and all others to 0."""
         for at, name in enumerate(NUMBERS):
             self.page[4 * at : 4 * at + 4] = struct.pack("=I", numbers.get(name, 0) % 2**32)
 
-    def number(self, name):
+    def number(self, name: str) -> int:
         """A number as it stands now."""
-        return PAGE.unpack(self.page)[NUMBERS.index(name)]
+        return self.numbers()[NUMBERS.index(name)]
 
-    def made(self, name):
+    def made(self, name: str) -> int:
         """How often something happened so far."""
-        return PAGE.unpack(self.page)[len(NUMBERS) + ODDS.index(name)]
+        return self.numbers()[len(NUMBERS) + ODDS.index(name)]
 
-    def asked(self):
+    def asked(self) -> tuple[int, ...]:
         """How many reads and how many writes of sockets were asked for so far."""
-        return PAGE.unpack(self.page)[len(NUMBERS) + len(ODDS) :][: len(WAYS)]
+        return self.numbers()[len(NUMBERS) + len(ODDS) :][: len(WAYS)]
 
-    def seen(self, name):
+    def seen(self, name: str) -> int:
         """What was seen of epoll, or of the socket that was read last."""
-        return PAGE.unpack(self.page)[-len(SEEN) :][SEEN.index(name)]
+        return self.numbers()[-len(SEEN) :][SEEN.index(name)]
+
+    def numbers(self) -> tuple[int, ...]:
+        """All numbers of the page as they stand now."""
+        return PAGE.unpack(self.page)
 
 
 @contextlib.contextmanager
@@ -81,7 +85,7 @@ class InSystems(unittest.TestSuite):
 
 
 @contextlib.contextmanager
-def file_of(text):
+def file_of(text: bytes) -> Iterator[IO[bytes]]:
     """An input with these bytes. A file gives them whole: how many growths its reading takes follows from their number,
     and not from the pieces in which a pipe would hand them over."""
     with tempfile.TemporaryFile() as file:
@@ -93,11 +97,11 @@ def file_of(text):
 class LossyPeer(Peer):
     """A client's end of a connection that may break at any time. Where something can't be sent, the next answer tells."""
 
-    def send(self, data):
+    def send(self, data: bytes) -> None:
         with contextlib.suppress(ConnectionError):
             super().send(data)
 
-    def more(self):
+    def more(self) -> bool:
         if not super().more():
             raise ConnectionResetError("the connection ended")
         return True
@@ -108,11 +112,11 @@ class HostileServer(Server):
 
     peer = LossyPeer
 
-    def __init__(self, program, system, workers, connections=CONNECTIONS, epoch=1, **more):
+    def __init__(self, program: str, system: System, workers: int, connections: int = CONNECTIONS, epoch: int = 1, **more: Any):
         self.system = system
         super().__init__(program, workers, connections, epoch, env=system.env, **more)
 
-    def no_more(self):
+    def no_more(self) -> None:
         """No connection can be accepted from now on, and no pause is made, so the server ends once those that are open did."""
         self.system.be(accept=1, sleep=1)
         with contextlib.suppress(ConnectionError):
@@ -125,17 +129,17 @@ class HostileHost(Host):
 
     peer = LossyPeer
 
-    def __init__(self, program, system, epoch=1, **more):
+    def __init__(self, program: str, system: System, epoch: int | None = 1, **more: Any):
         self.system = system
         super().__init__(program, epoch, env=system.env, **more)
 
-    def no_more(self):
+    def no_more(self) -> None:
         """The system is calm from now on, and the host serves one more: it does not end by itself."""
         self.system.be()
         self.use_up()
 
 
-def hostile_serving(program, system, workers, **more):
+def hostile_serving(program: str, system: System, workers: int, **more: Any) -> HostileServer | HostileHost:
     """A server in a system of its own: `rv serve` of so many workers, or of a HostProgram `rv host`."""
     if isinstance(program, HostProgram):
         return HostileHost(program, system, **more)

@@ -2,6 +2,7 @@
 from __future__ import annotations
 
 import contextlib
+import functools
 import os
 import pathlib
 import re
@@ -67,7 +68,12 @@ def limits_are_taken(program: str) -> None:
     for name, limits in NUMBERS.items():
         for given in limits.replace(",", "").split(" to "):
             with Host(program, epoch=None, options=(f"--{name}={given}",)) as host:
-                until(f"by --{name}={given} a hello is welcome", lambda host=host: b'"kind":"welcome"' in answer_of(host))
+                until(f"by --{name}={given} a hello is welcome", functools.partial(is_welcome, host))
+
+
+def is_welcome(host: Host) -> bool:
+    """Whether a hello is welcome."""
+    return b'"kind":"welcome"' in answer_of(host)
 
 
 def answer_of(host: Host) -> bytes:

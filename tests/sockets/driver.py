@@ -1,10 +1,12 @@
 """The driver of crowds: many clients at once at one server, what goes on beside them, and what must hold at its end of all
 that they were told."""
 import threading
+from collections.abc import Callable, Iterable
 
-from tests.model.account import Key
+from tests.model.account import Account, Key
 from tests.sockets.accounts import account_fault
 from tests.sockets.judge import crowd_fault
+from tests.sockets.programs import Served
 from tests.sockets.standing import Replies
 from tests.sockets.wire import PATIENCE, demand, together
 
@@ -14,6 +16,10 @@ MOST, SAMPLE = 1_000, 60
 # What clients asked under each key, in the members of its call; and the replies that they were told, one after another.
 Asked = dict[Key, dict[str, object]]
 Told = list[tuple[Key, dict[str, object]]]
+# What clients do, and what goes on beside them until an event is set; and the items that are left in each queue.
+Clients = Iterable[Callable[[], object]]
+Beside = Callable[[threading.Event], object]
+Left = dict[int, list[str]]
 
 
 class Ledger:
@@ -45,7 +51,8 @@ class Ledger:
             self.asked[key], self.told[key] = call, reply
 
 
-def drive(server, ledger, clients, *, beside=(), limit=10 * PATIENCE, calm=None, rest=None, end):
+def drive(server: Served, ledger: Ledger, clients: Clients, *, beside: Iterable[Beside] = (), limit: float = 10 * PATIENCE,
+          calm: Callable[[], object] | None = None, rest: Callable[[], Left] | None = None, end: Callable[[], object]) -> Account:
     """Drives a crowd to its end, and judges what all of it was told. Gives the account with which the server ended.
 
     All clients run at once, each in a thread, and so does what goes on `beside` them: it is given an event, which is set
@@ -59,11 +66,11 @@ def drive(server, ledger, clients, *, beside=(), limit=10 * PATIENCE, calm=None,
     return judged(server, ledger, left)
 
 
-def run_at_once(clients, beside, limit):
+def run_at_once(clients: Clients, beside: Iterable[Beside], limit: float) -> None:
     """Runs all clients at once, and what goes on beside them until these are done."""
     done = threading.Event()
 
-    def all_clients():
+    def all_clients() -> None:
         try:
             together(*clients, limit=limit)
         finally:
@@ -72,7 +79,7 @@ def run_at_once(clients, beside, limit):
     together(all_clients, *(lambda part=part: part(done) for part in beside), limit=limit + PATIENCE)
 
 
-def judged(server, ledger, left=None):
+def judged(server: Served, ledger: Ledger, left: Left | None = None) -> Account:
     """The account with which a server ends behind a crowd. It must be legal, also by `rv audit`; nothing may have arrived
     that no client asked; and each reply that was told must stand in it, also by `rv verify`. Where all was taken that was left,
     nothing may be lost, or be told to two."""

@@ -25,15 +25,15 @@ class Host(Served):
 
     def __init__(self, program: str, epoch: int | None = 1, *, options: tuple[str, ...] = (), keeps: bool = True, **more: Any):
         """`options` stand behind `--listen`, `--epoch`, which is left out where it is None, and `--account`, whose file goes with
-        the host, and which is left out where it keeps none."""
+        the host, and which is left out where it keeps none. Of a host that chooses its epoch this isn't known."""
         self.folder = tempfile.TemporaryDirectory(prefix="rv-host-")
         self.account = pathlib.Path(self.folder.name, "account")
-        self.options, self.has_account = options, keeps
-        super().__init__(program, epoch, **more)
+        self.options, self.has_account, self.has_epoch = options, keeps, epoch is not None
+        super().__init__(program, epoch or 0, **more)
 
     def command(self) -> list[str]:
         self.account.unlink(missing_ok=True)
-        epoch = [] if self.epoch is None else ["--epoch", str(self.epoch)]
+        epoch = ["--epoch", str(self.epoch)] if self.has_epoch else []
         account = ["--account", str(self.account)] if self.has_account else []
         return ["host", "--listen", f"127.0.0.1:{self.port}", *epoch, *account, *self.options]
 

@@ -1,4 +1,6 @@
 """The program's processes: a server on a port of this machine, and a caller. None is left running."""
+from __future__ import annotations
+
 import collections
 import contextlib
 import os
@@ -10,9 +12,12 @@ import subprocess
 import tempfile
 import threading
 import time
+from collections.abc import Iterable, Iterator, Mapping, Sequence
+from typing import Any, TypeVar
 
+from tests.model.account import Account, Key
 from tests.sockets.accounts import account_fault, read_account
-from tests.sockets.wire import PATIENCE, Peer, Wrong, demand, hello, members_of, record_line, until, welcome
+from tests.sockets.wire import PATIENCE, Members, Peer, Wrong, demand, hello, members_of, record_line, until, welcome
 
 PORTS = range(20_000, 32_000)
 # The last that were given, which nobody may listen at yet.
@@ -21,9 +26,10 @@ GIVEN: collections.deque[int] = collections.deque(maxlen=100)
 TRIES = 5
 # Whoever does nothing for so many seconds, and is not kept from it, rests.
 REST = 0.05
+Self = TypeVar("Self", bound="Process")
 
 
-def free_port():
+def free_port() -> int:
     """A port that nobody listens at. Below those that the machine gives to clients, so that no client gets it."""
     while True:
         port = random.choice(PORTS)
@@ -39,14 +45,14 @@ def free_port():
 
 
 @contextlib.contextmanager
-def taken_port():
+def taken_port() -> Iterator[int]:
     """A port at which nobody listens, nor can until the end of the block."""
     with socket.socket() as holder:
         holder.bind(("127.0.0.1", 0))
         yield holder.getsockname()[1]
 
 
-def listens_at(pid, port):
+def listens_at(pid: int, port: int) -> bool:
     """Whether a process has a listening TCP socket at a port of this machine: known without a fixed wait, so that a
     slow machine cannot have it missed."""
     try:
@@ -57,7 +63,7 @@ def listens_at(pid, port):
     return bool(sockets) and any(sockets.intersection(listening(table, port)) for table in ("tcp", "tcp6"))
 
 
-def listening(table, port):
+def listening(table: str, port: int) -> list[str]:
     """The names of the sockets that listen at a port, by one of the system's tables."""
     try:
         text = pathlib.Path(f"/proc/net/{table}").read_text()
@@ -68,7 +74,7 @@ def listening(table, port):
     return [f"socket:[{cells[9]}]" for cells in rows if cells[3] == "0A" and int(cells[1].rpartition(":")[2], 16) == port]
 
 
-def is_socket(path):
+def is_socket(path: pathlib.Path) -> bool:
     """Whether this descriptor of a process is a socket; not where it was closed meanwhile."""
     try:
         return os.readlink(path).startswith("socket:")
@@ -79,30 +85,30 @@ def is_socket(path):
 class Process:
     """A process of the program. At the end of its block it is killed where it still runs."""
 
-    def __init__(self, words, **more):
+    def __init__(self, words: Sequence[str], **more: Any):
         self.words = words
-        pipes = {name: subprocess.PIPE for name in ("stdin", "stdout", "stderr")}
-        self.process = subprocess.Popen(words, **{**pipes, **more})
+        pipes: dict[str, Any] = {name: subprocess.PIPE for name in ("stdin", "stdout", "stderr")}
+        self.process: subprocess.Popen[bytes] = subprocess.Popen(words, **{**pipes, **more})
         self.printed, self.said = b"", b""
         self.readers = [threading.Thread(target=read, daemon=True) for read in (self.read_printed, self.read_said)]
         for reader in self.readers:
             reader.start()
 
-    def read_printed(self):
-        while self.process.stdout and (piece := self.process.stdout.read1(65_536)):
+    def read_printed(self) -> None:
+        while self.process.stdout and (piece := os.read(self.process.stdout.fileno(), 65_536)):
             self.printed += piece
 
-    def read_said(self):
-        while self.process.stderr and (piece := self.process.stderr.read1(65_536)):
+    def read_said(self) -> None:
+        while self.process.stderr and (piece := os.read(self.process.stderr.fileno(), 65_536)):
             self.said += piece
 
-    def __enter__(self):
+    def __enter__(self: Self) -> Self:
         return self
 
-    def __exit__(self, *_):
+    def __exit__(self, *_: object) -> None:
         self.kill()
 
-    def kill(self):
+    def kill(self) -> None:
         """Ends the process, if it runs."""
         if self.process.poll() is None:
             self.process.kill()
@@ -116,11 +122,11 @@ class Process:
             except OSError:
                 pass
 
-    def runs(self):
+    def runs(self) -> bool:
         """Whether the process has not ended."""
         return self.process.poll() is None
 
-    def status(self, patience=PATIENCE):
+    def status(self, patience: float = PATIENCE) -> int:
         """The exit status; all that was printed and said is there then."""
         try:
             status = self.process.wait(patience)
@@ -139,7 +145,7 @@ class Served(Process):
     # What it says where somebody took the port before it did.
     port_is_taken = b"address fault\n"
 
-    def __init__(self, program, epoch, port=None, **more):
+    def __init__(self, program: str, epoch: int, port: int | None = None, **more: Any):
         self.program, self.epoch, self.listens = program, epoch, False
         self.made, self.lock = 0, threading.Lock()
         for _ in range(TRIES):
@@ -150,24 +156,24 @@ class Served(Process):
             self.kill()
         raise Wrong("no port is free")
 
-    def command(self):
+    def command(self) -> list[str]:
         """The words behind the program's name."""
         raise NotImplementedError
 
-    def written(self):
+    def written(self) -> bytes:
         """The bytes of its account."""
         return self.printed
 
-    def ended(self, patience=PATIENCE):
+    def ended(self, patience: float = PATIENCE) -> Account:
         """The account of all that it did, when it has ended, which must be a good one."""
         raise NotImplementedError
 
-    def taken(self):
+    def taken(self) -> bool:
         """Whether somebody took the port before the server did: it has not begun to listen, and soon ends."""
         until("the server listens, or ends", lambda: listens_at(self.process.pid, self.port) or not self.runs())
         return not self.runs() and self.status() == 1 and self.port_is_taken in self.said
 
-    def connect(self, receive=None):
+    def connect(self, receive: int | None = None) -> Peer:
         """A connection to the server; `receive` is how many bytes the system is to keep for the client, at least."""
         ends = time.monotonic() + PATIENCE
         while True:
@@ -189,30 +195,30 @@ class Served(Process):
                 self.made += 1
             return self.peer(connection)
 
-    def greeted(self, client, incarnation=1, version=1):
+    def greeted(self, client: int, incarnation: int = 1, version: int = 1) -> Peer:
         """A connection whose client was welcomed."""
         peer = self.connect()
         peer.expect(hello(client, incarnation, version), welcome(client, self.epoch, incarnation, version))
         return peer
 
-    def waits(self):
+    def waits(self) -> list[list[str]] | None:
         """How often each of its threads waited so far, where all of them do so now."""
         told = [path.read_text() for path in pathlib.Path(f"/proc/{self.process.pid}/task").glob("*/status")]
         asleep = all(re.search(r"^State:\tS", text, re.MULTILINE) for text in told)
         return [re.findall(r"ctxt_switches:\t(\d+)", text) for text in told] if asleep else None
 
-    def rests(self):
+    def rests(self) -> bool:
         """Whether each of its threads waits, and went on waiting for a moment: it does nothing until something comes. That a
         slow machine lets a thread not run is no rest."""
         before = self.waits()
         time.sleep(REST)
         return before is not None and before == self.waits()
 
-    def accepted(self):
+    def accepted(self) -> int:
         """How many connections it has accepted that are open; it listens."""
         return sum(map(is_socket, pathlib.Path(f"/proc/{self.process.pid}/fd").glob("*"))) - 1
 
-    def judged(self, asked, told, patience=PATIENCE):
+    def judged(self, asked: Mapping[Key, Members], told: Iterable[tuple[Key, Members]], patience: float = PATIENCE) -> Account:
         """Ends with an account in which all that was told stands; `asked` has each key's call."""
         account = self.ended(patience)
         fault = account_fault(account, asked, told)
@@ -221,20 +227,20 @@ class Served(Process):
         self.verified(asked, told)
         return account
 
-    def verified(self, asked, told):
+    def verified(self, asked: Mapping[Key, Members], told: Iterable[tuple[Key, Members]]) -> None:
         """By the program's own word the account must keep each reply that was told to one of these calls."""
         self.keeps(b"".join(record_line(key, asked[key], reply) for key, reply in told))
 
-    def keeps(self, record):
+    def keeps(self, record: bytes) -> None:
         """By the program's own word the account must keep each line of the record."""
         with tempfile.TemporaryDirectory(prefix="rv-verify-") as folder:
             account, replies = pathlib.Path(folder, "account"), pathlib.Path(folder, "replies")
             account.write_bytes(self.written())
             replies.write_bytes(record)
             ran = subprocess.run([self.program, "verify", account, "--replies", replies], capture_output=True, timeout=4 * PATIENCE)
-        demand((ran.returncode, ran.stderr) == (0, b""), f"rv verify says {ran.stdout[-2_000:]} and {ran.stderr}")
+        demand((ran.returncode, ran.stderr) == (0, b""), f"rv verify says {ran.stdout[-2_000:]!r} and {ran.stderr!r}")
 
-    def audited(self):
+    def audited(self) -> None:
         """The program's own audit must find the account legal."""
         ran = subprocess.run([self.program, "audit"], input=self.written(), capture_output=True, timeout=4 * PATIENCE)
         told = (ran.stdout, ran.stderr, ran.returncode)
@@ -244,15 +250,15 @@ class Served(Process):
 class Server(Served):
     """A server of so many workers, which ends behind so many connections and then prints its account."""
 
-    def __init__(self, program, workers, connections, epoch=1, **more):
+    def __init__(self, program: str, workers: int, connections: int, epoch: int = 1, **more: Any):
         self.workers, self.connections = workers, connections
         super().__init__(program, epoch, **more)
 
-    def command(self):
+    def command(self) -> list[str]:
         return ["serve", "--listen", f"127.0.0.1:{self.port}", "--epoch", str(self.epoch), "--workers", str(self.workers),
                 "--connections", str(self.connections)]
 
-    def use_up(self):
+    def use_up(self) -> None:
         """Makes the connections that are left, one by one, so that the server ends: it must serve these and no more."""
         ends, served = time.monotonic() + 4 * PATIENCE, self.made
         while True:
@@ -266,7 +272,7 @@ class Server(Served):
             served += 1
         demand(served == self.connections, f"{served} connections were served, not {self.connections}")
 
-    def ended(self, patience=PATIENCE):
+    def ended(self, patience: float = PATIENCE) -> Account:
         """The account that the server printed at its end, which must be a good one."""
         status = self.status(patience)
         demand((status, self.said) == (0, b""), f"serve ended with status {status} and said {self.said!r}")
@@ -278,25 +284,28 @@ class Server(Served):
 class Caller(Process):
     """A caller, with these lines for its input. It may keep a record."""
 
-    def __init__(self, program, port, client, lines, incarnation=1, tries=2 * PATIENCE, speak=1, record=None, **more):
-        super().__init__([program, *(["record", "--to", record] if record else ["call"]), "--connect", f"127.0.0.1:{port}", "--client", str(client),
-                          "--incarnation", str(incarnation), "--tries", str(tries), "--speak", str(speak)], **more)
+    def __init__(self, program: str, port: int, client: int, lines: bytes, incarnation: int = 1, tries: int = 2 * PATIENCE,
+                 speak: int = 1, record: str | os.PathLike[str] | None = None, **more: Any):
+        super().__init__([program, *(["record", "--to", str(record)] if record else ["call"]), "--connect", f"127.0.0.1:{port}",
+                          "--client", str(client), "--incarnation", str(incarnation), "--tries", str(tries), "--speak", str(speak)],
+                         **more)
+        assert self.process.stdin
         try:
             self.process.stdin.write(lines)
             self.process.stdin.close()
         except BrokenPipeError:
             pass
 
-    def lines(self):
+    def lines(self) -> list[bytes]:
         """The whole lines that were printed so far."""
         return self.printed.split(b"\n")[:-1]
 
-    def judge(self, printed, status=0, said=b""):
+    def judge(self, printed: bytes, status: int = 0, said: bytes = b"") -> None:
         """It must end so."""
         ended = self.status()
         got = (self.printed, ended, self.said)
         demand(got == (printed, status, said), f"call printed, ended with and said {got}, not {(printed, status, said)}")
 
-    def replies(self):
+    def replies(self) -> list[Members]:
         """The members of the answers that were printed."""
         return [members_of(line) for line in self.lines()]

@@ -1,4 +1,6 @@
 """Messages and answers on a socket: frames, and a client's end of a connection. Everything has a time-out."""
+from __future__ import annotations
+
 import errno
 import os
 import queue
@@ -8,7 +10,8 @@ import struct
 import sys
 import threading
 import time
-from typing import NamedTuple
+from collections.abc import Callable
+from typing import Any, NamedTuple, TypeVar
 
 from tests.model.account import Key
 from tests.model.texts import KEY, members_of_version, read_json, written
@@ -25,89 +28,95 @@ BAD_TEXT = b'{"code":1,"kind":"refused"}'
 TCP_INFO = struct.Struct("=128xQI12xII")
 
 
+# The members of a JSON object.
+Members = dict[str, Any]
+Given = TypeVar("Given")
+Self = TypeVar("Self", bound="Peer")
+
+
 class Wrong(AssertionError):
     """What a test found."""
 
 
-def demand(condition, what):
+def demand(condition: object, what: object) -> None:
     """Ends the test unless the condition holds."""
     if not condition:
         raise Wrong(what)
 
 
-def frame(body):
+def frame(body: bytes) -> bytes:
     """A body behind its length."""
     return struct.pack(">H", len(body)) + body
 
 
-def hello(client, incarnation=1, version=1):
+def hello(client: int, incarnation: int = 1, version: int = 1) -> bytes:
     """The body of a hello."""
     members = {"kind": "hello", "client": client, "incarnation": incarnation}
     return written({**members, **members_of_version(version)}).encode()
 
 
-def request(key, call):
+def request(key: Key, call: Members) -> bytes:
     """The body of a request; `call` has the members of its call."""
     return written({"kind": "request", **vars(key), **call}).encode()
 
 
-def cancel(key):
+def cancel(key: Key) -> bytes:
     """The body of a cancel."""
     return written({"kind": "cancel", **vars(key)}).encode()
 
 
-def give(word, item, wait=None, queue=3):
+def give(word: str, item: str, wait: str | int | None = None, queue: int = 3) -> Members:
     """The members of a put or a transfer."""
     return {"call": word, "queue": queue, "item": item, **({"wait": wait} if word == "transfer" else {})}
 
 
-def take(wait, queue=3):
+def take(wait: str | int, queue: int = 3) -> Members:
     """The members of a take."""
     return {"call": "take", "queue": queue, "wait": wait}
 
 
-def drain(most, queue=3):
+def drain(most: int, queue: int = 3) -> Members:
     """The members of a drain."""
     return {"call": "drain", "queue": queue, "max": most}
 
 
-def swap(item, wait, exchanger=5):
+def swap(item: str, wait: str | int, exchanger: int = 5) -> Members:
     """The members of a swap."""
     return {"call": "swap", "exchanger": exchanger, "item": item, "wait": wait}
 
 
-def welcome(client, epoch=1, incarnation=1, version=1):
+def welcome(client: int, epoch: int = 1, incarnation: int = 1, version: int = 1) -> bytes:
     """The body of a welcome."""
     members = {"kind": "welcome", "client": client, "epoch": epoch, "incarnation": incarnation}
     return written({**members, **members_of_version(version)}).encode()
 
 
-def refused(code, **detail):
+def refused(code: int, **detail: int) -> bytes:
     """The body of a refusal."""
     return written({"kind": "refused", "code": code, **detail}).encode()
 
 
-def replied(key, **reply):
+def replied(key: Key, **reply: object) -> bytes:
     """The body of a reply."""
     return written({"kind": "reply", **vars(key), **reply}).encode()
 
 
-def record_line(key, call, reply):
+def record_line(key: Key, call: Members, reply: Members) -> bytes:
     """The line of a record for a call, and its reply's members."""
     return b'{"asked":%b,"told":%b}\n' % (request(key, call), replied(key, **reply))
 
 
-def waits(key):
+def waits(key: Key) -> bytes:
     """The body that says that a request waits."""
     return written({"kind": "waiting", **vars(key)}).encode()
 
 
-def key_of(answer):
+def key_of(answer: Members) -> Key:
     """The key that an answer's members name."""
     return Key(*(answer[name] for name in KEY))
 
 
-def reply_of(answer):
+def reply_of(answer: Members) -> Members:
     """The members of an answer's reply."""
     return {name: value for name, value in answer.items() if name not in ("kind", *KEY)}
 
@@ -123,27 +132,27 @@ class Packets(NamedTuple):
 class Peer:
     """A client's end of a connection."""
 
-    def __init__(self, connection):
+    def __init__(self, connection: socket.socket):
         self.socket = connection
         self.socket.settimeout(PATIENCE)
         self.socket.setsockopt(socket.IPPROTO_TCP, socket.TCP_NODELAY, 1)
         self.got = b""
 
-    def __enter__(self):
+    def __enter__(self: Self) -> Self:
         return self
 
-    def __exit__(self, *_):
+    def __exit__(self, *_: object) -> None:
         self.close()
 
-    def close(self):
+    def close(self) -> None:
         self.socket.close()
 
-    def reset(self):
+    def reset(self) -> None:
         """Closes so that the server's reads and writes fail."""
         self.socket.setsockopt(socket.SOL_SOCKET, socket.SO_LINGER, struct.pack("ii", 1, 0))
         self.socket.close()
 
-    def end(self):
+    def end(self) -> None:
         """Sends nothing more; answers may still come. Where the server has reset the connection this is a ConnectionError, as a
         read would be, and not the plain OSError that Python makes of it."""
         try:
@@ -153,22 +162,22 @@ class Peer:
                 raise ConnectionResetError(fault.errno, "the connection was reset") from None
             raise
 
-    def acknowledge(self, late):
+    def acknowledge(self, late: bool) -> None:
         """What comes next is acknowledged late, with what is sent behind it or after a while, or else at once: a packet that
         waits for its like is then kept back for so long, or for no time."""
         self.socket.setsockopt(socket.IPPROTO_TCP, socket.TCP_QUICKACK, int(not late))
 
-    def counted(self):
+    def counted(self) -> Packets:
         """What came so far, as the system counts it."""
         size, out, packets, out_with_data = TCP_INFO.unpack(
             self.socket.getsockopt(socket.IPPROTO_TCP, socket.TCP_INFO, TCP_INFO.size))
         return Packets(size, packets, out - out_with_data)
 
-    def came(self, before, size):
+    def came(self, before: Packets, size: int) -> Packets:
         """What has come since `before`, at the first look that finds so many bytes of it. None is read: that may acknowledge."""
         now = before
 
-        def is_whole():
+        def is_whole() -> bool:
             nonlocal now
             now = self.counted()
             return now.bytes - before.bytes >= size
@@ -179,16 +188,16 @@ class Peer:
         until(f"{size} bytes come", is_whole)
         return Packets(*(one - other for one, other in zip(now, before)))
 
-    def send(self, data):
+    def send(self, data: bytes) -> None:
         self.socket.sendall(data)
 
-    def more(self):
+    def more(self) -> bool:
         """Reads a piece; whether one came before the end."""
         piece = self.socket.recv(65_536)
         self.got += piece
         return bool(piece)
 
-    def hear(self):
+    def hear(self) -> bytes | None:
         """The body of the next frame; None where the connection ends between two frames."""
         while len(self.got) < 2 or len(self.got) < 2 + int.from_bytes(self.got[:2]):
             if not self.more():
@@ -199,23 +208,24 @@ class Peer:
         body, self.got = self.got[2:end], self.got[end:]
         return body
 
-    def ask(self, body):
+    def ask(self, body: bytes) -> bytes:
         """Sends a frame and reads one, which must come."""
         self.send(frame(body))
         answer = self.hear()
-        demand(answer is not None, f"the connection ends in place of an answer to {body[:200]!r}")
+        if answer is None:
+            raise Wrong(f"the connection ends in place of an answer to {body[:200]!r}")
         return answer
 
-    def told(self, body):
+    def told(self, body: bytes) -> Members:
         """The members of the answer to a frame."""
         return members_of(self.ask(body))
 
-    def expect(self, body, wanted):
+    def expect(self, body: bytes, wanted: bytes) -> None:
         """A frame must be answered so."""
         got = self.ask(body)
         demand(got == wanted, f"{body[:300]!r} was answered {got!r}, not {wanted!r}")
 
-    def expect_end(self):
+    def expect_end(self) -> None:
         """No further answer may come, and the connection must end."""
         try:
             body = self.hear()
@@ -224,19 +234,22 @@ class Peer:
         demand(body is None, f"a further answer: {body!r}")
 
 
-def members_of(body):
+def members_of(body: bytes) -> Members:
     """The members of an answer, which must be written as answers are."""
     members = read_json(body)
-    demand(isinstance(members, dict) and written(members).encode() == body, f"no answer's text: {body!r}")
+    if not isinstance(members, dict) or written(members).encode() != body:
+        raise Wrong(f"no answer's text: {body!r}")
     return members
 
 
-def together(*parts, limit=10 * PATIENCE):
+def together(*parts: Callable[[], Given], limit: float = 10 * PATIENCE) -> list[Given]:
     """Runs parts at once, each in a thread, and gives what they gave. Tells the first that went wrong: behind the end of all,
     or at once where nothing counts behind a fault."""
-    given, faults, ended = [None] * len(parts), [], queue.SimpleQueue()
+    given: list[Any] = [None] * len(parts)
+    faults: list[Exception] = []
+    ended: queue.SimpleQueue[int] = queue.SimpleQueue()
 
-    def run(number, part):
+    def run(number: int, part: Callable[[], Given]) -> None:
         try:
             given[number] = part()
         except Exception as fault:
@@ -260,7 +273,7 @@ def together(*parts, limit=10 * PATIENCE):
     return given
 
 
-def until(what, holds, patience=PATIENCE):
+def until(what: str, holds: Callable[[], object], patience: float = PATIENCE) -> None:
     """Waits until something holds."""
     ends = time.monotonic() + patience
     while not holds():
