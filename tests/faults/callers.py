@@ -1,6 +1,7 @@
 """Callers to which the system is hostile, at a server to which it is too; and callers whose answers are spoilt."""
 from __future__ import annotations
 
+import functools
 import random
 import socket
 import subprocess
@@ -37,7 +38,7 @@ def any_call(chance, item):
         drain(chance.choice([1, 3]), queue), swap(item, wait if wait != "now" else 0), {"call": "count", "queue": queue}, {"call": "peek", "queue": queue}])
 
 
-def hostile_callers(program, seed):
+def hostile_callers(program: str, seed: int) -> None:
     """Each reply that a caller printed stands in the account, in the order of its lines, and nothing else was asked."""
     chance, ledger = random.Random(f"callers {seed}"), Ledger()
     system = System(chance.randrange(2**31))
@@ -45,7 +46,7 @@ def hostile_callers(program, seed):
         server.connect().close()
         system.be(growth=500, cut_read=3, failed_read=6_000, cut_write=3, failed_write=6_000, accept=9, sleep=2)
 
-        def run(first, chance):
+        def run(first: int, chance: random.Random) -> None:
             for client in range(first, first + RUNS):
                 calls = [any_call(chance, f"{client}#{number}") for number in range(1, LINES + 1)]
                 keys = [Key(1, client, 1, number) for number in range(1, LINES + 1)]
@@ -54,7 +55,7 @@ def hostile_callers(program, seed):
                 for key, reply in zip(keys, one_caller(program, server, client, calls, chance)):
                     ledger.tell(key, reply)
 
-        drive(server, ledger, [lambda first=first, own=random.Random(chance.random()): run(first, own)
+        drive(server, ledger, [functools.partial(run, first, random.Random(chance.random()))
                                for first in range(1, CALLERS * RUNS, RUNS)], calm=system.be, end=server.no_more)
     demand(len(ledger.told) > CALLERS * RUNS, f"{len(ledger.told)} replies in all")
 

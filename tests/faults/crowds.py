@@ -76,34 +76,34 @@ def one_crowd(program, chance, size, beside=None, **odds):
     return system
 
 
-def growths_refused(program, seed):
+def growths_refused(program: str, seed: int) -> None:
     """Each growth may be refused."""
     for size, odds in [(6, 40), (20, random.Random(f"growths {seed}").choice([100, 300]))]:
         crowd_after_crowd(program, f"growths {seed} {size}", size, growth=odds)
 
 
-def links_broken(program, seed):
+def links_broken(program: str, seed: int) -> None:
     """Each read and each write of a connection may be cut short or fail."""
     crowd_after_crowd(program, f"links {seed}", 12, cut_read=2, failed_read=2_000, cut_write=2, failed_write=2_000)
 
 
-def connections_not_accepted(program, seed):
+def connections_not_accepted(program: str, seed: int) -> None:
     """Each accept may fail."""
     crowd_after_crowd(program, f"accepts {seed}", 12, accept=3)
 
 
-def clocks_that_fail(program, seed):
+def clocks_that_fail(program: str, seed: int) -> None:
     """The clock can't be read now and then, which counts as moment 0, and a pause may end at once."""
     crowd_after_crowd(program, f"clocks {seed}", 12, clock=5, sleep=3)
 
 
-def all_at_once(program, seed):
+def all_at_once(program: str, seed: int) -> None:
     """Growths, reads, writes, accepts, clocks and pauses, all of them."""
     crowd_after_crowd(program, f"all {seed}", 10, growth=200, cut_read=3, failed_read=3_000, cut_write=3,
                       failed_write=3_000, accept=5, clock=50, sleep=20)
 
 
-def all_but_clocks(program, seed):
+def all_but_clocks(program: str, seed: int) -> None:
     """The same of a server that never pauses, and whose system can tell the time."""
     crowd_after_crowd(program, f"all but clocks {seed}", 10, growth=200, cut_read=3, failed_read=3_000, cut_write=3,
                       failed_write=3_000, accept=5)
@@ -121,7 +121,7 @@ def stop_and_go(chance, server, done):
         os.kill(server.process.pid, signal.SIGCONT)
 
 
-def stopped_and_gone_on(program, seed):
+def stopped_and_gone_on(program: str, seed: int) -> None:
     """The server is stopped and goes on, in the middle of whatever it does."""
     crowd_after_crowd(program, f"stopped {seed}", 12, stop_and_go)
 

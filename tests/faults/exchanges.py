@@ -2,7 +2,7 @@
 from tests.faults.system import HostileServer, System
 from tests.faults.turns import see_end
 from tests.model.account import Key
-from tests.sockets.wire import cancel, demand, frame, give, hello, replied, request, take, waits, welcome
+from tests.sockets.wire import Peer, cancel, demand, frame, give, hello, replied, request, take, waits, welcome
 
 REQUESTS = 16
 # Long answers that are asked for in one piece, how many of them there is room for, and how many bytes are held back at most.
@@ -13,7 +13,7 @@ PAUSES = 200
 TRIES = 10
 
 
-def asked_in_one_piece(program):
+def asked_in_one_piece(program: str) -> tuple[int, ...]:
     """The reads and writes of a connection over which a hello comes, and behind its welcome requests in one piece."""
     system = System()
     with HostileServer(program, system, workers=1, connections=1) as server:
@@ -30,17 +30,17 @@ def asked_in_one_piece(program):
     return system.asked()
 
 
-def a_read_and_a_write_a_piece(program):
+def a_read_and_a_write_a_piece(program: str) -> None:
     """The answers to the requests of one piece go out in one write: beside the hello's there is one read, one write, and the
     read of the end. Before each read all answers are out, so there are never more writes than reads."""
-    seen = []
+    seen: list[tuple[int, ...]] = []
     while (3, 2) not in seen and len(seen) < TRIES:
         seen.append(asked_in_one_piece(program))
         demand(seen[-1][1] < seen[-1][0], f"of {REQUESTS} requests in a piece: {seen[-1]} reads and writes")
     demand((3, 2) in seen, f"{REQUESTS} requests in a piece have these reads and writes: {seen}")
 
 
-def long_answers(program):
+def long_answers(program: str) -> tuple[int, ...]:
     """The reads and writes of a connection over which a hello comes, an item of the greatest length, and requests for it in one
     piece, which are repeats."""
     system = System()
@@ -61,16 +61,17 @@ def long_answers(program):
     return system.asked()
 
 
-def what_is_held_back(program):
+def what_is_held_back(program: str) -> None:
     """Of the answers to a piece as many are held back as there is room for, and then go out in one write; never more."""
-    wanted, seen = (4, 2 + LONG // IN_HAND), []
+    seen: list[tuple[int, ...]] = []
+    wanted = (4, 2 + LONG // IN_HAND)
     while wanted not in seen and len(seen) < TRIES:
         seen.append(long_answers(program))
         demand(seen[-1][1] >= wanted[1], f"{LONG} long answers take {seen[-1]} reads and writes, and not {wanted}")
     demand(wanted in seen, f"{LONG} long answers to a piece have these reads and writes, and never {wanted}: {seen}")
 
 
-def pauses_of_requests_that_wait(program):
+def pauses_of_requests_that_wait(program: str) -> None:
     """A worker asks for a request that waits once more behind each of its pauses, at a moment of its own; whoever waited before in
     that connection. No pause is slept through here, and each reading of the clock fails."""
     system = System()
@@ -80,7 +81,7 @@ def pauses_of_requests_that_wait(program):
         with server.connect() as peer:
             peer.expect(hello(1), welcome(1))
             for key in asked:
-                seen = []
+                seen: list[int] = []
                 while PAUSES + 1 not in seen and len(seen) < TRIES:
                     seen.append(moments_of_a_wait(peer, system, key))
                     demand(seen[-1] > PAUSES, f"a request that waits is asked at {seen[-1]} moments")
@@ -89,7 +90,7 @@ def pauses_of_requests_that_wait(program):
         server.judged(asked, [(key, {"reply": "cancelled"}) for key in asked])
 
 
-def moments_of_a_wait(peer, system, key):
+def moments_of_a_wait(peer: Peer, system: System, key: Key) -> int:
     """How often the clock is read for a take that waits, which now and then is once more than it is asked for. A sleep that is
     interrupted is slept again."""
     pauses, moments = system.made("sleep"), system.made("clock")
@@ -98,12 +99,12 @@ def moments_of_a_wait(peer, system, key):
     return system.made("clock") - moments
 
 
-def a_connection_that_is_broken(program):
+def a_connection_that_is_broken(program: str) -> None:
     """Where the first answer to a piece can't be sent, its worker neither pauses nor reads on."""
     system, wish = System(), Key(1, 1, 1, 1)
     with HostileServer(program, system, workers=1, connections=2 * TRIES) as server:
         for rest in (frame(request(wish, take("forever"))) + frame(b"{"), b"\0"):
-            seen = []
+            seen: list[int] = []
             while 1 not in seen and len(seen) < TRIES:
                 seen.append(reads_of_a_broken_one(server, system, frame(hello(1)) + rest))
             demand(1 in seen, f"a connection that is broken behind {rest[:9]!r} has these reads: {seen}")
@@ -111,7 +112,7 @@ def a_connection_that_is_broken(program):
         server.judged({wish: take("forever")}, [])
 
 
-def reads_of_a_broken_one(server, system, piece):
+def reads_of_a_broken_one(server: HostileServer, system: System, piece: bytes) -> int:
     """How many reads there are of a connection over which a piece comes, and no byte can be sent."""
     reads, pauses = system.asked()[0], system.made("sleep")
     system.be(room=1, sleep=1)

@@ -46,7 +46,7 @@ def followed(lines, printed):
     return refused
 
 
-def short_of_memory(program, seed):
+def short_of_memory(program: str, seed: int) -> None:
     """Some books, each of random lines of its own."""
     refused = 0
     for book in range(BOOKS):

@@ -38,7 +38,7 @@ def judge(what, took, least, most):
     demand(min(took) <= most, f"{what} ends after {min(took):.2f} seconds, and not within {most:.2f}")
 
 
-def a_silent_client(program):
+def a_silent_client(program: str) -> None:
     """It is answered, says nothing more, and its connection ends in time: not earlier, and its worker is free then."""
     with HostileServer(program, hasty(HASTE), workers=PEERS, connections=2 * PEERS) as server:
         def silent(client):
@@ -55,7 +55,7 @@ def a_silent_client(program):
         server.judged({}, [])
 
 
-def a_deaf_client(program):
+def a_deaf_client(program: str) -> None:
     """It asks for long answers and reads none: the write that waits for it ends in time, and its worker is free then."""
     def deaf(_):
         with HostileServer(program, hasty(LITTLE_HASTE), workers=1, connections=2) as server:
@@ -98,7 +98,7 @@ class Mute(Listening):
                 pass
 
 
-def a_silent_server(program):
+def a_silent_server(program: str) -> None:
     """A caller that is not answered ends in time by a fault of its link: in its hello, and in a request."""
     took = together(*(lambda: mute(program, [], b"not welcome\n"),
                       lambda: mute(program, [welcome(2)], b"unsettled 1\n")) * PEERS)
@@ -114,7 +114,7 @@ def mute(program, answers, printed):
         return time.monotonic() - began
 
 
-def a_caller_at_busy_workers(program):
+def a_caller_at_busy_workers(program: str) -> None:
     """A caller whose server has no worker for it ends in time, and is served when it comes again behind those that were
     there."""
     text = written(give("put", "a")).encode() + b"\n"

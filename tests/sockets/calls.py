@@ -12,7 +12,7 @@ from tests.sockets.plain import EXCHANGES, Looker, is_late, none_waits
 from tests.sockets.hosts import serving
 from tests.sockets.programs import Caller
 from tests.sockets.wire import (
-    BAD_TEXT, PATIENCE, Packets, Peer, Wrong, demand, frame, give, hello, refused, replied, request, take, until, waits, welcome)
+    BAD_TEXT, PATIENCE, Members, Packets, Peer, Wrong, demand, frame, give, hello, refused, replied, request, take, until, waits, welcome)
 
 ONE = Key(1, 2, 1, 1)
 WISH = take("forever")
@@ -33,7 +33,7 @@ def refusal(code, **detail):
     return frame(refused(code, **detail))
 
 
-def two_callers(program):
+def two_callers(program: str) -> None:
     """Two callers hand an item over, and swap, each in either version: the giver's own tells whether it is told who took
     its item."""
     named = {"reply": "received", "by_client": 2, "by_incarnation": 1, "by_number": 1}
@@ -58,7 +58,7 @@ def hand_over(program, gives, takes, receipt):
         demand(len(account.entries) == 6, "the account has other than six entries")
 
 
-def two_recorders(program):
+def two_recorders(program: str) -> None:
     """Two callers hand an item over, and append to one record: it has each one's line, in whichever order."""
     gift, given, got = give("transfer", "a", "forever"), Key(1, 1, 1, 1), Key(1, 2, 1, 1)
     received, taken = replied(given, reply="received"), replied(got, reply="item", item="a")
@@ -79,25 +79,25 @@ def swapped(item):
     return {"call": "swap", "exchanger": 5, "item": item, "wait": "forever"}
 
 
-def a_line_as_soon_as_it_is_settled(program):
+def a_line_as_soon_as_it_is_settled(program: str) -> None:
     """What was settled is printed, to a pipe, while the next call still waits."""
     with serving(program, workers=2, connections=2) as server:
         with server.greeted(1) as peer, Caller(program, server.port, 2, lines(give("put", "x", queue=4), WISH)) as caller:
             until("the first line is printed", lambda: len(caller.lines()) == 1)
-            demand(caller.lines() == [replied(ONE, reply="done")], f"call printed {caller.printed}")
+            demand(caller.lines() == [replied(ONE, reply="done")], f"call printed {caller.printed!r}")
             demand(caller.runs(), "call ended before its second line was settled")
             peer.expect(hello(1), welcome(1))
         server.ended()
 
 
-def settled_in_turn(program):
+def settled_in_turn(program: str) -> None:
     """Each line is printed while the next one waits for what comes later."""
     with serving(program, workers=2, connections=2) as server:
         with server.greeted(1) as peer, Caller(program, server.port, 2, lines(WISH, WISH, WISH)) as caller:
-            wanted = []
+            wanted: list[bytes] = []
             for number, item in enumerate("abc", 1):
                 time.sleep(0.1)
-                demand(caller.runs() and caller.lines() == wanted, f"call printed {caller.printed}, not {wanted}")
+                demand(caller.runs() and caller.lines() == wanted, f"call printed {caller.printed!r}, not {wanted}")
                 key = Key(1, 1, 1, number)
                 peer.expect(request(key, give("put", item)), replied(key, reply="done"))
                 wanted.append(replied(Key(1, 2, 1, number), reply="item", item=item))
@@ -106,10 +106,10 @@ def settled_in_turn(program):
         server.ended()
 
 
-def started_again(program):
+def started_again(program: str) -> None:
     """The same client and incarnation, started once more, begins at number 1: it is told the reply that stands where
     that is its last number and the same call, and else nothing that settles."""
-    runs = [
+    runs: list[tuple[int, int, bytes, str | list[Members]]] = [
         (1, 1, lines(give("put", "a")), [{"reply": "done"}]),
         (1, 1, lines(give("put", "a")), [{"reply": "done"}]),
         (1, 1, lines(give("put", "b")), "unsettled 1"),
@@ -131,7 +131,7 @@ def started_again(program):
         server.ended()
 
 
-def started_in_another_version(program):
+def started_in_another_version(program: str) -> None:
     """A client that is started again in its incarnation is welcome in the version of its session alone; in a greater
     incarnation in any."""
     gift = lines(give("transfer", "a", "now"))
@@ -146,7 +146,7 @@ def started_in_another_version(program):
         server.ended()
 
 
-def started_while_it_waits(program):
+def started_while_it_waits(program: str) -> None:
     """A second start of the same incarnation is told the same reply as the first, or nothing that settles where its
     call is another; one of a greater incarnation ends the first."""
     with serving(program, workers=5, connections=6) as server, Looker(server) as looker:
@@ -294,7 +294,7 @@ def at_a_script(program, steps, text, tries, printed, status, heard, slowly=Fals
     return listener.came
 
 
-def strange_servers(program):
+def strange_servers(program: str) -> None:
     """Rubbish, half a frame, another's answers, those of another version, and answers that settle nothing."""
     for speak, scripts in [(1, SCRIPTS), (2, SECOND_SCRIPTS)]:
         for steps, printed, status, heard in scripts:
@@ -303,7 +303,7 @@ def strange_servers(program):
     at_a_script(program, [WELCOME, WAITS], lines(WISH), 1, b"unsettled 1\n", 1, [HELLO, ASKED])
 
 
-def lines_of_calls(program):
+def lines_of_calls(program: str) -> None:
     """Inputs of several lines, of none, and with a line that is no call text; and no tries."""
     done = [WELCOME, *map(frame, DONE)]
     printed = [line + b"\n" for line in DONE]
@@ -321,7 +321,7 @@ def lines_of_calls(program):
                 [HELLO, *PUT_FRAMES[:2]])
 
 
-def no_packet_waits(program):
+def no_packet_waits(program: str) -> None:
     """A request leaves in one piece, or else no part of it waits until the one before it was acknowledged."""
     keys = [Key(1, 2, 1, number) for number in range(1, EXCHANGES + 1)]
     heard = [HELLO, *(request(key, PUTS[0]) for key in keys)]

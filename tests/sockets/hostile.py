@@ -1,5 +1,6 @@
 """A thousand connections that mean no good, beside one good client that gets each answer."""
 import errno
+import functools
 import random
 import threading
 import time
@@ -151,13 +152,13 @@ class Good:
                 time.sleep(0.002 * (self.number > 500))
 
 
-def a_thousand_hostile_connections(program, seed):
+def a_thousand_hostile_connections(program: str, seed: int) -> None:
     """They are of many kinds, some at once, and none of them hurts the good client nor the server."""
     chance = random.Random(f"hostile {seed}")
     with serving(program, workers=WORKERS, connections=CONNECTIONS + 10) as server:
         ledger, left = Ledger(), Left(CONNECTIONS)
         hostile = [Hostile(server, random.Random(chance.random()), client) for client in HOSTILE]
-        bad = [lambda: never_reads(server, ledger, NEVER_READS), *(lambda one=one: one.run(left) for one in hostile)]
+        bad = [functools.partial(never_reads, server, ledger, NEVER_READS), *(functools.partial(one.run, left) for one in hostile)]
         account = drive(server, ledger, bad, beside=[Good(server, ledger).run], end=server.use_up)
         clients = {entry.act.client for entry in account.entries if isinstance(entry.act, Hello)}
         demand(clients <= {1, *HOSTILE, NEVER_READS}, f"the account has hellos of {clients}")

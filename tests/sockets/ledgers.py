@@ -82,7 +82,7 @@ def fault_of(told, left):
     return crowd_fault(ledger, {**LEFT, **left})
 
 
-def the_judge_of_crowds():
+def the_judge_of_crowds() -> None:
     """A right ledger has no fault, and each lie is found by the part that looks for it."""
     demand(fault_of({}, {}) is None, f"the right ledger: {fault_of({}, {})}")
     for part, told, left in LIES:

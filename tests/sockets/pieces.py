@@ -105,7 +105,7 @@ def shape(account: Account):
     return [(entry.act, entry.partners) for entry in account.entries]
 
 
-def frames_in_pieces(program, seed):
+def frames_in_pieces(program: str, seed: int) -> None:
     """Some connections at once, each to a server of its own."""
     together(*(lambda n=n: one_connection(program, random.Random(f"pieces {seed} {n}")) for n in range(CONNECTIONS)))
 

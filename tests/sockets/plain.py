@@ -8,6 +8,7 @@ import threading
 import time
 
 from tests.model.account import Key, receipt
+from tests.sockets.driver import Asked
 from tests.sockets.hosts import serving
 from tests.sockets.programs import taken_port
 from tests.sockets.wire import (
@@ -78,7 +79,7 @@ def in_its_own_frame(peer, key, call, **reply):
     return True
 
 
-def a_hand_over(program):
+def a_hand_over(program: str) -> None:
     """Two clients over two connections that are open at once; each asks again and gets its reply again."""
     with serving(program, workers=2, connections=2, epoch=7) as server:
         giver, taker, told = Key(7, 1, 1, 1), Key(7, 2, 1, 1), []
@@ -87,7 +88,7 @@ def a_hand_over(program):
             one.send(frame(request(giver, gift)))
             taken = settled(two, request(taker, wish), two.told(request(taker, wish)))
             demand(taken == {"kind": "reply", **vars(taker), "reply": "item", "item": "a"}, f"the taker is told {taken}")
-            answer = settled(one, request(giver, gift), members_of(one.hear()))
+            answer = settled(one, request(giver, gift), members_of(one.hear() or b""))
             demand(answer == {"kind": "reply", **vars(giver), "reply": "received"}, f"the giver is told {answer}")
             for _ in range(3):
                 one.expect(request(giver, gift), replied(giver, reply="received"))
@@ -107,7 +108,7 @@ ONE_BY_ONE = [
 ]
 
 
-def one_after_the_other(program):
+def one_after_the_other(program: str) -> None:
     """A client puts and closes, and then another one connects, polls and closes: what each is told, and the account, line
     for line but for the moments."""
     put, poll = Key(1, 1, 1, 1), Key(1, 2, 1, 1)
@@ -123,7 +124,7 @@ def one_after_the_other(program):
         demand(got == ONE_BY_ONE, f"the account is {server.written()!r}")
 
 
-def a_consumer_that_waits(program):
+def a_consumer_that_waits(program: str) -> None:
     """A take that waits in one connection is met by a put from another, and told so in its own frame."""
     with serving(program, workers=3, connections=3) as server:
         asked = {}
@@ -140,7 +141,7 @@ def a_consumer_that_waits(program):
         server.judged(asked | looker.asked, [])
 
 
-def an_answer_before_a_wait(program):
+def an_answer_before_a_wait(program: str) -> None:
     """What is asked in one piece before a request that waits is answered while that waits: an item comes for it once its
     client has the welcome."""
     with serving(program, workers=2, connections=ATTEMPTS + 1) as server:
@@ -161,7 +162,7 @@ def is_met_behind_its_welcome(server, giver, client):
         return in_its_own_frame(taker, wish, take("forever"), reply="item", item="a")
 
 
-def a_drain(program):
+def a_drain(program: str) -> None:
     """It takes the oldest items in one step, of a transfer that waits in another connection too, which is told so in its own
     frame; its repeat is told the same, and what it did not take stays. Its longest reply comes in one frame."""
     with serving(program, workers=3, connections=3) as server:
@@ -199,7 +200,7 @@ def a_drain(program):
         server.judged(asked | looker.asked, told)
 
 
-def a_request_that_waits_alone(program):
+def a_request_that_waits_alone(program: str) -> None:
     """It is asked again for about a second, each in a connection anew; one with a limit is told so in its own frame."""
     with serving(program, workers=1, connections=1) as server:
         first, second, third, fourth = (Key(1, 1, 1, number) for number in range(1, 5))
@@ -218,7 +219,7 @@ def a_request_that_waits_alone(program):
         server.judged(asked, [(first, {"reply": "cancelled"}), (second, {"reply": "timedout"})])
 
 
-def repeats(program):
+def repeats(program: str) -> None:
     """What is asked again is told the same and not done again, and an item whose giver was told that nobody took it goes to
     nobody."""
     with serving(program, workers=1, connections=1) as server:
@@ -234,13 +235,14 @@ def repeats(program):
             twice(give("put", "a"), reply="done")
             twice(take("now"), reply="item", item="a")
             twice(take("now"), reply="empty")
-            for wait, word in [("now", "nobody"), (0, "timedout"), (20, "timedout")]:
+            ends: list[tuple[str | int, str]] = [("now", "nobody"), (0, "timedout"), (20, "timedout")]
+            for wait, word in ends:
                 twice(give("transfer", "b", wait), reply=word)
                 twice(take("now"), reply="empty")
         server.judged(asked, told)
 
 
-def sessions_of_both_versions(program):
+def sessions_of_both_versions(program: str) -> None:
     """A hello tells its session's version, which no other hello of its incarnation changes. In the second a transfer is
     told who took its item: in its own frame where it waits, at once where a consumer does, and again."""
     with serving(program, workers=4, connections=4) as server:
@@ -281,13 +283,14 @@ def sessions_of_both_versions(program):
         server.judged(asked | looker.asked, told)
 
 
-def many_that_wait(program):
+def many_that_wait(program: str) -> None:
     """Requests that wait at once, each in a connection of its own, wait beside each other: were the book locked while
     one pauses, the last would be told so much later. Then each gets one of as many items."""
     with serving(program, workers=WAITING + 1, connections=WAITING + 1) as server:
         keys = [Key(1, client, 1, 1) for client in range(1, WAITING + 1)]
         peers = [server.greeted(key.client) for key in keys]
-        first, asked = Key(1, 1, 1, 1), {}
+        asked: Asked = {}
+        first = Key(1, 1, 1, 1)
         alone = told_that_it_waits(peers[0], first, asked)
         keys[0] = Key(1, 1, 1, 2)
         with paced() as turns:
@@ -347,7 +350,7 @@ def told_that_it_waits(peer, key, asked):
     return took
 
 
-def a_new_incarnation(program):
+def a_new_incarnation(program: str) -> None:
     """A client that starts anew ends what waits, also while it is asked for in another connection."""
     with serving(program, workers=3, connections=4) as server:
         gift, asked, told = give("transfer", "a", "forever"), {}, []
@@ -374,11 +377,11 @@ def a_new_incarnation(program):
         server.judged(asked | looker.asked, [*told, (other, {"reply": "empty"})])
 
 
-def long_texts(program):
+def long_texts(program: str) -> None:
     """Bodies and items of the greatest length, and one byte more; bodies about as long as a piece that is read, and of none."""
     with serving(program, workers=1, connections=1, epoch=GREATEST) as server:
         items = ["x" * 512, "\x01" * 512, "é" * 256, ""]
-        asked = {}
+        asked: Asked = {}
         with server.connect() as peer:
             for size in (4_094, 4_095, 4_096, 4_097, MAX_FRAME):
                 peer.expect(hello(1).ljust(size), welcome(1, GREATEST))
@@ -394,7 +397,7 @@ def long_texts(program):
         server.judged(asked, [])
 
 
-def ends_of_connections(program):
+def ends_of_connections(program: str) -> None:
     """Frames before a cut frame or a bad length are answered, and nothing behind it."""
     cut = [b"", b"\x00", b"\x00\x2b{", b"\x10\x01", b"\xff\xff", b"\xff\xff" + 5_000 * b"x", b"\xff\xff" + 65_534 * b"x"]
     ends = [*cut, b"\x00\x00", b"\x00\x00" + frame(hello(1)), b"\x00\x00" + 5_000 * b"x"]
@@ -414,23 +417,19 @@ def ends_of_connections(program):
         server.judged({}, [])
 
 
-def too_many_frames(program):
+def too_many_frames(program: str) -> None:
     """One connection's frames up to the most are answered, and then it ends."""
     with serving(program, workers=1, connections=2) as server:
         with server.connect() as peer:
             peer.socket.settimeout(2 * PATIENCE)
-            data, wanted = frame(hello(1)) * (FRAMES + 1), frame(welcome(1)) * FRAMES
+            data, wanted, got = frame(hello(1)) * (FRAMES + 1), frame(welcome(1)) * FRAMES, bytearray()
 
-            def hear():
-                got = bytearray()
-                try:
+            def hear() -> None:
+                with contextlib.suppress(ConnectionError):
                     while piece := peer.socket.recv(1_000_000):
-                        got += piece
-                except ConnectionError:
-                    pass
-                return bytes(got)
+                        got.extend(piece)
 
-            _, got = together(lambda: peer.send(data), hear)
+            together(lambda: peer.send(data), hear)
             demand(got == wanted, f"{len(got) // len(frame(welcome(1)))} answers came, not {FRAMES}")
         with server.connect() as peer:
             peer.expect(hello(1), welcome(1))
@@ -438,7 +437,7 @@ def too_many_frames(program):
         demand(len(account.entries) == 1, "the account has other than one entry")
 
 
-def no_packet_waits(program):
+def no_packet_waits(program: str) -> None:
     """A request costs one exchange of packets: none of an answer waits until the one before it was acknowledged."""
     with serving(program, workers=1, connections=1) as server:
         with server.greeted(1) as peer:
@@ -471,7 +470,7 @@ def none_waits(exchanges):
         demand(late <= EXCHANGES / 2, f"in {late} of {EXCHANGES} exchanges a packet waited until another was acknowledged")
 
 
-def its_connections(program):
+def its_connections(program: str) -> None:
     """A server ends after its connections, and not before; with none it ends at once."""
     for count in (0, 1, 5):
         with serving(program, workers=3, connections=count) as server:
@@ -481,7 +480,7 @@ def its_connections(program):
             server.judged({}, [])
 
 
-def a_late_client(program):
+def a_late_client(program: str) -> None:
     """Who comes after the last accept is refused, and not left waiting, though a connection is still served."""
     with serving(program, workers=2, connections=1) as server:
         with server.greeted(1) as peer:
@@ -506,7 +505,7 @@ def a_late_client(program):
         server.judged({}, [])
 
 
-def a_silent_peer(program):
+def a_silent_peer(program: str) -> None:
     """It holds its worker, while others are served by another; one more waits until a worker is free."""
     with serving(program, workers=2, connections=4) as server:
         silent = server.connect()
@@ -529,7 +528,7 @@ def a_silent_peer(program):
         server.judged({}, [])
 
 
-def many_at_once(program):
+def many_at_once(program: str) -> None:
     """As many connections as workers, all open at once; each is answered, and all are served again after it."""
     with serving(program, workers=64, connections=128) as server:
         for _ in range(2):
@@ -542,7 +541,7 @@ def many_at_once(program):
         server.judged({}, [])
 
 
-def a_port_that_is_taken(program):
+def a_port_that_is_taken(program: str) -> None:
     """A server on a port where somebody listens."""
     with socket.socket() as other:
         other.bind(("127.0.0.1", 0))
@@ -550,7 +549,7 @@ def a_port_that_is_taken(program):
         ends_so(program, serve_words(listen=f"127.0.0.1:{other.getsockname()[1]}"), 1, b"address fault\n")
 
 
-def nobody_listens(program):
+def nobody_listens(program: str) -> None:
     """A caller where nobody listens prints nothing, and doesn't read its input."""
     read, write = os.pipe()
     try:
@@ -571,7 +570,7 @@ def broken_input():
     return broken
 
 
-def broken_streams(program):
+def broken_streams(program: str) -> None:
     """A caller whose input can't be read asks nothing; where printing fails it says so, and so does a server that prints
     its account."""
     with serving(program, workers=1, connections=2) as server:
@@ -593,7 +592,7 @@ def broken_streams(program):
     demand((ran.returncode, ran.stderr) == (1, b"run fault 2\n"), f"a server that can't print its account: {ran}")
 
 
-def addresses(program):
+def addresses(program: str) -> None:
     """Addresses that are none."""
     for text in ["127.0.0.1", "127.0.0.1:", ":", "", "127.0.0.1:65536", "127.0.0.1:99999", "127.0.0.1:x", "127.0.0.1:-1",
                  "127.0.0.1:1:1", "[::1", "::1", "127.0.0.1:0x50", "127.0.0.1 :80", "127.0.0.1:80 "]:
@@ -633,7 +632,7 @@ def judge(words, ran, status, said, printed=b""):
     demand(got == (printed, said, status), f"{words}: {got}")
 
 
-def bad_words(program):
+def bad_words(program: str) -> None:
     """Words at `serve` and `call` that are no command, and limits of their numbers."""
     bad = (2, b"command fault 1\n")
     for name in ("listen", "epoch", "workers", "connections"):

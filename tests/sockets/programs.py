@@ -168,6 +168,10 @@ class Served(Process):
         """The account of all that it did, when it has ended, which must be a good one."""
         raise NotImplementedError
 
+    def use_up(self) -> None:
+        """Makes the connections that are left, so that it ends, or rests."""
+        raise NotImplementedError
+
     def taken(self) -> bool:
         """Whether somebody took the port before the server did: it has not begun to listen, and soon ends."""
         until("the server listens, or ends", lambda: listens_at(self.process.pid, self.port) or not self.runs())

@@ -3,8 +3,9 @@ wrong at any speed, and what comes late is asked again where one quick answer is
 import time
 
 from tests.model.account import Key, Request
-from tests.sockets.plain import in_its_own_frame, told_that_it_waits
+from tests.sockets.driver import Asked
 from tests.sockets.hosts import serving
+from tests.sockets.plain import in_its_own_frame, told_that_it_waits
 from tests.sockets.wire import demand, frame, give, hello, replied, request, take, together, until, welcome
 
 # So often an item is waited for, until one comes before anything was acknowledged.
@@ -21,11 +22,11 @@ PIECE = 37
 OFFERED = 5
 
 
-def an_item_behind_an_answer(program):
+def an_item_behind_an_answer(program: str) -> None:
     """A count and a take that waits come in one piece: the take's item leaves though the count's answer was not
     acknowledged. The client acknowledges late each time; only a slow machine does so before it looks."""
     with serving(program, workers=2, connections=2) as server:
-        asked = {}
+        asked: Asked = {}
         with server.greeted(1) as taker, server.greeted(2) as giver:
             needed = (acknowledgements(taker, giver, number, asked) for number in range(ITEMS))
             demand(0 in needed, f"in {ITEMS} tries no item came before the answer in front of it was acknowledged")
@@ -49,11 +50,11 @@ def acknowledgements(taker, giver, number, asked):
     return came.acknowledgements
 
 
-def a_wait_ends(program):
+def a_wait_ends(program: str) -> None:
     """A request that waits alone is told so behind as many pauses as there may be, each of them as short as it is to be: in one
     try at least it takes not much longer than as many pauses of this test's own, which are made meanwhile."""
     with serving(program, workers=1, connections=1) as server:
-        asked = {}
+        asked: Asked = {}
         with server.greeted(1) as peer:
             def is_soon(number):
                 took, own = together(lambda: told_that_it_waits(peer, Key(1, 1, 1, number), asked), seconds_of_pauses)
@@ -72,12 +73,13 @@ def seconds_of_pauses():
     return time.monotonic() - began
 
 
-def moments_beside_a_clock(program):
+def moments_beside_a_clock(program: str) -> None:
     """The account's moments are milliseconds: between two requests as many as this clock counts, from the first's answer to the
     second's sending at least, and from the first's sending to the second's answer at most."""
     began = time.monotonic()
     with serving(program, workers=1, connections=1) as server:
-        spans, asked = [], {}
+        spans: list[tuple[float, float]] = []
+        asked: Asked = {}
         with server.greeted(1) as peer:
             for number in range(1, 1 + PUTS):
                 key = Key(1, 1, 1, number)
@@ -97,11 +99,12 @@ def moments_beside_a_clock(program):
                f"{least:.1f} milliseconds at least, and {most:.1f} at most")
 
 
-def a_peer_that_goes(program):
+def a_peer_that_goes(program: str) -> None:
     """Requests that wait come in one piece, and their client closes: its worker is free long before all of them were waited
     for."""
     with serving(program, workers=1, connections=2) as server:
-        key, asked = Key(1, 1, 1, 2), {}
+        asked: Asked = {}
+        key = Key(1, 1, 1, 2)
         with server.greeted(1) as peer:
             alone = told_that_it_waits(peer, Key(1, 1, 1, 1), asked)
             asked[key] = take("forever")
@@ -114,7 +117,7 @@ def a_peer_that_goes(program):
         server.judged(asked, [])
 
 
-def connections_in_hand(program):
+def connections_in_hand(program: str) -> None:
     """A server serves as many connections as it has workers, has accepted as many more and one, and lets the others wait to
     be accepted. Each is served in its turn."""
     for workers in (1, 3):
