@@ -9,7 +9,7 @@ from tests.sockets.wire import demand, together, until
 LONGEST = "\u0001" * 512
 
 
-def both_drain_in_order(program):
+def both_drain_in_order(program: str) -> None:
     """Two clients give, by puts and by a transfer that waits; a third takes what is there, oldest first."""
     with serving(program, 4, 3) as server:
         with session(server, 1) as giver, session(server, 2) as waiter, session(server, 3) as taker:
@@ -26,7 +26,7 @@ def both_drain_in_order(program):
         judged(server)
 
 
-def the_longest_answer(program):
+def the_longest_answer(program: str) -> None:
     """Sixteen items of as many bytes as there may be, each in Python and in Java."""
     with serving(program, 2, 1 if java.missing() else 2) as server:
         with session(server, 1) as one:

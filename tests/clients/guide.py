@@ -49,7 +49,7 @@ def begin_soon(folder):
         tool.chmod(0o700)
 
 
-def the_guide(program):
+def the_guide(program: str) -> None:
     """Each block that is not marked as typed by hand prints what is shown behind it."""
     lacking, port = java.missing(), str(free_port())
     with tempfile.TemporaryDirectory(prefix="rv-guide-") as name:
@@ -178,7 +178,7 @@ def wrong_words_of_draw(_):
     demand(ran.returncode == 1 and ran.stderr == "there is no account on standard input\n", ran.stderr)
 
 
-def the_demo(program):
+def the_demo(program: str) -> None:
     """What `make demo` tells of the play, and that its account is the audited one."""
     ran = subprocess.run([ROOT / "tools/demo.py", program], capture_output=True, text=True, timeout=300)
     demand(ran.returncode == 0 and not ran.stderr, f"{ran.returncode}: {ran.stdout}{ran.stderr}")
@@ -254,7 +254,7 @@ def the_progress_of_an_installation(_):
     demand("min still" in ended[len(names) - 1] and "rv_tests ended" not in ran.stderr and "building rv_app" in ended, ran.stderr)
 
 
-def the_hand_over(program):
+def the_hand_over(program: str) -> None:
     """What `make run` shows of a hand-over between two programs."""
     ran = subprocess.run([ROOT / "tools/handover.py", program], capture_output=True, text=True, timeout=300)
     demand(ran.returncode == 0 and not ran.stderr, f"{ran.returncode}: {ran.stdout}{ran.stderr}")

@@ -91,7 +91,7 @@ def files_of(folder):
     return {path.relative_to(folder).as_posix() for path in folder.rglob("*") if path.is_file()}
 
 
-def pip_installs_it():
+def pip_installs_it() -> None:
     """A new environment that sees the system's packages has the module, and what is told of the package, and uses it once; the
     build leaves nothing beside the sources but in the folders that git ignores."""
     with tempfile.TemporaryDirectory(prefix="rv-pip-") as name:
@@ -114,7 +114,7 @@ def pip_installs_it():
         demand(not left, f"the build left {left}")
 
 
-def wheel_and_sources_are_whole():
+def wheel_and_sources_are_whole() -> None:
     """The wheel has the package's modules and no other; the packed sources have the tests too, and make the same wheel."""
     modules = {f"rendezvous/{path}" for path in files_of(SOURCES / "src/rendezvous") if path.endswith((".py", "py.typed"))}
     with tempfile.TemporaryDirectory(prefix="rv-wheel-") as name:
@@ -144,7 +144,7 @@ def wheel_of(sources, folder):
         return {name: wheel.read(name) for name in wheel.namelist()}
 
 
-def mypy_says_nothing():
+def mypy_says_nothing() -> None:
     """Of the package, by its own settings, and of a program that uses it; of one that uses it wrongly it does."""
     with tempfile.TemporaryDirectory(prefix="rv-mypy-") as name:
         folder = pathlib.Path(name)
@@ -160,7 +160,7 @@ def mypy_says_nothing():
         demand(done.returncode == 1 and "List item 0 has incompatible type" in done.stdout, f"a wrong type is right: {done.stdout}")
 
 
-def pytest_finds_each_test():
+def pytest_finds_each_test() -> None:
     """Those that Python's own runner finds, and no other."""
     finds = [interpreter("pytest"), "-B", "-m", "pytest", "-p", "no:cacheprovider", "--collect-only", "-q"]
     told = subprocess.run(finds, cwd=SOURCES, capture_output=True, text=True, timeout=PATIENCE, env=alone()).stdout

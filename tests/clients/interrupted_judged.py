@@ -330,7 +330,7 @@ def lies_of_sessions():
         ("kept_twice", 1, line_of(1, 2, TRY, reply="nobody")), ("not_kept", 2, None), ("not_kept", 3, None)]
 
 
-def the_judge_finds_lies():
+def the_judge_finds_lies() -> None:
     """The record that is written down is true; with each of the lies it is not, and the lie's rule finds it."""
     account, record = written()
     demand(faults_of(record, account, kept()) == {}, f"a true record: {faults_of(record, account, kept())}")

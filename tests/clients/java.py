@@ -14,6 +14,8 @@ import tempfile
 import termios
 import threading
 import time
+from collections.abc import Callable
+from typing import Any
 
 from scripted import (
     BY, HANG_UP, SILENCE, Scripted, body_from, bytes_of, old_server, received_by, refused, reply, waiting, welcome)
@@ -38,6 +40,9 @@ SHORT, ENOUGH = 3_000, 30_000
 TRIES = 5
 # The patience of other sessions in milliseconds: long, but where clients are tried that never end.
 LONG = 1_000 * int(os.environ.get("RV_PATIENCE", "60"))
+# The members of a message, and what a scripted server does by them.
+Members = dict[str, Any]
+Deed = Callable[[Members], object]
 
 
 def missing():
@@ -71,7 +76,7 @@ def classes():
     return os.environ.get(CLASSES) or built().name
 
 
-def class_path():
+def class_path() -> str:
     """Where classes are found, with those of the library."""
     return f"{classes()}:{GSON}"
 
@@ -81,7 +86,7 @@ def command(name, *words, jdk="java"):
     return [jdk, *QUICK, "-cp", class_path(), name, *map(str, words)]
 
 
-def the_java_process():
+def the_java_process() -> None:
     """Each case of the table, by the machine in Java."""
     table = ROOT / "clients/cases.jsonl"
     ran = subprocess.run(command("rendezvous.CaseTable", table), capture_output=True, text=True,
@@ -157,7 +162,7 @@ def asked(server):
     return [(one["kind"], one.get("number"), one.get("call")) for one in server.heard]
 
 
-def each_call(java):
+def each_call(java: Driver) -> None:
     """Each call's members and result."""
     received = {1: reply("received"), 2: received_by(*BY)}
     calls = [("put a", reply("done"), {"call": "put", "item": "a"}, "done"),
@@ -186,7 +191,7 @@ def each_call(java):
         java.expect("exchange x 0", "threw TimeoutException")
 
 
-def receipts(java):
+def receipts(java: Driver) -> None:
     """A receipt has the transfer's key, and names the consumer that its reply names, in the reply's epoch."""
     ninth = lambda hello: welcome(hello, 9)
     calls = [("transfer-receipt a", "forever", "result {}"), ("try-receipt a", "now", "result Optional[{}]"),
@@ -209,7 +214,7 @@ def receipts(java):
 
 
 @in_time
-def an_unsettled_receipt(java):
+def an_unsettled_receipt(java: Driver) -> None:
     """Is told where the transfer is asked again."""
     with opened(java, HANG_UP, patience=SHORT) as server:
         server.otherwise = HANG_UP
@@ -220,7 +225,7 @@ def an_unsettled_receipt(java):
         java.expect("last", "result Optional[Receipt[key=1/1/1/1, by=Optional[1/2/3/4]]]")
 
 
-def what_is_no_receipt(java):
+def what_is_no_receipt(java: Driver) -> None:
     """A reply that names a part of a consumer, names one where no receipt is told or the session is of the first
     version, or names none in one of the second, settles nothing."""
     whole = dict(zip(("by_client", "by_incarnation", "by_number"), (2, 3, 4)))
@@ -242,10 +247,11 @@ def behind(deed, others):
     return [one for other in others for one in (deed, other)]
 
 
-def versions(java):
+def versions(java: Driver) -> None:
     """A session asks for version 2, or for the one that it is told, and only its own welcome counts."""
     hello = {"kind": "hello", "client": 1, "incarnation": 1}
-    for version, said in [("", {"version": 2}), (2, {"version": 2}), (1, {})]:
+    spoken: list[tuple[int | str, dict[str, int]]] = [("", {"version": 2}), (2, {"version": 2}), (1, {})]
+    for version, said in spoken:
         other = {} if said else {"version": 2}
         others = [lambda asked, odd=odd: {"kind": "welcome", "epoch": 1, "client": 1, "incarnation": 1, **odd}
                   for odd in (other, {"version": 1}, {"version": 3}, {"version": "2"}, {"version": 2.0})]
@@ -260,7 +266,7 @@ def versions(java):
         demand(len(server.heard) < 60, f"{len(server.heard)} hellos were said")
 
 
-def other_versions(java):
+def other_versions(java: Driver) -> None:
     """A hello of another version than the session's is told so, and by which; and so is one that an old
     server does not know."""
     for current in (1, 2):
@@ -283,18 +289,19 @@ def other_versions(java):
         java.expect(f"open 1 1 1 {version}", "threw IllegalArgumentException")
 
 
-def texts(count, begins=0):
+def texts(count: int, begins: int = 0) -> Deed:
     """A deed: the reply of a drain that took so many items, which are numbers."""
     return reply("drained", texts=[str(each) for each in range(begins, begins + count)])
 
 
-def drains_by_steps(java):
+def drains_by_steps(java: Driver) -> None:
     """Steps of at most 16, until one finds fewer or all that were asked for are there; the oldest first."""
-    runs = [("drain", [texts(16), texts(16, 16), texts(3, 32)], [16, 16, 16], 35),
-            ("drain", [texts(16), texts(0)], [16, 16], 16), ("drain", [texts(0)], [16], 0),
-            ("drain 2", [texts(2)], [2], 2), ("drain 16", [texts(16)], [16], 16),
-            ("drain 17", [texts(16), texts(1, 16)], [16, 1], 17), ("drain 40", [texts(15)], [16], 15),
-            ("drain 0", [], [], 0), ("drain -1", [], [], 0)]
+    runs: list[tuple[str, list[Deed], list[int], int]] = [
+        ("drain", [texts(16), texts(16, 16), texts(3, 32)], [16, 16, 16], 35),
+        ("drain", [texts(16), texts(0)], [16, 16], 16), ("drain", [texts(0)], [16], 0),
+        ("drain 2", [texts(2)], [2], 2), ("drain 16", [texts(16)], [16], 16),
+        ("drain 17", [texts(16), texts(1, 16)], [16, 1], 17), ("drain 40", [texts(15)], [16], 15),
+        ("drain 0", [], [], 0), ("drain -1", [], [], 0)]
     for line, deeds, most, count in runs:
         with opened(java, *deeds) as server:
             java.expect(line, f"result {count}")
@@ -305,10 +312,10 @@ def drains_by_steps(java):
             demand(server.heard[1:] == wanted, f"{line}: {server.heard[1:]}, not {wanted}")
 
 
-def a_drain_is_asked_under_one_key(java):
+def a_drain_is_asked_under_one_key(java: Driver) -> None:
     """Over links that break, or bring what no drain gives, each step is asked until its list comes."""
-    bad = [["a"] * 17, ["a", 1], ["a", "x" * 513], "a", {}, None]
-    bad = [reply("drained", texts=one) for one in bad] + [reply("drained"), reply("item", item="a", texts=[])]
+    lists: list[object] = [["a"] * 17, ["a", 1], ["a", "x" * 513], "a", {}, None]
+    bad: list[Deed] = [reply("drained", texts=one) for one in lists] + [reply("drained"), reply("item", item="a", texts=[])]
     full = ["\u0001" * 512] * 16
     long = lambda one: frame(json.dumps(reply("drained", texts=full)(one)).encode().ljust(65_535))
     for part in (bad[:4], bad[4:], [texts(3)]):
@@ -321,7 +328,7 @@ def a_drain_is_asked_under_one_key(java):
             demand(server.connections == 2 + len(part), f"{server.connections} connections came")
 
 
-def a_step_that_fails(java):
+def a_step_that_fails(java: Driver) -> None:
     """What finished steps took is in the collection."""
     with opened(java, texts(16), reply("cancelled"), texts(1)):
         java.expect("drain", "threw CancellationException")
@@ -331,7 +338,7 @@ def a_step_that_fails(java):
 
 
 @in_time
-def a_step_without_room(java):
+def a_step_without_room(java: Driver) -> None:
     """It fails where the patience ends; what finished steps took is in the collection."""
     with opened(java, texts(16), patience=SHORT) as server:
         server.otherwise = refused(10)
@@ -340,7 +347,7 @@ def a_step_without_room(java):
 
 
 @in_time
-def an_unsettled_step(java):
+def an_unsettled_step(java: Driver) -> None:
     """It is asked again for its items; what finished steps took is in the collection."""
     with opened(java, texts(16), patience=SHORT) as server:
         server.otherwise = HANG_UP
@@ -350,7 +357,7 @@ def an_unsettled_step(java):
         java.expect("drained", f"result [{', '.join(map(str, range(16)))}]")
 
 
-def what_is_not_taken_in(java):
+def what_is_not_taken_in(java: Driver) -> None:
     """A collection that is full throws; the step's items are still the session's."""
     with opened(java, texts(3), reply("item", item="a")):
         java.expect("drain-into 2", "threw IllegalStateException")
@@ -359,7 +366,7 @@ def what_is_not_taken_in(java):
         java.expect("last", "result Optional[Item[key=1/1/1/2, item=a]]")
 
 
-def repeats_until_it_is_told(java):
+def repeats_until_it_is_told(java: Driver) -> None:
     """Waiting, an answer to something else, a lost one, what is no frame and no answer."""
     bad = [welcome, b"\x00\x00", frame(b"[" * 65_535), frame(b"{}"), frame(b"\xff"),
            frame(b'{"kind":"refused","code":1.0}'), frame(b'{"code":12,"kind":"refused"}'),
@@ -372,7 +379,7 @@ def repeats_until_it_is_told(java):
 
 
 @in_time
-def an_unsettled_request(java):
+def an_unsettled_request(java: Driver) -> None:
     """The call ends by its key; the request is asked again."""
     with opened(java, waiting, patience=SHORT) as server:
         server.otherwise = HANG_UP
@@ -387,7 +394,7 @@ def an_unsettled_request(java):
 
 
 @in_time
-def an_unsettled_request_that_is_given_up(java):
+def an_unsettled_request_that_is_given_up(java: Driver) -> None:
     """Its cancel is asked, and settles it."""
     with opened(java, patience=SHORT) as server:
         server.otherwise = HANG_UP
@@ -399,7 +406,7 @@ def an_unsettled_request_that_is_given_up(java):
 
 
 @in_time
-def no_room(java):
+def no_room(java: Driver) -> None:
     """A request that is refused for want of room is tried as long as patience lasts, and then certainly isn't there."""
     with opened(java, patience=SHORT) as server:
         server.otherwise = refused(10)
@@ -411,7 +418,7 @@ def no_room(java):
 
 
 @in_time
-def a_copy_under_way(java):
+def a_copy_under_way(java: Driver) -> None:
     """It may be there, though each later one is refused for want of room: the request is unsettled."""
     with opened(java, HANG_UP, patience=SHORT) as server:
         server.otherwise = refused(10)
@@ -422,7 +429,7 @@ def a_copy_under_way(java):
 
 
 @in_time
-def no_room_for_a_client(java):
+def no_room_for_a_client(java: Driver) -> None:
     """A hello that is refused for want of room, or of memory, is said as long as patience lasts, on one connection."""
     with opened(java, patience=SHORT, hello=refused(10)) as server:
         server.otherwise = refused(10)
@@ -432,7 +439,7 @@ def no_room_for_a_client(java):
         demand(server.connections == 1, f"{server.connections} connections came")
 
 
-def a_closed_connection_is_made_anew(java):
+def a_closed_connection_is_made_anew(java: Driver) -> None:
     """One that the peer closed while nothing was asked, or on which it said something: no copy of a request is lost."""
     with opened(java, reply("done"), reply("done"), reply("done")) as server:
         java.expect("put a", "result done")
@@ -447,7 +454,7 @@ def a_closed_connection_is_made_anew(java):
 
 
 @in_time
-def nobody_listens(java):
+def nobody_listens(java: Driver) -> None:
     """What was not sent is told so, with the address and the system's reason."""
     java.expect("open 1 1 1000", "result open")
     java.expect("put a", "threw NotAsked null")
@@ -456,7 +463,7 @@ def nobody_listens(java):
 
 
 @in_time
-def a_first_hello(java):
+def a_first_hello(java: Driver) -> None:
     """A call before the first welcome ends within the time for that, long before its patience, and names the server and the
     reason; the log has it once, however often it was tried."""
     java.expect("connects 700", "result a time")
@@ -477,7 +484,7 @@ def a_first_hello(java):
             demand(told.startswith(f"result nothing was sent: {server.address}: "), f"it says {told}")
 
 
-def behind_the_welcome(java):
+def behind_the_welcome(java: Driver) -> None:
     """There the time for that counts no more; before it, none that is longer."""
     with opened(java, reply("done"), waiting, reply("item", item="a")):
         java.expect("put a", "result done")
@@ -491,7 +498,7 @@ def behind_the_welcome(java):
         demand(not server.heard, f"{asked(server)}")
 
 
-def a_server_that_starts_meanwhile(java):
+def a_server_that_starts_meanwhile(java: Driver) -> None:
     """It is asked: a call goes on while the connection is refused."""
     with socket.socket() as holder:
         holder.bind(("127.0.0.1", 0))
@@ -507,7 +514,7 @@ def a_server_that_starts_meanwhile(java):
 
 
 @in_time
-def a_lower_epoch(java):
+def a_lower_epoch(java: Driver) -> None:
     """A server whose epoch is below the session's is named at once in the log, and in the exception; the session goes on."""
     java.tell("logged")
     with opened(java, patience=SHORT, hello=lambda one: welcome(one, 9)) as server:
@@ -525,7 +532,7 @@ def a_lower_epoch(java):
 
 
 @in_time
-def shown(java):
+def shown(java: Driver) -> None:
     """What a session, its clients and a queue are shown as, whatever they do."""
     with opened(java, patience=SHORT, hello=lambda one: welcome(one, 9)) as server:
         begins = f"result RvSession[{server.address} client 1"
@@ -561,7 +568,7 @@ def interrupting(path, deed):
     return meets
 
 
-def interrupts(java):
+def interrupts(java: Driver) -> None:
     """An interrupt is a cancel; a result that came before it is given; calls that do not wait go on."""
     with tempfile.TemporaryDirectory(prefix="rv-interrupt-") as folder:
         path = pathlib.Path(folder) / "now"
@@ -588,7 +595,7 @@ def interrupts(java):
 
 
 @in_time
-def a_timeout_is_kept(java):
+def a_timeout_is_kept(java: Driver) -> None:
     """Where a request is not answered behind the call's own time, it is cancelled."""
     java.expect("grace 2000", "result a grace")
     with opened(java, SILENCE, reply("cancelled"), SILENCE, reply("item", item="a")) as server:
@@ -601,14 +608,17 @@ def a_timeout_is_kept(java):
 
 
 @in_time
-def a_wait_is_no_silence(java):
+def a_wait_is_no_silence(java: Driver) -> None:
     """Patience begins anew with each answer that the request waits."""
-    slow = lambda one: (time.sleep(1), waiting(one))[1]
+    def slow(one):
+        time.sleep(1)
+        return waiting(one)
+
     with opened(java, *[slow] * 4, reply("item", item="a"), patience=SHORT):
         java.expect("take", "result a")
 
 
-def refusals(java):
+def refusals(java: Driver) -> None:
     """What ends a call, what ends the session too, and what a repeat may change."""
     with opened(java, refused(1), reply("done")) as server:
         java.expect("put a", "threw Refused 1/1/1/1 1 bad text")
@@ -635,7 +645,7 @@ def refusals(java):
             demand(all(one == server.heard[1] for one in server.heard[1:]), f"{server.heard}")
 
 
-def refused_hellos(java):
+def refused_hellos(java: Driver) -> None:
     """What ends a call at its hello, what ends the session too, and what a repeat may change."""
     with opened(java, refused(11), refused(10), refused(2, current=3), refused(4, current=1), refused(3), welcome,
                 reply("done"), hello=refused(9)) as server:
@@ -650,7 +660,7 @@ def refused_hellos(java):
         java.expect("put a", "threw Refused null 1 bad text")
 
 
-def what_is_left_out(java):
+def what_is_left_out(java: Driver) -> None:
     """Calls that the profile has not, and items and places that no request may have."""
     with opened(java) as server:
         java.expect("left-out", "result 14")
@@ -660,7 +670,7 @@ def what_is_left_out(java):
         demand(not server.heard, "something was sent")
 
 
-def whatever_is_let_in(_java):
+def whatever_is_let_in(_java: Driver) -> None:
     """An interrupt, a close, a lost link and an error, at each call of the link."""
     ran = subprocess.run(command("rendezvous.LetIn"), capture_output=True, text=True, timeout=PATIENCE)
     demand(ran.returncode == 0 and ran.stdout.endswith(" calls of a link\n"), f"{ran.stdout} {ran.stderr[-3000:]}")

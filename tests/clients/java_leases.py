@@ -62,7 +62,7 @@ def micros():
     return time.time_ns() // 1_000
 
 
-def beside_another_language(_java):
+def beside_another_language(_program: str) -> None:
     """A number that Python has, or any socket, is another's, and one that Java has is no other's; a new one has the clock's
     microseconds."""
     clients = numbers()
@@ -81,7 +81,7 @@ def beside_another_language(_java):
     demand(all(map(is_free, clients)), "a number is not given back")
 
 
-def between_programs(_java):
+def between_programs(_program: str) -> None:
     """Two programs never have a number at a time, nor two copies of the classes in one; a number that is given back, or whose
     program was killed, is leased anew in a greater incarnation."""
     clients = numbers()[:4]
@@ -100,7 +100,7 @@ def between_programs(_java):
         demand(other.leases(clients[0]) > first, "an incarnation is used again")
 
 
-def environments(_java):
+def environments(_program: str) -> None:
     """A range that is none is told by its variable's name. Whatever else the environment says, and whatever is deleted, a number
     that is in use is no other program's."""
     for clients in ("", "5", "2-1", "0-9", "a-b", "1-9007199254740992"):
@@ -116,19 +116,20 @@ def environments(_java):
             one.leases(clients[0])
             shutil.rmtree(runtime)
             runtime.mkdir()
-            for environment in (places, {"XDG_RUNTIME_DIR": "", "TMPDIR": name}, {}):
+            environments: list[dict[str, str]] = [places, {"XDG_RUNTIME_DIR": "", "TMPDIR": name}, {}]
+            for environment in environments:
                 with holding(clients, **environment) as other:
                     other.leases(clients[1])
 
 
-def a_clock_that_stands_or_goes_back(_java):
+def a_clock_that_stands_or_goes_back(_program: str) -> None:
     """Each incarnation is above all before it in its process."""
     with holding(numbers()) as holder:
         told = [int(holder.tell(moment)) for moment in ("5000", "5000", "4000", "0", "5004", "9000")]
         demand(told == [5_000, 5_001, 5_002, 5_003, 5_004, 9_000], f"{told}")
 
 
-def short_jobs(_java):
+def short_jobs(_program: str) -> None:
     """Jobs one after another use one number, each in a greater incarnation; jobs at a time use one each."""
     clients = numbers()
     with Scripted() as server:
@@ -170,7 +171,7 @@ def ahead(count):
     return lambda asked: refused(4, current=asked["incarnation"] + count)
 
 
-def a_clock_that_was_set_back(_java):
+def a_clock_that_was_set_back(_program: str) -> None:
     """The first hello of a leased number is refused: a greater one is said in the same call, before anything is asked. A second
     word of that kind, or one behind a welcome, is another program's: this one stops."""
     with Scripted(ahead(1_000), welcome, taken, taken, taken) as server:

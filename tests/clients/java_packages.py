@@ -80,7 +80,7 @@ def runtime(program):
     yield {**os.environ, "RV_CLIENTS": f"{clients[0]}-{clients[-1]}", "RV_PROGRAM": program, "MAVEN_OPTS": " ".join(java.QUICK)}
 
 
-def maven_builds_it(program):
+def maven_builds_it(program: str) -> str:
     """Maven builds the client with no network and without a word, runs its tests, and makes the jars of its classes, its
     sources and its Javadoc, with which a program runs."""
     with tempfile.TemporaryDirectory(prefix="rv-maven-") as name, runtime(program) as environment:
@@ -100,7 +100,7 @@ def maven_builds_it(program):
     return f"{count} tests"
 
 
-def it_is_built_without_maven(_program):
+def it_is_built_without_maven(_program: str) -> None:
     """`build` compiles the client and a program that uses it, of a user who has nothing of Maven's."""
     with tempfile.TemporaryDirectory(prefix="rv-build-") as name:
         user = pathlib.Path(name, "User.java")
@@ -111,16 +111,17 @@ def it_is_built_without_maven(_program):
         demand(not lacking, f"it did not make {lacking}")
 
 
-def what_a_build_lacks_is_told(_program):
+def what_a_build_lacks_is_told(_program: str) -> None:
     """In one line: Gson, for both ways to build, and Maven for that by Maven."""
     with tempfile.TemporaryDirectory(prefix="rv-build-") as name:
         for tool in ("dirname", "javac", "sh"):
-            pathlib.Path(name, tool).symlink_to(shutil.which(tool))
-        for words, variables, told in [
+            pathlib.Path(name, tool).symlink_to(str(shutil.which(tool)))
+        ways: list[tuple[list[str], dict[str, str], str]] = [
             ([name], {"GSON": "/none/gson.jar"}, "/none/gson.jar is missing: Debian's package libgoogle-gson-java has it"),
             ([], {"GSON": "/none/gson.jar"}, "/none/gson.jar is missing: Debian's package libgoogle-gson-java has it"),
             ([], {}, "mvn is missing: Debian's package maven-debian-helper has it"),
-        ]:
+        ]
+        for words, variables, told in ways:
             ran = built(*words, PATH=name, **variables)
             demand((ran.returncode, ran.stdout, ran.stderr) == (1, "", f"{told}\n"), f"{words}: {ran.stdout} {ran.stderr}")
 
@@ -153,7 +154,7 @@ def used(folder, program, environment):
         demand((ran.stdout, ran.stderr) == ("true a\n", ""), f"{ran.stdout} {ran.stderr}")
 
 
-def tests_of_junit(program):
+def tests_of_junit(program: str) -> str:
     """The tests of JUnit, where there is no Maven."""
     with tempfile.TemporaryDirectory(prefix="rv-junit-") as name, runtime(program) as environment:
         path = ":".join(map(str, [java.GSON, *JARS]))
@@ -168,10 +169,11 @@ def tests_of_junit(program):
         found = re.search(r"\[ +(\d+) tests successful", ran.stdout)
         demand(ran.returncode == 0 and found and int(found[1]) > 0, f"{ran.stdout[-5000:]} {ran.stderr[-2000:]}")
         demand("[         0 tests skipped" in ran.stdout, "tests were skipped")
+        assert found
     return f"{found[1]} tests"
 
 
-def virtual_threads(_program):
+def virtual_threads(_program: str) -> None:
     """Ten thousand virtual threads share sixteen sessions and connections, and futures run on virtual threads; a close waits for
     those that are cancelled."""
     words = java.command("rendezvous.VirtualThreads", jdk=later_jdk())

@@ -52,7 +52,7 @@ def one_line(path, server, deed):
     demand(lines_of(path) == wanted, f"{lines_of(path)}, and not {wanted}")
 
 
-def each_reply(_program):
+def each_reply(_program: str) -> None:
     """Of each call it is one line, which is there when the call ends."""
     with recording() as (driver, path):
         for line, deed, said in CALLS:
@@ -62,7 +62,7 @@ def each_reply(_program):
                 path.unlink()
 
 
-def byte_by_byte(_program):
+def byte_by_byte(_program: str) -> None:
     """Bodies stand as they were sent and as they came; LF in white space is a space, so that a line has one alone."""
     body = (b'{ "reply":\n"item",\t"item" : "\\u00e9\\n\xc3\xa9", "number":1,"kind":"reply",\r\n\n"client":1,"epoch":1,'
             b'"incarnation":1}\n ').ljust(65_535)
@@ -86,7 +86,7 @@ def what_is_no_reply(_program, patience):
             one_line(path, server, deed)
 
 
-def where_it_can_not_be_written(_program):
+def where_it_can_not_be_written(_program: str) -> None:
     """What is thrown has the reply, whatever it is, and the system's word; the session goes on."""
     with tempfile.TemporaryDirectory(prefix="rv-record-") as folder:
         ways = {folder: errno.EISDIR, f"{folder}/none/record": None, **({FULL: errno.ENOSPC} if os.path.exists(FULL) else {})}
@@ -103,7 +103,7 @@ def where_it_can_not_be_written(_program):
                 driver.expect("unclaimed", "result []")
 
 
-def found_before_anything(_program):
+def found_before_anything(_program: str) -> None:
     """A record that can't be written is told where clients are made, by its name: nothing is asked, and nothing stays behind."""
     with tempfile.TemporaryDirectory(prefix="rv-record-") as name, java.driver(**NOWHERE) as driver, Scripted() as server:
         folder = pathlib.Path(name)
@@ -127,7 +127,7 @@ def found_before_anything(_program):
         demand(not server.heard, f"{server.heard} was asked")
 
 
-def it_goes_on(_program):
+def it_goes_on(_program: str) -> None:
     """Once the file can be written, with the replies from then on, behind what stands there."""
     with recording() as (driver, path), opened(driver, reply("done"), reply("done"), reply("cancelled")):
         path.mkdir()
@@ -144,7 +144,13 @@ def at_cancel(deed):
     return lambda asked: deed(asked) if asked["kind"] == "cancel" else SILENCE
 
 
-def an_interrupt(_program):
+def touched_at_a_take(server: Scripted, sign: pathlib.Path) -> None:
+    """Makes a file once a take has come."""
+    until("a take", lambda: len(server.heard) > 1)
+    sign.touch()
+
+
+def an_interrupt(_program: str) -> None:
     """It cancels the request, and the thread stays interrupted where the reply can't be recorded; else it is told as ever."""
     for is_written, said in [(True, "threw InterruptedException"),
                              (False, "threw NotRecorded 1/1/1/1 Cancelled[key=1/1/1/1] interrupted")]:
@@ -153,12 +159,12 @@ def an_interrupt(_program):
             if not is_written:
                 path.mkdir()
             driver.expect(f"interrupt {sign}", "result soon")
-            threading.Thread(target=lambda: (until("a take", lambda: len(server.heard) > 1), sign.touch())).start()
+            threading.Thread(target=touched_at_a_take, args=(server, sign)).start()
             driver.expect("take", said)
             demand(not is_written or len(lines_of(path)) == 1, "it is not recorded")
 
 
-def futures(_program):
+def futures(_program: str) -> None:
     """A future ends by the exception, which has the item. Of one that was cancelled the thread's handler is told, and nothing else
     has the item."""
     with recording() as (driver, path), opened(driver, reply("item", item="a")) as server:
@@ -175,7 +181,7 @@ def futures(_program):
         driver.expect("join-async", "threw CancellationException")
 
 
-def the_environment(_program):
+def the_environment(_program: str) -> None:
     """It names the file, unless the program chooses one, or none."""
     with tempfile.TemporaryDirectory(prefix="rv-record-") as folder:
         named, chosen = pathlib.Path(folder, "named"), pathlib.Path(folder, "chosen")
@@ -189,7 +195,7 @@ def the_environment(_program):
                     demand(got == counts, f"{line}: {got} lines")
 
 
-def beside_another_language(_program):
+def beside_another_language(_program: str) -> None:
     """A program in Java and one in Python share a file: each line of both is there once, and whole."""
     text = "\u0001" * 512
     with recording() as (driver, path), Scripted() as server:

@@ -119,7 +119,7 @@ def open_at(server):
 
 
 @java.in_time
-def a_dead_threads_unsettled_request(_java):
+def a_dead_threads_unsettled_request(_program: str) -> None:
     """Anybody may settle it, and then its number is used again, by whichever threads put at a time."""
     with Meeting("d", 2) as server, playing("dead-unsettled", server.port) as program:
         server.otherwise = lost
@@ -131,7 +131,7 @@ def a_dead_threads_unsettled_request(_java):
         demand(asked[-1:] == [(2, 2)] and asked.count((1, 2)) == asked.count((1, 3)) == asked.count((2, 2)) == 1, f"{asked}")
 
 
-def an_ended_session(_java):
+def an_ended_session(_program: str) -> None:
     """Nobody gets it, neither a new thread nor its own, as long as there are other numbers."""
     wanted = ["threw EpochEnded of 1/1/1/1", "gave done", "gave done"]
     server = prints("dead-ended", wanted, welcome, HANG_UP, refused(2, current=5))
@@ -158,7 +158,7 @@ RESTARTED = [
 LOOKS = RESTARTED[9:]
 
 
-def a_restart_before_each_call(_java):
+def a_restart_before_each_call(_program: str) -> None:
     """Nobody met it, so it is asked again in a new session, in the new epoch."""
     epochs = range(2, 2 + len(RESTARTED))
     deeds = [deed for epoch, (_, answer, _) in zip(epochs, RESTARTED) for deed in (reply("done"), *anew(epoch), answer)]
@@ -170,7 +170,7 @@ def a_restart_before_each_call(_java):
     demand(requests == [(1, 1), *told[:-1]], f"{requests}")
 
 
-def a_restart_in_calls_that_look(_java):
+def a_restart_in_calls_that_look(_program: str) -> None:
     """They don't fail for it, also where a copy was lost, and where the server took the same epoch again."""
     for lost in (HANG_UP, refused(11)):
         deeds = [deed for epoch, (_, answer, _) in enumerate(LOOKS, 2) for deed in (lost, *anew(epoch), answer)]
@@ -179,7 +179,7 @@ def a_restart_in_calls_that_look(_java):
     prints("restart-looks", [f"{call} gave {gives}" for call, _, gives in LOOKS], welcome, *deeds)
 
 
-def an_interrupt_behind_a_restart(_java):
+def an_interrupt_behind_a_restart(_program: str) -> None:
     """Cancels the request of the new epoch."""
     with scripted(welcome, *anew(5), SILENCE) as server, playing("restart-interrupted", server.port) as program:
         until("a take in the new epoch", lambda: len(server.heard) == 4)
@@ -193,19 +193,19 @@ LAST = ["last gave Optional.empty", "take gave a", "last gave Optional[Item[key=
         "put threw {} of 1/1/1/2", "last gave Optional.empty"]
 
 
-def the_last_outcome(_java):
+def the_last_outcome(_program: str) -> None:
     """Is that of the last settled request, and none where another was begun since."""
     prints("stale", [line.format("Refused") for line in LAST], welcome, reply("item", item="a"), refused(1))
 
 
 @java.in_time
-def no_outcome_where_there_is_no_room(_java):
+def no_outcome_where_there_is_no_room(_program: str) -> None:
     """Where a put is refused until the patience ends, none is the last."""
     deeds = [welcome, reply("item", item="a")]
     prints("stale-and-full", [line.format("Full") for line in LAST], *deeds, otherwise=refused(10))
 
 
-def close_in_a_call(_java):
+def close_in_a_call(_program: str) -> None:
     """A take that waits ends by what is known of it, and nothing is asked after that. What is unsettled stays so."""
     for deeds, known in [((SILENCE,), "asked"), ((waiting, SILENCE), "accepted")]:
         with scripted(welcome, *deeds) as server, playing("close-in-a-call", server.port) as program:
@@ -216,7 +216,7 @@ def close_in_a_call(_java):
             demand(len(server.heard) == 1 + len(deeds), f"{server.heard}")
 
 
-def a_close_after_a_cancel(_java):
+def a_close_after_a_cancel(_program: str) -> None:
     """Waits for what becomes of the cancel: the item that comes is unclaimed."""
     told = threading.Event()
     late = lambda asked: told.wait(2 * LIMIT) and reply("item", item="late")(asked)
@@ -232,7 +232,7 @@ def a_close_after_a_cancel(_java):
         program.expect("gave an end, unclaimed [late], unsettled []", "ends")
 
 
-def a_threads_last_outcome(_java):
+def a_threads_last_outcome(_program: str) -> None:
     """Is none where its last call asked nothing, whatever the one before it told."""
     calls = ["threw InterruptedException", "threw IllegalArgumentException", "threw IllegalArgumentException",
              STATE + "the clients are closed"]
@@ -240,7 +240,7 @@ def a_threads_last_outcome(_java):
         f"put gave done, last Optional[Done[key=1/1/1/{number}]]", f"{call}, last Optional.empty")])
 
 
-def close_in_a_pause(_java):
+def close_in_a_pause(_program: str) -> None:
     """A put that waits for its next try ends too, and no connection is made any more."""
     with socket.socket() as listener:
         listener.bind(("127.0.0.1", 0))
@@ -252,7 +252,7 @@ def close_in_a_pause(_java):
                 demand(not listener.accept(), "a connection came")
 
 
-def full_memory(_java):
+def full_memory(_program: str) -> None:
     """An error in the midst of a frame throws the link away."""
     told, connections = threading.Event(), []
 
@@ -275,7 +275,7 @@ def full_memory(_java):
         demand(connections == [("request", 2)], f"{connections}")
 
 
-def two_threads(_java):
+def two_threads(_program: str) -> None:
     """A second thread is told that a call runs, which goes on."""
     told = threading.Event()
     holds = lambda asked: told.wait(2 * LIMIT) and reply("item", item="a")(asked)
@@ -288,12 +288,12 @@ def two_threads(_java):
         demand(len(server.heard) == 2, f"{server.heard}")
 
 
-def cancelled_though_nobody_asked(_java):
+def cancelled_though_nobody_asked(_program: str) -> None:
     """Which each call tells by an exception."""
     prints("not-ordered", ["threw CancellationException"] * 12, welcome, *[reply("cancelled")] * 12)
 
 
-def replies_that_a_call_cannot_have(_java):
+def replies_that_a_call_cannot_have(_program: str) -> None:
     """Show that the link is out of step, and the call asks on."""
     drained = reply("drained", texts=[])
     told = [(reply("nobody"), reply("done"), "put gave done"),
@@ -308,7 +308,7 @@ def replies_that_a_call_cannot_have(_java):
     demand(server.connections == 1 + len(told), f"{server.connections} connections came")
 
 
-def for_ever(_java):
+def for_ever(_program: str) -> None:
     """A time above a day is asked as for ever."""
     units = ["NANOSECONDS", "MICROSECONDS", "MILLISECONDS", "SECONDS", "MINUTES", "HOURS", "DAYS"]
     wanted = [f"{name} gave a" for name in [*units, "a day", "more"]]
@@ -319,14 +319,14 @@ def for_ever(_java):
 
 
 @java.in_time
-def a_long_time(_java):
+def a_long_time(_program: str) -> None:
     """One that is asked as for ever ends at its time, by a cancel."""
     server = prints("long-time", ["put gave Done[key=1/1/1/1]", "brief gave TimedOut[key=1/1/1/2]",
                                   "last gave Optional[Cancelled[key=1/1/1/2]]"], welcome, reply("done"), SILENCE)
     demand([one.get("wait") for one in server.heard if one.get("call") == "take"] == ["forever"], f"{server.heard}")
 
 
-def connections_of_dead_threads(_java):
+def connections_of_dead_threads(_program: str) -> None:
     """Are used by other threads, and closed where none asks by them for long."""
     with Meeting("a", 5) as server, playing("dead-threads", server.port) as program:
         program.expect(*["gave done"] * 5)
@@ -343,7 +343,7 @@ def connections_of_dead_threads(_java):
 
 
 @java.in_time
-def a_pooled_thread(_java):
+def a_pooled_thread(_program: str) -> None:
     """Each task behind one that ended unsettled gets another session, and the unsettled one is there."""
     with scripted(otherwise=lost) as server, playing("pooled", server.port) as program:
         program.expect("threw Unsettled of 1/1/1/1")
@@ -358,7 +358,7 @@ def a_pooled_thread(_java):
         demand(asked[-4:] == [(2, 1), (2, 2), (1, 1), (1, 2)], f"{asked}")
 
 
-def an_interrupt_in_the_hello(_java):
+def an_interrupt_in_the_hello(_program: str) -> None:
     """Ends the call at once: nothing was sent."""
     for deed in (HANG_UP, SILENCE):
         with scripted(otherwise=deed) as server, playing("interrupted-hello", server.port) as program:
@@ -371,7 +371,7 @@ def an_interrupt_in_the_hello(_java):
             program.expect("gave done", "ends")
 
 
-def an_interrupt_while_the_server_is_away(_java):
+def an_interrupt_while_the_server_is_away(_program: str) -> None:
     """Ends the call within a second, by what is known."""
     for deed in (HANG_UP, SILENCE):
         with scripted(welcome, otherwise=deed) as server, playing("interrupted-hello", server.port) as program:
@@ -383,7 +383,7 @@ def an_interrupt_while_the_server_is_away(_java):
 
 
 @java.in_time
-def an_interrupt_in_again(_java):
+def an_interrupt_in_again(_program: str) -> None:
     """Is obeyed before anything is asked, and cancels what is asked."""
     with scripted(welcome, otherwise=HANG_UP) as server, playing("interrupted-again", server.port) as program:
         program.expect("take threw Unsettled of 1/1/1/1")
@@ -396,7 +396,7 @@ def an_interrupt_in_again(_java):
         demand([one["kind"] for one in server.heard[count:]] == ["request", "cancel"], f"{server.heard[count:]}")
 
 
-def a_nested_answer(_java):
+def a_nested_answer(_program: str) -> None:
     """Is no answer, and the link is thrown away."""
     depth = 32_000
     body = b'{"kind":"waiting","x":' + b"[" * depth + b"]" * depth + b"}"
@@ -404,7 +404,7 @@ def a_nested_answer(_java):
     demand(server.connections == 2, f"{server.connections} connections came")
 
 
-def exceptions_read_back(_java):
+def exceptions_read_back(_program: str) -> None:
     """Have their keys and words."""
     prints("serialized", [
         "Unsettled of 1/2/3/4: accepted, and never answered: a (request 1/2/3/4)",
@@ -419,7 +419,7 @@ def exceptions_read_back(_java):
 
 
 @java.in_time
-def an_unresolved_host(_java):
+def an_unresolved_host(_program: str) -> None:
     """Is looked up with each connection."""
     with tempfile.TemporaryDirectory(prefix="rv-hosts-") as folder, scripted() as server:
         hosts = pathlib.Path(folder) / "hosts"
@@ -431,14 +431,14 @@ def an_unresolved_host(_java):
             program.expect("put gave done", "ends")
 
 
-def numbers_of_sessions(_java):
+def numbers_of_sessions(_program: str) -> None:
     """A session that could not be made uses up none, and there is no other limit than theirs."""
     bad = "threw IllegalArgumentException"
     server = prints("used-up", ["threw ArithmeticException"] * 2 + ["gave done", bad, bad, "gave null"])
     demand([one["client"] for one in server.heard] == [1, 1], f"{server.heard}")
 
 
-def no_descriptors(_java):
+def no_descriptors(_program: str) -> None:
     """A link that cannot be made leaves none of its descriptors behind."""
     with scripted() as server, playing("no-descriptors", server.port) as program:
         program.expect("put threw NotAsked of null", "put gave done")
@@ -461,7 +461,7 @@ def silent_then(*cancels):
     return lambda asked: welcome(asked) if asked["kind"] == "hello" else SILENCE if asked["kind"] == "request" else left.pop(0)(asked)
 
 
-def a_cancelled_take(_java):
+def a_cancelled_take(_program: str) -> None:
     """Of a future takes nothing; an item that reached it is the next one, or stands in what is unclaimed."""
     late = [reply("item", item="late"), reply("item", item="later")]
     with scripted() as server, playing("cancelled-take", server.port) as program:
@@ -474,7 +474,7 @@ def a_cancelled_take(_java):
         demand(len(server.heard) == 5, f"{server.heard}")
 
 
-def a_cancelled_transfer(_java):
+def a_cancelled_transfer(_program: str) -> None:
     """Of a future tells what became of it: cancelled, received, or nothing where nothing is heard."""
     with scripted() as server, playing("cancelled-transfer", server.port) as program:
         server.otherwise = silent_then(reply("cancelled"), received_by(2, 3, 4), lambda asked: SILENCE)
@@ -487,7 +487,7 @@ def a_cancelled_transfer(_java):
         program.expect("[1/2/1/1]", "ends")
 
 
-def a_consumer(_java):
+def a_consumer(_program: str) -> None:
     """Ends by a close and by an interrupt, behind the item that reached it before."""
     with scripted(welcome, reply("item", item="a")) as server, playing("consumer", server.port) as program:
         server.otherwise = silent_then(reply("item", item="b"), reply("cancelled"))
@@ -500,7 +500,7 @@ def a_consumer(_java):
         program.expect("gave an end, interrupted", "ends")
 
 
-def a_wait_in_pieces(_java):
+def a_wait_in_pieces(_program: str) -> None:
     """Is a new request for each; where a cancel is told that the piece timed out, no other one is asked."""
     late, hour = reply("timedout"), 3_600_000
     with scripted(welcome, late, late, reply("item", item="a")) as server, playing("pieces", server.port) as program:
@@ -514,7 +514,7 @@ def a_wait_in_pieces(_java):
 
 
 @java.in_time
-def times(_java):
+def times(_program: str) -> None:
     """A call with a time ends behind it and a second, long before the patience of 100 seconds, with a silent server and none."""
     with scripted(welcome, reply("done"), otherwise=SILENCE) as server, playing("times", server.port) as program:
         for told, least, most in [("threw Unsettled of 1/1/1/2", 1_300, 60_000), ("threw NotAsked of null", 800, 60_000)]:

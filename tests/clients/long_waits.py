@@ -37,7 +37,7 @@ def waits(seconds, pause, patience):
     return fault, max(later - earlier for earlier, later in zip(words, words[1:]))
 
 
-def a_take_waits_longer_than_its_patience():
+def a_take_waits_longer_than_its_patience() -> None:
     """Each word of the server's starts the patience anew."""
     patience = 3
     for _ in range(TRIES):
@@ -47,7 +47,7 @@ def a_take_waits_longer_than_its_patience():
     demand(not fault, fault)
 
 
-def a_take_waits_ten_minutes():
+def a_take_waits_ten_minutes() -> None:
     """By hand: the server says every ten seconds that the take waits."""
     fault, _ = waits(seconds=600, pause=10, patience=60)
     demand(not fault, fault)

@@ -44,7 +44,7 @@ def last_lines(*commands):
     return ran.stdout.splitlines()[-2:]
 
 
-def what_is_left_out_is_told(program):
+def what_is_left_out_is_told(program: str) -> None:
     """Each thing that the tests of clients, package and page leave out, once, with the tool; with all tools, that nothing was."""
     told, _ = last_lines([*RUN, "--program", program, *NEED_TOOLS], [*RUN, "--selftest", "clients.wrong_clients: in java"],
                          [sys.executable, "-B", "-c", NO_JUNIT])

@@ -126,7 +126,7 @@ def java_at_the_double(_program):
     return a_killed("", in_java, DOUBLE)
 
 
-def in_its_third_piece(program):
+def in_its_third_piece(program: str) -> None:
     """A take has an item that comes when two pieces timed out; the receipt names the piece that has it, and the next call has the
     next number."""
     with Host(HostProgram(program)) as server, session(server, WORKER, PRESENCE) as worker, session(server, OTHER) as other:
@@ -140,7 +140,7 @@ def in_its_third_piece(program):
     demand(told == ["timedout"] * (len(told) - 2) + ["item", "empty"], f"{told}")
 
 
-def the_place_in_the_line(program):
+def the_place_in_the_line(program: str) -> None:
     """Is lost with each piece: whoever came meanwhile gets the next item."""
     with Host(HostProgram(program)) as server, session(server, WORKER, PRESENCE) as worker, session(server, OTHER) as other, \
             session(server, 3) as giver:
@@ -157,7 +157,7 @@ def the_place_in_the_line(program):
 
 
 @unhurried(cancels=False)
-def a_time_of_its_own(program):
+def a_time_of_its_own(program: str) -> None:
     """A transfer with a time that is longer than its presence: all pieces together wait no longer, and nobody has the item. One
     that is received in a later piece names who received it."""
     with Host(HostProgram(program)) as server, session(server, WORKER, PRESENCE) as worker, session(server, OTHER) as other:
@@ -175,7 +175,7 @@ def a_time_of_its_own(program):
     demand(took >= 2.49 * PRESENCE, f"it took {took} seconds")
 
 
-def cancels_at_any_moment(program, seed):
+def cancels_at_any_moment(program: str, seed: int) -> str:
     """Takes in brief pieces are cancelled, within pieces and between them, while items come: each item is told once, by its take, or
     to whoever drains what a cancelled take left."""
     chance, told, left = random.Random(seed), [], []
@@ -196,7 +196,7 @@ def cancels_at_any_moment(program, seed):
     return f"{len(told)} of {CANCELLED} takes had an item"
 
 
-def over_a_bad_link(program, seed):
+def over_a_bad_link(program: str, seed: int) -> str:
     """Transfers and takes in brief pieces, where answers are lost and requests come twice: each item is handed over once, in
     order, and the account has the reply of each piece."""
     chance, items = random.Random(seed), [f"item {number}" for number in range(HANDED)]

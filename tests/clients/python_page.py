@@ -43,7 +43,7 @@ class Program:
         return printed, said, self.process.returncode
 
 
-def the_page_of_python(program):
+def the_page_of_python(program: str) -> None:
     """What one program hands over the other one does, whichever of the two workers it is; SIGTERM ends the one on a thread
     well."""
     gives, *workers = programs()

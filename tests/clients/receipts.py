@@ -26,7 +26,7 @@ def handed_over(giver, taker, by):
     demand((receipt.by, item) == (by, "a"), f"{receipt}, {item}")
 
 
-def of_each_version(program):
+def of_each_version(program: str) -> None:
     """A session of version 2 is told who received its item, whatever version the consumer speaks; one of
     version 1 is not."""
     with serving(program, 6, 3) as server:
@@ -38,7 +38,7 @@ def of_each_version(program):
         judged(server)
 
 
-def one_version_a_session(program):
+def one_version_a_session(program: str) -> None:
     """A hello in another version than its session's is refused; a greater incarnation may speak another."""
     with serving(program, 8, 6) as server:
         with session(server, 1), session(server, 2, version=1):
@@ -62,7 +62,7 @@ def refused(server, number, version):
     return demand(False, f"client {number} is welcome in version {version}")
 
 
-def between_python_and_java(program):
+def between_python_and_java(program: str) -> None:
     """Python gives to Java and Java to Python, and each is told who received."""
     with serving(program, 4, 2) as server, session(server, 1) as one:
         with java.driver() as driver:

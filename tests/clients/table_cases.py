@@ -4,6 +4,7 @@ import itertools
 import json
 import random
 import subprocess
+from typing import Any
 
 from rendezvous import replies
 from rendezvous.errors import Misused
@@ -240,9 +241,9 @@ def the_models_process(_):
             play.line()
 
 
-def the_programs_process(program):
+def the_programs_process(program: str) -> None:
     """Each story, by `rv play`: the process there is that of rv_client."""
-    stories = {}
+    stories: dict[str, list[dict[str, Any]]] = {}
     for case in cases():
         stories.setdefault(case["story"], []).append(case)
     for name, told in stories.items():
