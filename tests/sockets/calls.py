@@ -1,10 +1,13 @@
 """`rv call` at a server, and at a listener that answers by a script."""
+from __future__ import annotations
+
 import itertools
 import pathlib
 import socket
 import tempfile
 import threading
 import time
+from collections.abc import Sequence
 
 from tests.model.account import Key
 from tests.model.texts import written
@@ -23,12 +26,12 @@ ITEM = replied(ONE, reply="item", item="a")
 ANSWER = frame(ITEM)
 
 
-def lines(*calls):
+def lines(*calls: Members) -> bytes:
     """The call texts of these calls, a line each."""
     return b"".join(written(call).encode() + b"\n" for call in calls)
 
 
-def refusal(code, **detail):
+def refusal(code: int, **detail: int) -> bytes:
     """The frame of a refusal."""
     return frame(refused(code, **detail))
 
@@ -37,12 +40,13 @@ def two_callers(program: str) -> None:
     """Two callers hand an item over, and swap, each in either version: the giver's own tells whether it is told who took
     its item."""
     named = {"reply": "received", "by_client": 2, "by_incarnation": 1, "by_number": 1}
-    for gives, receipt in [(1, {"reply": "received"}), (2, named)]:
+    receipts: list[tuple[int, Members]] = [(1, {"reply": "received"}), (2, named)]
+    for gives, receipt in receipts:
         for takes in (1, 2):
             hand_over(program, gives, takes, receipt)
 
 
-def hand_over(program, gives, takes, receipt):
+def hand_over(program: str, gives: int, takes: int, receipt: Members) -> None:
     """Two callers of these versions."""
     gift = give("transfer", "a", "forever")
     first, second = map(swapped, "bc")
@@ -74,7 +78,7 @@ def two_recorders(program: str) -> None:
         server.judged({given: gift, got: WISH}, [(given, {"reply": "received"}), (got, {"reply": "item", "item": "a"})])
 
 
-def swapped(item):
+def swapped(item: str) -> Members:
     """A swap that waits."""
     return {"call": "swap", "exchanger": 5, "item": item, "wait": "forever"}
 
@@ -172,23 +176,25 @@ class Scripted:
     """A listener that serves one connection: for each frame that it hears it sends the next bytes, and then it ends. It
     acknowledges late what comes, and counts the packets of each frame whose size it is told."""
 
-    def __init__(self, steps, slowly=False, sizes=()):
+    def __init__(self, steps: list[bytes], slowly: bool = False, sizes: Sequence[int] = ()):
         self.steps, self.slowly, self.sizes = steps, slowly, sizes
-        self.heard, self.came, self.fault = [], [], None
+        self.heard: list[bytes] = []
+        self.came: list[Packets] = []
+        self.fault: TimeoutError | Wrong | None = None
         self.socket = socket.create_server(("127.0.0.1", 0))
         self.socket.settimeout(PATIENCE)
         self.port = self.socket.getsockname()[1]
         self.thread = threading.Thread(target=self.run, daemon=True)
         self.thread.start()
 
-    def __enter__(self):
+    def __enter__(self) -> Scripted:
         return self
 
-    def __exit__(self, *_):
+    def __exit__(self, *_: object) -> None:
         self.thread.join(PATIENCE)
         self.socket.close()
 
-    def run(self):
+    def run(self) -> None:
         try:
             with Peer(self.socket.accept()[0]) as peer:
                 before = Packets(0, 0, 0)
@@ -284,7 +290,8 @@ SECOND_SCRIPTS = [
 ]
 
 
-def at_a_script(program, steps, text, tries, printed, status, heard, slowly=False, speak=1, sizes=()):
+def at_a_script(program: str, steps: list[bytes], text: bytes, tries: int, printed: bytes, status: int, heard: list[bytes],
+                slowly: bool = False, speak: int = 1, sizes: Sequence[int] = ()) -> list[Packets]:
     """A caller at a listener that answers by a script must end so. Gives what came for each frame whose size is told."""
     with Scripted(steps, slowly, sizes) as listener:
         with Caller(program, listener.port, 2, text, tries=tries, speak=speak) as caller:

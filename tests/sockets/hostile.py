@@ -1,4 +1,6 @@
 """A thousand connections that mean no good, beside one good client that gets each answer."""
+from __future__ import annotations
+
 import errno
 import functools
 import random
@@ -8,8 +10,9 @@ import time
 from tests.model.account import Hello, Key
 from tests.sockets.driver import Ledger, drive
 from tests.sockets.hosts import serving
+from tests.sockets.programs import Served
 from tests.sockets.wire import (
-    BAD_TEXT, demand, frame, give, hello, replied, request, take, welcome)
+    BAD_TEXT, Members, Peer, demand, frame, give, hello, replied, request, take, welcome)
 
 CONNECTIONS, WORKERS = 1_000, 8
 # The clients that say hello over hostile connections, each from a thread of its own.
@@ -22,13 +25,13 @@ QUESTIONS = 3_000
 class Hostile:
     """Connections one after another, each of a random kind."""
 
-    def __init__(self, server, chance, client):
+    def __init__(self, server: Served, chance: random.Random, client: int):
         self.server, self.chance, self.client = server, chance, client
         version = chance.choice([1, 2])
         self.hello, self.welcome = hello(client, version=version), welcome(client, version=version)
         self.kinds = [self.noise, self.bad_length, self.cut_frame, self.nonsense, self.reset, self.silence]
 
-    def run(self, left):
+    def run(self, left: Left) -> None:
         """As many connections as are left, shared with others like this."""
         while left.take():
             try:
@@ -40,20 +43,21 @@ class Hostile:
                 if error.errno != errno.ENOTCONN:
                     raise
 
-    def bytes(self, least, most):
+    def noise_of(self, least: int, most: int) -> bytes:
+        """So many bytes, whatever they are."""
         return self.chance.randbytes(self.chance.randint(least, most))
 
-    def good(self):
+    def good(self) -> tuple[bytes, list[bytes]]:
         """Some frames of this client's own, and the answers to them."""
         times = self.chance.choice([0, 0, 1, 5])
         return frame(self.hello) * times, [self.welcome] * times
 
-    def noise(self):
+    def noise(self) -> None:
         """Random bytes."""
         with self.server.connect() as peer:
-            peer.send(self.bytes(1, self.chance.choice([3, 100, 20_000])))
+            peer.send(self.noise_of(1, self.chance.choice([3, 100, 20_000])))
 
-    def bad_length(self):
+    def bad_length(self) -> None:
         """Good frames and a bad length: they are answered, and the connection ends."""
         data, answers = self.good()
         with self.server.connect() as peer:
@@ -61,7 +65,7 @@ class Hostile:
             self.hear(peer, answers)
             peer.expect_end()
 
-    def cut_frame(self):
+    def cut_frame(self) -> None:
         """Good frames and one that is cut: they are answered."""
         data, answers = self.good()
         whole = frame(self.hello)
@@ -73,28 +77,28 @@ class Hostile:
             self.hear(peer, answers)
             peer.expect_end()
 
-    def nonsense(self):
+    def nonsense(self) -> None:
         """Frames of any bytes are answered as bad text, and good ones between them as ever."""
         data, answers = self.good()
         count = self.chance.randint(1, 20)
-        bodies = [b"\xff" + self.bytes(0, self.chance.choice([10, 10, 4095, 65_534])) for _ in range(count)]
+        bodies = [b"\xff" + self.noise_of(0, self.chance.choice([10, 10, 4095, 65_534])) for _ in range(count)]
         with self.server.connect() as peer:
             peer.send(data + b"".join(map(frame, bodies)) + data)
             self.hear(peer, [*answers, *[BAD_TEXT] * count, *answers])
 
-    def reset(self):
+    def reset(self) -> None:
         """The connection is reset, in the middle of what is asked."""
         peer = self.server.connect()
-        peer.send(frame(self.hello) * self.chance.choice([1, 50]) + self.bytes(0, 50))
+        peer.send(frame(self.hello) * self.chance.choice([1, 50]) + self.noise_of(0, 50))
         time.sleep(self.chance.choice([0, 0, 0.001]))
         peer.reset()
 
-    def silence(self):
+    def silence(self) -> None:
         """Nothing is said, for a moment."""
         with self.server.connect():
             time.sleep(self.chance.choice([0, 0.001, 0.01]))
 
-    def hear(self, peer, answers):
+    def hear(self, peer: Peer, answers: list[bytes]) -> None:
         for number, wanted in enumerate(answers):
             got = peer.hear()
             demand(got == wanted, f"answer {number} to a hostile client was {got!r}, not {wanted!r}")
@@ -103,16 +107,16 @@ class Hostile:
 class Left:
     """How many connections are left, for some threads."""
 
-    def __init__(self, count):
+    def __init__(self, count: int):
         self.lock, self.count = threading.Lock(), count
 
-    def take(self):
+    def take(self) -> bool:
         with self.lock:
             self.count -= 1
             return self.count >= 0
 
 
-def never_reads(server, ledger, client):
+def never_reads(server: Served, ledger: Ledger, client: int) -> None:
     """A peer that asks and asks for a long answer and reads none, until the server's write waits; then it goes."""
     put, peek = Key(server.epoch, client, 1, 1), Key(server.epoch, client, 1, 2)
     asked = {put: give("put", "\x01" * 512, queue=7), peek: {"call": "peek", "queue": 7}}
@@ -132,17 +136,17 @@ def never_reads(server, ledger, client):
 class Good:
     """A client that puts and takes, whose each answer is known; until the others are done, and for a while at least."""
 
-    def __init__(self, server, ledger):
+    def __init__(self, server: Served, ledger: Ledger):
         self.server, self.ledger, self.number = server, ledger, 0
 
-    def ask(self, peer, call, **reply):
+    def ask(self, peer: Peer, call: Members, **reply: object) -> None:
         self.number += 1
         key = Key(self.server.epoch, 1, 1, self.number)
         self.ledger.ask(key, call)
         peer.expect(request(key, call), replied(key, **reply))
         self.ledger.tell(key, reply)
 
-    def run(self, done):
+    def run(self, done: threading.Event) -> None:
         with self.server.greeted(1) as peer:
             while self.number < 200 or not done.is_set():
                 item = f"item {self.number}"

@@ -1,13 +1,14 @@
 """Random frames, good ones and bad ones, cut into pieces; each answer must be that of the model."""
 import random
 import time
+from collections.abc import Iterator
 
 from tests.model.account import Account, Request, limit
 from tests.model.scripts import Script
 from tests.model.steps import told
 from tests.model.texts import MAX_BODY_BYTES
 from tests.sockets.hosts import serving
-from tests.sockets.wire import demand, frame, together
+from tests.sockets.wire import Peer, demand, frame, together
 
 CONNECTIONS, FRAMES = 12, 420
 # The bytes of the smallest and of the greatest piece.
@@ -17,23 +18,24 @@ PAUSES, PAUSE = 200, 5
 # How many answers of one connection may be that a request waits: each takes about a second.
 WAITS = 2
 SHORT = [1, 1, 2, 3, 5, 10]
+LONG: list[int | str] = [0, 0, "forever", 86_400_000]
 
 
 class Talk(Script):
     """One connection's frames, each with its answer. The server's clock has no part in them: a request that waits alone
     is told that its limit came, in its own frame, or its limit is a day away."""
 
-    def __init__(self, chance, epoch):
+    def __init__(self, chance: random.Random, epoch: int):
         super().__init__(chance, epoch)
         self.waits = WAITS
 
-    def wait(self):
+    def wait(self) -> int | str:
         """A wait that ends at once, soon, or not within any test."""
         if self.odds(0.45):
             return "now"
-        return self.chance.choice(SHORT) if self.odds(0.7) else self.chance.choice([0, 0, "forever", 86_400_000])
+        return self.chance.choice(SHORT) if self.odds(0.7) else self.chance.choice(LONG)
 
-    def frame(self):
+    def frame(self) -> tuple[bytes, bytes]:
         """A body and the answer to it."""
         while True:
             body = self.padded(self.body()[:MAX_BODY_BYTES] or b"x")
@@ -45,11 +47,11 @@ class Talk(Script):
             self.account, self.now = account, now
             return body, answer
 
-    def padded(self, body):
+    def padded(self, body: bytes) -> bytes:
         """The body, now and then with white space behind it."""
         return body + b" " * self.chance.randint(0, MAX_BODY_BYTES - len(body)) if self.odds(0.03) else body
 
-    def served(self, body):
+    def served(self, body: bytes) -> tuple[Account, int, bytes]:
         """The account after a frame, its moment, and the answer after as many pauses as there may be."""
         now = self.now + 1
         account, answer = told(self.account, b"%d %s" % (now, body))
@@ -61,7 +63,7 @@ class Talk(Script):
         return account, now, answer.encode()
 
 
-def cut(chance, data):
+def cut(chance: random.Random, data: bytes) -> Iterator[bytes]:
     """Pieces of all sizes, small ones as often as great ones."""
     at = 0
     while at < len(data):
@@ -70,7 +72,7 @@ def cut(chance, data):
         at += size
 
 
-def send(chance, peer, data):
+def send(chance: random.Random, peer: Peer, data: bytes) -> None:
     """Sends pieces; some wait for the one before to be read."""
     for piece in cut(chance, data):
         peer.send(piece)
@@ -79,7 +81,7 @@ def send(chance, peer, data):
     peer.end()
 
 
-def hear(peer, talk):
+def hear(peer: Peer, talk: list[tuple[bytes, bytes]]) -> None:
     """Each frame must be answered as the model answers it, and then the connection must end."""
     for number, (body, wanted) in enumerate(talk):
         got = peer.hear()
@@ -87,7 +89,7 @@ def hear(peer, talk):
     peer.expect_end()
 
 
-def one_connection(program, chance):
+def one_connection(program: str, chance: random.Random) -> None:
     """One server, one connection and its frames."""
     epoch = chance.choice([1, 1, 7, 2**53 - 1])
     script = Talk(chance, epoch)
@@ -100,7 +102,7 @@ def one_connection(program, chance):
         server.audited()
 
 
-def shape(account: Account):
+def shape(account: Account) -> list[tuple[object, object]]:
     """What an account has beside its moments."""
     return [(entry.act, entry.partners) for entry in account.entries]
 

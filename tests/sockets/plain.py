@@ -1,4 +1,6 @@
 """What a server does for few clients: hand-overs, waits, ends, ports, addresses and words."""
+from __future__ import annotations
+
 import contextlib
 import itertools
 import os
@@ -6,14 +8,15 @@ import socket
 import subprocess
 import threading
 import time
+from collections.abc import Callable, Iterable, Iterator, Mapping
 
 from tests.model.account import Key, receipt
-from tests.sockets.driver import Asked
+from tests.sockets.driver import Asked, Told
 from tests.sockets.hosts import serving
-from tests.sockets.programs import taken_port
+from tests.sockets.programs import Served, taken_port
 from tests.sockets.wire import (
-    BAD_TEXT, MAX_FRAME, PATIENCE, Peer, cancel, demand, drain, frame, give, hello, members_of, refused, replied,
-    reply_of, request, take, together, until, waits, welcome)
+    BAD_TEXT, MAX_FRAME, PATIENCE, Members, Packets, Peer, Wrong, cancel, demand, drain, frame, give, hello, members_of,
+    refused, replied, reply_of, request, take, together, until, waits, welcome)
 
 GREATEST = 2**53 - 1
 FRAMES = 65_536
@@ -33,33 +36,34 @@ LOOKER = 900
 class Looker:
     """A client that counts a queue, until what was sent over another connection stands there."""
 
-    def __init__(self, server, queue=3):
-        self.peer, self.epoch, self.queue, self.asked = server.greeted(LOOKER), server.epoch, queue, {}
+    def __init__(self, server: Served, queue: int = 3):
+        self.peer, self.epoch, self.queue = server.greeted(LOOKER), server.epoch, queue
+        self.asked: Asked = {}
 
-    def __enter__(self):
+    def __enter__(self) -> Looker:
         return self
 
-    def __exit__(self, *_):
+    def __exit__(self, *_: object) -> None:
         self.peer.close()
 
-    def counted(self):
+    def counted(self) -> tuple[int, int]:
         """How many items and consumers wait."""
         key, call = Key(self.epoch, LOOKER, 1, len(self.asked) + 1), {"call": "count", "queue": self.queue}
         self.asked[key] = call
         told = self.peer.told(request(key, call))
         return told["items"], told["consumers"]
 
-    def sees(self, items=0, consumers=0):
+    def sees(self, items: int = 0, consumers: int = 0) -> None:
         """Waits until so many wait."""
         until(f"{items} items and {consumers} consumers wait", lambda: self.counted() == (items, consumers))
 
 
-def attempted(attempt):
+def attempted(attempt: Callable[[int], bool]) -> None:
     """Attempts it with the numbers from 0 on, until one comes about: it gives whether the machine was quick enough."""
     demand(any(attempt(number) for number in range(ATTEMPTS)), f"in none of {ATTEMPTS} attempts it was told in its own frame")
 
 
-def settled(peer, body, answer):
+def settled(peer: Peer, body: bytes, answer: Members) -> Members:
     """The answer to a body that is asked again for as long as it is told that it waits."""
     for _ in range(ATTEMPTS):
         if answer["kind"] != "waiting":
@@ -68,7 +72,7 @@ def settled(peer, body, answer):
     return answer
 
 
-def in_its_own_frame(peer, key, call, **reply):
+def in_its_own_frame(peer: Peer, key: Key, call: Members, **reply: object) -> bool:
     """Whether the request that waited is told its reply in the frame that comes now. Where it is told that it waits, it
     is told its reply when it is asked again."""
     got = peer.hear()
@@ -127,9 +131,9 @@ def one_after_the_other(program: str) -> None:
 def a_consumer_that_waits(program: str) -> None:
     """A take that waits in one connection is met by a put from another, and told so in its own frame."""
     with serving(program, workers=3, connections=3) as server:
-        asked = {}
+        asked: Asked = {}
         with server.greeted(1) as giver, server.greeted(2) as taker, Looker(server) as looker:
-            def attempt(number):
+            def attempt(number: int) -> bool:
                 one, two = (Key(1, client, 1, number + 1) for client in (1, 2))
                 asked.update({one: give("put", "a"), two: take("forever")})
                 taker.send(frame(request(two, asked[two])))
@@ -151,7 +155,7 @@ def an_answer_before_a_wait(program: str) -> None:
         server.ended()
 
 
-def is_met_behind_its_welcome(server, giver, client):
+def is_met_behind_its_welcome(server: Served, giver: Peer, client: int) -> bool:
     """Whether a client that says hello and waits, all in one piece, is told of the item that is put at its welcome."""
     wish, gift = Key(1, client, 1, 1), Key(1, 1000, 1, client)
     with server.connect() as taker:
@@ -166,24 +170,26 @@ def a_drain(program: str) -> None:
     """It takes the oldest items in one step, of a transfer that waits in another connection too, which is told so in its own
     frame; its repeat is told the same, and what it did not take stays. Its longest reply comes in one frame."""
     with serving(program, workers=3, connections=3) as server:
-        (ones, twos), asked, told = (itertools.count(1), itertools.count(1)), {}, []
+        asked: Asked = {}
+        told: Told = []
+        ones, twos = itertools.count(1), itertools.count(1)
         with server.greeted(1) as giver, server.greeted(2) as taker, Looker(server) as looker:
-            def ask(client, call):
+            def ask(client: int, call: Members) -> Key:
                 key = Key(1, client, 1, next(ones if client == 1 else twos))
                 asked[key] = call
                 return key
 
-            def puts(item):
+            def puts(item: str) -> None:
                 key = ask(1, give("put", item))
                 giver.expect(request(key, asked[key]), replied(key, reply="done"))
 
-            def drains(most, texts, times=1):
+            def drains(most: int, texts: list[str], times: int = 1) -> None:
                 key = ask(2, drain(most))
                 for _ in range(times):
                     taker.expect(request(key, asked[key]), replied(key, reply="drained", texts=texts))
                 told.append((key, {"reply": "drained", "texts": texts}))
 
-            def attempt(_):
+            def attempt(_: int) -> bool:
                 puts("a")
                 gift = ask(1, give("transfer", "b", "forever"))
                 giver.send(frame(request(gift, asked[gift])))
@@ -223,9 +229,11 @@ def repeats(program: str) -> None:
     """What is asked again is told the same and not done again, and an item whose giver was told that nobody took it goes to
     nobody."""
     with serving(program, workers=1, connections=1) as server:
-        numbers, asked, told = itertools.count(1), {}, []
+        asked: Asked = {}
+        told: Told = []
+        numbers = itertools.count(1)
         with server.greeted(1) as peer:
-            def twice(call, **reply):
+            def twice(call: Members, **reply: object) -> None:
                 key = Key(1, 1, 1, next(numbers))
                 asked[key] = call
                 told.append((key, reply))
@@ -246,16 +254,18 @@ def sessions_of_both_versions(program: str) -> None:
     """A hello tells its session's version, which no other hello of its incarnation changes. In the second a transfer is
     told who took its item: in its own frame where it waits, at once where a consumer does, and again."""
     with serving(program, workers=4, connections=4) as server:
-        asked, told, numbers = {}, [], {client: itertools.count(1) for client in (1, 2, 3)}
+        asked: Asked = {}
+        told: Told = []
+        numbers = {client: itertools.count(1) for client in (1, 2, 3)}
 
-        def ask(client, call):
+        def ask(client: int, call: Members) -> Key:
             key = Key(1, client, 1, next(numbers[client]))
             asked[key] = call
             return key
 
         with server.greeted(1, version=2) as giver, server.greeted(2) as other, server.greeted(3) as taker, \
                 Looker(server) as looker:
-            def transfer_waits(peer, client):
+            def transfer_waits(peer: Peer, client: int) -> bool:
                 gift, wish = ask(client, give("transfer", "a", "forever")), ask(3, take("forever"))
                 peer.send(frame(request(gift, asked[gift])))
                 looker.sees(items=1)
@@ -266,7 +276,7 @@ def sessions_of_both_versions(program: str) -> None:
                 peer.expect(request(gift, asked[gift]), replied(gift, **told[-1][1]))
                 return quick
 
-            def take_waits(_):
+            def take_waits(_: int) -> bool:
                 wish, gift = ask(3, take("forever")), ask(1, give("transfer", "b", "now"))
                 taker.send(frame(request(wish, asked[wish])))
                 looker.sees(consumers=1)
@@ -278,7 +288,7 @@ def sessions_of_both_versions(program: str) -> None:
                 peer.expect(hello(client, version=3 - version), refused(12, current=version))
                 peer.expect(hello(client, version=3), BAD_TEXT)
             for peer, client in [(giver, 1), (other, 2)]:
-                attempted(lambda _, peer=peer, client=client: transfer_waits(peer, client))
+                attempted(lambda _: transfer_waits(peer, client))
             attempted(take_waits)
         server.judged(asked | looker.asked, told)
 
@@ -320,12 +330,12 @@ def many_that_wait(program: str) -> None:
 
 
 @contextlib.contextmanager
-def paced():
+def paced() -> Iterator[list[float]]:
     """Pauses beside what is measured, as a worker does for a request that waits. It gives the seconds that each turn took,
     which are more where the machine is slow, and one turn at least."""
-    turns, ended = [], threading.Event()
+    turns, ended = list[float](), threading.Event()
 
-    def pace():
+    def pace() -> None:
         while not ended.is_set():
             began = time.monotonic()
             for _ in range(PAUSES):
@@ -341,7 +351,7 @@ def paced():
         pacer.join()
 
 
-def told_that_it_waits(peer, key, asked):
+def told_that_it_waits(peer: Peer, key: Key, asked: Asked) -> float:
     """The seconds until a take that waits alone is told so, which is cancelled then."""
     asked[key], began = take("forever"), time.monotonic()
     peer.expect(request(key, asked[key]), waits(key))
@@ -353,9 +363,11 @@ def told_that_it_waits(peer, key, asked):
 def a_new_incarnation(program: str) -> None:
     """A client that starts anew ends what waits, also while it is asked for in another connection."""
     with serving(program, workers=3, connections=4) as server:
-        gift, asked, told = give("transfer", "a", "forever"), {}, []
+        asked: Asked = {}
+        told: Told = []
+        gift = give("transfer", "a", "forever")
         with server.greeted(1) as old, server.connect() as new, Looker(server) as looker:
-            def attempt(number):
+            def attempt(number: int) -> bool:
                 key, later = Key(1, 1, number + 1, 1), number + 2
                 asked[key], gone = gift, refused(4, current=later)
                 told.append((key, {"reply": "cancelled"}))
@@ -445,7 +457,7 @@ def no_packet_waits(program: str) -> None:
         server.ended()
 
 
-def has_waited(peer, key):
+def has_waited(peer: Peer, key: Key) -> bool:
     """Whether a packet of the answer to a put waited."""
     done, before = replied(key, reply="done"), peer.counted()
     peer.acknowledge(late=True)
@@ -456,13 +468,13 @@ def has_waited(peer, key):
     return is_late(came)
 
 
-def is_late(came):
+def is_late(came: Packets) -> bool:
     """Whether one of these packets may have waited until another was acknowledged: there are more than one, and an
     acknowledgement was sent. Who sends them together needs none; only a slow machine sends one then, as it looks too late."""
     return came.packets > 1 and came.acknowledgements > 0
 
 
-def none_waits(exchanges):
+def none_waits(exchanges: Iterable[bool]) -> None:
     """Ends the test where in most of these exchanges a packet waited."""
     late = 0
     for is_one_late in exchanges:
@@ -484,7 +496,7 @@ def a_late_client(program: str) -> None:
     """Who comes after the last accept is refused, and not left waiting, though a connection is still served."""
     with serving(program, workers=2, connections=1) as server:
         with server.greeted(1) as peer:
-            def is_refused():
+            def is_refused() -> bool:
                 try:
                     late = server.connect()
                 except ConnectionError:
@@ -562,7 +574,7 @@ def nobody_listens(program: str) -> None:
         os.close(write)
 
 
-def broken_input():
+def broken_input() -> socket.socket:
     """An input whose reading fails: a connection that the other end has reset."""
     with socket.create_server(("127.0.0.1", 0)) as listener:
         broken = socket.create_connection(listener.getsockname())
@@ -577,7 +589,7 @@ def broken_streams(program: str) -> None:
         server.greeted(1).close()
         words = call_words(connect=f"127.0.0.1:{server.port}")
         with broken_input() as broken:
-            ran = subprocess.run([program, *words], stdin=broken, capture_output=True, timeout=PATIENCE)
+            ran = subprocess.run([program, *words], stdin=broken.fileno(), capture_output=True, timeout=PATIENCE)
         judge(words, ran, 1, b"run fault 1\n")
         demand(len(server.ended().entries) == 1, "the account has other than one entry")
     with serving(program, workers=1, connections=2) as server, open("/dev/full", "wb") as full:
@@ -600,33 +612,33 @@ def addresses(program: str) -> None:
         ends_so(program, call_words(connect=text), 1, b"address fault\n")
 
 
-def serve_words(**other):
+def serve_words(**other: str | None) -> list[str]:
     """The words of a server that would end at once."""
     return words_of("serve", {"listen": "127.0.0.1:0", "epoch": "1", "workers": "1", "connections": "0"} | other)
 
 
-def call_words(**other):
+def call_words(**other: str | None) -> list[str]:
     """The words of a caller that finds nobody."""
     options = {"connect": "127.0.0.1:1", "client": "1", "incarnation": "1", "tries": "1", "speak": "1"}
     return words_of("call", options | other)
 
 
-def words_of(command, options):
+def words_of(command: str, options: Mapping[str, str | None]) -> list[str]:
     """A command with its options; one that is None is left out."""
     given = [(f"--{name}", value) for name, value in options.items() if value is not None]
     return [command, *(word for pair in given for word in pair)]
 
 
-def ends_so(program, words, status, said, printed=b""):
+def ends_so(program: str, words: list[str], status: int, said: bytes, printed: bytes = b"") -> None:
     """The program with these words ends so."""
     try:
         ran = subprocess.run([program, *words], input=b"", capture_output=True, timeout=PATIENCE)
     except subprocess.TimeoutExpired:
-        demand(False, f"{words} did not end")
+        raise Wrong(f"{words} did not end") from None
     judge(words, ran, status, said, printed)
 
 
-def judge(words, ran, status, said, printed=b""):
+def judge(words: list[str], ran: subprocess.CompletedProcess[bytes], status: int, said: bytes, printed: bytes = b"") -> None:
     """A run must have ended so."""
     got = (ran.stdout, ran.stderr, ran.returncode)
     demand(got == (printed, said, status), f"{words}: {got}")
@@ -645,8 +657,8 @@ def bad_words(program: str) -> None:
               "speak": ["0", "3"]}
     for name, values in limits.items():
         for value in [*odd, *values]:
-            words = serve_words if name in ("epoch", "workers", "connections") else call_words
-            ends_so(program, words(**{name: value}), *bad)
+            words_with = serve_words if name in ("epoch", "workers", "connections") else call_words
+            ends_so(program, words_with(**{name: value}), *bad)
     for words in [serve_words() + ["--tries", "1"], serve_words() + ["--epoch", "1"], serve_words() + ["x"],
                   serve_words() + ["--speak", "1"], call_words() + ["--speak", "1"], call_words() + ["--epoch", "1"],
                   call_words() + ["x"], ["serve"], ["call"], ["serve", "--help"],

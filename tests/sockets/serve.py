@@ -9,6 +9,7 @@ The cases are functions of the program, and some of a seed too: the host's cases
 from __future__ import annotations
 
 import unittest
+from collections.abc import Callable
 
 from tests.cases import Case, Scenario, SelfTest
 from tests.sockets import calls, crowds, hostile, ledgers, pieces, plain, times
@@ -65,7 +66,8 @@ FIXED = 1
 
 def of_double(wrong: str, name: str) -> Came:
     """What came of a case where the double does this wrong, or nothing."""
-    case = {name_of(case): case for case in [*ONCE, *RANDOM]}[name]
+    cases: list[Callable[..., object]] = [*ONCE, *RANDOM]
+    case = {name_of(case): case for case in cases}[name]
     return came_of_double(wrong, case, *([FIXED] if case in RANDOM else []))
 
 

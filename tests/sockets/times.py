@@ -6,7 +6,7 @@ from tests.model.account import Key, Request
 from tests.sockets.driver import Asked
 from tests.sockets.hosts import serving
 from tests.sockets.plain import in_its_own_frame, told_that_it_waits
-from tests.sockets.wire import demand, frame, give, hello, replied, request, take, together, until, welcome
+from tests.sockets.wire import Peer, demand, frame, give, hello, replied, request, take, together, until, welcome
 
 # So often an item is waited for, until one comes before anything was acknowledged.
 ITEMS = 500
@@ -33,7 +33,7 @@ def an_item_behind_an_answer(program: str) -> None:
         server.judged(asked, [])
 
 
-def acknowledgements(taker, giver, number, asked):
+def acknowledgements(taker: Peer, giver: Peer, number: int, asked: Asked) -> int:
     """How many the taker sends from a count and a take in one piece on, until something of the take's item is there, which is
     put behind the count's answer."""
     count, wish, gift = Key(1, 1, 1, 2 * number + 1), Key(1, 1, 1, 2 * number + 2), Key(1, 2, 1, number + 1)
@@ -56,7 +56,7 @@ def a_wait_ends(program: str) -> None:
     with serving(program, workers=1, connections=1) as server:
         asked: Asked = {}
         with server.greeted(1) as peer:
-            def is_soon(number):
+            def is_soon(number: int) -> bool:
                 took, own = together(lambda: told_that_it_waits(peer, Key(1, 1, 1, number), asked), seconds_of_pauses)
                 return took <= MOST_TIMES * own
 
@@ -65,7 +65,7 @@ def a_wait_ends(program: str) -> None:
         server.judged(asked, [])
 
 
-def seconds_of_pauses():
+def seconds_of_pauses() -> float:
     """The seconds that as many pauses take as a request that waits has."""
     began = time.monotonic()
     for _ in range(PAUSES):
