@@ -17,7 +17,8 @@ from tests.clients.outcomes import answer_members
 from tests.clients.proxy import Proxy
 from tests.clients.records import Ended, Reader, judged, judged_java
 from tests.sockets.cases import DOUBLE
-from tests.sockets.driver import Ledger, drive
+from tests.sockets.driver import drive
+from tests.sockets.ledger import Ledger
 from tests.sockets.hosts import serving
 from tests.sockets.wire import PATIENCE, demand, key_of, reply_of
 

@@ -13,7 +13,8 @@ from tests.model.account import Hello, Key
 from tests.model.answers import CODES, LEAST, MOST, REPLIES, read_answer
 from tests.model.texts import KEY, MAX_DRAIN, MAX_IDENTIFIER, TAKER, NoReading, members_of_version, written
 from tests.model.world import is_own
-from tests.sockets.driver import Ledger, drive
+from tests.sockets.driver import drive
+from tests.sockets.ledger import Ledger
 from tests.sockets.listening import Listening
 from tests.sockets.wire import (
     MAX_FRAME, PATIENCE, demand, drain, frame, give, key_of, members_of, reply_of, swap, take)

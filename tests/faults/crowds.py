@@ -7,7 +7,8 @@ import time
 from tests.faults.system import System, hostile_serving
 from tests.sockets import crowds
 from tests.sockets.crowds import take_the_rest
-from tests.sockets.driver import Ledger, drive
+from tests.sockets.driver import drive
+from tests.sockets.ledger import Ledger
 from tests.sockets.wire import demand, hello, members_of
 
 NO_MEMORY = {"code": 11, "kind": "refused"}

@@ -8,7 +8,7 @@ from typing import Any
 from tests.faults.system import HostileServer, System
 from tests.model.account import Key
 from tests.sockets.accounts import account_fault, read_account
-from tests.sockets.driver import Asked, Told
+from tests.sockets.ledger import Asked, Told
 from tests.sockets.programs import Server
 from tests.sockets.wire import Members, Peer, demand, frame, give, hello, replied, request, take, until
 

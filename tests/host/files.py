@@ -16,7 +16,7 @@ from tests.faults.system import System
 from tests.host.counters import Counting
 from tests.host.status import numbers
 from tests.model.account import Key
-from tests.sockets.driver import Asked, Told
+from tests.sockets.ledger import Asked, Told
 from tests.sockets.hosts import Host
 from tests.sockets.programs import free_port
 from tests.sockets.wire import PATIENCE, demand, frame, give, replied, request, together, until

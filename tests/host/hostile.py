@@ -8,7 +8,7 @@ from collections.abc import Iterator
 from tests.faults.system import HostileHost, System
 from tests.host.many import closing, connected
 from tests.model.account import Key
-from tests.sockets.driver import Ledger
+from tests.sockets.ledger import Ledger
 from tests.sockets.hostile import Good
 from tests.sockets.hosts import Host
 from tests.sockets.wire import Peer, demand, frame, give, hello, replied, request, take, together, until, waits, welcome

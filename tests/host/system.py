@@ -18,7 +18,7 @@ from tests.faults.system import HostileHost, System
 from tests.host.many import closing, connected
 from tests.model.account import Key
 from tests.model.records import parted
-from tests.sockets.driver import Asked, Told
+from tests.sockets.ledger import Asked, Told
 from tests.sockets.hosts import Host
 from tests.sockets.plain import Looker, in_its_own_frame
 from tests.sockets.wire import (

@@ -6,7 +6,7 @@ import time
 
 from tests.host.many import closing, connected, greeted
 from tests.model.account import Key
-from tests.sockets.driver import Asked
+from tests.sockets.ledger import Asked
 from tests.sockets.hosts import Host
 from tests.sockets.plain import Looker, in_its_own_frame
 from tests.sockets.wire import (

@@ -7,7 +7,8 @@ import time
 from collections.abc import Callable
 
 from tests.model.account import Key
-from tests.sockets.driver import Left, Ledger, drive
+from tests.sockets.driver import drive
+from tests.sockets.ledger import Left, Ledger
 from tests.sockets.hosts import serving
 from tests.sockets.programs import Served
 from tests.sockets.wire import (

@@ -3,52 +3,20 @@ that they were told."""
 import threading
 from collections.abc import Callable, Iterable
 
-from tests.model.account import Account, Key
+from tests.model.account import Account
 from tests.sockets.accounts import account_fault
 from tests.sockets.judge import crowd_fault
+from tests.sockets.ledger import Left, Ledger
 from tests.sockets.programs import Served
 from tests.sockets.standing import Replies
-from tests.sockets.wire import PATIENCE, Members, demand, together
+from tests.sockets.wire import PATIENCE, demand, together
 
 # So many replies are looked up by the model's definition too, which takes as long as the account for each. Of more, as many
 # as these.
 MOST, SAMPLE = 1_000, 60
-# What clients asked under each key, in the members of its call; and the replies that they were told, one after another.
-Asked = dict[Key, Members]
-Told = list[tuple[Key, Members]]
-# What clients do, and what goes on beside them until an event is set; and the items that are left in each queue.
+# What clients do, and what goes on beside them until an event is set.
 Clients = Iterable[Callable[[], object]]
 Beside = Callable[[threading.Event], object]
-Left = dict[int, list[str]]
-
-
-class Ledger:
-    """What all clients asked, and the one reply to each key."""
-
-    def __init__(self) -> None:
-        self.lock = threading.Lock()
-        self.asked: Asked = {}
-        self.told: dict[Key, Members] = {}
-        self.given_up: set[Key] = set()
-        # The version of each key's session.
-        self.spoken: dict[Key, int] = {}
-
-    def ask(self, key: Key, call: Members, version: int = 1) -> None:
-        with self.lock:
-            demand(self.asked.setdefault(key, call) == call, f"{key} is asked with two calls")
-            self.spoken[key] = version
-
-    def tell(self, key: Key, reply: Members) -> None:
-        """Keeps a reply; a second one must be the same."""
-        with self.lock:
-            before = self.told.setdefault(key, reply)
-        demand(before == reply, f"{key} was told {before}, and then {reply}")
-
-    def settle(self, key: Key, call: Members, reply: Members) -> None:
-        """Keeps a call that was not asked before, and its reply."""
-        with self.lock:
-            demand(key not in self.asked, f"{key} was asked twice")
-            self.asked[key], self.told[key] = call, reply
 
 
 def drive(server: Served, ledger: Ledger, clients: Clients, *, beside: Iterable[Beside] = (), limit: float = 10 * PATIENCE,

@@ -8,7 +8,8 @@ import threading
 import time
 
 from tests.model.account import Hello, Key
-from tests.sockets.driver import Ledger, drive
+from tests.sockets.driver import drive
+from tests.sockets.ledger import Ledger
 from tests.sockets.hosts import serving
 from tests.sockets.programs import Served
 from tests.sockets.wire import (

@@ -1,32 +1,32 @@
 """The judge of crowds on ledgers that are written down: a right one, and one with each lie, which it must find."""
 from tests.model.account import Key
-from tests.sockets.driver import Ledger
 from tests.sockets.judge import crowd_fault
-from tests.sockets.wire import demand, drain, give, swap, take
+from tests.sockets.ledger import Left, Ledger
+from tests.sockets.wire import Members, demand, drain, give, swap, take
 
 
-def key(client, number):
+def key(client: int, number: int) -> Key:
     """A key of the first epoch and incarnation."""
     return Key(1, client, 1, number)
 
 
-def text(client, number):
+def text(client: int, number: int) -> str:
     """The item that a client gives under a number."""
     return f"{client}/1#{number}"
 
 
-def by(client, number):
+def by(client: int, number: int) -> Members:
     """The reply to a transfer that this request received, in version 2."""
     return {"reply": "received", "by_client": client, "by_incarnation": 1, "by_number": number}
 
 
-def item(client, number):
+def item(client: int, number: int) -> Members:
     """The reply to a take of what a client gave."""
     return {"reply": "item", "item": text(client, number)}
 
 
 # Client 1 gives, client 2 takes, clients 3 and 4 swap, and client 5 takes what is left: client 1's last put.
-RIGHT = {
+RIGHT: dict[Key, tuple[Members, Members]] = {
     key(1, 1): (give("put", text(1, 1), "now", 3), {"reply": "done"}),
     key(1, 2): (give("transfer", text(1, 2), "forever", 3), by(2, 2)),
     key(1, 4): (give("transfer", text(1, 4), 10, 4), {"reply": "timedout"}),
@@ -45,11 +45,12 @@ RIGHT = {
     key(5, 2): (take("now", 63), {"reply": "empty"}),
     key(5, 3): (take("now", 63), {"reply": "empty"}),
 }
-LEFT = {3: [text(1, 8)], 4: [], 63: []}
+LEFT: Left = {3: [text(1, 8)], 4: [], 63: []}
 # What is told where a client gave up before it was, and where a reply lacks.
 GIVEN_UP, NOTHING = "given up", "nothing"
 # What is told otherwise, what is left otherwise, and the part of the judge that must find it.
-LIES = [
+Lie = dict[Key, Members | str]
+LIES: list[tuple[str, Lie, Left]] = [
     ("wrong kinds", {key(2, 1): {"reply": "done"}}, {}),
     ("wrong kinds", {key(2, 1): {"reply": "item", "item": "nobody's"}}, {}),
     ("wrong kinds", {key(2, 3): NOTHING}, {}),
@@ -69,7 +70,7 @@ LIES = [
 ]
 
 
-def fault_of(told, left):
+def fault_of(told: Lie, left: Left) -> str | None:
     """What the judge says where this is told, and left, in place of what is right."""
     ledger = Ledger()
     for each, (call, right) in RIGHT.items():
@@ -77,7 +78,7 @@ def fault_of(told, left):
         reply = told.get(each, right)
         if reply == GIVEN_UP:
             ledger.given_up.add(each)
-        elif reply != NOTHING:
+        elif not isinstance(reply, str):
             ledger.tell(each, reply)
     return crowd_fault(ledger, {**LEFT, **left})
 

@@ -11,7 +11,7 @@ import time
 from collections.abc import Callable, Iterable, Iterator, Mapping
 
 from tests.model.account import Key, receipt
-from tests.sockets.driver import Asked, Told
+from tests.sockets.ledger import Asked, Told
 from tests.sockets.hosts import serving
 from tests.sockets.programs import Served, taken_port
 from tests.sockets.wire import (

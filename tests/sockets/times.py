@@ -3,7 +3,7 @@ wrong at any speed, and what comes late is asked again where one quick answer is
 import time
 
 from tests.model.account import Key, Request
-from tests.sockets.driver import Asked
+from tests.sockets.ledger import Asked
 from tests.sockets.hosts import serving
 from tests.sockets.plain import in_its_own_frame, told_that_it_waits
 from tests.sockets.wire import Peer, demand, frame, give, hello, replied, request, take, together, until, welcome
