@@ -16,24 +16,26 @@ from tests.model.world import is_own
 from tests.sockets.driver import drive
 from tests.sockets.ledger import Ledger
 from tests.sockets.listening import Listening
+from tests.sockets.programs import Served
 from tests.sockets.wire import (
-    MAX_FRAME, PATIENCE, demand, drain, frame, give, key_of, members_of, reply_of, swap, take)
+    MAX_FRAME, PATIENCE, Members, demand, drain, frame, give, key_of, members_of, reply_of, swap, take)
 
 CALLERS, RUNS, LINES = 8, 12, 5
+WAITS: list[str | int] = ["now", 0, 5, 40]
 # What a caller ends with where it prints no line more, with its words on standard error.
 FAULTS = [(1, b"run fault 3\n"), (2, b"command fault 2\n"), (1, b"address fault\n")]
 WORDS = (b"not welcome", b"refused 11", b"unsettled")
 
 
-def call_words(port, client, tries, speak):
+def call_words(port: int, client: int, tries: int, speak: int) -> list[str]:
     """The words of a caller."""
     return ["call", "--connect", f"127.0.0.1:{port}", "--client", str(client), "--incarnation", "1", "--tries", str(tries),
             "--speak", str(speak)]
 
 
-def any_call(chance, item):
+def any_call(chance: random.Random, item: str) -> Members:
     """A call that settles within a try, mostly: it waits not at all, or not for long."""
-    wait, queue = chance.choice(["now", 0, 5, 40]), chance.choice([3, 4])
+    wait, queue = chance.choice(WAITS), chance.choice([3, 4])
     return chance.choice([
         give("put", item, queue=queue), give("transfer", item, wait, queue), take(wait, queue), take(wait, queue),
         drain(chance.choice([1, 3]), queue), swap(item, wait if wait != "now" else 0), {"call": "count", "queue": queue}, {"call": "peek", "queue": queue}])
@@ -61,7 +63,7 @@ def hostile_callers(program: str, seed: int) -> None:
     demand(len(ledger.told) > CALLERS * RUNS, f"{len(ledger.told)} replies in all")
 
 
-def one_caller(program, server, client, calls, chance):
+def one_caller(program: str, server: Served, client: int, calls: list[Members], chance: random.Random) -> list[Members]:
     """The replies that a caller printed, a line each from the first on."""
     system = System(chance.randrange(2**31))
     system.be(growth=1_500, cut_read=3, failed_read=6_000, cut_write=3, failed_write=6_000)
@@ -104,10 +106,10 @@ MOST_ANSWERS = 6
 class Link:
     """A caller's end of a stream of frames."""
 
-    def __init__(self, data):
+    def __init__(self, data: bytes):
         self.data = data
 
-    def ask(self):
+    def ask(self) -> Members | None:
         """The members of the next answer; none where there is a fault of the link."""
         size = int.from_bytes(self.data[:2])
         body, self.data = self.data[2 : 2 + size], self.data[2 + size :]
@@ -117,7 +119,7 @@ class Link:
             return None
 
 
-def caller(data, tries, speak):
+def caller(data: bytes, tries: int, speak: int) -> tuple[str, int]:
     """What a caller of one line and this version prints of these answers, and whether it stops there."""
     link = Link(data)
     for _ in range(tries):
@@ -131,7 +133,7 @@ def caller(data, tries, speak):
     return "not welcome", 1
 
 
-def one_call(link, key, tries):
+def one_call(link: Link, key: Members, tries: int) -> tuple[str, int]:
     """What is printed of the call under this key."""
     for _ in range(tries):
         answer = link.ask()
@@ -151,7 +153,7 @@ class Sender(Listening):
 
     data = b""
 
-    def meet(self, connection):
+    def meet(self, connection: socket.socket) -> None:
         with connection:
             try:
                 connection.sendall(self.data)
@@ -162,7 +164,7 @@ class Sender(Listening):
                 pass
 
 
-def answers(chance, speak):
+def answers(chance: random.Random, speak: int) -> bytes:
     """The bytes of some answers, one of them spoilt or more."""
     mutants, data = Mutants(chance), b""
     for at in range(chance.randint(2, MOST_ANSWERS)):
@@ -176,13 +178,13 @@ def answers(chance, speak):
     return data
 
 
-def spoilt(mutants, members):
+def spoilt(mutants: Mutants, members: Members) -> bytes:
     """The text of an answer with another value, a member more or one less, in any order."""
     pairs = list(members.items())
     at = mutants.chance.randrange(len(pairs))
     name, value = pairs[at]
     least, most = LEAST.get(name, 1), MOST.get(name, MAX_IDENTIFIER)
-    edges = [least, max(0, least - 1), most, most + 1]
+    edges: list[object] = [least, max(0, least - 1), most, most + 1]
     if name == "item":
         edges = EDGES["item"]
     elif name == "texts":
@@ -198,7 +200,7 @@ def spoilt(mutants, members):
     return ("{" + ",".join(f"{written(name)}:{mutants.text(value)}" for name, value in pairs) + "}").encode()
 
 
-def spoilt_answers(program, seed, count):
+def spoilt_answers(program: str, seed: int, count: int) -> int:
     """A caller ends as the model of one does, whatever it is answered."""
     text = written(give("put", "a")).encode()
     with Sender() as sender:

@@ -1,33 +1,40 @@
 """Crowds of clients at a server to which the system is hostile, until each client has its reply to each request."""
+import functools
 import os
 import random
 import signal
+import threading
 import time
+from collections.abc import Callable
 
 from tests.faults.system import System, hostile_serving
+from tests.model.account import Key
 from tests.sockets import crowds
 from tests.sockets.crowds import take_the_rest
 from tests.sockets.driver import drive
 from tests.sockets.ledger import Ledger
-from tests.sockets.wire import demand, hello, members_of
+from tests.sockets.programs import Served
+from tests.sockets.wire import Members, demand, hello, members_of
 
 NO_MEMORY = {"code": 11, "kind": "refused"}
 # Tries until a request has its reply, at most.
 MOST_TRIES = 400
 # Crowds until each kind of hostility has happened, at most: a slow machine may do little in one.
 MOST_CROWDS = 5
+# What is done with a server until an event is set.
+Beside = Callable[[random.Random, Served, threading.Event], None]
 
 
 class Stubborn(crowds.Client):
     """A client that goes on where its connection breaks, or the server has no memory."""
 
-    def hear(self, key, body):
+    def hear(self, key: Key, body: bytes) -> None:
         try:
             super().hear(key, body)
         except ConnectionError:
             self.hang_up()
 
-    def say_hello(self, version, wanted):
+    def say_hello(self, version: int, wanted: bytes) -> None:
         for _ in range(MOST_TRIES):
             try:
                 answer = self.link().told(hello(self.number, self.incarnation, version))
@@ -39,18 +46,18 @@ class Stubborn(crowds.Client):
                 return
         demand(False, f"client {self.number} has no answer to its hello after {MOST_TRIES} tries")
 
-    def try_once(self, key, call, body):
+    def try_once(self, key: Key, call: Members, body: bytes) -> None:
         try:
             super().try_once(key, call, body)
         except ConnectionError:
             self.hang_up()
 
-    def take_in(self, key, answer):
+    def take_in(self, key: Key, answer: Members) -> None:
         if answer != NO_MEMORY:
             super().take_in(key, answer)
 
 
-def crowd_after_crowd(program, words, size, beside=None, **odds):
+def crowd_after_crowd(program: str, words: str, size: int, beside: Beside | None = None, **odds: int) -> None:
     """Crowds, each with a chance of its own that these words and its number tell, until each kind of hostility has
     happened."""
     # A server that reads byte by byte has no read to cut.
@@ -63,7 +70,7 @@ def crowd_after_crowd(program, words, size, beside=None, **odds):
     demand(False, f"in {MOST_CROWDS} crowds no {missed} happened")
 
 
-def one_crowd(program, chance, size, beside=None, **odds):
+def one_crowd(program: str, chance: random.Random, size: int, beside: Beside | None = None, **odds: int) -> System:
     """A crowd while the system is hostile so, and what must hold behind it. `beside` is done with the server meanwhile,
     until an event is set. It gives the system."""
     system, ledger = System(chance.randrange(2**31)), Ledger()
@@ -72,7 +79,7 @@ def one_crowd(program, chance, size, beside=None, **odds):
         clients = [Stubborn(server, ledger, number, random.Random(chance.random())) for number in range(1, size + 1)]
         system.be(**odds)
         drive(server, ledger, [client.run for client in clients], calm=system.be, end=server.no_more,
-              beside=[lambda done: beside(chance, server, done)] if beside else [],
+              beside=[functools.partial(beside, chance, server)] if beside else [],
               rest=lambda: take_the_rest(server, ledger, size + 1))
     return system
 
@@ -110,7 +117,7 @@ def all_but_clocks(program: str, seed: int) -> None:
                       failed_write=3_000, accept=5)
 
 
-def stop_and_go(chance, server, done):
+def stop_and_go(chance: random.Random, server: Served, done: threading.Event) -> None:
     """Stops a server and lets it go on, at random."""
     try:
         while not done.is_set():

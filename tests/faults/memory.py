@@ -19,7 +19,7 @@ NO_BOOK = [(1, b"run fault 3\n"), (2, b"command fault 2\n")]
 MOST_ACCOUNTS = 300
 
 
-def left_by(account, line):
+def left_by(account: Account, line: bytes) -> set[Account]:
     """The accounts that a line may leave that was told want of memory: it was not read; or its own entry had no room,
     and the tick before it stands; or its answer's text had none, and it stands."""
     try:
@@ -29,7 +29,7 @@ def left_by(account, line):
     return {account, tick, told(account, line)[0]}
 
 
-def followed(lines, printed):
+def followed(lines: list[bytes], printed: list[str]) -> int:
     """How many lines were told want of memory, while all others are answered as one of the accounts has it."""
     accounts, refused = {Account(1, 0)}, 0
     for number, (line, answer) in enumerate(zip(lines, printed)):

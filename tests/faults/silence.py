@@ -1,12 +1,15 @@
 """Peers that say nothing, read nothing or answer nothing, with time-outs that are so many times as short. One that ends early
 is wrong at any speed; one that ends late is tried side by side, and one that does not is enough."""
 import contextlib
+import functools
+import socket
 import threading
 import time
 
 from tests.faults.system import HostileServer, System
 from tests.model.account import Key
 from tests.model.texts import written
+from tests.sockets.ledger import Asked
 from tests.sockets.listening import Listening
 from tests.sockets.programs import Caller
 from tests.sockets.wire import (
@@ -25,14 +28,14 @@ LATE, LATE_IN_PARTS = 4, 8
 KEPT, QUESTIONS = 4_096, 4_000
 
 
-def hasty(haste):
+def hasty(haste: int) -> System:
     """A system whose time-outs are so many times as short, and which keeps little of what is not read."""
     system = System()
     system.be(haste=haste, kept=KEPT)
     return system
 
 
-def judge(what, took, least, most):
+def judge(what: str, took: list[float], least: float, most: float) -> None:
     """None of these seconds may be fewer than the least, and one of them at least not more than the most."""
     demand(min(took) >= least, f"{what} ends after {min(took):.2f} seconds, and not {least:.2f}")
     demand(min(took) <= most, f"{what} ends after {min(took):.2f} seconds, and not within {most:.2f}")
@@ -41,14 +44,14 @@ def judge(what, took, least, most):
 def a_silent_client(program: str) -> None:
     """It is answered, says nothing more, and its connection ends in time: not earlier, and its worker is free then."""
     with HostileServer(program, hasty(HASTE), workers=PEERS, connections=2 * PEERS) as server:
-        def silent(client):
+        def silent(client: int) -> float:
             with server.connect() as peer:
                 began = time.monotonic()
                 peer.expect(hello(client), welcome(client))
                 peer.expect_end()
                 return time.monotonic() - began
 
-        took = together(*(lambda client=client: silent(client) for client in range(1, 1 + PEERS)))
+        took = together(*(functools.partial(silent, client) for client in range(1, 1 + PEERS)))
         judge("a silent connection", took, SILENCE / HASTE, LATE * SILENCE / HASTE)
         for client in range(1, 1 + PEERS):
             server.greeted(client).close()
@@ -57,7 +60,7 @@ def a_silent_client(program: str) -> None:
 
 def a_deaf_client(program: str) -> None:
     """It asks for long answers and reads none: the write that waits for it ends in time, and its worker is free then."""
-    def deaf(_):
+    def deaf(_: int) -> float:
         with HostileServer(program, hasty(LITTLE_HASTE), workers=1, connections=2) as server:
             put, peek = Key(1, 1, 1, 1), Key(1, 1, 1, 2)
             asked = {put: give("put", "\x01" * 512), peek: {"call": "peek", "queue": 3}}
@@ -72,11 +75,11 @@ def a_deaf_client(program: str) -> None:
             server.judged(asked, [])
             return took
 
-    took = together(*(lambda number=number: deaf(number) for number in range(PEERS)))
+    took = together(*(functools.partial(deaf, number) for number in range(PEERS)))
     judge("a write that waits", took, DEAFNESS / LITTLE_HASTE, LATE_IN_PARTS * DEAFNESS / LITTLE_HASTE)
 
 
-def asks(peer, asked, put, peek):
+def asks(peer: Peer, asked: Asked, put: Key, peek: Key) -> None:
     """Asks for a long answer, again and again, as long as it can be sent."""
     with contextlib.suppress(OSError):
         peer.send(frame(hello(1)) + frame(request(put, asked[put])) + frame(request(peek, asked[peek])) * QUESTIONS)
@@ -85,11 +88,11 @@ def asks(peer, asked, put, peek):
 class Mute(Listening):
     """Answers so many frames of each connection, by these answers, and then nothing more until the caller goes."""
 
-    def __init__(self, answers):
+    def __init__(self, answers: list[bytes]) -> None:
         super().__init__()
         self.answers = answers
 
-    def meet(self, connection):
+    def meet(self, connection: socket.socket) -> None:
         with contextlib.suppress(OSError), Peer(connection) as peer:
             for answer in self.answers:
                 peer.hear()
@@ -105,7 +108,7 @@ def a_silent_server(program: str) -> None:
     judge("a call that is not answered", took, NO_ANSWER / LITTLE_HASTE, LATE * NO_ANSWER / LITTLE_HASTE)
 
 
-def mute(program, answers, printed):
+def mute(program: str, answers: list[bytes], printed: bytes) -> float:
     """The seconds that a caller takes which is told so much and no more, and must print this."""
     with Mute(answers) as listener:
         began, text = time.monotonic(), written(take("forever")).encode() + b"\n"
