@@ -143,8 +143,9 @@ impl StatusDesk {
             self.after = Some(client);
             let waiting = waiting_row(hub.machine(), client);
             renew(&mut self.status.waiting, client, waiting)?;
-            let unheard = self.sights.look(client, unheard_row(hub, client), now)?;
-            renew(&mut self.status.unheard, client, unheard)?;
+            let look = self.sights.look(client, unheard_row(hub, client), now);
+            renew(&mut self.status.unheard, client, look.row)?;
+            look.noted?;
         }
         Ok(())
     }

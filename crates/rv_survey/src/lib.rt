@@ -4,8 +4,9 @@
 //! let mut sights = Sights::new(alloc);
 //! list_queues(hub.machine(), &mut queues)?;
 //! renew(&mut waiting, client, waiting_row(hub.machine(), client))?;
-//! let row = sights.look(client, unheard_row(&hub, client), now);
-//! renew(&mut unheard, client, row)?;
+//! let look = sights.look(client, unheard_row(&hub, client), now);
+//! renew(&mut unheard, client, look.row)?;
+//! look.noted?;
 //! ```
 #![tactic(auto)]
 
@@ -17,4 +18,4 @@ mod sights;
 pub use oldest::renew;
 pub use queues::list_queues;
 pub use rows::{unheard_row, waiting_row};
-pub use sights::{Sight, Sights};
+pub use sights::{Look, Sight, Sights};

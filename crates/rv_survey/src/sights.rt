@@ -1,5 +1,5 @@
 //! Since when each request has been found with no connection.
-ghost use Rattle.std.specs.Prelude.{◌≡◌, ℕ, IfOk, IsSome, None, OnErr, OnOk, Some, option_map};
+ghost use Rattle.std.specs.Prelude.{◌≡◌, ℕ, IsSome, None, OnErr, OnOk, Some, option_map};
 ghost use Rattle.rv_survey.specs.Sights.{ChangesOnly, last_sight, sight_after, with_moment};
 
 use rv_status::WaitingRow;
@@ -15,6 +15,15 @@ pub struct Sight {
     pub number: u64,
     /// The moment of the first of these looks, in milliseconds since the start.
     pub moment: u64,
+}
+
+/// What a look at a client gives.
+#[derive(Drop)]
+pub struct Look {
+    /// The row of its request, with the moment since which every look has found that request so.
+    pub row: Option<WaitingRow>,
+    /// Whether the look was noted. `AllocError`: the memory for it was refused, and the next one is a first one.
+    pub noted: Result<(), AllocError>,
 }
 
 /// For each client, the request that the last look at it found with no connection, if it found one. A look
@@ -35,32 +44,33 @@ impl Sights {
     }
 
     /// Notes what a look at a client found at a moment: the row of its request, if that waits with no
-    /// connection. Returns the row with the moment since which every look has found that request so. The
-    /// moment starts anew where a look in between found it with a connection, and for another request. Memory
-    /// is taken only where the last look at the client found nothing; if it is refused, what is known stays.
-    pub fn look(
-        &mut self,
-        client: u64,
-        found: Option<WaitingRow>,
-        now: u64,
-    ) -> Result<Option<WaitingRow>, AllocError>
-        ensures told { IfOk result
-            (λ told. told ≡ option_map (with_moment (last_sight self.old client) now) found) }
-        ensures taken_in { OnOk result (last_sight self.new client
+    /// connection. The moment starts anew where a look in between found it with a connection, and for another
+    /// request. Memory is taken only where the last look at the client found nothing; if it is refused, the row
+    /// is given all the same, and what is known stays.
+    pub fn look(&mut self, client: u64, found: Option<WaitingRow>, now: u64) -> Look
+        ensures told { result.row
+            ≡ option_map (with_moment (last_sight self.old client) now) found }
+        ensures taken_in { OnOk result.noted (last_sight self.new client
             ≡ option_map (sight_after (last_sight self.old client) now) found) }
-        ensures refused { OnErr result (last_sight self.new client ≡ None) }
-        ensures fresh { OnErr result ((last_sight self.old client ≡ None) × IsSome found) }
+        ensures refused { OnErr result.noted (last_sight self.new client ≡ None) }
+        ensures fresh { OnErr result.noted ((last_sight self.old client ≡ None) × IsSome found) }
         ensures others { ChangesOnly client self.old self.new }
     {
         match found {
             Some(row) => {
                 let sight = sight_at(self.last(client), &row, now);
-                self.note(client, sight)?;
-                Ok(Some(told(row, sight.moment)))
+                let noted = self.note(client, sight);
+                Look {
+                    row: Some(told(row, sight.moment)),
+                    noted,
+                }
             }
             None => {
                 self.forget(client);
-                Ok(None)
+                Look {
+                    row: None,
+                    noted: Ok(()),
+                }
             }
         }
     }
