@@ -11,6 +11,7 @@ pub mod Stepped
 pub mod Texts
 pub mod Answering
 pub mod Saying
+pub mod Replying
 pub mod Quiet
 pub mod Striding
 pub mod Turning

@@ -55,7 +55,7 @@ pub struct Dispatcher {
 }
 
 // Whether a last request waits.
-fn is_waiting(request: &LastRequest) -> bool
+pub(crate) fn is_waiting(request: &LastRequest) -> bool
     ensures { IsTrue result ↔ DoesWait request.now }
 {
     match request {

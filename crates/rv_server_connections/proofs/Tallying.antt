@@ -1,6 +1,6 @@
 -- The list of those that changed, and the sum of unread bytes, where connections change.
 use Rattle.std.proofs.Common.{◌≡◌, ◌⊎◌, ◌<◌, ◌≤◌, ◌+◌, ◌∙◌, ℕ, List, Option, None, Some, arith, refl, sym}
-use Rattle.std.proofs.Common.{ap, subst, inl, inr, Contains, Err, IsSome, Ok, OnErr, Result, [], length}
+use Rattle.std.proofs.Common.{IfNone, IfSome, ap, subst, inl, inr, Contains, Err, IsSome, Ok, OnErr, Result, [], length}
 use Rattle.rv_server_connections.specs.Table.{get}
 use Rattle.rv_server_connections.specs.connection.Traffic.{Traffic}
 use Rattle.rv_server_connections.specs.connection.Steps.{HoldsBack, Releases}
@@ -20,6 +20,13 @@ use Rattle.rv_server_connections.proofs.Totals.{AllBelow, same_totals, totals, u
 
 some_none : {A : Type 0} (x : A) → Some x ≡ None → ⊥
 some_none x is = cc
+
+-- what holds of a value that is there, or where none is
+pub some_of : {A : Type 0} (o : Option A) (x : A) (P : A → Type 0) → o ≡ Some x → IfSome o P → P x
+some_of {A} o x P is holds = subst (λ (q : Option A). IfSome q P) is holds
+
+pub none_of : {A : Type 0} (o : Option A) (P : Type 0) → o ≡ None → IfNone o P → P
+none_of {A} o P is holds = subst (λ (q : Option A). IfNone q P) is holds
 
 abbrev unread_of : Slots → ℕ
 unread_of s = total_below unread_count (wires_at (get s.slots)) s.slots.room

@@ -1,10 +1,13 @@
 -- The sum of the unread bytes is what was counted.
-use Rattle.std.proofs.Common.{◌≡◌, ◌<◌, ◌≤◌, ◌*◌, ◌^◌, ◌∙◌, ℕ, List, Option, Some, arith, sym}
+use Rattle.std.proofs.Common.{◌≡◌, ◌<◌, ◌≤◌, ◌+◌, ◌-◌, ◌*◌, ◌^◌, ◌∙◌, ℕ, List, Option, None, Some, arith, sym}
+use Rattle.std.proofs.Common.{IfNone, IfSome, length, length-append, take, unwrap_or}
+use Rattle.std.proofs.lemmas.List.{length-take-le}
+use Rattle.rv_frame.specs.Cut.{IsUnfinished}
 use Rattle.std.proofs.Common.{zero, suc}
 use Rattle.std.proofs.Common.{ap, subst, inl, inr, IfOk, Err, Ok, OnErr, OnOk, Result, [], lit<}
 use Rattle.std.proofs.lemmas.Bool.{cases_eq}
 use Rattle.rv_server_connections.specs.connection.Traffic.{Traffic}
-use Rattle.rv_server_connections.specs.connection.Steps.{AnswersBy, fresh_traffic}
+use Rattle.rv_server_connections.specs.connection.Steps.{TakesIn, fresh_traffic}
 use Rattle.rv_server_connections.specs.Table.{get}
 use Rattle.rv_server_connections.specs.declared.noted.Noted.{Noted}
 use Rattle.rv_server_connections.specs.Connections.{ChangesWire, Notes, OpensWire, SetsWire, Tally}
@@ -46,18 +49,51 @@ set_kept n m c u o was sets notes same =
       | inr apart ↦ ap (count_at unread_count) (sets.others k apart)
     ]
 
-pub unread_answered : {A E : Type 0} (r : Result A E) (n m : Noted) (c entries u : ℕ) (body : List ℕ)
-    → IsUnreadIn n u
-    → OnOk r (ChangesWire (slots_state n.slots) c
-    (λ wire after. AnswersBy (slots_state n.slots).written wire entries body after) (slots_state m.slots))
-    → OnOk r (Notes (slots_state n.slots) (tally_of n) c (slots_state m.slots) (tally_of m))
-    → OnErr r (slots_state m.slots ≡ slots_state n.slots) → OnErr r (tally_of m ≡ tally_of n)
-    → IsUnreadIn m u
-unread_answered (Ok x) n m c entries u body was answers notes refused kept =
-    set_kept n m c u (Some answers.after) was answers.sets notes
-    (ap unread_count answers.changes.goes ∙ sym (ap (count_at unread_count) answers.there))
-unread_answered (Err e) n m c entries u body was answers notes refused kept =
-    unread_stays_in n m u was refused (ap (λ (t : Tally). t.unread) kept)
+-- one connection changed, and this many are unread of it
+set_counted : (n m : Noted) (c u sum : ℕ) (o : Option Traffic) → IsUnreadIn n u
+    → SetsWire (slots_state n.slots) c o (slots_state m.slots) → count_in m c < 2 ^ 64
+    → sum ≡ (tally_of m).unread → IsUnreadIn m sum
+set_counted n m c u sum o was sets own total = record {
+  few = λ k. elim (cases_eq k c) [
+    | inl is ↦ subst (λ x. x < 2 ^ 64) (ap (count_in m) (sym is)) own
+    | inr apart ↦ subst (λ x. x < 2 ^ 64) (sym (ap (count_at unread_count) (sets.others k apart))) (was.few k)
+  ];
+  total_is = total;
+}
+
+-- bytes were taken, if it takes more
+pub unread_taken : (taken : Option ℕ) (n m : Noted) (c u sum : ℕ) (piece : List ℕ) → IsUnreadIn n u
+    → IfSome taken (λ count. ChangesWire (slots_state n.slots) c
+    (λ wire after. IsUnfinished wire.unread × TakesIn wire piece count after) (slots_state m.slots))
+    → IfSome taken (λ _. Notes (slots_state n.slots) (tally_of n) c (slots_state m.slots) (tally_of m))
+    → IfSome taken (λ _. count_in m c < 2 ^ 64)
+    → IfNone taken (slots_state m.slots ≡ slots_state n.slots) → IfNone taken (tally_of m ≡ tally_of n)
+    → sum ≡ u + unwrap_or taken 0 → IsUnreadIn m sum
+unread_taken (Some count) n m c u sum piece was takes notes few same tally is =
+    let was_long : count_in n c ≡ length takes.wire.unread = ap (count_at unread_count) takes.there in
+    let now_long : count_in m c ≡ length takes.after.unread = ap (count_at unread_count) takes.sets.own in
+    let longer : length takes.after.unread ≡ length takes.wire.unread + length (take count piece) =
+    ap (λ (t : Traffic). length t.unread) takes.changes.1.unread
+    ∙ length-append takes.wire.unread (take count piece) in
+    let all : length (take count piece) ≡ count = length-take-le count piece takes.changes.1.within in
+    set_counted n m c u sum (Some takes.after) was takes.sets few
+    (omega (arith, is, was.total_is, notes.unread, was_long, now_long, longer, all))
+unread_taken None n m c u sum piece was takes notes few same tally is =
+    subst (IsUnreadIn m) (plus_none u ∙ sym is)
+    (unread_stays_in n m u was same (ap (λ (t : Tally). t.unread) tally))
+  where
+    plus_none : (k : ℕ) → k ≡ k + 0
+    plus_none k = omega arith
+
+-- so many bytes were read off
+pub unread_read : (n m : Noted) (c u read : ℕ) (o : Option Traffic) → IsUnreadIn n u
+    → SetsWire (slots_state n.slots) c o (slots_state m.slots)
+    → Notes (slots_state n.slots) (tally_of n) c (slots_state m.slots) (tally_of m)
+    → count_in m c + read ≡ count_in n c → IsUnreadIn m (u - read) × (read ≤ u)
+unread_read n m c u read o was sets notes fewer =
+    let within : read ≤ u = omega (arith, was.total_is, notes.unread, fewer) in
+    (set_counted n m c u (u - read) o was sets (omega (arith, was.few c, fewer))
+    (omega (arith, was.total_is, notes.unread, fewer, within)), within)
 
 pub unread_opened : {E : Type 0} (r : Result ℕ E) (n m : Noted) (u : ℕ) → IsUnreadIn n u
     → IfOk r (λ c. OpensWire (slots_state n.slots) c (slots_state m.slots))

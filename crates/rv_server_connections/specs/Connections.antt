@@ -1,7 +1,7 @@
 -- What contracts see of all connections, and what each call changes of them.
 use Rattle.std.specs.Prelude.{ℕ, ◌≡◌, ◌≢◌, ◌+◌, ◌≤◌, ◌↔◌, List, [], ◌∷◌, None, Option, Some, zero, suc}
 use Rattle.std.specs.Prelude.{◌⊎◌, AllPairs, Contains, IsSomeAnd, length}
-use Rattle.rv_server_connections.specs.connection.Traffic.{AnswerByte, Traffic, held_count}
+use Rattle.rv_server_connections.specs.connection.Traffic.{AnswerByte, IsBad, IsWholeFrame, Traffic, held_count}
 use Rattle.rv_server_connections.specs.connection.Steps.{HoldsBack, Releases, fresh_traffic}
 
 pub record WiresState : Type 0 where
@@ -44,6 +44,12 @@ pub record ChangesWire (old : WiresState) (connection : ℕ) (changes_so : Traff
 pub record OpensWire (old : WiresState) (connection : ℕ) (new : WiresState) : Type 0 where
   pub free : old.wires connection ≡ None
   pub sets : SetsWire old connection (Some fresh_traffic) new
+
+-- a connection takes no more bytes of its input: the unread bytes are a whole frame or a bad length, or it is
+-- closed
+abbrev pub TakesNoMore : WiresState → ℕ → Type 0
+TakesNoMore s connection = (wire : Traffic) → s.wires connection ≡ Some wire
+    → IsWholeFrame wire.unread ⊎ IsBad wire.unread
 
 -- ---- so many entries are written
 

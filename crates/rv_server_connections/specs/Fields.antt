@@ -4,11 +4,13 @@ use Rattle.std.specs.Prelude.{◌<◌, ◌⊎◌, true, unwrap_or, List, [], len
 use Rattle.rv_server_connections.specs.Table.{get, with_slot}
 use Rattle.rv_server_connections.specs.connection.Traffic.{Traffic, first_rests_on, held_count}
 use Rattle.rv_server_connections.specs.declared.subscribers.pairs.Pairs.{Pairs}
-use Rattle.rv_server_connections.specs.subscribers.Pairs.{pair_count, stands_under}
+use Rattle.rv_server_connections.specs.subscribers.Pairs.{ChangesPairs, SamePairs, pair_count, stands_under}
 use Rattle.rv_server_connections.specs.declared.table.WireSlot.{WireSlot}
 use Rattle.rv_server_connections.specs.declared.slots.Slots.{Slots}
 use Rattle.rv_server_connections.specs.Connections.{IsReleased, ReleasesOpen, WiresState, total_below}
-use Rattle.rv_server_connections.specs.connection.Steps.{AnswersBy}
+use Rattle.rv_server_connections.specs.connection.Steps.{AnswersBy, owing}
+use Rattle.rv_server_connections.specs.declared.connection.AnswerTo.{AnswerTo}
+use Rattle.rv_server_connections.specs.declared.slots.Given.{Given}
 
 abbrev pub wire_of : Option WireSlot → Option Traffic
 wire_of None = None
@@ -130,28 +132,27 @@ abbrev pub IsReleasedAt : (ℕ → Option WireSlot) → ℕ → ℕ → Type 0
 IsReleasedAt slots written connection =
     IsReleased (record { wires = wires_at slots; written = written; released = [] }) written connection
 
--- a connection owes an answer, and nothing of it is held back
-pub record OwesFirst (s : Slots) (connection : ℕ) : Type 0 where
-  pub slot : WireSlot
-  pub there : get s.slots connection ≡ Some slot
-  pub owes : slot.wire.owes ≡ true
-  pub unmarked : slot.mark ≡ None
-
--- a connection was given an answer, and has this mark
-pub record Gives (old : Slots) (connection entries : ℕ) (body : List ℕ) (mark : Option ℕ) (new : Slots) :
-    Type 0
+-- a connection was given an answer, and has this mark: so many bytes more are held, and so many fewer unread
+pub record Gives (old : WireSlot) (to : AnswerTo) (written entries : ℕ) (body : List ℕ) (mark : Option ℕ)
+    (given : Given) (new : WireSlot) : Type 0
   where
-    pub slot : WireSlot
-    pub wire : Traffic
-    pub there : get old.slots connection ≡ Some slot
-    pub answers : AnswersBy old.written slot.wire entries body wire
-    pub short : held_count wire ≤ 131071
-    pub held : ℕ
-    pub counts : held + held_count slot.wire ≡ old.held + held_count wire
-    pub sets : new ≡ record old {
-      slots = with_slot old.slots connection (record { wire = wire; mark = mark });
-      held = held;
-    }
+    pub answers : AnswersBy written (owing to old.wire) entries body new.wire
+    pub mark_is : new.mark ≡ mark
+    pub more : held_count new.wire ≡ held_count old.wire + given.more
+    pub short : held_count new.wire ≤ 131071
+    pub read : length new.wire.unread + given.read ≡ length old.wire.unread
+
+-- a connection stands under a number besides all that stood, and the lists have room for each
+pub record Stands (old : Pairs) (entries connection : ℕ) (new : Pairs) (released reached : ℕ) : Type 0 where
+  pub adds : ChangesPairs old new entries connection true
+  pub count : pair_count new ≤ pair_count old + 1
+  pub room : pair_count new ≤ released
+  pub looks : pair_count new ≤ reached
+
+-- nothing stands elsewhere than before
+pub record StandsStill (old new : Pairs) : Type 0 where
+  pub same : SamePairs old new
+  pub count : pair_count new ≡ pair_count old
 
 -- what may leave of one connection becomes ready
 pub record ReleasesOne (written : ℕ) (old : Slots) (connection : ℕ) (new : Slots) : Type 0 where

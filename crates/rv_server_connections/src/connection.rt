@@ -15,6 +15,15 @@ pub use unread::Coming;
 /// A growth of memory was refused.
 pub type NoMemory = rv_frame::NoMemory;
 
+/// The frame that an answer is given to.
+#[derive(Clone, Copy)]
+pub enum AnswerTo {
+    /// The unread one, which is due: it is taken.
+    Unread,
+    /// The one that was taken before, whose answer is owed.
+    Taken,
+}
+
 /// One connection: the bytes of its input that weren't taken as a frame yet, one frame at most, and the bytes
 /// of answers that its peer hasn't taken. The answers before the first that rests on an unwritten entry may
 /// leave.
@@ -40,13 +49,15 @@ impl Model for Wire {
 }
 
 impl Wire {
-    ghost use Rattle.std.specs.Prelude.{◌≤◌, ◌↔◌, true, length, IfNone, IfOk, IfSome, IsTrue, OnErr, OnOk};
-    ghost use Rattle.rv_frame.specs.Cut.{IsFrameBody, frame_bytes};
-    ghost use Rattle.rv_server_connections.specs.connection.Traffic.{IsDue, IsFinished, IsComing, MayOffer};
+    ghost use Rattle.std.specs.Prelude.{◌≤◌, ◌↔◌, ◌⊎◌, length, IfNone, IfOk, IfSome, IsTrue, OnErr, OnOk};
+    ghost use Rattle.std.specs.Bool.{OnFalse, OnTrue};
+    ghost use Rattle.rv_frame.specs.Cut.{IsFrameBody, IsUnfinished, frame_bytes};
+    ghost use Rattle.rv_server_connections.specs.connection.Traffic.{IsBad, IsDue, IsFinished, IsComing};
+    ghost use Rattle.rv_server_connections.specs.connection.Traffic.{IsWholeFrame, MayOffer};
     ghost use Rattle.rv_server_connections.specs.connection.Traffic.{first_rests_on, held_count};
-    ghost use Rattle.rv_server_connections.specs.connection.Steps.{AnswersBy, HoldsBack, Releases, TakesIn};
-    ghost use Rattle.rv_server_connections.specs.connection.Steps.{fresh_traffic, input_ended, left_by};
-    ghost use Rattle.rv_server_connections.specs.connection.Steps.{taken};
+    ghost use Rattle.rv_server_connections.specs.connection.Steps.{AnswersBy, CanAnswer, HoldsBack, Releases};
+    ghost use Rattle.rv_server_connections.specs.connection.Steps.{TakesIn, fresh_traffic, input_ended};
+    ghost use Rattle.rv_server_connections.specs.connection.Steps.{left_by, owing, taken};
 
     /// A connection with no input yet. It takes no memory yet.
     pub fn new(alloc: Global) -> Wire
@@ -73,6 +84,18 @@ impl Wire {
         self.buffers.unread()
     }
 
+    /// Whether it takes more bytes of its input: neither a whole frame is unread nor a bad length.
+    pub fn takes_more(&self) -> bool
+        ensures more { OnTrue result (IsUnfinished self.now.unread) }
+        ensures no_more { OnFalse result (IsWholeFrame self.now.unread ⊎ IsBad self.now.unread) }
+    {
+        match self.buffers.unread() {
+            Coming::Part => true,
+            Coming::Frame(_) => false,
+            Coming::BadLength => false,
+        }
+    }
+
     /// The body of the unread frame, if it is to be answered now.
     pub fn next(&self) -> Option<&[u8]>
         ensures due { IfSome result (λ body. IsDue self.now) }
@@ -91,16 +114,22 @@ impl Wire {
         self.buffers.take_frame()
     }
 
-    /// Gives the answer that is owed, by its body, after all that is held. It rests on so many entries, and
-    /// so many are written. If memory for it is refused nothing changes.
-    pub fn answer(&mut self, written: u64, entries: u64, body: &[u8]) -> Result<(), NoMemory>
-        requires owes { self.old.owes ≡ true }
+    /// Gives an answer, by its body, after all that is held. It rests on so many entries, and so many are
+    /// written. If memory for it is refused nothing changes.
+    pub fn answer(
+        &mut self,
+        to: AnswerTo,
+        written: u64,
+        entries: u64,
+        body: &[u8],
+    ) -> Result<(), NoMemory>
+        requires can { CanAnswer to self.old }
         requires held_back { HoldsBack written self.old.behind }
         requires fits { IsFrameBody body.now }
-        ensures answers { OnOk result (AnswersBy written self.old entries body.now self.new) }
+        ensures answers { OnOk result (AnswersBy written (owing to self.old) entries body.now self.new) }
         ensures refused { OnErr result (self.new ≡ self.old) }
     {
-        self.buffers.answer(written, entries, body)
+        self.buffers.answer(to, written, entries, body)
     }
 
     /// Releases the answers that rest on no more entries than are written.

@@ -6,8 +6,8 @@
 //! let mut wires = Wires::new(alloc, written);
 //! let connection = wires.open()?;
 //! let taken = wires.take_in(connection, piece)?;
-//! wires.take_frame(connection);
-//! wires.answer(connection, entries, body)?;
+//! let body = wires.get(connection).and_then(|wire| wire.next());
+//! wires.answer(connection, AnswerTo::Unread, entries, answer)?;
 //! wires.release(entries);
 //! let bytes = wires.get(connection).map(|wire| wire.ready());
 //! ```

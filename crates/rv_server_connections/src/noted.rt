@@ -1,18 +1,19 @@
 //! The connections under their numbers, and the list of those that changed.
-ghost use Rattle.std.specs.Prelude.{◌≡◌, ◌≤◌, None, true, [], length, IfOk, IsSome, OnErr, OnOk};
+ghost use Rattle.std.specs.Prelude.{◌≡◌, ◌≤◌, ◌+◌, None, [], length, IfNone, IfOk, IfSome, IsSome, OnErr};
+ghost use Rattle.std.specs.Prelude.{◌<◌, ◌^◌, OnOk};
 ghost use Rattle.std.specs.Option.{option_copied};
-ghost use Rattle.rv_frame.specs.Cut.{IsFrameBody};
+ghost use Rattle.rv_frame.specs.Cut.{IsFrameBody, IsUnfinished};
 ghost use Rattle.rv_server_connections.specs.connection.Traffic.{IsDue};
-ghost use Rattle.rv_server_connections.specs.connection.Steps.{AnswersBy, TakesIn, input_ended, left_by};
-ghost use Rattle.rv_server_connections.specs.connection.Steps.{taken};
+ghost use Rattle.rv_server_connections.specs.connection.Steps.{AnswersBy, CanAnswer, TakesIn, input_ended};
+ghost use Rattle.rv_server_connections.specs.connection.Steps.{left_by, owing, taken};
 ghost use Rattle.rv_server_connections.specs.Connections.{AllHeldBack, ChangesWire, HasWire, Notes};
 ghost use Rattle.rv_server_connections.specs.Connections.{NotesReleased, OpensWire, ReleasesAll, SetsWire};
-ghost use Rattle.rv_server_connections.specs.Connections.{none_open};
+ghost use Rattle.rv_server_connections.specs.Connections.{TakesNoMore, count_at, none_open, unread_count};
 ghost use Rattle.rv_server_connections.specs.Fields.{slots_state};
 ghost use Rattle.rv_server_connections.specs.Noting.{IsNoted, tally_of};
 
 use crate::changes::ChangeList;
-use crate::connection::{NoMemory, Wire};
+use crate::connection::{AnswerTo, NoMemory, Wire};
 use crate::slots::Slots;
 use crate::subscribers::ConnectionNumber;
 use std::alloc::Global;
@@ -65,23 +66,36 @@ impl Noted {
         &mut self,
         connection: ConnectionNumber,
         piece: &[u8],
-    ) -> Result<usize, NoMemory>
-        requires sound { IsNoted self.old }
-        requires there { IsSome ((slots_state self.old.slots).wires connection) }
+    ) -> Result<Option<usize>, NoMemory>
+        requires { IsNoted self.old }
         ensures sound { IsNoted self.new }
-        ensures takes { IfOk result (λ count. ChangesWire (slots_state self.old.slots) connection
-            (λ wire after. TakesIn wire piece.now count after) (slots_state self.new.slots)) }
-        ensures noted { OnOk result (Notes (slots_state self.old.slots) (tally_of self.old) connection
-            (slots_state self.new.slots) (tally_of self.new)) }
+        ensures takes { IfOk result (λ taken. IfSome taken (λ count. ChangesWire (slots_state self.old.slots)
+            connection (λ wire after. IsUnfinished wire.unread × TakesIn wire piece.now count after)
+            (slots_state self.new.slots))) }
+        ensures noted { IfOk result (λ taken. IfSome taken (λ _. Notes (slots_state self.old.slots)
+            (tally_of self.old) connection (slots_state self.new.slots) (tally_of self.new))) }
+        ensures few { IfOk result (λ taken. IfSome taken (λ _. count_at unread_count
+            ((slots_state self.new.slots).wires connection) < 2 ^ 64)) }
+        ensures no_more { IfOk result (λ taken. IfNone taken (TakesNoMore (slots_state self.old.slots)
+            connection)) }
+        ensures same { IfOk result (λ taken. IfNone taken (slots_state self.new.slots
+            ≡ slots_state self.old.slots)) }
+        ensures same_tally { IfOk result (λ taken. IfNone taken (tally_of self.new ≡ tally_of self.old)) }
+        ensures wants { OnErr result (HasWire (slots_state self.old.slots) connection
+            (λ wire. IsUnfinished wire.unread)) }
         ensures refused { OnErr result (slots_state self.new.slots ≡ slots_state self.old.slots) }
         ensures kept { OnErr result (tally_of self.new ≡ tally_of self.old) }
     {
-        let count = self.slots.take_in(connection, piece)?;
-        self.changes.mark(connection);
-        Ok(count)
+        match self.slots.take_in(connection, piece)? {
+            Some(count) => {
+                self.changes.mark(connection);
+                Ok(Some(count))
+            }
+            None => Ok(None),
+        }
     }
 
-    pub(crate) fn take_frame(&mut self, connection: ConnectionNumber)
+    pub(crate) fn take_frame(&mut self, connection: ConnectionNumber) -> usize
         requires sound { IsNoted self.old }
         requires due { HasWire (slots_state self.old.slots) connection IsDue }
         ensures sound { IsNoted self.new }
@@ -89,32 +103,39 @@ impl Noted {
             (λ wire after. after ≡ taken wire) (slots_state self.new.slots) }
         ensures noted { Notes (slots_state self.old.slots) (tally_of self.old) connection
             (slots_state self.new.slots) (tally_of self.new) }
+        ensures read { result ≡ count_at unread_count ((slots_state self.old.slots).wires connection) }
     {
-        self.slots.take_frame(connection);
+        let read = self.slots.take_frame(connection);
         self.changes.mark(connection);
+        read
     }
 
     pub(crate) fn answer(
         &mut self,
         connection: ConnectionNumber,
+        to: AnswerTo,
         entries: u64,
         body: &[u8],
-    ) -> Result<(), NoMemory>
+    ) -> Result<usize, NoMemory>
         requires sound { IsNoted self.old }
-        requires owes { HasWire (slots_state self.old.slots) connection (λ wire. wire.owes ≡ true) }
+        requires can { HasWire (slots_state self.old.slots) connection (CanAnswer to) }
         requires fits { IsFrameBody body.now }
         ensures sound { IsNoted self.new }
         ensures answers { OnOk result (ChangesWire (slots_state self.old.slots) connection
-            (λ wire after. AnswersBy (slots_state self.old.slots).written wire entries body.now after)
+            (λ wire after. AnswersBy (slots_state self.old.slots).written (owing to wire) entries body.now
+            after)
             (slots_state self.new.slots)) }
+        ensures read { IfOk result (λ read. count_at unread_count
+            ((slots_state self.new.slots).wires connection) + read
+            ≡ count_at unread_count ((slots_state self.old.slots).wires connection)) }
         ensures noted { OnOk result (Notes (slots_state self.old.slots) (tally_of self.old) connection
             (slots_state self.new.slots) (tally_of self.new)) }
         ensures refused { OnErr result (slots_state self.new.slots ≡ slots_state self.old.slots) }
         ensures kept { OnErr result (tally_of self.new ≡ tally_of self.old) }
     {
-        self.slots.answer(connection, entries, body)?;
+        let read = self.slots.answer(connection, to, entries, body)?;
         self.changes.mark(connection);
-        Ok(())
+        Ok(read)
     }
 
     pub(crate) fn end_input(&mut self, connection: ConnectionNumber)

@@ -1,22 +1,23 @@
 //! The connections under their numbers, and the index of those that hold something back.
 ghost use Rattle.std.specs.Prelude.{◌≡◌, ◌≢◌, ◌≤◌, ◌<◌, ◌+◌, ◌↔◌, ◌⊎◌, true, length, vec_capacity};
-ghost use Rattle.std.specs.Prelude.{ℕ, [], ◌*◌, Some, IfOk, IfSome, IsSome, IsSomeAnd, IsTrue, OnErr, OnOk};
+ghost use Rattle.std.specs.Prelude.{ℕ, [], ◌*◌, None, Some, IfNone, IfOk, IfSome, IsSome, IsSomeAnd, IsTrue};
+ghost use Rattle.std.specs.Prelude.{◌^◌, OnErr, OnOk};
 ghost use Rattle.std.specs.Bool.{OnFalse, OnTrue};
 ghost use Rattle.std.specs.Option.{option_copied};
-ghost use Rattle.rv_frame.specs.Cut.{IsFrameBody};
+ghost use Rattle.rv_frame.specs.Cut.{IsFrameBody, IsUnfinished};
 ghost use Rattle.rv_server_connections.specs.connection.Traffic.{IsDue};
-ghost use Rattle.rv_server_connections.specs.connection.Steps.{AnswersBy, TakesIn, input_ended, left_by};
-ghost use Rattle.rv_server_connections.specs.connection.Steps.{taken};
+ghost use Rattle.rv_server_connections.specs.connection.Steps.{AnswersBy, CanAnswer, HoldsBack, TakesIn};
+ghost use Rattle.rv_server_connections.specs.connection.Steps.{input_ended, left_by, owing, taken};
 ghost use Rattle.rv_server_connections.specs.Connections.{ChangesWire, HasWire, IsReleased, IsTotalHeld};
-ghost use Rattle.rv_server_connections.specs.Connections.{OpensWire, ReleasesAll, SetsWire, none_open};
-ghost use Rattle.rv_server_connections.specs.Fields.{AreHeldBack, Drops, Gives, IsHeldIn, HasIndex};
-ghost use Rattle.rv_server_connections.specs.Fields.{IsReaching, IsSoundSlots, OwesFirst, ReleasesOne};
-ghost use Rattle.rv_server_connections.specs.Fields.{Remarks, SameBut, KeepsRest, StandsByMark, mark_count};
-ghost use Rattle.rv_server_connections.specs.Fields.{slots_state};
+ghost use Rattle.rv_server_connections.specs.Connections.{OpensWire, ReleasesAll, SetsWire, TakesNoMore};
+ghost use Rattle.rv_server_connections.specs.Connections.{count_at, none_open, unread_count};
+ghost use Rattle.rv_server_connections.specs.Fields.{Drops, Gives, HasIndex, IsReaching, IsSoundSlots};
+ghost use Rattle.rv_server_connections.specs.Fields.{KeepsRest, ReleasesOne, Remarks, Stands, StandsByMark};
+ghost use Rattle.rv_server_connections.specs.Fields.{StandsStill, mark_count, slots_state};
 ghost use Rattle.rv_server_connections.specs.subscribers.Pairs.{pair_count, stands_under};
 ghost use Rattle.rv_server_connections.specs.Table.{get};
 
-use crate::connection::{NoMemory, Wire};
+use crate::connection::{AnswerTo, NoMemory, Wire};
 use crate::subscribers::{ConnectionNumber, Pairs};
 use crate::table::{WireSlot, WireTable};
 use std::alloc::{AllocError, Global};
@@ -99,6 +100,59 @@ fn is_first_back(mark: Option<u64>, written: u64, entries: u64) -> bool
     }
 }
 
+// How many bytes more are held of a connection, and how many fewer are unread, after an answer.
+#[derive(Clone, Copy)]
+pub(crate) struct Given {
+    pub(crate) more: usize,
+    pub(crate) read: usize,
+}
+
+// Gives an answer to a connection, which has this mark from then on.
+fn give(
+    slot: &mut WireSlot,
+    to: AnswerTo,
+    written: u64,
+    entries: u64,
+    body: &[u8],
+    mark: Option<u64>,
+) -> Result<Given, NoMemory>
+    requires can { CanAnswer to slot.old.wire }
+    requires held_back { HoldsBack written slot.old.wire.behind }
+    requires fits { IsFrameBody body.now }
+    ensures gives { IfOk result (λ given. Gives slot.old to written entries body.now mark given slot.new) }
+    ensures refused { OnErr result (slot.new ≡ slot.old) }
+{
+    let held = slot.wire.held();
+    let unread = slot.wire.unread_count();
+    slot.wire.answer(to, written, entries, body)?;
+    slot.mark = mark;
+    Ok(Given {
+        more: slot.wire.held() - held,
+        read: unread - slot.wire.unread_count(),
+    })
+}
+
+// Makes a connection stand under a number, and room in the lists for all that stand there.
+fn stand(
+    index: &mut Pairs,
+    released: &mut Vec<ConnectionNumber>,
+    reached: &mut Vec<ConnectionNumber>,
+    entries: u64,
+    connection: ConnectionNumber,
+) -> Result<(), NoMemory>
+    ensures stands { OnOk result (Stands index.old entries connection index.new (vec_capacity released.new)
+        (vec_capacity reached.new)) }
+    ensures refused { OnErr result (StandsStill index.old index.new) }
+    ensures released { released.new.items ≡ released.old.items }
+    ensures room { vec_capacity released.old ≤ vec_capacity released.new }
+    ensures looks { vec_capacity reached.old ≤ vec_capacity reached.new }
+{
+    let count = index.count() + 1;
+    released.reserve(count)?;
+    reached.reserve(count)?;
+    index.add(entries, connection)
+}
+
 // So many bytes more, where at most 131,071 are held for each number that has room.
 fn add_held(held: u128, more: usize, room: usize) -> u128
     requires { held ≤ 131071 * room }
@@ -167,27 +221,44 @@ impl Slots {
         &mut self,
         connection: ConnectionNumber,
         piece: &[u8],
-    ) -> Result<usize, NoMemory>
-        requires sound { IsSoundSlots self.old }
-        requires there { IsSome ((slots_state self.old).wires connection) }
+    ) -> Result<Option<usize>, NoMemory>
+        requires { IsSoundSlots self.old }
         ensures sound { IsSoundSlots self.new }
-        ensures takes { IfOk result (λ count. ChangesWire (slots_state self.old) connection
-            (λ wire after. TakesIn wire piece.now count after) (slots_state self.new)) }
+        ensures takes { IfOk result (λ taken. IfSome taken (λ count. ChangesWire (slots_state self.old)
+            connection (λ wire after. IsUnfinished wire.unread × TakesIn wire piece.now count after)
+            (slots_state self.new))) }
+        ensures few { IfOk result (λ taken. IfSome taken (λ _. count_at unread_count
+            ((slots_state self.new).wires connection) < 2 ^ 64)) }
+        ensures no_more { IfOk result (λ taken. IfNone taken (TakesNoMore (slots_state self.old) connection)) }
+        ensures same { IfOk result (λ taken. IfNone taken (slots_state self.new ≡ slots_state self.old)) }
+        ensures wants { OnErr result (HasWire (slots_state self.old) connection
+            (λ wire. IsUnfinished wire.unread)) }
         ensures refused { OnErr result (slots_state self.new ≡ slots_state self.old) }
     {
-        let slot = self.slots.slot_mut(connection);
-        slot.wire.take_in(piece)
+        let Some(slot) = self.slots.find_mut(connection) else {
+            return Ok(None);
+        };
+        if !slot.wire.takes_more() {
+            return Ok(None);
+        }
+        let count = slot.wire.take_in(piece)?;
+        let _ = slot.wire.unread_count();
+        Ok(Some(count))
     }
 
-    pub(crate) fn take_frame(&mut self, connection: ConnectionNumber)
+    // Gives how many bytes the frame had.
+    pub(crate) fn take_frame(&mut self, connection: ConnectionNumber) -> usize
         requires sound { IsSoundSlots self.old }
         requires due { HasWire (slots_state self.old) connection IsDue }
         ensures sound { IsSoundSlots self.new }
         ensures taken { ChangesWire (slots_state self.old) connection (λ wire after. after ≡ taken wire)
             (slots_state self.new) }
+        ensures read { result ≡ count_at unread_count ((slots_state self.old).wires connection) }
     {
         let slot = self.slots.slot_mut(connection);
+        let read = slot.wire.unread_count();
         slot.wire.take_frame();
+        read
     }
 
     pub(crate) fn end_input(&mut self, connection: ConnectionNumber)
@@ -213,96 +284,49 @@ impl Slots {
         self.held -= count as u128;
     }
 
-    // Makes room in the lists of those to which the index leads for one more.
-    fn make_room(&mut self) -> Result<(), NoMemory>
-        ensures same { SameBut self.old self.new }
-        ensures room { OnOk result (pair_count self.old.index < vec_capacity self.new.released) }
-        ensures looks { OnOk result (pair_count self.old.index < vec_capacity self.new.reached) }
-    {
-        let count = self.index.count() + 1;
-        self.released.reserve(count)?;
-        self.reached.reserve(count)
-    }
-
-    // The mark of a connection.
-    fn mark_of(&self, connection: ConnectionNumber) -> Option<u64>
-        requires { IsSome (get self.now.slots connection) }
-        ensures { IfSome (get self.now.slots connection) (λ slot. result ≡ slot.mark) }
-    {
-        self.slots.get(connection).unwrap().mark
-    }
-
-    // Gives an answer to a connection that has this mark from then on.
-    fn give(
-        &mut self,
-        connection: ConnectionNumber,
-        entries: u64,
-        body: &[u8],
-        mark: Option<u64>,
-    ) -> Result<(), NoMemory>
-        requires counted { IsHeldIn self.old }
-        requires held_back { AreHeldBack self.old.written (get self.old.slots) }
-        requires owes { HasWire (slots_state self.old) connection (λ wire. wire.owes ≡ true) }
-        requires fits { IsFrameBody body.now }
-        ensures gives { OnOk result (Gives self.old connection entries body.now mark self.new) }
-        ensures refused { OnErr result (self.new ≡ self.old) }
-    {
-        let room = self.slots.room();
-        let slot = self.slots.slot_mut(connection);
-        let before = slot.wire.held();
-        slot.wire.answer(self.written, entries, body)?;
-        let more = slot.wire.held() - before;
-        slot.mark = mark;
-        self.held = add_held(self.held, more, room);
-        Ok(())
-    }
-
-    // Gives an answer that may not leave, the first of its connection.
-    fn hold_back(
-        &mut self,
-        connection: ConnectionNumber,
-        entries: u64,
-        body: &[u8],
-    ) -> Result<(), NoMemory>
-        requires sound { IsSoundSlots self.old }
-        requires owes { OwesFirst self.old connection }
-        requires later { self.old.written < entries }
-        requires fits { IsFrameBody body.now }
-        ensures sound { IsSoundSlots self.new }
-        ensures answers { OnOk result (ChangesWire (slots_state self.old) connection
-            (λ wire after. AnswersBy (slots_state self.old).written wire entries body.now after)
-            (slots_state self.new)) }
-        ensures refused { OnErr result (slots_state self.new ≡ slots_state self.old) }
-    {
-        self.make_room()?;
-        self.index.add(entries, connection)?;
-        if let Err(refused) = self.give(connection, entries, body, Some(entries)) {
-            self.index.remove(entries, connection);
-            return Err(refused);
-        }
-        Ok(())
-    }
-
+    // Gives how many bytes the frame had that was taken for it.
     pub(crate) fn answer(
         &mut self,
         connection: ConnectionNumber,
+        to: AnswerTo,
         entries: u64,
         body: &[u8],
-    ) -> Result<(), NoMemory>
+    ) -> Result<usize, NoMemory>
         requires sound { IsSoundSlots self.old }
-        requires owes { HasWire (slots_state self.old) connection (λ wire. wire.owes ≡ true) }
+        requires can { HasWire (slots_state self.old) connection (CanAnswer to) }
         requires fits { IsFrameBody body.now }
         ensures sound { IsSoundSlots self.new }
         ensures answers { OnOk result (ChangesWire (slots_state self.old) connection
-            (λ wire after. AnswersBy (slots_state self.old).written wire entries body.now after)
+            (λ wire after. AnswersBy (slots_state self.old).written (owing to wire) entries body.now after)
             (slots_state self.new)) }
+        ensures read { IfOk result (λ read. count_at unread_count ((slots_state self.new).wires connection)
+            + read ≡ count_at unread_count ((slots_state self.old).wires connection)) }
         ensures refused { OnErr result (slots_state self.new ≡ slots_state self.old) }
     {
-        let mark = self.mark_of(connection);
-        if is_first_back(mark, self.written, entries) {
-            self.hold_back(connection, entries, body)
-        } else {
-            self.give(connection, entries, body, mark)
+        let room = self.slots.room();
+        let slot = self.slots.slot_mut(connection);
+        let mark = slot.mark;
+        if !is_first_back(mark, self.written, entries) {
+            let given = give(slot, to, self.written, entries, body, mark)?;
+            self.held = add_held(self.held, given.more, room);
+            return Ok(given.read);
+        }
+        stand(
+            &mut self.index,
+            &mut self.released,
+            &mut self.reached,
+            entries,
+            connection,
+        )?;
+        match give(slot, to, self.written, entries, body, Some(entries)) {
+            Ok(given) => {
+                self.held = add_held(self.held, given.more, room);
+                Ok(given.read)
+            }
+            Err(refused) => {
+                self.index.remove(entries, connection);
+                Err(refused)
+            }
         }
     }
 

@@ -58,10 +58,10 @@ impl WireSlot {
 
 impl WireTable {
     ghost use Rattle.std.specs.Prelude.{ℕ, ◌≡◌, ◌<◌, ◌≤◌, [], None, Some, IsSome, OnOk, length};
-    ghost use Rattle.std.specs.Option.{option_copied};
+    ghost use Rattle.std.specs.Option.{option_copied, option_copied_mut};
     ghost use Rattle.std.specs.Borrow.{sem};
     ghost use Rattle.rv_server_connections.specs.Table.{SetsSlot, get};
-    ghost use Rattle.rv_server_connections.specs.Lending.{LendsSlot};
+    ghost use Rattle.rv_server_connections.specs.Lending.{FindsSlot, LendsSlot};
 
     pub(crate) fn empty(alloc: Global) -> WireTable
         ensures { result ≡ record { places = []; free = []; room = 0 } }
@@ -124,6 +124,17 @@ impl WireTable {
         ensures value { get self.old number ≡ Some result.now }
     {
         WireSlot::at(&mut self.places[number])
+    }
+
+    // The same, if a connection is open under the number.
+    pub(crate) fn find_mut(&mut self, number: ConnectionNumber) -> Option<&mut WireSlot>
+        ensures* writes_back { sem 𝓛 (FindsSlot self.entry number result) }
+        ensures value { option_copied_mut result ≡ get self.old number }
+    {
+        if self.get(number).is_none() {
+            return None;
+        }
+        Some(self.slot_mut(number))
     }
 
     // Takes out what is under a number, which is free then.

@@ -4,7 +4,7 @@ ghost use Rattle.rv_server_connections.specs.Connections.{count_at, unread_count
 ghost use Rattle.rv_server_connections.specs.Fields.{slots_state};
 ghost use Rattle.rv_server_connections.specs.Noting.{IsNoted, IsUnreadIn};
 
-use crate::connection::{NoMemory, Wire};
+use crate::connection::{AnswerTo, NoMemory, Wire};
 use crate::noted::Noted;
 use crate::subscribers::ConnectionNumber;
 use std::alloc::Global;
@@ -47,16 +47,16 @@ pub struct Wires {
 }
 
 impl Wires {
-    ghost use Rattle.std.specs.Prelude.{◌≡◌, ◌≢◌, ◌≤◌, None, true, [], length, AllPairs, IfOk};
+    ghost use Rattle.std.specs.Prelude.{◌≡◌, ◌≢◌, ◌≤◌, None, [], length, AllPairs, IfNone, IfOk, IfSome};
     ghost use Rattle.std.specs.Prelude.{IsSome, OnErr, OnOk};
     ghost use Rattle.std.specs.Option.{option_copied};
-    ghost use Rattle.rv_frame.specs.Cut.{IsFrameBody};
+    ghost use Rattle.rv_frame.specs.Cut.{IsFrameBody, IsUnfinished};
     ghost use Rattle.rv_server_connections.specs.connection.Traffic.{IsDue};
-    ghost use Rattle.rv_server_connections.specs.connection.Steps.{AnswersBy, TakesIn, input_ended, left_by};
-    ghost use Rattle.rv_server_connections.specs.connection.Steps.{taken};
+    ghost use Rattle.rv_server_connections.specs.connection.Steps.{AnswersBy, CanAnswer, TakesIn};
+    ghost use Rattle.rv_server_connections.specs.connection.Steps.{input_ended, left_by, owing, taken};
     ghost use Rattle.rv_server_connections.specs.Connections.{AllHeldBack, ChangesWire, HasWire, IsTotalHeld};
     ghost use Rattle.rv_server_connections.specs.Connections.{Notes, IsTotalUnread, NotesReleased, OpensWire};
-    ghost use Rattle.rv_server_connections.specs.Connections.{ReleasesAll, SetsWire, none_open};
+    ghost use Rattle.rv_server_connections.specs.Connections.{ReleasesAll, SetsWire, TakesNoMore, none_open};
     ghost use Rattle.rv_server_connections.specs.Wires.{tally_in, wires_in};
 
     /// No connection is open, and so many entries are written. It takes no memory yet.
@@ -99,23 +99,30 @@ impl Wires {
         self.noted.get(connection)
     }
 
-    /// Takes bytes of a piece of a connection's input, and gives how many (`Wire::take_in`). If memory for
-    /// them is refused, nothing changes.
-    pub fn take_in(&mut self, connection: ConnectionNumber, piece: &[u8]) -> Result<usize, NoMemory>
-        requires { IsSome ((wires_in self.old).wires connection) }
-        ensures takes { IfOk result (λ count. ChangesWire (wires_in self.old) connection
-            (λ wire after. TakesIn wire piece.now count after) (wires_in self.new)) }
-        ensures noted { OnOk result (Notes (wires_in self.old) (tally_in self.old) connection
-            (wires_in self.new) (tally_in self.new)) }
+    /// Takes bytes of a piece of a connection's input, and gives how many (`Wire::take_in`), or `None` if it
+    /// isn't open or takes no more. If memory for them is refused, nothing changes.
+    pub fn take_in(
+        &mut self,
+        connection: ConnectionNumber,
+        piece: &[u8],
+    ) -> Result<Option<usize>, NoMemory>
+        ensures takes { IfOk result (λ taken. IfSome taken (λ count. ChangesWire (wires_in self.old)
+            connection (λ wire after. IsUnfinished wire.unread × TakesIn wire piece.now count after)
+            (wires_in self.new))) }
+        ensures noted { IfOk result (λ taken. IfSome taken (λ _. Notes (wires_in self.old)
+            (tally_in self.old) connection (wires_in self.new) (tally_in self.new))) }
+        ensures no_more { IfOk result (λ taken. IfNone taken (TakesNoMore (wires_in self.old) connection)) }
+        ensures same { IfOk result (λ taken. IfNone taken (wires_in self.new ≡ wires_in self.old)) }
+        ensures same_tally { IfOk result (λ taken. IfNone taken (tally_in self.new ≡ tally_in self.old)) }
+        ensures wants { OnErr result (HasWire (wires_in self.old) connection
+            (λ wire. IsUnfinished wire.unread)) }
         ensures refused { OnErr result (wires_in self.new ≡ wires_in self.old) }
         ensures kept { OnErr result (tally_in self.new ≡ tally_in self.old) }
     {
         let room = self.noted.slots.room();
-        let before = unread_of(&self.noted, connection);
-        let count = self.noted.take_in(connection, piece)?;
-        let more = unread_of(&self.noted, connection) - before;
-        self.unread = add_unread(self.unread, more, room);
-        Ok(count)
+        let taken = self.noted.take_in(connection, piece)?;
+        self.unread = add_unread(self.unread, taken.unwrap_or(0), room);
+        Ok(taken)
     }
 
     /// Takes the unread frame of a connection, whose answer is then owed.
@@ -126,30 +133,32 @@ impl Wires {
         ensures noted { Notes (wires_in self.old) (tally_in self.old) connection
             (wires_in self.new) (tally_in self.new) }
     {
-        let gone = unread_of(&self.noted, connection);
-        self.noted.take_frame(connection);
-        self.unread -= gone as u128;
+        let read = self.noted.take_frame(connection);
+        self.unread -= read as u128;
     }
 
-    /// Gives the answer that a connection is owed, by its body, after all that is held for it. It rests on so
-    /// many entries. If memory for it is refused nothing changes.
+    /// Gives an answer to a connection, by its body, after all that is held for it. It rests on so many
+    /// entries. If memory for it is refused nothing changes.
     pub fn answer(
         &mut self,
         connection: ConnectionNumber,
+        to: AnswerTo,
         entries: u64,
         body: &[u8],
     ) -> Result<(), NoMemory>
-        requires owes { HasWire (wires_in self.old) connection (λ wire. wire.owes ≡ true) }
+        requires can { HasWire (wires_in self.old) connection (CanAnswer to) }
         requires fits { IsFrameBody body.now }
         ensures answers { OnOk result (ChangesWire (wires_in self.old) connection
-            (λ wire after. AnswersBy (wires_in self.old).written wire entries body.now after)
+            (λ wire after. AnswersBy (wires_in self.old).written (owing to wire) entries body.now after)
             (wires_in self.new)) }
         ensures noted { OnOk result (Notes (wires_in self.old) (tally_in self.old) connection
             (wires_in self.new) (tally_in self.new)) }
         ensures refused { OnErr result (wires_in self.new ≡ wires_in self.old) }
         ensures kept { OnErr result (tally_in self.new ≡ tally_in self.old) }
     {
-        self.noted.answer(connection, entries, body)
+        let read = self.noted.answer(connection, to, entries, body)?;
+        self.unread -= read as u128;
+        Ok(())
     }
 
     /// Lends the buffer in which the texts of answers are written, so that one text after another takes no

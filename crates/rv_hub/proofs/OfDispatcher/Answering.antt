@@ -142,84 +142,68 @@ closed_behind d connection one wires sound due first sets noted cut noted_cut =
       ap unread_of both.own,
     )
 
--- ---- and answered
+-- ---- or it is answered at once
 
-pub answered_it : (d : Dispatcher) (connection entries : ℕ) (text : List ℕ) (one wires : Wires)
-    → IsDispatcherSound d
-    → FrameTaken d connection one
-    → ChangesWire (wires_in one) connection
-    (λ wire after. AnswersBy (wires_in one).written wire entries text after) (wires_in wires)
-    → NotesOne one connection wires
+pub answered_it : (d : Dispatcher) (connection entries : ℕ) (text : List ℕ) (wires : Wires)
+    → IsDispatcherSound d → HasDue d connection
+    → ChangesWire (wires_in d.wires) connection
+    (λ wire after. AnswersBy (wires_in d.wires).written (taken wire) entries text after) (wires_in wires)
+    → NotesOne d.wires connection wires
     → IsDispatcherSound (record d { wires = wires }) × AnswersIt d connection entries text
     (record d { wires = wires })
-answered_it d connection entries text one wires sound taking answers noted =
-    let takes = taking.takes in
-    let both = sets_again (wires_in d.wires) (wires_in one) (wires_in wires) connection (Some takes.after)
-    (Some answers.after) takes.sets answers.sets in
-    let same : answers.wire ≡ taken takes.wire =
-    some_is answers.wire takes.after (sym answers.there ∙ takes.sets.own) ∙ takes.changes in
-    let by : AnswersBy (wires_in d.wires).written (taken takes.wire) entries text answers.after =
-    subst (λ n. AnswersBy n (taken takes.wire) entries text answers.after) takes.sets.written
-    (subst (λ t. AnswersBy (wires_in one).written t entries text answers.after) same answers.changes) in
-    let none = not_subscription d connection sound taking.due in
-    let less = less_unread d connection one taking in
-    let unread = same_unread one wires connection answers.wire answers.after noted answers.there
-    answers.sets.own
-    (ap (λ (t : Traffic). length t.unread) answers.changes.goes) in
+answered_it d connection entries text wires sound due answers noted =
+    let count : unread_total wires + unread_of ((wires_in d.wires).wires connection)
+    ≡ unread_total d.wires + unread_of ((wires_in wires).wires connection) = noted.unread in
+    let none = not_subscription d connection sound due in
+    let had = had_unread d connection due in
     let emptied : unread_of ((wires_in wires).wires connection) ≡ 0 =
-    ap unread_of answers.sets.own ∙ ap (λ (t : Traffic). length t.unread) by.goes in (
-      sound_wire d wires connection (Some answers.after) sound both
+    ap unread_of answers.sets.own ∙ ap (λ (t : Traffic). length t.unread) answers.changes.goes in (
+      sound_wire d wires connection (Some answers.after) sound answers.sets
           (subst (λ o. Agree (Some answers.after) o) (sym none)
-          (not_owing answers.after (ap (λ (t : Traffic). t.owes) by.goes))),
+          (not_owing answers.after (ap (λ (t : Traffic). t.owes) answers.changes.goes))),
       record {
         did = λ body asked. inl (record {
           frame = asked.frame;
           answers = record {
             changes = record {
-              wire = takes.wire;
+              wire = answers.wire;
               after = answers.after;
-              there = takes.there;
-              changes = by;
-              sets = both;
+              there = answers.there;
+              changes = answers.changes;
+              sets = answers.sets;
             };
-            lists = lists_again (tally_in d.wires).changed (tally_in one).changed (tally_in wires).changed
-                connection
-                taking.noted.changed noted.changed;
+            lists = noted.changed;
             rest = refl;
           };
         });
-        takes = record {
-          rest = refl;
-          work = omega arith;
-          had = had_unread d connection taking.due;
-          emptied = emptied;
-        };
+        takes = record { rest = refl; work = omega arith; had = had; emptied = emptied };
       },
     )
 
-pub not_answered : (d : Dispatcher) (connection entries : ℕ) (text : List ℕ) (one two wires : Wires)
-    → IsDispatcherSound d
-    → FrameTaken d connection one → wires_in two ≡ wires_in one → tally_in two ≡ tally_in one
+pub not_answered : (d : Dispatcher) (connection entries : ℕ) (text : List ℕ) (two wires : Wires)
+    → IsDispatcherSound d → HasDue d connection
+    → wires_in two ≡ wires_in d.wires → tally_in two ≡ tally_in d.wires
     → SetsWire (wires_in two) connection None (wires_in wires) → NotesOne two connection wires
     → IsDispatcherSound (record d { wires = wires }) × AnswersIt d connection entries text
     (record d { wires = wires })
-not_answered d connection entries text one two wires sound taking same tally cut noted =
-    let cut_one = subst (λ w. SetsWire w connection None (wires_in wires)) same cut in
-    let noted_one = notes_behind one two wires connection same tally noted in
-    let fewer = closed_unread one wires connection noted_one cut_one.own in
-    let closed = closed_behind d connection one wires sound taking.due (Some taking.takes.after)
-    taking.takes.sets
-    taking.noted cut_one noted_one in
-    let less = less_unread d connection one taking in (
-      closed.0,
+not_answered d connection entries text two wires sound due same tally cut noted =
+    let cut_old = subst (λ w. SetsWire w connection None (wires_in wires)) same cut in
+    let noted_old = notes_behind d.wires two wires connection same tally noted in
+    let count : unread_total wires + unread_of ((wires_in d.wires).wires connection)
+    ≡ unread_total d.wires + unread_of ((wires_in wires).wires connection) = noted_old.unread in
+    let none = not_subscription d connection sound due in
+    let had = had_unread d connection due in
+    let emptied : unread_of ((wires_in wires).wires connection) ≡ 0 = ap unread_of cut_old.own in (
+      sound_wire d wires connection None sound cut_old (subst (λ o. Agree None o) (sym none) not_open),
       record {
-        did = λ body asked. inr closed.1;
-        takes = record {
+        did = λ body asked. inr (record {
+          there = record { wire = due.wire; there = due.there; so = tt };
+          sets = cut_old;
+          lists = noted_old.changed;
+          hears = hears_same (subscribers_of d.subscribers) connection None none;
           rest = refl;
-          work = omega arith;
-          had = had_unread d connection taking.due;
-          emptied = closed.2;
-        };
+        });
+        takes = record { rest = refl; work = omega arith; had = had; emptied = emptied };
       },
     )
 

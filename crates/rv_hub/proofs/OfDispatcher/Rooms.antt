@@ -1,6 +1,6 @@
 -- A call that only lends the room of texts, or takes it back, changes nothing else.
 use Rattle.std.proofs.Common.{inl, inr, ◌≡◌, ◌+◌, ◌≤◌, ◌∙◌, ℕ, List, refl, sym, ap, ap₂, subst, arith}
-use Rattle.std.proofs.Common.{length}
+use Rattle.std.proofs.Common.{Err, IfOk, Ok, OnErr, Result, length}
 use Rattle.rv_server_connections.specs.Connections.{HasWire, Tally, WiresState}
 use Rattle.rv_server_connections.specs.Wires.{tally_in, wires_in}
 use Rattle.rv_text.specs.Bodies.{answer_text}
@@ -107,23 +107,31 @@ answered_in_room old mid after last connection entries text first answers second
       };
     }
 
--- by an answer's text
-pub text_said_in_room : (old mid after last : Dispatcher) (connection entries : ℕ) (a : Answer) (text :
-    List ℕ)
-    → IsSameButRoom old mid → entries ≡ rests_on a (state_in mid.machine).length → text ≡ answer_text a
-    → AnswersIt mid connection entries text after → IsSameButRoom after last
-    → SaysText old connection a last
-text_said_in_room old mid after last connection entries a text first count is answers second =
+-- or that memory lacks
+pub lacked_in_room : (old mid new : Dispatcher) (connection : ℕ) → IsSameButRoom old mid
+    → LacksIt mid connection new → LacksIt old connection new
+lacked_in_room old mid new connection first lacks =
+    answered_in_room old mid new new connection 0 (answer_text (Refused NoMemory)) first lacks
+    (record { wires = refl; tally = refl; rest = refl })
+
+-- by a text, if there is one
+pub said_in_room : (old mid new : Dispatcher) (connection entries : ℕ) (text : List ℕ) → IsSameButRoom old mid
+    → AnswersIt mid connection entries text new → AnswersIt old connection entries text new
+said_in_room old mid new connection entries text first answers =
+    answered_in_room old mid new new connection entries text first answers
+    (record { wires = refl; tally = refl; rest = refl })
+
+-- by an answer's text, or that memory lacks
+pub text_in_room : {T E : Type 0} (bytes : T → List ℕ) (written : Result T E) (old mid new : Dispatcher)
+    (connection entries : ℕ) (a : Answer) → IsSameButRoom old mid
+    → entries ≡ rests_on a (state_in mid.machine).length → IfOk written (λ t. bytes t ≡ answer_text a)
+    → IfOk written (λ t. AnswersIt mid connection entries (bytes t) new)
+    → OnErr written (LacksIt mid connection new) → SaysText old connection a new
+text_in_room bytes (Ok t) old mid new connection entries a first count is answers lacks =
     let rests : entries ≡ rests_on a (state_in old.machine).length =
     count ∙ ap (λ (d : Dispatcher). rests_on a (state_in d.machine).length) first.rest in
-    text_said old connection a text last is
-    (subst (λ n. AnswersIt old connection n text last) rests
-    (answered_in_room old mid after last connection entries text first answers second))
-
--- or that memory lacks
-pub text_lacked_in_room : (old mid new : Dispatcher) (connection : ℕ) (a : Answer) → IsSameButRoom old mid
-    → LacksIt mid connection new → SaysText old connection a new
-text_lacked_in_room old mid new connection a first lacks =
-    let stays : IsSameButRoom new new = record { wires = refl; tally = refl; rest = refl } in
-    text_lacked old connection a new
-    (answered_in_room old mid new new connection 0 (answer_text (Refused NoMemory)) first lacks stays)
+    text_said old connection a (bytes t) new is
+    (subst (λ n. AnswersIt old connection n (bytes t) new) rests
+    (said_in_room old mid new connection entries (bytes t) first answers))
+text_in_room bytes (Err e) old mid new connection entries a first count is answers lacks =
+    text_lacked old connection a new (lacked_in_room old mid new connection first lacks)

@@ -19,14 +19,6 @@ use Rattle.rv_hub.specs.dispatcher.Fields.{dispatcher_state}
 use Rattle.rv_hub.specs.dispatcher.Going.{AnswersIt, LacksIt, SaysIt, SaysText, WaitsIt}
 use Rattle.rv_hub.proofs.OfDispatcher.Answering.{some_is}
 
--- one answer is said of a step
-pub says_same : (s : State) (told : Said) (a b : Answer) → Says s told a → Says s told b → a ≡ b
-says_same s (said.Welcome epoch client incarnation version) a b one other = one ∙ sym other
-says_same s (said.Told key) a b (session, there, one) (again, found, other) =
-    one ∙ ap (λ (c : ClientState). answer_told key (told_again c.request))
-    (some_is session again (sym there ∙ found)) ∙ sym other
-says_same s (said.Refused refusal) a b one other = one ∙ sym other
-
 -- answered by its text
 pub text_said : (old : Dispatcher) (connection : ℕ) (a : Answer) (text : List ℕ) (new : Dispatcher)
     → text ≡ answer_text a

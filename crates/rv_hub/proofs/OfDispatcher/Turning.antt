@@ -1,7 +1,7 @@
 -- A connection goes on until it stops.
 use Rattle.std.proofs.Common.{inl, inr, ◌≡◌, ◌+◌, ◌-◌, ◌<◌, ◌≤◌, ◌∙◌, ◌++◌, ◌∷◌, ◌⊎◌, ℕ, List, []}
 use Rattle.std.proofs.Common.{Some, refl, sym, ap, subst, arith, append_assoc, drop, length, take}
-use Rattle.std.proofs.Common.{false, nat_eq, suc, zero}
+use Rattle.std.proofs.Common.{IfNone, IfSome, None, Option, false, nat_eq, suc, unwrap_or, zero}
 use Rattle.std.specs.Prelude.{All, flat_map}
 use Rattle.std.proofs.lemmas.Bool.{false≢true}
 use Rattle.std.proofs.Math.Seq.{take-add}
@@ -13,6 +13,7 @@ use Rattle.rv_frame.specs.Cut.{IsUnfinished}
 use Rattle.rv_server_connections.specs.connection.Traffic.{IsBad, IsWholeFrame, Traffic}
 use Rattle.rv_server_connections.specs.connection.Steps.{TakesIn}
 use Rattle.rv_server_connections.specs.subscribers.Subscribers.{subscribers_count, subscribers_of}
+use Rattle.rv_server_connections.specs.Connections as connections
 use Rattle.rv_server_connections.specs.Connections.{ChangesWire, HasWire, SetsWire, Tally, WiresState}
 use Rattle.rv_server_connections.specs.Wires.{tally_in, wires_in}
 use Rattle.rv_server_connections.specs.declared.wires.Wires.{Wires}
@@ -22,14 +23,15 @@ use Rattle.rv_hub.specs.dispatcher.Effects.{Effect, DoesClose, bytes_by, bytes_i
 use Rattle.rv_hub.specs.dispatcher.Effects.{told_of_effect, told_in_effects, Closed, TookIn}
 use Rattle.rv_hub.specs.dispatcher.Order.{IsOwnEffect, IsStride, MayClose, MayDo, RunsStrides, effects_of}
 use Rattle.rv_hub.specs.dispatcher.Order.{left_behind}
-use Rattle.rv_hub.specs.dispatcher.Rest.{HasComeToStop, TakesNoMore}
+use Rattle.rv_hub.specs.dispatcher.Rest.{TakesNoMore}
 use Rattle.rv_hub.specs.dispatcher.Fields.{IsDispatcherSound, IsSteady, dispatcher_state, dispatcher_terms}
-use Rattle.rv_hub.specs.dispatcher.Going.{FeedsPiece, Finishes, Goes, HasDue, NotesOne, Strides, TakesItsTurn}
+use Rattle.rv_hub.specs.dispatcher.Going.{FeedsPiece, Finishes, Goes, NotesOne, Strides, TakesItsTurn}
 use Rattle.rv_hub.specs.dispatcher.Going.{unread_at, unread_of, unread_total, work_left}
 use Rattle.rv_hub.proofs.OfDispatcher.Answering.{some_is, sound_wire}
 use Rattle.rv_hub.proofs.OfDispatcher.Chains.{runs_append}
 use Rattle.rv_hub.proofs.OfDispatcher.KeyByKey.{no_keys}
 use Rattle.rv_hub.proofs.OfDispatcher.Owing.{Agree}
+use Rattle.rv_hub.proofs.OfDispatcher.Rooms.{same_state}
 
 -- ---- one connection's bytes change, and not what it owes
 
@@ -92,13 +94,6 @@ has_bytes (suc n) is = omega arith
 
 -- ---- what goes on beside
 
-pub goes_nowhere : (d : Dispatcher) → Goes d [] d
-goes_nowhere d = record {
-  made = sym (append-nil d.entries.items);
-  freed = sym (append-nil d.freed.items);
-  terms = refl;
-}
-
 pub goes_further : (one two three : Dispatcher) (first second : List Effect) → Goes one first two
     → Goes two second three
     → Goes one (first ++ second) three
@@ -132,17 +127,33 @@ may_more s left effect may = may
 
 -- ---- bytes of a piece
 
-pub fed_none : (d : Dispatcher) (connection : ℕ) (piece : List ℕ) → FeedsPiece d connection piece 0 d
-fed_none d connection piece = record {
-  strides = [];
-  own = All-nil (λ (s : Effect × List Effect). IsOwnEffect connection s.0);
-  runs = refl;
-  goes = goes_nowhere d;
-  within = omega arith;
-  bytes = refl;
-  unread = omega arith;
-  work = omega arith;
-}
+-- none, in wires of which contracts see the same
+fed_none : (d : Dispatcher) (wires : Wires) (connection : ℕ) (piece : List ℕ)
+    → wires_in wires ≡ wires_in d.wires → tally_in wires ≡ tally_in d.wires
+    → FeedsPiece d connection piece 0 (record d { wires = wires })
+fed_none d wires connection piece same tally =
+    let state = same_state d (record d { wires = wires }) (record {
+      wires = same;
+      tally = tally;
+      rest = refl;
+    }) in
+    let unread : unread_total wires ≡ unread_total d.wires = ap (λ (t : Tally). t.unread) tally in
+    let here : unread_of ((wires_in wires).wires connection) ≡ unread_of ((wires_in d.wires).wires connection) =
+    ap (λ (w : WiresState). unread_of (w.wires connection)) same in
+    record {
+      strides = [];
+      own = All-nil (λ (s : Effect × List Effect). IsOwnEffect connection s.0);
+      runs = state;
+      goes = record {
+        made = sym (append-nil d.entries.items);
+        freed = sym (append-nil d.freed.items);
+        terms = refl;
+      };
+      within = omega arith;
+      bytes = refl;
+      unread = omega arith;
+      work = omega arith;
+    }
 
 -- bytes that are all taken
 takes_all : (wire after : Traffic) (piece : List ℕ) (count : ℕ) → TakesIn wire piece count after
@@ -157,7 +168,7 @@ takes_all wire after piece count takes =
       stops = λ less. absurd (let l = less in omega arith);
     }
 
-pub fed_some : (d : Dispatcher) (wires : Wires) (connection : ℕ) (piece : List ℕ) (count : ℕ) → IsSteady d
+fed_some : (d : Dispatcher) (wires : Wires) (connection : ℕ) (piece : List ℕ) (count : ℕ) → IsSteady d
     → (takes : ChangesWire (wires_in d.wires) connection (λ wire after. TakesIn wire piece count after)
     (wires_in wires))
     → NotesOne d.wires connection wires
@@ -223,6 +234,34 @@ fed_some d wires connection piece count steady takes noted =
           let same = some_is takes.after wire (sym takes.sets.own ∙ there) in
           subst (λ (t : Traffic). IsWholeFrame t.unread ⊎ IsBad t.unread) same (changes.stops less),
     )
+
+-- as many as the connection takes, if it takes more
+pub fed : (d : Dispatcher) (wires : Wires) (connection : ℕ) (piece : List ℕ) (fed_count : Option ℕ) (count : ℕ)
+    → count ≡ unwrap_or fed_count 0 → IsSteady d
+    → IfSome fed_count (λ n. ChangesWire (wires_in d.wires) connection
+    (λ wire after. IsUnfinished wire.unread × TakesIn wire piece n after) (wires_in wires))
+    → IfSome fed_count (λ _. NotesOne d.wires connection wires)
+    → IfNone fed_count (connections.TakesNoMore (wires_in d.wires) connection)
+    → IfNone fed_count (wires_in wires ≡ wires_in d.wires) → IfNone fed_count (tally_in wires ≡ tally_in d.wires)
+    → IsSteady (record d { wires = wires }) × FeedsPiece d connection piece count (record d { wires = wires })
+    × (count < length piece → TakesNoMore (dispatcher_state (record d { wires = wires })) connection)
+fed d wires connection piece (Some n) count is steady takes noted no_more same tally =
+    subst (λ k. IsSteady (record d { wires = wires }) × FeedsPiece d connection piece k (record d
+    { wires = wires }) × (k < length piece → TakesNoMore (dispatcher_state (record d { wires = wires }))
+    connection)) (sym is)
+    (fed_some d wires connection piece n steady (record {
+      wire = takes.wire;
+      after = takes.after;
+      there = takes.there;
+      changes = takes.changes.1;
+      sets = takes.sets;
+    }) noted)
+fed d wires connection piece None count is steady takes noted no_more same tally = (
+  same_steady d wires steady same,
+  subst (λ k. FeedsPiece d connection piece k (record d { wires = wires })) (sym is)
+      (fed_none d wires connection piece same tally),
+  λ less. subst (λ (w : WiresState). connections.TakesNoMore w connection) (sym same) no_more,
+)
 
 pub fed_closed : (d mid new : Dispatcher) (connection : ℕ) (piece : List ℕ) → 0 < length piece
     → HasWire (wires_in d.wires) connection (λ wire. IsUnfinished wire.unread)
@@ -450,12 +489,3 @@ smaller now mid new connection piece taken count strides feeds =
     let within = feeds.within in
     let long = length-drop taken piece in
     omega arith
-
--- ---- where it stops
-
-pub turn_stopped : (mid new : Dispatcher) (connection : ℕ) → Finishes mid connection new
-    → (HasDue mid connection → ⊥) → HasComeToStop (dispatcher_state new) connection
-turn_stopped mid new connection finishes none wire there = (
-  λ due. none (finishes.due (record { wire = wire; there = there; so = due })),
-  finishes.stopped wire there,
-)

@@ -1,5 +1,5 @@
 //! One frame of a connection: a step of the machine.
-ghost use Rattle.std.specs.Prelude.{◌≡◌, ◌<◌, ℕ, List, IfNone, IfOk, IfSome, string_bytes, vec_capacity};
+ghost use Rattle.std.specs.Prelude.{◌≡◌, ◌<◌, ℕ, List, IfOk, OnErr, string_bytes, vec_capacity};
 ghost use Rattle.std.specs.Prelude.{vec_len};
 ghost use Rattle.std.specs.Bool.{OnFalse, OnTrue};
 ghost use Rattle.rv_json.specs.Bodies.{HasBodyLength};
@@ -7,44 +7,38 @@ ghost use Rattle.rv_text.specs.declared.answer.Answer.{Answer as Answered};
 ghost use Rattle.rv_text.specs.Bodies.{IsMessageBody, answer_text};
 ghost use Rattle.rv_text.specs.Limits.{FitsAnswer, FitsMessage};
 ghost use Rattle.rv_machine.specs.Machines.{Says, state_in};
+ghost use Rattle.rv_machine.specs.declared.machine.Said.TheVariants as said;
 ghost use Rattle.rv_server_connections.specs.connection.Traffic.{IsDue};
 ghost use Rattle.rv_server_connections.specs.Connections.{HasWire};
 ghost use Rattle.rv_server_connections.specs.Wires.{wires_in};
 ghost use Rattle.rv_hub.specs.dispatcher.Effects.{rests_on};
 ghost use Rattle.rv_hub.specs.dispatcher.Telling.{WaitsOn};
+ghost use Rattle.rv_hub.specs.dispatcher.Rest.{HasComeToStop};
 ghost use Rattle.rv_hub.specs.dispatcher.Fields.{IsDispatcherSound, IsSteady, dispatcher_state};
-ghost use Rattle.rv_hub.specs.dispatcher.Going.{AnswersIt, HasDue, IsFrameDue, IsMessageAt, IsSameButRoom};
+ghost use Rattle.rv_hub.specs.dispatcher.Going.{AnswersIt, Finishes, HasDue, IsFrameDue, IsMessageAt};
+ghost use Rattle.rv_hub.specs.dispatcher.Going.{IsNext, IsSameButRoom};
 ghost use Rattle.rv_hub.specs.dispatcher.Going.{LacksIt, MaySay, SaysIt, SaysText, StepsIt, StillGoes};
 ghost use Rattle.rv_hub.specs.dispatcher.Going.{Strides, WaitsIt, fault_answer};
 
-use crate::dispatcher::Dispatcher;
-use crate::dispatcher::telling::reply_to;
-use rv_machine::{Heard, Machine, Said};
+use crate::dispatcher::telling::request_text;
+use crate::dispatcher::{Dispatcher, is_waiting};
+use rv_machine::{Heard, Said};
+use rv_server_connections::connection::AnswerTo;
 use rv_server_connections::subscribers::{ConnectionNumber, Subscription};
 use rv_text::{
     Answer, Key, Message, NoMemory, Refusal, TextFault, bad_text_body, decode_message,
     encode_answer_in, no_memory_body,
 };
-use std::alloc::Global;
 
-// What is said of a step, as an answer.
-fn answer_of(alloc: Global, machine: &Machine, said: Said) -> Result<Answer, NoMemory>
-    requires { (a : Answered) × Says (state_in machine.now) said a }
-    ensures { IfOk result (Says (state_in machine.now) said) }
-{
-    match said {
-        Said::Welcome(epoch, client, incarnation, version) => Ok(Answer::Welcome {
-            epoch,
-            client,
-            incarnation,
-            version,
-        }),
-        Said::Told(key) => {
-            let client = machine.client(key.client).unwrap();
-            reply_to(alloc, key, &client.request)
-        }
-        Said::Refused(refusal) => Ok(Answer::Refused(refusal)),
-    }
+// What is to be done next of a connection.
+#[derive(Drop)]
+enum Next {
+    // The frame that is due is answered, by what it was read as.
+    Answer(Result<Message, TextFault>),
+    // Nothing is left to do: it is closed.
+    Close,
+    // It stops.
+    Stop,
 }
 
 // The body of the answer to a frame of which no message was read.
@@ -80,8 +74,10 @@ impl Dispatcher {
         ensures sound { IsDispatcherSound self.new }
         ensures answers { AnswersIt self.old connection entries body.now self.new }
     {
-        self.wires.take_frame(connection);
-        match self.wires.answer(connection, entries, body) {
+        match self
+            .wires
+            .answer(connection, AnswerTo::Unread, entries, body)
+        {
             Ok(()) => {}
             Err(_) => self.wires.close(connection),
         }
@@ -135,6 +131,29 @@ impl Dispatcher {
         self.wires.keep_room(text.into_bytes());
     }
 
+    // Answers the frame that is due by a text, if that found memory.
+    fn answer_with(
+        &mut self,
+        connection: ConnectionNumber,
+        entries: u64,
+        text: Result<String, NoMemory>,
+    )
+        requires sound { IsDispatcherSound self.old }
+        requires due { HasDue self.old connection }
+        requires fits { IfOk text (λ s. HasBodyLength (string_bytes s)) }
+        ensures sound { IsDispatcherSound self.new }
+        ensures answers { IfOk text (λ s. AnswersIt self.old connection entries (string_bytes s) self.new) }
+        ensures lacks { OnErr text (LacksIt self.old connection self.new) }
+    {
+        match text {
+            Ok(text) => {
+                self.answer_by(connection, entries, text.as_bytes());
+                self.keep_room_of(text);
+            }
+            Err(_) => self.lack(connection),
+        }
+    }
+
     // Answers the frame that is due by an answer, if that finds memory.
     fn answer(&mut self, connection: ConnectionNumber, answer: &Answer)
         requires sound { IsDispatcherSound self.old }
@@ -143,33 +162,31 @@ impl Dispatcher {
         ensures sound { IsDispatcherSound self.new }
         ensures answers { SaysText self.old connection answer.now self.new }
     {
-        match self.text_of(answer) {
-            Ok(text) => {
-                let entries = rests_on(answer, self.machine.length() as u64);
-                self.answer_by(connection, entries, text.as_bytes());
-                self.keep_room_of(text);
-            }
-            Err(_) => self.lack(connection),
-        }
+        let text = self.text_of(answer);
+        let entries = rests_on(answer, self.machine.length() as u64);
+        self.answer_with(connection, entries, text);
     }
 
-    // Answers the frame that is due by the answer to its step, or lets its connection wait.
-    fn say_answer(&mut self, connection: ConnectionNumber, said: &Answer)
+    // Answers the frame that is due by the reply of its request, or lets its connection wait for that.
+    fn say_told(&mut self, connection: ConnectionNumber, key: Key)
         requires sound { IsDispatcherSound self.old }
         requires due { HasDue self.old connection }
-        requires may_say { MaySay self.old said.now }
+        requires may_say { (a : Answered) × Says (state_in self.old.machine) (said.Told key) a
+            × MaySay self.old a }
         ensures sound { IsDispatcherSound self.new }
-        ensures says { SaysIt self.old connection said.now self.new }
+        ensures says { (a : Answered) → Says (state_in self.old.machine) (said.Told key) a
+            → SaysIt self.old connection a self.new }
     {
-        match said {
-            Answer::Waiting { key } => self.wait(connection, *key),
-            Answer::Replied { .. } => self.answer(connection, said),
-            Answer::Welcome { .. } => self.answer(connection, said),
-            Answer::Refused(_) => self.answer(connection, said),
+        let client = self.machine.client(key.client).unwrap();
+        if is_waiting(&client.request) {
+            return self.wait(connection, key);
         }
+        let text = request_text(self.wires.lend_room(), &key, &client.request);
+        let entries = self.machine.length() as u64;
+        self.answer_with(connection, entries, text);
     }
 
-    // The same by what was said of the step.
+    // Answers the frame that is due by what was said of its step, or lets its connection wait.
     fn say(&mut self, connection: ConnectionNumber, said: Said)
         requires sound { IsDispatcherSound self.old }
         requires due { HasDue self.old connection }
@@ -178,9 +195,18 @@ impl Dispatcher {
         ensures says { (a : Answered) → Says (state_in self.old.machine) said a
             → SaysIt self.old connection a self.new }
     {
-        match answer_of(self.alloc, &self.machine, said) {
-            Ok(said) => self.say_answer(connection, &said),
-            Err(_) => self.lack(connection),
+        match said {
+            Said::Told(key) => self.say_told(connection, key),
+            Said::Welcome(epoch, client, incarnation, version) => self.answer(
+                connection,
+                &Answer::Welcome {
+                    epoch,
+                    client,
+                    incarnation,
+                    version,
+                },
+            ),
+            Said::Refused(refusal) => self.answer(connection, &Answer::Refused(refusal)),
         }
     }
 
@@ -232,14 +258,20 @@ impl Dispatcher {
         self.tell_settled();
     }
 
-    // The message of the frame that is due on a connection, if one is.
-    fn due_message(&self, connection: ConnectionNumber) -> Option<Result<Message, TextFault>>
-        ensures some { IfSome result (IsMessageAt self.now connection) }
-        ensures none { IfNone result (¬ HasDue self.now connection) }
+    // What is to be done next of a connection.
+    fn next(&self, connection: ConnectionNumber) -> Next
+        ensures { IsNext self.now connection result }
     {
-        let wire = self.wires.get(connection)?;
-        let body = wire.next()?;
-        Some(decode_message(self.alloc, body))
+        let Some(wire) = self.wires.get(connection) else {
+            return Next::Stop;
+        };
+        if let Some(body) = wire.next() {
+            return Next::Answer(decode_message(self.alloc, body));
+        }
+        if wire.is_finished() {
+            return Next::Close;
+        }
+        Next::Stop
     }
 
     // Answers the frame that is due, by what it was read as, and tells all that this settles.
@@ -255,20 +287,25 @@ impl Dispatcher {
         }
     }
 
-    // Answers the frame that is due on a connection, if one is, and tells all that this settles.
-    pub(crate) fn ask(&mut self, connection: ConnectionNumber) -> bool
+    // Answers the frame that is due on a connection, if one is, and tells all that this settles; closes a
+    // connection of which nothing is left to do. It gives whether a frame was answered.
+    pub(crate) fn go_on(&mut self, connection: ConnectionNumber) -> bool
         requires { IsSteady self.old }
         ensures steady { IsSteady self.new }
         ensures strides { OnTrue result (Strides self.old connection self.new) }
-        ensures same { OnFalse result (self.new ≡ self.old) }
-        ensures none { OnFalse result (¬ HasDue self.new connection) }
+        ensures finishes { OnFalse result (Finishes self.old connection self.new) }
+        ensures stopped { OnFalse result (HasComeToStop (dispatcher_state self.new) connection) }
     {
-        match self.due_message(connection) {
-            None => false,
-            Some(read) => {
+        match self.next(connection) {
+            Next::Answer(read) => {
                 self.take_up(connection, read);
                 true
             }
+            Next::Close => {
+                self.shut(connection);
+                false
+            }
+            Next::Stop => false,
         }
     }
 }

@@ -2,12 +2,14 @@
 ghost use Rattle.std.specs.Prelude.{◌≡◌, ◌+◌, ◌≤◌, ℕ, true, length, IfNone, IfOk, IfSome, IsSome, OnErr};
 ghost use Rattle.std.specs.Prelude.{OnOk};
 ghost use Rattle.std.specs.String.{string_bytes};
-ghost use Rattle.rv_text.specs.Limits.{FitsIdentifier};
+ghost use Rattle.rv_json.specs.Bodies.{HasBodyLength};
+ghost use Rattle.rv_text.specs.Bodies.{answer_text};
+ghost use Rattle.rv_text.specs.Limits.{FitsAnswer};
 ghost use Rattle.rv_state.specs.resume.Resuming.{CanResume};
 ghost use Rattle.rv_state.specs.Moves.{answer_told, told_again};
 ghost use Rattle.rv_machine.specs.Machines.{state_in};
 ghost use Rattle.rv_server_connections.specs.subscribers.Subscribers.{subscribers_of};
-ghost use Rattle.rv_hub.specs.dispatcher.Telling.{IsTellable, IsToldAgain};
+ghost use Rattle.rv_hub.specs.dispatcher.Telling.{IsTellable};
 ghost use Rattle.rv_hub.specs.dispatcher.Fields.{IsDispatcherSound, dispatcher_state};
 ghost use Rattle.rv_hub.specs.dispatcher.Going.{GivesTold, IsNextOverdue, IsSameDispatcher, IsToldText};
 ghost use Rattle.rv_hub.specs.dispatcher.Going.{MayGive, TellsIt, TellsIts, TellsLate, TellsThem};
@@ -15,49 +17,45 @@ ghost use Rattle.rv_hub.specs.dispatcher.Rest.{SubscribersInTime, SubscribersWai
 
 use crate::dispatcher::Dispatcher;
 use rv_machine::Machine;
+use rv_server_connections::connection::AnswerTo;
 use rv_server_connections::subscribers::ConnectionNumber;
 use rv_session::LastRequest;
-use rv_text::{Answer, Key, NoMemory, Refusal, Reply, encode_answer};
+use rv_text::{
+    Answer, Key, NoMemory, Refusal, Reply, encode_answer, encode_answer_in, encode_reply_in,
+};
 use std::alloc::Global;
 
-// What a request of a key is answered, by what became of it.
-pub(crate) fn reply_to(alloc: Global, key: Key, request: &LastRequest) -> Result<Answer, NoMemory>
-    ensures { IfOk result (λ said. said ≡ answer_told key (told_again request.now)) }
+// The body of what a request of a key is answered, by what became of it, in the memory of a buffer.
+pub(crate) fn request_text(
+    buffer: Vec<u8>,
+    key: &Key,
+    request: &LastRequest,
+) -> Result<String, NoMemory>
+    ensures text { IfOk result (λ s. string_bytes s
+        ≡ answer_text (answer_told key.now (told_again request.now))) }
+    ensures length { FitsAnswer (answer_told key.now (told_again request.now))
+        → IfOk result (λ s. HasBodyLength (string_bytes s)) }
 {
     match request {
-        LastRequest::RepliedTo { reply, .. } => {
-            let reply = reply.copy(alloc)?;
-            Ok(Answer::Replied { key, reply })
-        }
-        LastRequest::CancelledUnseen => Ok(Answer::Replied {
-            key,
-            reply: Reply::Cancelled,
-        }),
-        LastRequest::Waits { .. } => Ok(Answer::Waiting { key }),
-        LastRequest::Fresh => Ok(Answer::Waiting { key }),
+        LastRequest::RepliedTo { reply, .. } => encode_reply_in(buffer, key, reply),
+        LastRequest::CancelledUnseen => encode_reply_in(buffer, key, &Reply::Cancelled),
+        LastRequest::Waits { .. } => encode_answer_in(buffer, &Answer::Waiting { key: *key }),
+        LastRequest::Fresh => encode_answer_in(buffer, &Answer::Waiting { key: *key }),
     }
 }
 
-// What a repeat of a request is told, if its session is still there.
-fn told(alloc: Global, machine: &Machine, key: Key) -> Result<Answer, NoMemory>
-    requires { IsTellable (state_in machine.now) key }
-    ensures { IfOk result (IsToldAgain (state_in machine.now) key) }
-{
-    let client = machine.client(key.client).unwrap();
-    if client.incarnation != key.incarnation {
-        return Ok(Answer::Refused(Refusal::OldIncarnation(client.incarnation)));
-    }
-    reply_to(alloc, key, &client.request)
-}
-
-// The text of that.
+// The body of what a repeat of a request is told, if its session is still there.
 fn told_text(alloc: Global, machine: &Machine, key: Key) -> Result<String, NoMemory>
     requires tellable { IsTellable (state_in machine.now) key }
     requires resumes { CanResume (state_in machine.now) }
     ensures { IfOk result (λ text. IsToldText (state_in machine.now) key (string_bytes text)) }
 {
-    let answer = told(alloc, machine, key)?;
-    encode_answer(alloc, &answer)
+    let client = machine.client(key.client).unwrap();
+    if client.incarnation == key.incarnation {
+        return request_text(Vec::new(alloc), &key, &client.request);
+    }
+    let refusal = Refusal::OldIncarnation(client.incarnation);
+    encode_answer(alloc, &Answer::Refused(refusal))
 }
 
 impl Dispatcher {
@@ -71,7 +69,8 @@ impl Dispatcher {
         self.freed.reserve(1)?;
         let text = told_text(self.alloc, &self.machine, key)?;
         let entries = self.machine.length() as u64;
-        self.wires.answer(connection, entries, text.as_bytes())?;
+        self.wires
+            .answer(connection, AnswerTo::Taken, entries, text.as_bytes())?;
         self.freed.push_back_reserved(connection);
         Ok(())
     }

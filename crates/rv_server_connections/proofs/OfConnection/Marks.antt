@@ -15,9 +15,12 @@ use Rattle.rv_server_connections.specs.declared.connection.answers.Mark.{Mark}
 use Rattle.rv_frame.specs.Cut.{IsFrameBody, frame_bytes}
 use Rattle.rv_server_connections.specs.connection.Traffic.{AnswerByte, bytes_of, first_rests_on, most_held}
 use Rattle.rv_server_connections.specs.connection.Traffic.{resting}
-use Rattle.rv_server_connections.specs.connection.Steps.{HoldsBack}
-use Rattle.rv_server_connections.specs.connection.Fields.{IsSoundOutgoing, NoneEmpty, behind_in, marked_bytes}
-use Rattle.rv_server_connections.specs.connection.Fields.{marked_count, ready_in}
+use Rattle.rv_server_connections.specs.declared.connection.AnswerTo.{AnswerTo}
+use Rattle.rv_server_connections.specs.declared.connection.AnswerTo.TheVariants as to
+use Rattle.rv_server_connections.specs.declared.connection.buffers.Buffers.{Buffers}
+use Rattle.rv_server_connections.specs.connection.Steps.{CanAnswer, HoldsBack}
+use Rattle.rv_server_connections.specs.connection.Fields.{IsSoundOutgoing, IsSoundWire, NoneEmpty, behind_in}
+use Rattle.rv_server_connections.specs.connection.Fields.{marked_bytes, marked_count, ready_in, traffic_of}
 use Rattle.rv_server_connections.specs.connection.Answering.{FreesFirst, FreesSome, Pushes, ReleasesIn}
 
 -- ---- bytes with the number of entries that they rest on
@@ -321,3 +324,9 @@ held_is a sound =
       length-drop a.ready a.bytes.items,
       marked_long a.marks.items rest (rest_long a sound),
     )
+
+-- where an answer may be given there is room for its bytes
+pub room_for : (to : AnswerTo) (b : Buffers) → IsSoundWire b → CanAnswer to (traffic_of b)
+    → length b.answers.bytes.items ≤ most_held
+room_for to.Unread b sound due = omega (arith, held_is b.answers sound.answers, due.room)
+room_for to.Taken b sound owes = sound.room owes

@@ -2,7 +2,10 @@
 use Rattle.std.specs.Prelude.{ℕ, ◌≡◌, ◌<◌, ◌≤◌, ◌⊎◌, false, true, List, [], ◌∷◌, ◌++◌, length, take, drop}
 use Rattle.std.specs.List.{All}
 use Rattle.rv_frame.specs.Cut.{frame_bytes}
-use Rattle.rv_server_connections.specs.connection.Traffic.{AnswerByte, IsBad, IsOneAtMost, IsWholeFrame}
+use Rattle.rv_server_connections.specs.declared.connection.AnswerTo.{AnswerTo}
+use Rattle.rv_server_connections.specs.declared.connection.AnswerTo.TheVariants as to
+use Rattle.rv_server_connections.specs.connection.Traffic.{AnswerByte, IsBad, IsDue, IsOneAtMost}
+use Rattle.rv_server_connections.specs.connection.Traffic.{IsWholeFrame}
 use Rattle.rv_server_connections.specs.connection.Traffic.{Traffic, bytes_of, resting}
 
 -- nothing came, and nothing is owed
@@ -43,6 +46,16 @@ pub record AnswersBy (written : ℕ) (old : Traffic) (entries : ℕ) (body : Lis
 -- the unread frame is taken, and its answer is owed
 abbrev pub taken : Traffic → Traffic
 taken old = record old { unread = []; owes = true }
+
+-- the answer may be given: to the unread frame if that is due, and to the one taken before if it is owed
+abbrev pub CanAnswer : AnswerTo → Traffic → Type 0
+CanAnswer to.Unread t = IsDue t
+CanAnswer to.Taken t = t.owes ≡ true
+
+-- the connection while that answer is owed: an unread frame is taken first
+abbrev pub owing : AnswerTo → Traffic → Traffic
+owing to.Unread t = taken t
+owing to.Taken t = t
 
 -- so many of the bytes that may leave have left
 abbrev pub left_by : Traffic → ℕ → Traffic

@@ -1,13 +1,15 @@
 //! The fields of a connection, and what changes them together.
-ghost use Rattle.std.specs.Prelude.{◌≡◌, ◌≤◌, ◌↔◌, true, false, length, IfNone, IfOk, IfSome, IsTrue};
+ghost use Rattle.std.specs.Prelude.{◌≡◌, ◌≤◌, ◌↔◌, false, length, IfNone, IfOk, IfSome, IsTrue};
 ghost use Rattle.std.specs.Prelude.{OnErr, OnOk};
 ghost use Rattle.rv_frame.specs.Cut.{IsFrameBody, frame_bytes};
 ghost use Rattle.rv_server_connections.specs.connection.Traffic.{IsDue, IsFinished, IsComing, MayOffer};
 ghost use Rattle.rv_server_connections.specs.connection.Traffic.{held_count, most_held};
-ghost use Rattle.rv_server_connections.specs.connection.Steps.{AnswersBy, HoldsBack, Releases, TakesIn};
-ghost use Rattle.rv_server_connections.specs.connection.Steps.{fresh_traffic, input_ended, left_by, taken};
+ghost use Rattle.rv_server_connections.specs.connection.Steps.{AnswersBy, CanAnswer, HoldsBack, Releases};
+ghost use Rattle.rv_server_connections.specs.connection.Steps.{TakesIn, fresh_traffic, input_ended, left_by};
+ghost use Rattle.rv_server_connections.specs.connection.Steps.{owing, taken};
 ghost use Rattle.rv_server_connections.specs.connection.Fields.{IsSoundWire, behind_in, ready_in, traffic_of};
 
+use crate::connection::AnswerTo;
 use crate::connection::answers::Outgoing;
 use crate::connection::unread::{Coming, clear, told, wanted};
 use rv_frame::NoMemory;
@@ -100,18 +102,27 @@ impl Buffers {
         self.owes = true;
     }
 
-    pub(crate) fn answer(&mut self, written: u64, entries: u64, body: &[u8]) -> Result<(), NoMemory>
+    pub(crate) fn answer(
+        &mut self,
+        to: AnswerTo,
+        written: u64,
+        entries: u64,
+        body: &[u8],
+    ) -> Result<(), NoMemory>
         requires sound { IsSoundWire self.old }
-        requires owes { self.old.owes ≡ true }
+        requires can { CanAnswer to (traffic_of self.old) }
         requires held_back { HoldsBack written (behind_in self.old.answers) }
         requires fits { IsFrameBody body.now }
         ensures sound { IsSoundWire self.new }
         ensures answers { OnOk result
-            (AnswersBy written (traffic_of self.old) entries body.now (traffic_of self.new)) }
+            (AnswersBy written (owing to (traffic_of self.old)) entries body.now (traffic_of self.new)) }
         ensures refused { OnErr result (traffic_of self.new ≡ traffic_of self.old) }
     {
         self.answers.push(written, entries, body)?;
-        self.owes = false;
+        match to {
+            AnswerTo::Unread => clear(&mut self.unread),
+            AnswerTo::Taken => self.owes = false,
+        }
         Ok(())
     }
 
