@@ -1,13 +1,12 @@
 -- What holds of all slots still does where one changes.
-use Rattle.std.proofs.Common.{◌≡◌, ◌≢◌, ◌<◌, ◌≤◌, ◌+◌, ◌∙◌, ℕ, Bool, Option, None, Some, arith, refl, sym, ap}
-use Rattle.std.proofs.Common.{subst}
+use Rattle.std.proofs.Common.{◌≡◌, ◌≢◌, ◌<◌, ◌≤◌, ◌+◌, ◌∙◌, ℕ, Option, None, Some, arith, refl, sym, ap}
 use Rattle.std.proofs.Common.{inl, inr, List, slice_set}
 use Rattle.std.proofs.lemmas.Bool.{cases_eq}
 use Rattle.std.proofs.lemmas.List.{set-get_or}
 use Rattle.rv_server_connections.specs.Table.{SetsSlot, TableState, get, with_slot}
 use Rattle.rv_server_connections.specs.connection.Traffic.{held_count}
 use Rattle.rv_server_connections.specs.declared.subscribers.pairs.Pairs.{Pairs}
-use Rattle.rv_server_connections.specs.subscribers.Pairs.{ChangesPairs, stands_under}
+use Rattle.rv_server_connections.specs.subscribers.Pairs.{stands_under}
 use Rattle.rv_server_connections.specs.declared.table.WireSlot.{WireSlot}
 use Rattle.rv_server_connections.specs.Connections.{count_at}
 use Rattle.rv_server_connections.specs.Fields.{AreHeld, IsIndexOf, Remarks, has_mark, is_slot_marked}
@@ -101,9 +100,3 @@ pub unwritten : (s : TableState) (c : ℕ) (slot : WireSlot) → get s c ≡ Som
 unwritten s c slot there =
     ap (λ (o : Option WireSlot). record s { places = slice_set s.places c o }) (sym there)
     ∙ ap (λ (l : List (Option WireSlot)). record s { places = l }) (set-get_or s.places c None)
-
--- ---- an index under another name
-
-pub moved_pairs : (p q r : Pairs) (n c : ℕ) {b : Bool} → p ≡ q → ChangesPairs p r n c b
-    → ChangesPairs q r n c b
-moved_pairs p q r n c {b} same changes = subst (λ (x : Pairs). ChangesPairs x r n c b) same changes

@@ -11,10 +11,9 @@ use Rattle.rv_server_connections.specs.connection.Traffic.{held_count, resting}
 use Rattle.rv_frame.specs.Cut.{frame_bytes}
 use Rattle.rv_server_connections.specs.connection.Steps.{AnswersBy, TakesIn, fresh_traffic, left_by}
 use Rattle.rv_server_connections.specs.declared.subscribers.pairs.Pairs.{Pairs}
-use Rattle.rv_server_connections.specs.subscribers.Pairs.{SamePairs, pair_count, stands_under}
+use Rattle.rv_server_connections.specs.subscribers.Pairs.{SamePairs, pair_count}
 use Rattle.rv_server_connections.specs.declared.table.WireSlot.{WireSlot}
 use Rattle.rv_server_connections.specs.declared.slots.Slots.{Slots}
-use Rattle.rv_server_connections.specs.Fields.{SameBut}
 use Rattle.rv_server_connections.specs.Fields.{AreHeld, Drops, IsHeldBack, HasIndex, IsSoundSlot}
 use Rattle.rv_server_connections.specs.Fields.{IsSoundSlots, AreSound, IsHeldIn, StandsByMark, is_slot_marked}
 use Rattle.rv_server_connections.specs.Fields.{mark_count, slots_state, wire_of, wires_at}
@@ -292,18 +291,3 @@ same_counted s t counted slots held = record {
   held = subst (λ (x : TableState). AreHeld (get x) x.room t.held) (sym slots)
       (subst (λ n. AreHeld (get s.slots) s.slots.room n) (sym held) counted.held);
 }
-
--- lists got room, and the index is the same in what it tells
-pub room_sound : (s u t : Slots) → IsSoundSlots s → SameBut s u → SamePairs u.index t.index
-    → pair_count t.index ≤ pair_count u.index → t.slots ≡ u.slots → t.written ≡ u.written → t.held ≡ u.held
-    → t.released ≡ u.released → t.reached ≡ u.reached → IsSoundSlots t
-room_sound s u t sound but pairs count slots written held released reached =
-    let all : t.slots ≡ s.slots = slots ∙ but.slots in
-    let first : vec_capacity t.released ≡ vec_capacity u.released = ap vec_capacity released in
-    let second : vec_capacity t.reached ≡ vec_capacity u.reached = ap vec_capacity reached in
-    let index : pair_count u.index ≡ pair_count s.index = ap pair_count but.index in
-    let same_room : t.slots.room ≡ s.slots.room = ap (λ (x : TableState). x.room) all in
-    same_sound s t sound (λ k. ap (λ (x : TableState). get x k) all) (omega (arith, same_room))
-    (written ∙ but.written) (held ∙ but.held)
-    (λ e k. pairs e k ∙ ap (λ (p : Pairs). stands_under p e k) but.index) (omega (arith, count, index))
-    (omega (arith, first, but.room)) (omega (arith, second, but.looks))

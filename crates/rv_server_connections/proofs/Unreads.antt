@@ -4,7 +4,7 @@ use Rattle.std.proofs.Common.{IfNone, IfSome, length, length-append, take, unwra
 use Rattle.std.proofs.lemmas.List.{length-take-le}
 use Rattle.rv_frame.specs.Cut.{IsUnfinished}
 use Rattle.std.proofs.Common.{zero, suc}
-use Rattle.std.proofs.Common.{ap, subst, inl, inr, IfOk, Err, Ok, OnErr, OnOk, Result, [], lit<}
+use Rattle.std.proofs.Common.{ap, subst, inl, inr, IfOk, Err, Ok, OnErr, Result, [], lit<}
 use Rattle.std.proofs.lemmas.Bool.{cases_eq}
 use Rattle.rv_server_connections.specs.connection.Traffic.{Traffic}
 use Rattle.rv_server_connections.specs.connection.Steps.{TakesIn, fresh_traffic}

@@ -1,7 +1,7 @@
 -- What the fields hold, for the proofs: the public words are those of `Connections`.
 use Rattle.std.specs.Prelude.{ℕ, ◌≡◌, ◌≢◌, ◌≤◌, ◌+◌, Bool, None, Option, Some, false, nat_eq, vec_capacity}
 use Rattle.std.specs.Prelude.{◌<◌, ◌⊎◌, true, unwrap_or, List, [], length, AllPairs, Contains, IsSome}
-use Rattle.rv_server_connections.specs.Table.{get, with_slot}
+use Rattle.rv_server_connections.specs.Table.{get}
 use Rattle.rv_server_connections.specs.connection.Traffic.{Traffic, first_rests_on, held_count}
 use Rattle.rv_server_connections.specs.declared.subscribers.pairs.Pairs.{Pairs}
 use Rattle.rv_server_connections.specs.subscribers.Pairs.{ChangesPairs, SamePairs, pair_count, stands_under}
@@ -116,16 +116,6 @@ pub record KeepsRest (old new : Slots) : Type 0 where
   pub written : new.written ≡ old.written
   pub released : new.released ≡ old.released
   pub reached : new.reached ≡ old.reached
-
--- all but the room of the lists
-pub record SameBut (old new : Slots) : Type 0 where
-  pub slots : new.slots ≡ old.slots
-  pub written : new.written ≡ old.written
-  pub index : new.index ≡ old.index
-  pub held : new.held ≡ old.held
-  pub released : new.released.items ≡ old.released.items
-  pub room : vec_capacity old.released ≤ vec_capacity new.released
-  pub looks : vec_capacity old.reached ≤ vec_capacity new.reached
 
 -- the first byte of a connection that might not leave may leave now
 abbrev pub IsReleasedAt : (ℕ → Option WireSlot) → ℕ → ℕ → Type 0

@@ -1,6 +1,5 @@
 -- The answer stands in its slot, or nothing changed.
-use Rattle.std.proofs.Common.{◌≡◌, Some, arith, refl, inl, sym}
-use Rattle.rv_server_connections.specs.Table.{get}
+use Rattle.std.proofs.Common.{arith, refl}
 use Rattle.rv_server_connections.proofs.Answered.{gave_sound, held_sound, none_given, unmarked_again}
 use Rattle.rv_server_connections.proofs.Freeing.{holds_back}
 use Rattle.rv_server_connections.proofs.Sound.{held_small}

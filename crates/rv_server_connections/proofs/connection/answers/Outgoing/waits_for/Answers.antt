@@ -1,6 +1,6 @@
 -- The first mark tells what the first held-back byte rests on.
-use Rattle.std.proofs.Common.{drop, rules, sym}
-use Rattle.rv_server_connections.proofs.OfConnection.Marks.{is_first, rest_long, waits_first, waits_none}
+use Rattle.std.proofs.Common.{rules, sym}
+use Rattle.rv_server_connections.proofs.OfConnection.Marks.{is_first, rest_long, waits_first}
 use Rattle.rv_server_connections.proofs.connection.answers.Outgoing.waits_for.Goals as goal
 
 pub returns-in-Some : goal.returns-in-Some
