@@ -131,10 +131,13 @@ impl WireTable {
         ensures* writes_back { sem 𝓛 (FindsSlot self.entry number result) }
         ensures value { option_copied_mut result ≡ get self.old number }
     {
-        if self.get(number).is_none() {
+        if number >= self.places.len() {
             return None;
         }
-        Some(self.slot_mut(number))
+        match &mut self.places[number] {
+            Some(slot) => Some(slot),
+            None => None,
+        }
     }
 
     // Takes out what is under a number, which is free then.
