@@ -24,7 +24,7 @@ use Rattle.rv_hub.specs.dispatcher.Effects.{DoesClose}
 use Rattle.rv_hub.specs.dispatcher.Fields.{IsDispatcherSound, dispatcher_state}
 use Rattle.rv_hub.specs.dispatcher.Going.{AnswersIt, HasDue, NotesOne, WaitsIt, unread_at, unread_of}
 use Rattle.rv_hub.specs.dispatcher.Going.{unread_total}
-use Rattle.rv_hub.proofs.OfDispatcher.Noting.{closed_unread, lists_again, notes_behind, same_unread}
+use Rattle.rv_hub.proofs.OfDispatcher.Noting.{closed_unread, lists_again, notes_behind}
 use Rattle.rv_hub.proofs.OfDispatcher.Owing.{Agree, hears_kept, owes_kept}
 use Rattle.rv_hub.proofs.OfDispatcher.ToldOne.{not_open, not_owing, owing_waits}
 

@@ -8,7 +8,6 @@ use Rattle.rv_text.specs.declared.answer.Reply.{Reply}
 use Rattle.rv_text.specs.Bodies.{answer_text}
 use Rattle.rv_session.specs.declared.client.ClientState.{ClientState}
 use Rattle.rv_session.specs.declared.client.LastRequest.{LastRequest}
-use Rattle.rv_session.specs.declared.client.LastRequest.TheVariants as request
 use Rattle.rv_state.specs.State.{client_at}
 use Rattle.rv_state.specs.Moves.{answer_told, told_again}
 use Rattle.rv_machine.specs.declared.machine.Said.TheVariants as said

@@ -1,8 +1,7 @@
 -- A call that only lends the room of texts, or takes it back, changes nothing else.
-use Rattle.std.proofs.Common.{inl, inr, ◌≡◌, ◌+◌, ◌≤◌, ◌∙◌, ℕ, List, refl, sym, ap, ap₂, subst, arith}
+use Rattle.std.proofs.Common.{inl, inr, ◌≡◌, ◌∙◌, ℕ, List, refl, sym, ap, ap₂, subst, arith}
 use Rattle.std.proofs.Common.{Err, IfOk, Ok, OnErr, Result, length}
 use Rattle.rv_server_connections.specs.Connections.{HasWire, Tally, WiresState}
-use Rattle.rv_server_connections.specs.Wires.{tally_in, wires_in}
 use Rattle.rv_text.specs.Bodies.{answer_text}
 use Rattle.rv_text.specs.declared.answer.Answer.{Answer}
 use Rattle.rv_text.specs.declared.answer.Answer.TheVariants.{Refused}
@@ -17,7 +16,7 @@ use Rattle.rv_hub.specs.dispatcher.Effects.{AnswersNow, DoesClose, IsDueWith, re
 use Rattle.rv_hub.specs.dispatcher.Fields.{IsDispatcherSound, dispatcher_state}
 use Rattle.rv_hub.specs.dispatcher.Rest.{SubscribersOwe, OwersHear}
 use Rattle.rv_hub.specs.dispatcher.Going.{AnswersIt, HasDue, IsFrameDue, IsSameButRoom, LacksIt, SaysText}
-use Rattle.rv_hub.specs.dispatcher.Going.{unread_at, unread_of, unread_total, work_left}
+use Rattle.rv_hub.specs.dispatcher.Going.{unread_at, unread_of, unread_total}
 use Rattle.rv_hub.proofs.OfDispatcher.Saying.{text_lacked, text_said}
 
 module _ (old new : Dispatcher) (same : IsSameButRoom old new) where

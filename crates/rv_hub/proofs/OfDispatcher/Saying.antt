@@ -1,5 +1,5 @@
 -- What is said of a step is answered, or lets its connection wait.
-use Rattle.std.proofs.Common.{inl, inr, ◌≡◌, ◌∙◌, ℕ, List, sym, ap, subst}
+use Rattle.std.proofs.Common.{inl, inr, ◌≡◌, ℕ, List, subst}
 use Rattle.rv_text.specs.declared.message.Key.{Key}
 use Rattle.rv_text.specs.declared.answer.Answer.{Answer}
 use Rattle.rv_text.specs.declared.answer.Answer.TheVariants as answer
@@ -7,17 +7,11 @@ use Rattle.rv_text.specs.declared.answer.Refusal.{Refusal}
 use Rattle.rv_text.specs.declared.answer.Reply.{Reply}
 use Rattle.rv_text.specs.declared.version.Version.{Version}
 use Rattle.rv_text.specs.Bodies.{answer_text}
-use Rattle.rv_session.specs.declared.client.ClientState.{ClientState}
-use Rattle.rv_state.specs.State.{State}
-use Rattle.rv_state.specs.Moves.{answer_told, told_again}
-use Rattle.rv_machine.specs.declared.machine.Said.{Said}
-use Rattle.rv_machine.specs.declared.machine.Said.TheVariants as said
-use Rattle.rv_machine.specs.Machines.{Says, state_in}
+use Rattle.rv_machine.specs.Machines.{state_in}
 use Rattle.rv_hub.specs.declared.dispatcher.Dispatcher.{Dispatcher}
 use Rattle.rv_hub.specs.dispatcher.Effects.{AnswersNow, rests_on}
 use Rattle.rv_hub.specs.dispatcher.Fields.{dispatcher_state}
 use Rattle.rv_hub.specs.dispatcher.Going.{AnswersIt, LacksIt, SaysIt, SaysText, WaitsIt}
-use Rattle.rv_hub.proofs.OfDispatcher.Answering.{some_is}
 
 -- answered by its text
 pub text_said : (old : Dispatcher) (connection : ℕ) (a : Answer) (text : List ℕ) (new : Dispatcher)

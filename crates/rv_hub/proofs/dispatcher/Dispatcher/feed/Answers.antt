@@ -1,5 +1,5 @@
 -- Bytes are taken, or it is closed.
-use Rattle.std.proofs.Common.{◌∙◌, refl, subst, sym}
+use Rattle.std.proofs.Common.{◌∙◌, refl, sym}
 use Rattle.rv_hub.proofs.OfDispatcher.Noting.{is_some_of, still_some}
 use Rattle.rv_hub.proofs.OfDispatcher.Turning.{fed, fed_closed, has_bytes, same_sound, same_steady}
 use Rattle.rv_hub.proofs.dispatcher.Dispatcher.feed.Goals as goal

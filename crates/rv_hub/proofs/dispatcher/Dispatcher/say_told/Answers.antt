@@ -4,7 +4,7 @@ use Rattle.std.proofs.lemmas.Bool.{false≢true}
 use Rattle.std.specs.Option.{option_map}
 use Rattle.std.specs.String.{string_bytes}
 use Rattle.rv_session.specs.declared.client.ClientState.{ClientState}
-use Rattle.rv_hub.proofs.OfDispatcher.Rooms.{still_due, still_sound}
+use Rattle.rv_hub.proofs.OfDispatcher.Rooms.{still_sound}
 use Rattle.rv_hub.proofs.OfDispatcher.Replying.{says_told, waits_told}
 use Rattle.rv_hub.proofs.dispatcher.Dispatcher.say_told.Goals as goal
 
