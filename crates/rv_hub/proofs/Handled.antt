@@ -1,5 +1,5 @@
 -- An event as a whole, from its parts.
-use Rattle.std.proofs.Common.{inl, ◌≡◌, ◌∙◌, ℕ, List, Option}
+use Rattle.std.proofs.Common.{◌≡◌, ◌∙◌, ℕ, List, Option}
 use Rattle.std.proofs.Common.{sym, subst}
 use Rattle.std.proofs.Common.{Bool, Err, IfErr, OnErr, Ok, Result, option_to_list}
 use Rattle.std.specs.Prelude.{IsErrAnd}
@@ -14,14 +14,14 @@ use Rattle.rv_hub.specs.dispatcher.Fields.{dispatcher_state, dispatcher_terms}
 use Rattle.rv_hub.proofs.OfDispatcher.Listing.{effects_are_listed}
 use Rattle.rv_hub.specs.declared.events.EventRefusal.{EventRefusal}
 use Rattle.rv_hub.specs.declared.events.HubEvent.{HubEvent}
-use Rattle.rv_hub.specs.Events.{EventCan, EventCannotBe}
+use Rattle.rv_hub.specs.Events.{EventCan}
 use Rattle.rv_hub.specs.EventEffects.{event_effects}
-use Rattle.rv_hub.specs.Turns.{EventRefused, EventGoesOn, IsAtRest, TakesEvent, goes_on_first, last_effects}
+use Rattle.rv_hub.specs.Turns.{EventGoesOn, IsAtRest, TakesEvent, goes_on_first, last_effects}
 use Rattle.rv_hub.specs.Turns.{offer_in, own_effects}
 use Rattle.rv_hub.specs.Steps.{ActsOwn, IsGoing, RunsOn}
 use Rattle.rv_hub.proofs.Longer.{IsWithin}
 use Rattle.rv_hub.proofs.Owning.{own_going}
-use Rattle.rv_hub.proofs.Resting.{can_begun, cannot_begun, gives_it, within_behind}
+use Rattle.rv_hub.proofs.Resting.{can_begun, gives_it, within_behind}
 use Rattle.rv_hub.proofs.Whole.{event_does}
 
 -- ---- where no connection has changed yet
@@ -42,13 +42,11 @@ pub rest_same : (journal : Bool) (s t : DispatcherState) → t ≡ begun s → I
     → IsAtRest journal t
 rest_same journal s t same rest = subst (IsAtRest journal) (sym same) (rest_begun journal s rest)
 
-pub refused_check : (s t : DispatcherState) (what : HubEvent) (why : EventRefusal) → t ≡ begun s
-    → EventCannotBe t what why
-    → EventRefused s what why
-refused_check s t what why same cannot =
-    inl (cannot_begun s what why (subst (λ (u : DispatcherState). EventCannotBe u what why) same cannot))
-
 -- ---- an event that is taken
+
+pub can_still : (s t : DispatcherState) (what : HubEvent) → t ≡ begun s → EventCan s what → EventCan t what
+can_still s t what same can =
+    subst (λ (u : DispatcherState). EventCan u what) (sym same) (can_begun s what can)
 
 pub going_on : (journal : Bool) (s : DispatcherState) (begins acts : Dispatcher) (what : HubEvent) (opened :
     Option ℕ)
@@ -69,7 +67,7 @@ within_on journal s begins acts runs what opened handed taken rest same own goes
 
 pub takes_it : (journal : Bool) (before begins acts runs writes : Dispatcher) (handed : ℕ) (what : HubEvent)
     (opened : Option ℕ) (taken result : ℕ) → dispatcher_state begins ≡ begun (dispatcher_state before)
-    → dispatcher_terms begins ≡ dispatcher_terms before → EventCan (dispatcher_state begins) what
+    → dispatcher_terms begins ≡ dispatcher_terms before → EventCan (dispatcher_state before) what
     → ActsOwn begins what opened acts
     → dispatcher_terms acts ≡ dispatcher_terms begins → RunsOn acts handed what (offer_in what) taken runs
     → DoesAll (dispatcher_terms runs) (dispatcher_state runs) (last_effects journal (dispatcher_state runs))
@@ -84,8 +82,7 @@ takes_it journal before begins acts runs writes handed what opened taken result 
     let at_acts : dispatcher_terms acts ≡ dispatcher_terms before = kept ∙ terms in
     let at_runs : dispatcher_terms runs ≡ dispatcher_terms before = goes.terms ∙ at_acts in
     record {
-      can = can_begun (dispatcher_state before) what (subst (λ (s : DispatcherState). EventCan s what) same
-          can);
+      can = can;
       number = own.number;
       after_own = dispatcher_state acts;
       own = subst (λ (t : DispatcherTerms). DoesAll t (begun (dispatcher_state before))
@@ -121,11 +118,10 @@ listed_it journal terms s handed what made result t takes =
 
 -- ---- the ways out where it is refused
 
-pub refused_by : (s : DispatcherState) (what : HubEvent) (r : Result ℕ EventRefusal) (why : EventRefusal)
-    → EventRefused s what why → IsErrAnd r (λ e. e ≡ why) → IfErr r (EventRefused s what)
-refused_by s what (Ok n) why refused is = absurd is
-refused_by s what (Err e) why refused is = subst (λ (x : EventRefusal). EventRefused s what x) (sym is)
-    refused
+pub refused_by : (So : EventRefusal → Type 0) (r : Result ℕ EventRefusal) (why : EventRefusal) → So why
+    → IsErrAnd r (λ e. e ≡ why) → IfErr r So
+refused_by So (Ok n) why refused is = absurd is
+refused_by So (Err e) why refused is = subst So (sym is) refused
 
 pub on_err : (r : Result ℕ EventRefusal) (P : Type 0) → P → OnErr r P
 on_err (Ok n) P holds = tt

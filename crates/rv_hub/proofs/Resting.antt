@@ -12,10 +12,9 @@ use Rattle.rv_hub.specs.dispatcher.View.{DispatcherState, DispatcherTerms, begun
 use Rattle.rv_hub.specs.dispatcher.Effects.{DoesAll, Wrote}
 use Rattle.rv_hub.specs.dispatcher.Rest.{HasComeToStop, SubscribersInTime, TakesNoMore}
 use Rattle.rv_hub.specs.dispatcher.Fields.{IsDispatcherReady, IsSteady, dispatcher_state, dispatcher_terms}
-use Rattle.rv_hub.specs.declared.events.EventRefusal.{EventRefusal}
 use Rattle.rv_hub.specs.declared.events.HubEvent.{HubEvent}
 use Rattle.rv_hub.specs.declared.events.HubEvent.TheVariants as event
-use Rattle.rv_hub.specs.Events.{EventCan, EventCannotBe}
+use Rattle.rv_hub.specs.Events.{EventCan}
 use Rattle.rv_hub.specs.EventEffects.{goes_effects}
 use Rattle.rv_hub.specs.Turns.{EventGives, IsAtRest, CanTakeNone, TakesPiece, last_effects}
 use Rattle.rv_hub.specs.Turns.{offer_in, own_effects}
@@ -28,7 +27,7 @@ use Rattle.rv_hub.proofs.OfDispatcher.Answering.{some_is}
 
 -- ---- what can be, can be where no connection has changed yet
 
-pub can_begun : (s : DispatcherState) (what : HubEvent) → EventCan (begun s) what → EventCan s what
+pub can_begun : (s : DispatcherState) (what : HubEvent) → EventCan s what → EventCan (begun s) what
 can_begun s event.Opened can = tt
 can_begun s (event.Came connection piece) can = can
 can_begun s (event.Ended connection) can = can
@@ -36,17 +35,6 @@ can_begun s (event.Gone connection) can = can
 can_begun s (event.Took connection count) can = can
 can_begun s (event.Written entries) can = can
 can_begun s event.Passed can = tt
-
-pub cannot_begun : (s : DispatcherState) (what : HubEvent) (why : EventRefusal)
-    → EventCannotBe (begun s) what why
-    → EventCannotBe s what why
-cannot_begun s event.Opened why cannot = absurd cannot
-cannot_begun s (event.Came connection piece) why cannot = cannot
-cannot_begun s (event.Ended connection) why cannot = cannot
-cannot_begun s (event.Gone connection) why cannot = cannot
-cannot_begun s (event.Took connection count) why cannot = cannot
-cannot_begun s (event.Written entries) why cannot = cannot
-cannot_begun s event.Passed why cannot = absurd cannot
 
 -- ---- after time and turns
 

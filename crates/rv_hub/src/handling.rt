@@ -120,6 +120,37 @@ fn write_all(dispatcher: &mut Dispatcher, has_journal: bool)
     }
 }
 
+// Takes an event that can be, at the moment at which it came. If memory for a connection that it opens is
+// refused nothing changes.
+pub(crate) fn take(
+    dispatcher: &mut Dispatcher,
+    has_journal: bool,
+    now: u64,
+    event: &HubEvent<'_>,
+) -> Result<usize, EventRefusal>
+    requires ready { IsDispatcherReady dispatcher.old }
+    requires rest { IsAtRest has_journal (dispatcher_state dispatcher.old) }
+    requires can { EventCan (dispatcher_state dispatcher.old) event.now }
+    ensures ready { IsDispatcherReady dispatcher.new }
+    ensures rest { IsAtRest has_journal (dispatcher_state dispatcher.new) }
+    ensures takes { IfOk result (λ given. TakesEvent has_journal (dispatcher_terms dispatcher.old)
+        (dispatcher_state dispatcher.old)
+        now event.now dispatcher.new.entries.items given (dispatcher_state dispatcher.new)) }
+    ensures piece { IfOk result (λ given. TakesPiece event.now given (dispatcher_state dispatcher.new)) }
+    ensures listed { OnOk result (ListsChanged (begun (dispatcher_state dispatcher.old)) (dispatcher_state
+        dispatcher.new)) }
+    ensures refused { IfErr result (λ why. (event.now ≡ what.Opened) × (why ≡ refused.NoMemory)) }
+    ensures same { OnErr result (dispatcher_state dispatcher.new ≡ begun (dispatcher_state dispatcher.old)) }
+    ensures none_made { OnErr result (dispatcher.new.entries.items ≡ []) }
+    ensures terms { dispatcher_terms dispatcher.new ≡ dispatcher_terms dispatcher.old }
+{
+    dispatcher.begin();
+    let opened = act(dispatcher, event)?;
+    let taken = run(dispatcher, now, event);
+    write_all(dispatcher, has_journal);
+    Ok(opened.unwrap_or(taken))
+}
+
 // Takes an event that came at a moment. An event that can't be changes nothing.
 pub(crate) fn handle(
     dispatcher: &mut Dispatcher,
@@ -142,10 +173,11 @@ pub(crate) fn handle(
     ensures none_made { OnErr result (dispatcher.new.entries.items ≡ []) }
     ensures terms { dispatcher_terms dispatcher.new ≡ dispatcher_terms dispatcher.old }
 {
-    dispatcher.begin();
-    check(dispatcher, event)?;
-    let opened = act(dispatcher, event)?;
-    let taken = run(dispatcher, now, event);
-    write_all(dispatcher, has_journal);
-    Ok(opened.unwrap_or(taken))
+    match check(dispatcher, event) {
+        Ok(()) => take(dispatcher, has_journal, now, event),
+        Err(why) => {
+            dispatcher.begin();
+            Err(why)
+        }
+    }
 }

@@ -54,6 +54,9 @@ impl Hub {
     ghost use Rattle.rv_hub.specs.dispatcher.Rest.{IsNextMoment};
     ghost use Rattle.rv_hub.specs.dispatcher.Runs.{ListsChanged};
     ghost use Rattle.rv_hub.specs.Hubs.{IsHub, hub_state, hub_terms};
+    ghost use Rattle.rv_hub.specs.declared.events.HubEvent.TheVariants as what;
+    ghost use Rattle.rv_hub.specs.declared.events.EventRefusal.TheVariants as refused;
+    ghost use Rattle.rv_hub.specs.Events.{EventCan};
     ghost use Rattle.rv_hub.specs.Turns.{EventRefused, TakesEvent, TakesPiece};
 
     /// A hub over a machine, with the limits of each step. A waiting request is told so when it has waited
@@ -113,6 +116,27 @@ impl Hub {
             now,
             &event,
         )
+    }
+
+    /// The same as [`handle`](Hub::handle), for an event that can be, which isn't checked again. It may be
+    /// refused only if it opens a connection for which memory is refused: then nothing changes but `entries`
+    /// and `changed`, which are then empty.
+    pub fn take(&mut self, now: u64, event: HubEvent<'_>) -> Result<usize, EventRefusal>
+        requires can { EventCan (hub_state self.old) event }
+        ensures hub { IsHub self.new }
+        ensures takes { IfOk result (λ given. TakesEvent self.old.has_journal (hub_terms self.old)
+            (hub_state self.old) now event.entry self.new.dispatcher.entries.items given
+            (hub_state self.new)) }
+        ensures piece { IfOk result (λ given. TakesPiece event.entry given (hub_state self.new)) }
+        ensures listed { OnOk result (ListsChanged (begun (hub_state self.old)) (hub_state self.new)) }
+        ensures refused { IfErr result (λ why. (event.entry ≡ what.Opened) × (why ≡ refused.NoMemory)) }
+        ensures same { OnErr result (hub_state self.new ≡ begun (hub_state self.old)) }
+        ensures none_made { OnErr result (self.new.dispatcher.entries.items ≡ []) }
+        ensures terms { hub_terms self.new ≡ hub_terms self.old }
+        ensures journal { self.new.has_journal ≡ self.old.has_journal }
+    {
+        let has_journal = self.parts.has_journal;
+        handling::take(&mut self.parts.dispatcher, has_journal, now, &event)
     }
 
     /// The entries that the last event made, in order; none if it was refused.
