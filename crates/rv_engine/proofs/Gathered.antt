@@ -128,16 +128,11 @@ gathers_rest entries same g count before lines own is =
     ∙ ap (λ (l : List Entry). before ++ entry_lines (take count l)) (take_rest entries g))
 
 -- those of an event are, where none were left
-pub gathers_made : (journal account : Bool) (made same left : List Entry) (count : ℕ) (before lines : List ℕ)
-    → journal ≡ account → same ≡ made → left ≡ []
-    → GathersFront (entries_kept account same) before (drop count same) lines
-    → GathersFront (entries_kept journal made) (before ++ entry_lines left) (drop count made) lines
-gathers_made journal account made same left count before lines keeps own none gathers =
-    let at_made : GathersFront (entries_kept account made) before (drop count made) lines =
-    subst (λ (l : List Entry). GathersFront (entries_kept account l) before (drop count l) lines) own gathers
-    in
-    let kept : GathersFront (entries_kept journal made) before (drop count made) lines =
-    subst (λ (b : Bool). GathersFront (entries_kept b made) before (drop count made) lines) (sym keeps)
-    at_made in
-    subst (λ (l : List ℕ). GathersFront (entries_kept journal made) l (drop count made) lines)
+pub gathers_made : (journal account : Bool) (made left later : List Entry) (before lines : List ℕ)
+    → journal ≡ account → left ≡ [] → GathersFront (entries_kept account made) before later lines
+    → GathersFront (entries_kept journal made) (before ++ entry_lines left) later lines
+gathers_made journal account made left later before lines keeps none gathers =
+    let kept : GathersFront (entries_kept journal made) before later lines =
+    subst (λ (b : Bool). GathersFront (entries_kept b made) before later lines) (sym keeps) gathers in
+    subst (λ (l : List ℕ). GathersFront (entries_kept journal made) l later lines)
     (sym (ap (λ (l : List Entry). before ++ entry_lines l) none ∙ append-nil before)) kept

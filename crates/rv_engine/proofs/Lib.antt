@@ -1,6 +1,7 @@
 -- The lemmas that the proofs of this crate share.
 pub mod Arrivals
 pub mod Gathered
+pub mod Noted
 pub mod Looking
 pub mod Through
 pub mod Sure

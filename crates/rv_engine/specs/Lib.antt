@@ -3,3 +3,5 @@ pub mod Engines
 pub mod Calls
 pub mod Handing
 pub mod EngineRuns
+-- What private clauses and proofs cite.
+pub mod Noting

@@ -6,6 +6,7 @@ ghost use Rattle.rv_engine.specs.Engines.{IsEngine, engine_state};
 ghost use Rattle.rv_hub.specs.Events.{EventCan};
 ghost use Rattle.rv_engine.specs.Calls.{CountsMore};
 ghost use Rattle.rv_engine.specs.Handing.{Gathers, HandsOn, IsNoOpening, IsRefused, LooksAt, TellsStored};
+ghost use Rattle.rv_engine.specs.Noting.{HasTaken, NotesEvent};
 
 use crate::calls::note_arrivals;
 use crate::events::EngineFault;
@@ -52,6 +53,21 @@ pub(crate) fn try_to_catch_up(parts: &mut EngineParts) -> bool
     is_caught_up(parts)
 }
 
+// After the hub took an event: gathers the lines of the entries that this made, counts the requests among
+// them, and lists whom it changed.
+fn note_event(parts: &mut EngineParts)
+    requires { HasTaken parts.old }
+    ensures sound { IsEngine parts.new }
+    ensures notes { NotesEvent parts.old parts.new }
+    ensures hub { parts.new.hub ≡ parts.old.hub }
+    ensures calls { CountsMore parts.old.calls parts.new.hub.dispatcher.entries.items parts.new.calls }
+{
+    let made = parts.hub.entries();
+    parts.gathered = gather_kept(&mut parts.lines, parts.alloc, parts.has_account, made);
+    note_arrivals(&mut parts.calls, made);
+    parts.looks.add_all(parts.hub.changed());
+}
+
 // Hands an event to the hub, where no entry is left.
 fn hand_over(parts: &mut EngineParts, now: u64, event: HubEvent<'_>) -> Result<usize, EngineFault>
     requires sound { IsEngine parts.old }
@@ -71,10 +87,7 @@ fn hand_over(parts: &mut EngineParts, now: u64, event: HubEvent<'_>) -> Result<u
 {
     match parts.hub.handle(now, event) {
         Ok(given) => {
-            let made = parts.hub.entries();
-            parts.gathered = gather_kept(&mut parts.lines, parts.alloc, parts.has_account, made);
-            note_arrivals(&mut parts.calls, made);
-            parts.looks.add_all(parts.hub.changed());
+            note_event(parts);
             Ok(given)
         }
         Err(why) => {
@@ -98,8 +111,11 @@ pub(crate) fn hand_sure(parts: &mut EngineParts, now: u64, event: HubEvent<'_>) 
     ensures journal { parts.new.hub.has_journal ≡ parts.old.hub.has_journal }
     ensures calls { CountsMore parts.old.calls parts.new.hub.dispatcher.entries.items parts.new.calls }
 {
-    match hand_over(parts, now, event) {
-        Ok(given) => given,
+    match parts.hub.take(now, event) {
+        Ok(given) => {
+            note_event(parts);
+            given
+        }
         Err(_) => unreachable!(),
     }
 }
