@@ -3,6 +3,7 @@ pub mod Tables
 pub mod Held
 pub mod WhatCame
 pub mod WhatLeft
+pub mod MoreToDo
 pub mod Staying
 pub mod InRound
 pub mod Shared

@@ -1,15 +1,16 @@
 -- The socket of one number, and what is told of it.
 use Rattle.std.proofs.Common.{◌≡◌, ◌∙◌, ℕ, Bool, List, [], None, Option, Some, ap, false}
-use Rattle.std.proofs.Common.{refl}
+use Rattle.std.proofs.Common.{refl, sym}
 use Rattle.std.proofs.Common.{IsSome, slice_set, subst}
 use Rattle.std.proofs.lemmas.List.{set-get_or, set-set}
 use Rattle.std.specs.Io.KnownBytes.{Consumes, Keeps}
+use Rattle.rv_server_connections.specs.connection.Traffic.{Traffic}
 use Rattle.rv_server_connections.specs.Connections.{HasWire}
 use Rattle.rv_hub.specs.dispatcher.View.{DispatcherState, DispatcherTerms}
 use Rattle.rv_account.specs.declared.entry.Entry.{Entry}
 use Rattle.rv_hub.specs.declared.events.HubEvent.{HubEvent}
 use Rattle.rv_hub.specs.declared.parts.HubParts.{HubParts}
-use Rattle.rv_hub.specs.Hubs.{hub_terms}
+use Rattle.rv_hub.specs.Hubs.{hub_state, hub_terms}
 use Rattle.rv_engine.specs.Engines.{EngineState}
 use Rattle.rv_engine.specs.Handing.{Gathers, HandsOn}
 use Rattle.rv_engine.proofs.Through.{handed_through}
@@ -17,6 +18,12 @@ use Rattle.rv_traffic.specs.declared.links.link.Socket.{Socket}
 use Rattle.rv_traffic.specs.links.Table.{ChangesOne, link_at}
 use Rattle.rv_traffic.specs.Calls.{GivesUp, Hands, MayBeOffered, TellsGone}
 use Rattle.rv_traffic.specs.Views.{TrafficState}
+
+-- what is found in a hub's table
+pub open_at : (h same : HubParts) (n : ℕ) (o : Option Traffic) → same ≡ h
+    → o ≡ (hub_state same).open_wires.wires n → (hub_state h).open_wires.wires n ≡ o
+open_at h same n o is found =
+    sym (found ∙ ap (λ (x : HubParts). (hub_state x).open_wires.wires n) is)
 
 -- known bytes of which none came, or went
 pub consumes_none : (known : Option (List ℕ)) → Consumes known known []

@@ -1,9 +1,9 @@
 //! What is checked of a connection before its turn.
-ghost use Rattle.std.specs.Prelude.{◌≡◌, ◌<◌, ◌≤◌, ◌+◌, [], length, None, Some};
+ghost use Rattle.std.specs.Prelude.{◌≡◌, ◌<◌, ◌≤◌, ◌+◌, ◌⊎◌, [], length, IsTrue, None};
 ghost use Rattle.std.specs.Bool.{OnFalse, OnTrue};
-ghost use Rattle.rv_server_connections.specs.connection.Traffic.{Traffic};
+ghost use Rattle.rv_server_connections.specs.connection.Traffic.{MayOffer};
 ghost use Rattle.rv_server_connections.specs.Connections.{HasWire};
-ghost use Rattle.rv_traffic.specs.links.Table.{HasInput, IsWritable, link_at, pending_of};
+ghost use Rattle.rv_traffic.specs.links.Table.{HasInput, link_at, pending_of};
 ghost use Rattle.rv_engine.specs.Engines.{engine_state};
 ghost use Rattle.rv_traffic.specs.Calls.{IsOverfull, HasRoomLeft, MayBeOffered};
 ghost use Rattle.rv_traffic.specs.Views.{traffic_state};
@@ -11,6 +11,7 @@ ghost use Rattle.rv_traffic.specs.Views.{traffic_state};
 use crate::links::Links;
 use crate::traffic::Switchboard;
 use rv_engine::Engine;
+use rv_server_connections::connection::Wire;
 use rv_server_connections::subscribers::ConnectionNumber;
 
 // Whether more of a connection's input may be offered.
@@ -43,40 +44,28 @@ pub(crate) fn is_none_pending<S: Drop>(links: &Links<S>, number: ConnectionNumbe
     links.pending(number).is_empty()
 }
 
-// The bytes that may leave of an open connection.
-pub(crate) fn ready_of(engine: &Engine, number: ConnectionNumber) -> &[u8]
-    ensures { (wire : Traffic) → (engine_state engine.now).hub.open_wires.wires number ≡ Some wire
-        → result.now ≡ wire.ready }
-{
-    match engine.hub().wire(number) {
-        Some(wire) => wire.ready(),
-        None => &[],
-    }
-}
-
-// Whether bytes of a connection may leave.
-fn has_ready(engine: &Engine, number: ConnectionNumber) -> bool
-    ensures yes { OnTrue result (HasWire (engine_state engine.now).hub.open_wires number
-        (λ wire. 0 < length wire.ready)) }
-    ensures no { OnFalse result (¬ HasWire (engine_state engine.now).hub.open_wires number
-        (λ wire. 0 < length wire.ready)) }
-{
-    match engine.hub().wire(number) {
-        Some(wire) => !wire.ready().is_empty(),
-        None => false,
-    }
-}
-
-// Whether more of a connection's input may be offered, of which nothing is pending, and there may be some.
-pub(crate) fn can_read<S: Drop>(engine: &Engine, links: &Links<S>, number: ConnectionNumber) -> bool
-    ensures yes { OnTrue result (MayBeOffered (engine_state engine.now).hub number
-        × HasInput (link_at links.now.table.items number)
+// Whether there may be more of a connection's input, of which nothing is pending.
+pub(crate) fn may_have_more<S: Drop>(links: &Links<S>, number: ConnectionNumber) -> bool
+    ensures yes { OnTrue result (HasInput (link_at links.now.table.items number)
         × (pending_of (link_at links.now.table.items number) ≡ [])) }
-    ensures no { OnFalse result (¬ (MayBeOffered (engine_state engine.now).hub number
-        × HasInput (link_at links.now.table.items number)
+    ensures no { OnFalse result (¬ (HasInput (link_at links.now.table.items number)
         × (pending_of (link_at links.now.table.items number) ≡ []))) }
 {
-    may_offer(engine, number) && links.has_input(number) && is_none_pending(links, number)
+    links.has_input(number) && is_none_pending(links, number)
+}
+
+// Whether more of an open connection's input may be offered where there may be some, or bytes may leave where
+// its socket may take some.
+pub(crate) fn goes_on(wire: &Wire, has_more: bool, is_writable: bool) -> bool
+    ensures yes { OnTrue result ((IsTrue has_more × MayOffer wire.now)
+        ⊎ (IsTrue is_writable × (0 < length wire.now.ready))) }
+    ensures no { OnFalse result (¬ ((IsTrue has_more × MayOffer wire.now)
+        ⊎ (IsTrue is_writable × (0 < length wire.now.ready)))) }
+{
+    if has_more && wire.may_offer() {
+        return true;
+    }
+    is_writable && !wire.ready().is_empty()
 }
 
 // Whether bytes of a connection are pending, and may be offered.
@@ -90,7 +79,7 @@ pub(crate) fn has_to_wait<S: Drop>(
     ensures no { OnFalse result (¬ (MayBeOffered (engine_state engine.now).hub number
         × (0 < length (pending_of (link_at links.now.table.items number))))) }
 {
-    may_offer(engine, number) && !is_none_pending(links, number)
+    !is_none_pending(links, number) && may_offer(engine, number)
 }
 
 // Whether three counts are more in all than there is room for.
@@ -118,18 +107,4 @@ pub(crate) fn is_over<S: Drop>(traffic: &Switchboard<S>, room: u128) -> bool
     let unread = hub.unread_count();
     let pending = traffic.links.pending_count();
     exceed(answers, unread, pending, room)
-}
-
-// Whether bytes of a connection may leave, and its socket may take some.
-pub(crate) fn can_write<S: Drop>(
-    engine: &Engine,
-    links: &Links<S>,
-    number: ConnectionNumber,
-) -> bool
-    ensures yes { OnTrue result (HasWire (engine_state engine.now).hub.open_wires number
-        (λ wire. 0 < length wire.ready) × IsWritable (link_at links.now.table.items number)) }
-    ensures no { OnFalse result (¬ (HasWire (engine_state engine.now).hub.open_wires number
-        (λ wire. 0 < length wire.ready) × IsWritable (link_at links.now.table.items number))) }
-{
-    has_ready(engine, number) && links.is_writable(number)
 }

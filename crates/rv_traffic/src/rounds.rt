@@ -9,7 +9,7 @@ ghost use Rattle.rv_traffic.specs.Rounds.{WritesRound, WritesTurn, is_read_broke
 ghost use Rattle.rv_traffic.specs.Rounds.{is_write_broken};
 ghost use Rattle.rv_traffic.specs.Views.{SameTerms, traffic_state};
 
-use crate::asking::{can_read, can_write, has_to_wait};
+use crate::asking::{goes_on, has_to_wait, may_have_more};
 use crate::outcomes::{ReadFaults, Reading, Writing};
 use crate::reading::read_one;
 use crate::traffic::Switchboard;
@@ -139,10 +139,12 @@ fn can_do_more<S: Drop>(traffic: &Switchboard<S>, number: ConnectionNumber) -> b
     ensures yes { OnTrue result (CanDoMore (traffic_state traffic.now) number) }
     ensures no { OnFalse result (¬ CanDoMore (traffic_state traffic.now) number) }
 {
-    if can_read(&traffic.engine, &traffic.links, number) {
-        return true;
+    let has_more = may_have_more(&traffic.links, number);
+    let is_writable = traffic.links.is_writable(number);
+    match traffic.engine.hub().wire(number) {
+        Some(wire) => goes_on(wire, has_more, is_writable),
+        None => false,
     }
-    can_write(&traffic.engine, &traffic.links, number)
 }
 
 // Writes once to a connection, unless lines of the account find no memory.

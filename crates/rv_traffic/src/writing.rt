@@ -1,13 +1,12 @@
 //! Writes once to a connection what may leave.
 ghost use Rattle.std.specs.Prelude.{◌≡◌, [], None, IsSome};
-ghost use Rattle.rv_server_connections.specs.Connections.{HasWire};
 ghost use Rattle.rv_hub.specs.Hubs.{hub_terms};
 ghost use Rattle.rv_engine.specs.Engines.{engine_state};
 ghost use Rattle.rv_traffic.specs.links.Table.{link_at};
 ghost use Rattle.rv_traffic.specs.Calls.{WritesOne};
 ghost use Rattle.rv_traffic.specs.Views.{SameTerms, traffic_state};
 
-use crate::asking::{is_open, ready_of};
+use crate::asking::is_open;
 use crate::giving_up::give_up;
 use crate::links::WriteOutcome;
 use crate::outcomes::Writing;
@@ -16,7 +15,8 @@ use rv_engine::LinkEvent;
 use rv_server_connections::subscribers::ConnectionNumber;
 use std::io::Write;
 
-// Writes once to an open connection's socket, and tells the hub how many bytes that took.
+// Writes once to a connection's socket, and tells the hub how many bytes that took. One that the hub closed
+// loses its socket.
 fn send<S: Write + Drop>(
     traffic: &mut Switchboard<S>,
     now: u64,
@@ -24,14 +24,17 @@ fn send<S: Write + Drop>(
 ) -> Writing
     requires none_left { (engine_state traffic.old.engine).left ≡ [] }
     requires there { IsSome (link_at traffic.old.links.table.items number) }
-    requires is_open { HasWire (engine_state traffic.old.engine).hub.open_wires number (λ wire. Unit {0}) }
     ensures writes { WritesOne S.contents traffic.old.engine.hub.has_journal
         (hub_terms traffic.old.engine.hub) now number (traffic_state traffic.old) result
         (traffic_state traffic.new) }
     ensures terms { SameTerms traffic.old traffic.new }
     ensures waits { traffic.new.waits ≡ traffic.old.waits }
 {
-    let ready = ready_of(&traffic.engine, number);
+    let Some(wire) = traffic.engine.hub().wire(number) else {
+        traffic.links.remove(number);
+        return Writing::Closed;
+    };
+    let ready = wire.ready();
     if ready.is_empty() {
         traffic.links.rest(number, now);
         return Writing::Nothing;
@@ -70,8 +73,7 @@ fn tell_lost<S: Write + Drop>(
     Writing::Gone
 }
 
-// Writes once to a connection. One that the hub closed loses its socket, and the hub is told of one that has
-// none.
+// Writes once to a connection that has a socket; the hub is told of one that has none.
 pub(crate) fn write_one<S: Write + Drop>(
     traffic: &mut Switchboard<S>,
     now: u64,
@@ -86,10 +88,6 @@ pub(crate) fn write_one<S: Write + Drop>(
 {
     if !traffic.links.is_there(number) {
         return tell_lost(traffic, now, number);
-    }
-    if !is_open(&traffic.engine, number) {
-        traffic.links.remove(number);
-        return Writing::Closed;
     }
     send(traffic, now, number)
 }

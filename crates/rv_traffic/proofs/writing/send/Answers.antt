@@ -1,34 +1,46 @@
 -- What a socket took.
-use Rattle.std.proofs.Common.{◌<◌, ◌≤◌, ◌∙◌, ℕ, List, inr, length, refl, subst, sym}
+use Rattle.std.proofs.Common.{◌<◌, ◌≤◌, ◌∙◌, ℕ, List, None, Some, inr, length, refl, subst, sym}
 use Rattle.rv_hub.specs.Hubs.{hub_terms}
 use Rattle.rv_engine.specs.Engines.{engine_state}
 use Rattle.rv_traffic.specs.Calls.{ChangesLink, TookNone}
 use Rattle.rv_traffic.specs.Views.{traffic_state, waits_of}
-use Rattle.rv_traffic.proofs.Tables.{gives_up_then}
+use Rattle.rv_traffic.proofs.Tables.{gives_up_then, open_at}
 use Rattle.rv_traffic.proofs.WhatLeft.{broken_writable, none_ready, rested_none, some_ready, took_none}
 use Rattle.rv_traffic.proofs.WhatLeft.{took_ready, took_within}
 use Rattle.rv_traffic.proofs.writing.send.Goals as goal
 
+pub returns-in_default-clause-writes : goal.returns-in_default-clause-writes
+returns-in_default-clause-writes g c = record {
+  closed = open_at c.args.traffic.now.engine.hub c.hub.result.now c.args.number None c.hub.ensures
+      c.in_default.ensures.wire;
+  engine = refl;
+  link = record { none = c.remove.ensures.none; others = c.remove.ensures.others };
+}
+
 pub hand-requires-clause-can : goal.hand-requires-clause-can
 hand-requires-clause-can g c =
-    let is = c.ready_of-ready.ensures c.requires.is_open.wire c.requires.is_open.there in
+    let at = open_at c.args.traffic.now.engine.hub c.hub.result.now c.args.number (Some c.in-Some.wire.now)
+    c.hub.ensures c.in-Some.ensures.wire in
+    let is = c.ready-ready.ensures in
     record {
-      wire = c.requires.is_open.wire;
-      there = c.requires.is_open.there;
+      wire = c.in-Some.wire.now;
+      there = at;
       so = subst (λ (l : List ℕ). c.in-Took.count ≤ length l) is
           (took_within g.S.Write.contents _ _ _ _ _ c.in-Took.ensures.writes).1;
     }
 
 pub returns-then-is_empty-clause-writes : goal.returns-then-is_empty-clause-writes
 returns-then-is_empty-clause-writes g c =
-    let is = c.ready_of-ready.ensures c.requires.is_open.wire c.requires.is_open.there in
+    let at = open_at c.args.traffic.now.engine.hub c.hub.result.now c.args.number (Some c.in-Some.wire.now)
+    c.hub.ensures c.in-Some.ensures.wire in
+    let is = c.ready-ready.ensures in
     record {
       engine = refl;
       why = inr (record {
-        wire = c.requires.is_open.wire;
-        there = c.requires.is_open.there;
+        wire = c.in-Some.wire.now;
+        there = at;
         so = rested_none g.S.Write.contents c.args.traffic.now.links.table.items c.rest.new.self.table.items
-            c.args.number c.args.now c.requires.is_open.wire.ready
+            c.args.number c.args.now c.in-Some.wire.now.ready
             (sym is ∙ none_ready _ (sym c.is_empty.ensures ∙ c.if-is_empty.true)) c.requires.there
             c.rest.ensures.rests c.rest.ensures.others;
       });
@@ -36,10 +48,12 @@ returns-then-is_empty-clause-writes g c =
 
 pub returns-in-Took-clause-writes : goal.returns-in-Took-clause-writes
 returns-in-Took-clause-writes g c =
-    let is = c.ready_of-ready.ensures c.requires.is_open.wire c.requires.is_open.there in
+    let at = open_at c.args.traffic.now.engine.hub c.hub.result.now c.args.number (Some c.in-Some.wire.now)
+    c.hub.ensures c.in-Some.ensures.wire in
+    let is = c.ready-ready.ensures in
     record {
-      wire = c.requires.is_open.wire;
-      is_open = c.requires.is_open.there;
+      wire = c.in-Some.wire.now;
+      is_open = at;
       count = c.in-Took.count;
       some = (took_within g.S.Write.contents _ _ _ _ _ c.in-Took.ensures.writes).0;
       within = subst (λ (l : List ℕ). c.in-Took.count ≤ length l) is
@@ -47,23 +61,25 @@ returns-in-Took-clause-writes g c =
       given = c.hand.result;
       hands = record { made = c.hand.new.self.hub.dispatcher.entries.items; hands = c.hand.ensures.takes };
       link = took_ready g.S.Write.contents c.args.now c.args.traffic.now.links.table.items
-          c.write.new.self.table.items c.args.number c.ready_of-ready.result.now c.requires.is_open.wire.ready
+          c.write.new.self.table.items c.args.number c.ready-ready.result.now c.in-Some.wire.now.ready
           c.in-Took.count is
           c.in-Took.ensures.writes c.write.ensures.others;
     }
 
 pub returns-in-Nothing-clause-writes : goal.returns-in-Nothing-clause-writes
 returns-in-Nothing-clause-writes g c =
-    let is = c.ready_of-ready.ensures c.requires.is_open.wire c.requires.is_open.there in
+    let at = open_at c.args.traffic.now.engine.hub c.hub.result.now c.args.number (Some c.in-Some.wire.now)
+    c.hub.ensures c.in-Some.ensures.wire in
+    let is = c.ready-ready.ensures in
     record {
       engine = refl;
       why = inr (record {
-        wire = c.requires.is_open.wire;
-        there = c.requires.is_open.there;
+        wire = c.in-Some.wire.now;
+        there = at;
         so = subst (λ (l : List ℕ). ChangesLink c.args.traffic.now.links.table.items c.args.number
             (TookNone g.S.Write.contents c.args.now l) c.write.new.self.table.items) is
             (took_none g.S.Write.contents c.args.now c.args.traffic.now.links.table.items
-            c.write.new.self.table.items c.args.number c.ready_of-ready.result.now c.requires.there
+            c.write.new.self.table.items c.args.number c.ready-ready.result.now c.requires.there
             (some_ready _ (sym c.is_empty.ensures ∙ c.if-is_empty.false)) c.in-Nothing.ensures.writes
             c.write.ensures.others);
       });
@@ -71,11 +87,13 @@ returns-in-Nothing-clause-writes g c =
 
 pub returns-in-Broken-clause-writes : goal.returns-in-Broken-clause-writes
 returns-in-Broken-clause-writes g c =
-    let is = c.ready_of-ready.ensures c.requires.is_open.wire c.requires.is_open.there in
+    let at = open_at c.args.traffic.now.engine.hub c.hub.result.now c.args.number (Some c.in-Some.wire.now)
+    c.hub.ensures c.in-Some.ensures.wire in
+    let is = c.ready-ready.ensures in
     record {
       ready = record {
-        wire = c.requires.is_open.wire;
-        there = c.requires.is_open.there;
+        wire = c.in-Some.wire.now;
+        there = at;
         so = subst (λ (l : List ℕ). 0 < length l) is
             (some_ready _ (sym c.is_empty.ensures ∙ c.if-is_empty.false));
       };
