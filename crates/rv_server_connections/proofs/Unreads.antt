@@ -91,9 +91,11 @@ pub unread_read : (n m : Noted) (c u read : ℕ) (o : Option Traffic) → IsUnre
     → Notes (slots_state n.slots) (tally_of n) c (slots_state m.slots) (tally_of m)
     → count_in m c + read ≡ count_in n c → IsUnreadIn m (u - read) × (read ≤ u)
 unread_read n m c u read o was sets notes fewer =
-    let within : read ≤ u = omega (arith, was.total_is, notes.unread, fewer) in
-    (set_counted n m c u (u - read) o was sets (omega (arith, was.few c, fewer))
-    (omega (arith, was.total_is, notes.unread, fewer, within)), within)
+    let within : read ≤ u = omega (arith, was.total_is, notes.unread, fewer) in (
+      set_counted n m c u (u - read) o was sets (omega (arith, was.few c, fewer))
+          (omega (arith, was.total_is, notes.unread, fewer, within)),
+      within,
+    )
 
 pub unread_opened : {E : Type 0} (r : Result ℕ E) (n m : Noted) (u : ℕ) → IsUnreadIn n u
     → IfOk r (λ c. OpensWire (slots_state n.slots) c (slots_state m.slots))

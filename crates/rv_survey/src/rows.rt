@@ -47,11 +47,11 @@ fn place_of(request: &LastRequest) -> Option<Place>
 }
 
 // The row of an open place.
-fn row(open: &OpenPlace) -> Option<WaitingRow>
-    ensures { result ≡ row_in open.now }
+fn row(opened: &OpenPlace) -> Option<WaitingRow>
+    ensures { result ≡ row_in opened.now }
 {
-    let waiter = open.waiter?;
-    let (call, at) = call_on(open.side)?;
+    let waiter = opened.waiter?;
+    let (call, at) = call_on(opened.side)?;
     Some(WaitingRow {
         call,
         at,
