@@ -14,7 +14,7 @@ use Rattle.rv_server_connections.specs.declared.table.WireSlot.{WireSlot}
 use Rattle.rv_server_connections.specs.declared.slots.Slots.{Slots}
 use Rattle.rv_server_connections.specs.Connections.{count_at}
 use Rattle.rv_server_connections.specs.Fields.{AreHeldBack, Gives, IsHeldBack, IsHeldIn, IsIndexOf, HasIndex}
-use Rattle.rv_server_connections.specs.Fields.{IsSoundSlot, IsSoundSlots, Stands, has_mark, is_slot_marked}
+use Rattle.rv_server_connections.specs.Fields.{IsSoundSlot, IsSoundSlots, StandsToo, has_mark, is_slot_marked}
 use Rattle.rv_server_connections.specs.Fields.{wire_of}
 use Rattle.rv_server_connections.proofs.Changing.{each_set, held_set, index_set, index_stays, within_room}
 use Rattle.rv_server_connections.proofs.Changing.{unwritten, written}
@@ -75,7 +75,8 @@ kept_mark : (s : Slots) (c entries : ℕ) (body : List ℕ) (slot : WireSlot) (f
 kept_mark s c entries body slot from wire sound there same answers which (Some e) is =
     let was = sound.indexed.counted.each c slot there in
     let later = sound.held_back c slot there e is in
-    let first = answered_behind s.written entries e from wire body answers (ap first_rests_on same ∙ is) later in
+    let first = answered_behind s.written entries e from wire body answers (ap first_rests_on same ∙ is) later
+    in
     record {
       marked = λ n now. subst (λ k. unwrap_or slot.mark (k + 1) ≤ k) (same_Some e n (sym first ∙ now))
           (was.marked e is);
@@ -146,7 +147,7 @@ first_mark s c entries body slot from wire sound there same answers unmarked lat
 
 pub held_sound : (s u : Slots) (c entries held : ℕ) (body : List ℕ) (to : AnswerTo) (slot new : WireSlot)
     (given_is : Given) → IsSoundSlots s → u.slots ≡ s.slots → u.written ≡ s.written → u.held ≡ s.held
-    → Stands s.index entries c u.index (vec_capacity u.released) (vec_capacity u.reached)
+    → StandsToo s.index entries c u.index (vec_capacity u.released) (vec_capacity u.reached)
     → get s.slots c ≡ Some slot → slot.mark ≡ None → s.written < entries
     → Gives slot to s.written entries body (Some entries) given_is new → held ≡ s.held + given_is.more
     → IsSoundSlots (record u { slots = with_slot u.slots c new; held = held })

@@ -1,6 +1,7 @@
 -- The list of those that changed, and the sum of unread bytes, where connections change.
 use Rattle.std.proofs.Common.{◌≡◌, ◌⊎◌, ◌<◌, ◌≤◌, ◌+◌, ◌∙◌, ℕ, List, Option, None, Some, arith, refl, sym}
-use Rattle.std.proofs.Common.{IfNone, IfSome, ap, subst, inl, inr, Contains, Err, IsSome, Ok, OnErr, Result, [], length}
+use Rattle.std.proofs.Common.{IfNone, IfSome, ap, subst, inl, inr, Contains, Err, IsSome, Ok, OnErr, Result}
+use Rattle.std.proofs.Common.{[], length}
 use Rattle.rv_server_connections.specs.Table.{get}
 use Rattle.rv_server_connections.specs.connection.Traffic.{Traffic}
 use Rattle.rv_server_connections.specs.connection.Steps.{HoldsBack, Releases}

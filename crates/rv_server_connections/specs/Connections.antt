@@ -1,7 +1,8 @@
 -- What contracts see of all connections, and what each call changes of them.
 use Rattle.std.specs.Prelude.{ℕ, ◌≡◌, ◌≢◌, ◌+◌, ◌≤◌, ◌↔◌, List, [], ◌∷◌, None, Option, Some, zero, suc}
 use Rattle.std.specs.Prelude.{◌⊎◌, AllPairs, Contains, IsSomeAnd, length}
-use Rattle.rv_server_connections.specs.connection.Traffic.{AnswerByte, IsBad, IsWholeFrame, Traffic, held_count}
+use Rattle.rv_server_connections.specs.connection.Traffic.{AnswerByte, IsBad, IsWholeFrame, Traffic}
+use Rattle.rv_server_connections.specs.connection.Traffic.{held_count}
 use Rattle.rv_server_connections.specs.connection.Steps.{HoldsBack, Releases, fresh_traffic}
 
 pub record WiresState : Type 0 where
@@ -47,8 +48,8 @@ pub record OpensWire (old : WiresState) (connection : ℕ) (new : WiresState) : 
 
 -- a connection takes no more bytes of its input: the unread bytes are a whole frame or a bad length, or it is
 -- closed
-abbrev pub TakesNoMore : WiresState → ℕ → Type 0
-TakesNoMore s connection = (wire : Traffic) → s.wires connection ≡ Some wire
+abbrev pub WireTakesNoMore : WiresState → ℕ → Type 0
+WireTakesNoMore s connection = (wire : Traffic) → s.wires connection ≡ Some wire
     → IsWholeFrame wire.unread ⊎ IsBad wire.unread
 
 -- ---- so many entries are written

@@ -133,11 +133,12 @@ pub record Gives (old : WireSlot) (to : AnswerTo) (written entries : ℕ) (body 
     pub read : length new.wire.unread + given.read ≡ length old.wire.unread
 
 -- a connection stands under a number besides all that stood, and the lists have room for each
-pub record Stands (old : Pairs) (entries connection : ℕ) (new : Pairs) (released reached : ℕ) : Type 0 where
-  pub adds : ChangesPairs old new entries connection true
-  pub count : pair_count new ≤ pair_count old + 1
-  pub room : pair_count new ≤ released
-  pub looks : pair_count new ≤ reached
+pub record StandsToo (old : Pairs) (entries connection : ℕ) (new : Pairs) (released reached : ℕ) : Type 0
+  where
+    pub adds : ChangesPairs old new entries connection true
+    pub count : pair_count new ≤ pair_count old + 1
+    pub room : pair_count new ≤ released
+    pub looks : pair_count new ≤ reached
 
 -- nothing stands elsewhere than before
 pub record StandsStill (old new : Pairs) : Type 0 where

@@ -8,7 +8,7 @@ ghost use Rattle.rv_server_connections.specs.connection.Steps.{AnswersBy, CanAns
 ghost use Rattle.rv_server_connections.specs.connection.Steps.{left_by, owing, taken};
 ghost use Rattle.rv_server_connections.specs.Connections.{AllHeldBack, ChangesWire, HasWire, Notes};
 ghost use Rattle.rv_server_connections.specs.Connections.{NotesReleased, OpensWire, ReleasesAll, SetsWire};
-ghost use Rattle.rv_server_connections.specs.Connections.{TakesNoMore, count_at, none_open, unread_count};
+ghost use Rattle.rv_server_connections.specs.Connections.{WireTakesNoMore, count_at, none_open, unread_count};
 ghost use Rattle.rv_server_connections.specs.Fields.{slots_state};
 ghost use Rattle.rv_server_connections.specs.Noting.{IsNoted, tally_of};
 
@@ -76,7 +76,7 @@ impl Noted {
             (tally_of self.old) connection (slots_state self.new.slots) (tally_of self.new))) }
         ensures few { IfOk result (λ taken. IfSome taken (λ _. count_at unread_count
             ((slots_state self.new.slots).wires connection) < 2 ^ 64)) }
-        ensures no_more { IfOk result (λ taken. IfNone taken (TakesNoMore (slots_state self.old.slots)
+        ensures no_more { IfOk result (λ taken. IfNone taken (WireTakesNoMore (slots_state self.old.slots)
             connection)) }
         ensures same { IfOk result (λ taken. IfNone taken (slots_state self.new.slots
             ≡ slots_state self.old.slots)) }

@@ -9,11 +9,11 @@ ghost use Rattle.rv_server_connections.specs.connection.Traffic.{IsDue};
 ghost use Rattle.rv_server_connections.specs.connection.Steps.{AnswersBy, CanAnswer, HoldsBack, TakesIn};
 ghost use Rattle.rv_server_connections.specs.connection.Steps.{input_ended, left_by, owing, taken};
 ghost use Rattle.rv_server_connections.specs.Connections.{ChangesWire, HasWire, IsReleased, IsTotalHeld};
-ghost use Rattle.rv_server_connections.specs.Connections.{OpensWire, ReleasesAll, SetsWire, TakesNoMore};
+ghost use Rattle.rv_server_connections.specs.Connections.{OpensWire, ReleasesAll, SetsWire, WireTakesNoMore};
 ghost use Rattle.rv_server_connections.specs.Connections.{count_at, none_open, unread_count};
 ghost use Rattle.rv_server_connections.specs.Fields.{Drops, Gives, HasIndex, IsReaching, IsSoundSlots};
-ghost use Rattle.rv_server_connections.specs.Fields.{KeepsRest, ReleasesOne, Remarks, Stands, StandsByMark};
-ghost use Rattle.rv_server_connections.specs.Fields.{StandsStill, mark_count, slots_state};
+ghost use Rattle.rv_server_connections.specs.Fields.{KeepsRest, ReleasesOne, Remarks, StandsByMark};
+ghost use Rattle.rv_server_connections.specs.Fields.{StandsStill, StandsToo, mark_count, slots_state};
 ghost use Rattle.rv_server_connections.specs.subscribers.Pairs.{pair_count, stands_under};
 ghost use Rattle.rv_server_connections.specs.Table.{get};
 
@@ -140,7 +140,7 @@ fn stand(
     entries: u64,
     connection: ConnectionNumber,
 ) -> Result<(), NoMemory>
-    ensures stands { OnOk result (Stands index.old entries connection index.new (vec_capacity released.new)
+    ensures stands { OnOk result (StandsToo index.old entries connection index.new (vec_capacity released.new)
         (vec_capacity reached.new)) }
     ensures refused { OnErr result (StandsStill index.old index.new) }
     ensures released { released.new.items ≡ released.old.items }
@@ -229,7 +229,8 @@ impl Slots {
             (slots_state self.new))) }
         ensures few { IfOk result (λ taken. IfSome taken (λ _. count_at unread_count
             ((slots_state self.new).wires connection) < 2 ^ 64)) }
-        ensures no_more { IfOk result (λ taken. IfNone taken (TakesNoMore (slots_state self.old) connection)) }
+        ensures no_more { IfOk result (λ taken. IfNone taken (WireTakesNoMore (slots_state self.old)
+            connection)) }
         ensures same { IfOk result (λ taken. IfNone taken (slots_state self.new ≡ slots_state self.old)) }
         ensures wants { OnErr result (HasWire (slots_state self.old) connection
             (λ wire. IsUnfinished wire.unread)) }

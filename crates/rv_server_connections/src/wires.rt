@@ -56,7 +56,8 @@ impl Wires {
     ghost use Rattle.rv_server_connections.specs.connection.Steps.{input_ended, left_by, owing, taken};
     ghost use Rattle.rv_server_connections.specs.Connections.{AllHeldBack, ChangesWire, HasWire, IsTotalHeld};
     ghost use Rattle.rv_server_connections.specs.Connections.{Notes, IsTotalUnread, NotesReleased, OpensWire};
-    ghost use Rattle.rv_server_connections.specs.Connections.{ReleasesAll, SetsWire, TakesNoMore, none_open};
+    ghost use Rattle.rv_server_connections.specs.Connections.{ReleasesAll, SetsWire, WireTakesNoMore};
+    ghost use Rattle.rv_server_connections.specs.Connections.{none_open};
     ghost use Rattle.rv_server_connections.specs.Wires.{tally_in, wires_in};
 
     /// No connection is open, and so many entries are written. It takes no memory yet.
@@ -111,7 +112,8 @@ impl Wires {
             (wires_in self.new))) }
         ensures noted { IfOk result (λ taken. IfSome taken (λ _. Notes (wires_in self.old)
             (tally_in self.old) connection (wires_in self.new) (tally_in self.new))) }
-        ensures no_more { IfOk result (λ taken. IfNone taken (TakesNoMore (wires_in self.old) connection)) }
+        ensures no_more { IfOk result (λ taken. IfNone taken (WireTakesNoMore (wires_in self.old)
+            connection)) }
         ensures same { IfOk result (λ taken. IfNone taken (wires_in self.new ≡ wires_in self.old)) }
         ensures same_tally { IfOk result (λ taken. IfNone taken (tally_in self.new ≡ tally_in self.old)) }
         ensures wants { OnErr result (HasWire (wires_in self.old) connection

@@ -22,7 +22,7 @@ pub struct Sight {
 pub struct Look {
     /// The row of its request, with the moment since which every look has found that request so.
     pub row: Option<WaitingRow>,
-    /// Whether the look was noted. `AllocError`: the memory for it was refused, and the next one is a first one.
+    /// Whether the look was noted. `AllocError`: memory for that was refused; the next look is a first one.
     pub noted: Result<(), AllocError>,
 }
 
@@ -45,8 +45,8 @@ impl Sights {
 
     /// Notes what a look at a client found at a moment: the row of its request, if that waits with no
     /// connection. The moment starts anew where a look in between found it with a connection, and for another
-    /// request. Memory is taken only where the last look at the client found nothing; if it is refused, the row
-    /// is given all the same, and what is known stays.
+    /// request. Memory is taken only where the last look at the client found nothing; if it is refused, the
+    /// row is given all the same, and what is known stays.
     pub fn look(&mut self, client: u64, found: Option<WaitingRow>, now: u64) -> Look
         ensures told { result.row
             ≡ option_map (with_moment (last_sight self.old client) now) found }

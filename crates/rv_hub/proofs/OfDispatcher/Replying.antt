@@ -1,6 +1,6 @@
 -- A request is answered by its reply, or its connection waits for that.
-use Rattle.std.proofs.Common.{◌≡◌, ◌∙◌, ℕ, List, None, Option, Some, Err, IfOk, Ok, OnErr, Result, refl, sym, ap}
-use Rattle.std.proofs.Common.{subst}
+use Rattle.std.proofs.Common.{◌≡◌, ◌∙◌, ℕ, List, None, Option, Some, Err, IfOk, Ok, OnErr, Result, refl}
+use Rattle.std.proofs.Common.{ap, subst, sym}
 use Rattle.rv_text.specs.declared.message.Key.{Key}
 use Rattle.rv_text.specs.declared.answer.Answer.{Answer}
 use Rattle.rv_text.specs.declared.answer.Answer.TheVariants as answer

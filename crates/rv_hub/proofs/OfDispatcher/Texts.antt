@@ -1,6 +1,6 @@
 -- What whoever waited is told has a text that fits a frame.
-use Rattle.std.proofs.Common.{inl, inr, ◌≡◌, ◌+◌, ◌∙◌, ℕ, List, Option, Some, Ok, Err, Result, IfOk, refl, sym}
-use Rattle.std.proofs.Common.{arith, cond, subst}
+use Rattle.std.proofs.Common.{inl, inr, ◌≡◌, ◌+◌, ◌∙◌, ℕ, List, Option, Some, Ok, Err, Result, IfOk, refl}
+use Rattle.std.proofs.Common.{arith, cond, subst, sym}
 use Rattle.std.specs.Prelude.{is_some}
 use Rattle.rv_json.specs.Bodies.{HasBodyLength}
 use Rattle.rv_text.specs.declared.message.Key.{Key}

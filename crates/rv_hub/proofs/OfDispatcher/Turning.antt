@@ -13,8 +13,8 @@ use Rattle.rv_frame.specs.Cut.{IsUnfinished}
 use Rattle.rv_server_connections.specs.connection.Traffic.{IsBad, IsWholeFrame, Traffic}
 use Rattle.rv_server_connections.specs.connection.Steps.{TakesIn}
 use Rattle.rv_server_connections.specs.subscribers.Subscribers.{subscribers_count, subscribers_of}
-use Rattle.rv_server_connections.specs.Connections as connections
 use Rattle.rv_server_connections.specs.Connections.{ChangesWire, HasWire, SetsWire, Tally, WiresState}
+use Rattle.rv_server_connections.specs.Connections.{WireTakesNoMore}
 use Rattle.rv_server_connections.specs.Wires.{tally_in, wires_in}
 use Rattle.rv_server_connections.specs.declared.wires.Wires.{Wires}
 use Rattle.rv_hub.specs.declared.dispatcher.Dispatcher.{Dispatcher}
@@ -138,7 +138,8 @@ fed_none d wires connection piece same tally =
       rest = refl;
     }) in
     let unread : unread_total wires ≡ unread_total d.wires = ap (λ (t : Tally). t.unread) tally in
-    let here : unread_of ((wires_in wires).wires connection) ≡ unread_of ((wires_in d.wires).wires connection) =
+    let here : unread_of ((wires_in wires).wires connection)
+    ≡ unread_of ((wires_in d.wires).wires connection) =
     ap (λ (w : WiresState). unread_of (w.wires connection)) same in
     record {
       strides = [];
@@ -236,13 +237,14 @@ fed_some d wires connection piece count steady takes noted =
     )
 
 -- as many as the connection takes, if it takes more
-pub fed : (d : Dispatcher) (wires : Wires) (connection : ℕ) (piece : List ℕ) (fed_count : Option ℕ) (count : ℕ)
-    → count ≡ unwrap_or fed_count 0 → IsSteady d
+pub fed : (d : Dispatcher) (wires : Wires) (connection : ℕ) (piece : List ℕ) (fed_count : Option ℕ)
+    (count : ℕ) → count ≡ unwrap_or fed_count 0 → IsSteady d
     → IfSome fed_count (λ n. ChangesWire (wires_in d.wires) connection
     (λ wire after. IsUnfinished wire.unread × TakesIn wire piece n after) (wires_in wires))
     → IfSome fed_count (λ _. NotesOne d.wires connection wires)
-    → IfNone fed_count (connections.TakesNoMore (wires_in d.wires) connection)
-    → IfNone fed_count (wires_in wires ≡ wires_in d.wires) → IfNone fed_count (tally_in wires ≡ tally_in d.wires)
+    → IfNone fed_count (WireTakesNoMore (wires_in d.wires) connection)
+    → IfNone fed_count (wires_in wires ≡ wires_in d.wires)
+    → IfNone fed_count (tally_in wires ≡ tally_in d.wires)
     → IsSteady (record d { wires = wires }) × FeedsPiece d connection piece count (record d { wires = wires })
     × (count < length piece → TakesNoMore (dispatcher_state (record d { wires = wires })) connection)
 fed d wires connection piece (Some n) count is steady takes noted no_more same tally =
@@ -260,7 +262,7 @@ fed d wires connection piece None count is steady takes noted no_more same tally
   same_steady d wires steady same,
   subst (λ k. FeedsPiece d connection piece k (record d { wires = wires })) (sym is)
       (fed_none d wires connection piece same tally),
-  λ less. subst (λ (w : WiresState). connections.TakesNoMore w connection) (sym same) no_more,
+  λ less. subst (λ (w : WiresState). WireTakesNoMore w connection) (sym same) no_more,
 )
 
 pub fed_closed : (d mid new : Dispatcher) (connection : ℕ) (piece : List ℕ) → 0 < length piece

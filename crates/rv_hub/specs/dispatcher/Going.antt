@@ -29,8 +29,8 @@ use Rattle.rv_server_connections.specs.Connections.{ChangesWire, HasWire, Notes,
 use Rattle.rv_server_connections.specs.Wires.{tally_in, wires_in}
 use Rattle.rv_server_connections.specs.declared.wires.Wires.{Wires}
 use Rattle.rv_hub.specs.declared.dispatcher.Dispatcher.{Dispatcher}
-use Rattle.rv_hub.specs.declared.dispatcher.asking.Next.{Next}
-use Rattle.rv_hub.specs.declared.dispatcher.asking.Next.TheVariants as next
+use Rattle.rv_hub.specs.declared.dispatcher.asking.TurnStep.{TurnStep}
+use Rattle.rv_hub.specs.declared.dispatcher.asking.TurnStep.TheVariants as step
 use Rattle.rv_hub.specs.dispatcher.Rest.{HasComeToStop}
 use Rattle.rv_hub.specs.dispatcher.View.{DispatcherState, DispatcherTerms}
 use Rattle.rv_hub.specs.dispatcher.Telling.{IsTellable, IsToldAgain, WaitsOn}
@@ -299,12 +299,12 @@ pub record FeedsPiece (old : Dispatcher) (connection : ℕ) (piece : List ℕ) (
   pub unread : unread_at new connection ≤ unread_at old connection + count
   pub work : work_left new ≤ work_left old + count
 
--- what is to be done next of a connection: the frame that is due is answered, by what it was read as; nothing is
--- left to do, and it is closed; or it stops
-abbrev pub IsNext : Dispatcher → ℕ → Next → Type 0
-IsNext d connection (next.Answer read) = IsMessageAt d connection read
-IsNext d connection next.Close = HasWire (wires_in d.wires) connection IsFinished
-IsNext d connection next.Stop = HasComeToStop (dispatcher_state d) connection
+-- what is to be done next of a connection: the frame that is due is answered, by what it was read as; nothing
+-- is left to do, and it is closed; or it stops
+abbrev pub IsTurnStep : Dispatcher → ℕ → TurnStep → Type 0
+IsTurnStep d connection (step.Answer read) = IsMessageAt d connection read
+IsTurnStep d connection step.Close = HasWire (wires_in d.wires) connection IsFinished
+IsTurnStep d connection step.Stop = HasComeToStop (dispatcher_state d) connection
 
 -- nothing happened, or the connection was closed, since nothing was left to do
 pub record Finishes (old : Dispatcher) (connection : ℕ) (new : Dispatcher) : Type 0 where

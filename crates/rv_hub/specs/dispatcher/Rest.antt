@@ -1,10 +1,9 @@
 -- What holds of a dispatcher after each effect, and where a connection stops.
 use Rattle.std.specs.Prelude.{ℕ, ◌≡◌, ◌<◌, ◌≤◌, ◌⊎◌, [], true, IsSome, Some}
 use Rattle.rv_state.specs.After.{due_at}
-use Rattle.rv_server_connections.specs.Connections as connections
 use Rattle.rv_server_connections.specs.connection.Traffic.{IsDue, IsFinished, Traffic}
 use Rattle.rv_server_connections.specs.declared.subscribers.tables.Subscription.{Subscription}
-use Rattle.rv_server_connections.specs.Connections.{HasWire}
+use Rattle.rv_server_connections.specs.Connections.{HasWire, WireTakesNoMore}
 use Rattle.rv_hub.specs.dispatcher.View.{DispatcherState}
 use Rattle.rv_hub.specs.dispatcher.Telling.{WaitsOn}
 
@@ -35,7 +34,7 @@ HasComeToStop s connection = (wire : Traffic) → s.open_wires.wires connection 
 
 -- it takes no more bytes of its input: the unread bytes are a whole frame or a bad length, or it is closed
 abbrev pub TakesNoMore : DispatcherState → ℕ → Type 0
-TakesNoMore s connection = connections.TakesNoMore s.open_wires connection
+TakesNoMore s connection = WireTakesNoMore s.open_wires connection
 
 -- the next moment at which time must go on: the earliest of the book's limits and of the moments up to which
 -- a connection waits

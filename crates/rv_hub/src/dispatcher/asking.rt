@@ -16,7 +16,7 @@ ghost use Rattle.rv_hub.specs.dispatcher.Telling.{WaitsOn};
 ghost use Rattle.rv_hub.specs.dispatcher.Rest.{HasComeToStop};
 ghost use Rattle.rv_hub.specs.dispatcher.Fields.{IsDispatcherSound, IsSteady, dispatcher_state};
 ghost use Rattle.rv_hub.specs.dispatcher.Going.{AnswersIt, Finishes, HasDue, IsFrameDue, IsMessageAt};
-ghost use Rattle.rv_hub.specs.dispatcher.Going.{IsNext, IsSameButRoom};
+ghost use Rattle.rv_hub.specs.dispatcher.Going.{IsTurnStep, IsSameButRoom};
 ghost use Rattle.rv_hub.specs.dispatcher.Going.{LacksIt, MaySay, SaysIt, SaysText, StepsIt, StillGoes};
 ghost use Rattle.rv_hub.specs.dispatcher.Going.{Strides, WaitsIt, fault_answer};
 
@@ -32,7 +32,7 @@ use rv_text::{
 
 // What is to be done next of a connection.
 #[derive(Drop)]
-enum Next {
+enum TurnStep {
     // The frame that is due is answered, by what it was read as.
     Answer(Result<Message, TextFault>),
     // Nothing is left to do: it is closed.
@@ -259,19 +259,19 @@ impl Dispatcher {
     }
 
     // What is to be done next of a connection.
-    fn next(&self, connection: ConnectionNumber) -> Next
-        ensures { IsNext self.now connection result }
+    fn next(&self, connection: ConnectionNumber) -> TurnStep
+        ensures { IsTurnStep self.now connection result }
     {
         let Some(wire) = self.wires.get(connection) else {
-            return Next::Stop;
+            return TurnStep::Stop;
         };
         if let Some(body) = wire.next() {
-            return Next::Answer(decode_message(self.alloc, body));
+            return TurnStep::Answer(decode_message(self.alloc, body));
         }
         if wire.is_finished() {
-            return Next::Close;
+            return TurnStep::Close;
         }
-        Next::Stop
+        TurnStep::Stop
     }
 
     // Answers the frame that is due, by what it was read as, and tells all that this settles.
@@ -297,15 +297,15 @@ impl Dispatcher {
         ensures stopped { OnFalse result (HasComeToStop (dispatcher_state self.new) connection) }
     {
         match self.next(connection) {
-            Next::Answer(read) => {
+            TurnStep::Answer(read) => {
                 self.take_up(connection, read);
                 true
             }
-            Next::Close => {
+            TurnStep::Close => {
                 self.shut(connection);
                 false
             }
-            Next::Stop => false,
+            TurnStep::Stop => false,
         }
     }
 }

@@ -6,4 +6,5 @@ pub returns-clause-noted : goal.returns-clause-noted
 returns-clause-noted c =
     notes_set c.args.self.now (record { slots = c.take_frame-read.new.self; changes = c.mark.new.self })
     c.args.connection _
-    c.requires.sound c.take_frame-read.ensures.sound c.take_frame-read.ensures.taken.sets c.mark.ensures.listed
+    c.requires.sound c.take_frame-read.ensures.sound c.take_frame-read.ensures.taken.sets
+    c.mark.ensures.listed

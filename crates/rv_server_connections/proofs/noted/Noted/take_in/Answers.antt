@@ -18,12 +18,14 @@ returns-in_err-count-clause-kept c =
 pub returns-in-Some-clause-noted : goal.returns-in-Some-clause-noted
 returns-in-Some-clause-noted c =
     notes_set c.args.self.now (record { slots = c.take_in.new.self; changes = c.mark.new.self })
-    c.args.connection _ c.requires c.take_in.ensures.sound (some_of _ _ _ c.in-Some.is c.in_ok-count.ensures.takes).sets c.mark.ensures.listed
+    c.args.connection _ c.requires c.take_in.ensures.sound
+    (some_of _ _ _ c.in-Some.is c.in_ok-count.ensures.takes).sets c.mark.ensures.listed
 
 pub returns-in-None-clause-sound : goal.returns-in-None-clause-sound
 returns-in-None-clause-sound c =
     noted_same c.args.self.now (record { slots = c.take_in.new.self; changes = c.args.self.now.changes })
-    c.requires c.take_in.ensures.sound (none_of _ _ c.in-None.is c.in_ok-count.ensures.same) c.requires.changes (omega arith)
+    c.requires c.take_in.ensures.sound (none_of _ _ c.in-None.is c.in_ok-count.ensures.same)
+    c.requires.changes (omega arith)
 
 pub returns-in-None-clause-same_tally : goal.returns-in-None-clause-same_tally
 returns-in-None-clause-same_tally c =

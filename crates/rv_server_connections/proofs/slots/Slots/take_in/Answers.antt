@@ -10,8 +10,8 @@ use Rattle.rv_server_connections.proofs.slots.Slots.take_in.Goals as goal
 pub returns-then-not-takes_more-clause-sound : goal.returns-then-not-takes_more-clause-sound
 returns-then-not-takes_more-clause-sound c =
     let slot = c.in-Some.slot.now in
-    none_given c.args.self.now _ c.args.connection slot slot c.requires (sym c.in-Some.ensures.value) refl refl
-    refl refl (λ e k. refl) (omega arith) (omega arith) (omega arith)
+    none_given c.args.self.now _ c.args.connection slot slot c.requires (sym c.in-Some.ensures.value) refl
+    refl refl refl (λ e k. refl) (omega arith) (omega arith) (omega arith)
 
 pub returns-in_err-count-clause-sound : goal.returns-in_err-count-clause-sound
 returns-in_err-count-clause-sound c =
