@@ -18,9 +18,15 @@ use std::marker::Model;
 
 /// A hub with the lines of its account that are to be written, if one is kept, and the connections that are
 /// to be looked at. Contracts see its parts, which always are as they must be between two calls.
-#[derive(Drop)]
 pub struct Engine {
     parts: EngineParts,
+}
+
+// Whoever owns one drops it in one step.
+impl Drop for Engine {
+    fn drop(self) {
+        let Engine { parts: _ } = self;
+    }
 }
 
 impl Model for Engine {

@@ -10,12 +10,23 @@ use std::alloc::Global;
 use std::io::Write;
 
 /// The account's file, how many bytes were written to it, how many it may have, and its place.
-#[derive(Drop)]
 pub(crate) struct Journal<W> {
     pub(crate) file: Sink<W>,
     pub(crate) bytes: u64,
     pub(crate) most: u64,
     pub(crate) place: AccountPlace,
+}
+
+// Whoever owns one drops it in one step.
+impl<W: Drop> Drop for Journal<W> {
+    fn drop(self) {
+        let Journal {
+            file: _,
+            bytes: _,
+            most: _,
+            place: _,
+        } = self;
+    }
 }
 
 impl<W> Journal<W> {

@@ -33,7 +33,6 @@ const ACCEPTS: usize = 256;
 const VISITS: usize = 8;
 
 /// What the status address shows, and its connections.
-#[derive(Drop)]
 pub(crate) struct StatusDesk {
     alloc: Global,
     pub(crate) door: Door,
@@ -50,6 +49,25 @@ pub(crate) struct StatusDesk {
     // When numbers are to be read next, and when a connection is to be visited.
     next_second: u64,
     next_visit: u64,
+}
+
+// Whoever owns one drops it in one step.
+impl Drop for StatusDesk {
+    fn drop(self) {
+        let StatusDesk {
+            alloc: _,
+            door: _,
+            reserve: _,
+            visitors: _,
+            status: _,
+            sights: _,
+            names: _,
+            after: _,
+            left: _,
+            next_second: _,
+            next_visit: _,
+        } = self;
+    }
 }
 
 // The names that an option has, with commas between them.

@@ -19,9 +19,15 @@ use std::marker::Model;
 /// copied three times when it is begun, and once each time that it is sent again. A new epoch opens a book,
 /// with 64 queues and 64 exchangers. All that was sent, asked, held or started is kept, and so are all books.
 /// Nothing else is kept of a process that ended.
-#[derive(Drop)]
 pub struct World {
     state: WorldState,
+}
+
+// Whoever owns one drops it in one step.
+impl Drop for World {
+    fn drop(self) {
+        let World { state: _ } = self;
+    }
 }
 
 // The number of the first of these books whose account is of this epoch.
