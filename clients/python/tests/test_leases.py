@@ -309,8 +309,11 @@ class Programs(Case):
         """They inherit no lease, and outlive it."""
         with leasing() as clients:
             mine = lease()
-            with subprocess.Popen([sys.executable, "-c", "import sys; sys.stdin.read()"], stdin=subprocess.PIPE,
+            program = "import sys; print(flush=True); sys.stdin.read()"
+            with subprocess.Popen([sys.executable, "-c", program], stdin=subprocess.PIPE, stdout=subprocess.PIPE,
                                   close_fds=False) as process:
+                # Popen may return before the system has closed all that the program doesn't inherit
+                process.stdout.readline()
                 mine.close()
                 self.assertTrue(is_free(clients[0]))
                 process.stdin.close()
