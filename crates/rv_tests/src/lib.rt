@@ -2,7 +2,8 @@
 //!
 //! They test a list of events, the copy of an account, room on both sides of a queue, and that a deadline
 //! that is there takes no memory; the fault that a request or a worker meets at its link, how often devices
-//! are asked, and sizes that no program has; and how many of its connections a server counts as served.
+//! are asked, and sizes that no program has; how many of its connections a server counts as served; and a
+//! journal over a file that a crash left.
 //!
 //! ```
 //! fn room_is_made_on_both_sides(rt: HostRuntime) {
@@ -27,6 +28,8 @@ mod faults;
 mod frames;
 #[cfg(test)]
 mod items;
+#[cfg(test)]
+mod journals;
 #[cfg(test)]
 mod queues;
 #[cfg(test)]

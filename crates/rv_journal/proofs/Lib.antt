@@ -1,0 +1,17 @@
+mod Moments
+mod Mixing
+mod Causes
+mod Texts
+mod Lines
+mod Appended
+mod Scan
+mod Zeros
+mod Reopened
+mod Adding
+mod Filling
+mod Rooming
+mod Looking
+mod Clearing
+mod Calls
+mod Memories
+mod Cleared

@@ -1,0 +1,76 @@
+use Rattle.std.proofs.Common.{[], ◌∙◌, arith, ap, Err}
+use Rattle.rv_journal.proofs.Causes.{store_why}
+use Rattle.rv_journal.proofs.Rooming.{begun, front_on, adds_on, goes_further}
+use Rattle.rv_journal.proofs.filled.FilledFile.make_room.Goals as goal
+
+pub loop-self-init : goal.loop-self-init
+loop-self-init g c = (c.requires.ready, begun g.D.Device.disk c.args.self.now c.requires.ready)
+
+pub overflow_sub-self : goal.overflow_sub-self
+overflow_sub-self g c = omega (arith, c.loop-self.invariant.0.behind)
+
+pub returns-then-self-ge-MOST-clause-front : goal.returns-then-self-ge-MOST-clause-front
+returns-then-self-ge-MOST-clause-front g c = c.loop-self.invariant.1.front
+
+pub returns-then-self-ge-MOST-clause-adds : goal.returns-then-self-ge-MOST-clause-adds
+returns-then-self-ge-MOST-clause-adds g c = c.loop-self.invariant.1.adds
+
+pub returns-then-self-ge-MOST-clause-full : goal.returns-then-self-ge-MOST-clause-full
+returns-then-self-ge-MOST-clause-full g c _ = omega (
+  arith,
+  c.if-self-ge-MOST.true,
+  c.loop-self-test.true,
+  c.loop-self.invariant.0.behind,
+  c.loop-self.invariant.1.end,
+)
+
+pub fill-requires-clause-ready : goal.fill-requires-clause-ready
+fill-requires-clause-ready g c = c.loop-self.invariant.0
+
+pub fill-requires-clause-fits : goal.fill-requires-clause-fits
+fill-requires-clause-fits g c = omega (arith, c.if-self-ge-MOST.false)
+
+pub loop-self-smaller : goal.loop-self-smaller
+loop-self-smaller g c = omega (arith, c.in_default.ensures.filled, c.if-self-ge-MOST.false)
+
+pub loop-self-preserved : goal.loop-self-preserved
+loop-self-preserved g c = (
+  c.in_default.ensures.ready,
+  goes_further g.D.Device.disk c.args.self.now c.loop-self.self c.fill.new.self
+      c.loop-self.invariant.1 c.fill.ensures.end c.fill.ensures.front c.fill.ensures.adds,
+)
+
+pub returns-in-Err-clause-end : goal.returns-in-Err-clause-end
+returns-in-Err-clause-end g c = c.fill.ensures.end ∙ c.loop-self.invariant.1.end
+
+pub returns-in-Err-clause-front : goal.returns-in-Err-clause-front
+returns-in-Err-clause-front g c = front_on g.D.Device.disk c.args.self.now c.loop-self.self c.fill.new.self
+    c.loop-self.invariant.1 c.fill.ensures.front
+
+pub returns-in-Err-clause-adds : goal.returns-in-Err-clause-adds
+returns-in-Err-clause-adds g c = adds_on g.D.Device.disk c.args.self.now c.loop-self.self c.fill.new.self []
+    c.loop-self.invariant.1 (λ f has. has) c.fill.ensures.adds
+
+pub returns-clause-ready : goal.returns-clause-ready
+returns-clause-ready g c = c.loop-self.invariant.0
+
+pub returns-clause-room : goal.returns-clause-room
+returns-clause-room g c = omega (arith, c.loop-self-test.false)
+
+pub returns-clause-end : goal.returns-clause-end
+returns-clause-end g c = c.loop-self.invariant.1.end
+
+pub returns-clause-front : goal.returns-clause-front
+returns-clause-front g c = c.loop-self.invariant.1.front
+
+pub returns-clause-adds : goal.returns-clause-adds
+returns-clause-adds g c = c.loop-self.invariant.1.adds
+
+pub returns-then-self-ge-MOST-clause-goes_on : goal.returns-then-self-ge-MOST-clause-goes_on
+returns-then-self-ge-MOST-clause-goes_on g c _ = c.loop-self.invariant.0
+
+pub returns-in-Err-clause-cause : goal.returns-in-Err-clause-cause
+returns-in-Err-clause-cause g c is = c.in-Err.ensures.cause.failed (ap Err (store_why c.in-Err.fault is))
+
+pub returns-then-self-ge-MOST-clause-cause : goal.returns-then-self-ge-MOST-clause-cause
+returns-then-self-ge-MOST-clause-cause g c is = absurd (cc)

@@ -1,0 +1,73 @@
+use Rattle.std.proofs.Common.{◌≡◌, Err, inl, ℕ, List, length, sym, ◌∙◌, ap, subst}
+use Rattle.rv_journal.specs.Device.{LeavesOnly}
+use Rattle.rv_journal.specs.Opened.{HasLinesOf, IsCleared}
+use Rattle.rv_journal.specs.Text.{before_zero, stored_lines}
+use Rattle.rv_journal.specs.declared.device.DeviceFault.TheVariants.{NoMemory, Failed}
+use Rattle.rv_journal.proofs.Causes.{open_why}
+use Rattle.rv_journal.proofs.Moments.{started}
+use Rattle.rv_journal.proofs.Cleared.{is_whole, is_ready, text_lines}
+use Rattle.rv_journal.proofs.Adding.{text_is}
+use Rattle.rv_journal.proofs.journal.DiskJournal.open.Goals as goal
+
+pub returns-in-Err-clause-any_moment_err : goal.returns-in-Err-clause-any_moment_err
+returns-in-Err-clause-any_moment_err g c told = started g.D.Device.disk c.args.device
+    (HasLinesOf g.D.Device.disk c.args.device) (λ f left. inl left)
+
+pub returns-in-Err-clause-not_filled : goal.returns-in-Err-clause-not_filled
+returns-in-Err-clause-not_filled g c is = absurd (cc)
+
+pub invariant_of-result : goal.invariant_of-result
+invariant_of-result g c _ =
+    let made = c.new-file.ensures in
+    let end = made.end ∙ c.len.ensures ∙ c.in-Ok-reopen.lines.ok.0 in
+    is_ready g.D.Device.disk c.reopen.new.device c.in-Ok-reopen.lines.items c.in-Ok-reopen.filled
+    c.new-file.result made.device end made.filled c.in-Ok-reopen.ensures.room c.in-Ok.zeros.items
+    made.zeros c.in-Ok.ensures.blank c.in-Ok.ensures.size
+    (λ told_now. let told = sym c.reopen.ensures.tells ∙ told_now in
+    subst (λ (lines : List ℕ). IsCleared g.D.Device.disk lines c.in-Ok-reopen.filled c.reopen.new.device)
+    (sym (c.in-Ok-reopen.ensures.lines told)) (c.in-Ok-reopen.ensures.cleared told))
+
+pub returns-in-Ok-reopen-clause-lines : goal.returns-in-Ok-reopen-clause-lines
+returns-in-Ok-reopen-clause-lines g c = c.in-Ok-reopen.ensures.lines
+
+pub returns-in-Ok-reopen-clause-text : goal.returns-in-Ok-reopen-clause-text
+returns-in-Ok-reopen-clause-text g c told =
+    let made = c.new-file.ensures in
+    let end = made.end ∙ c.len.ensures ∙ c.in-Ok-reopen.lines.ok.0 ∙ ap length (c.in-Ok-reopen.ensures.lines
+    told) in
+    text_lines g.D.Device.disk c.reopen.new.device (stored_lines (g.D.Device.disk.seen c.args.device))
+    c.in-Ok-reopen.filled c.new-file.result made.device end made.filled (c.in-Ok-reopen.ensures.cleared
+    told)
+
+pub returns-in-Ok-reopen-clause-durable : goal.returns-in-Ok-reopen-clause-durable
+returns-in-Ok-reopen-clause-durable g c told f left =
+    let made = c.new-file.ensures in
+    let end = made.end ∙ c.len.ensures ∙ c.in-Ok-reopen.lines.ok.0 ∙ ap length (c.in-Ok-reopen.ensures.lines
+    told) in
+    let is = is_whole g.D.Device.disk c.reopen.new.device (stored_lines (g.D.Device.disk.seen c.args.device))
+    c.in-Ok-reopen.filled c.new-file.result made.device end made.filled (c.in-Ok-reopen.ensures.cleared
+    told) in
+    ap before_zero (is.durable f left) ∙ text_is g.D.Device.disk c.new-file.result is
+
+pub returns-in-Ok-reopen-clause-any_moment : goal.returns-in-Ok-reopen-clause-any_moment
+returns-in-Ok-reopen-clause-any_moment g c told =
+    subst (λ d. LeavesOnly g.D.Device.disk c.args.device d (HasLinesOf g.D.Device.disk c.args.device))
+    (sym c.new-file.ensures.device) (c.reopen.ensures.any_moment told)
+
+pub returns-in-Err-reopen-clause-any_moment_err : goal.returns-in-Err-reopen-clause-any_moment_err
+returns-in-Err-reopen-clause-any_moment_err g c = c.reopen.ensures.any_moment
+
+pub returns-in-Err-reopen-clause-not_filled : goal.returns-in-Err-reopen-clause-not_filled
+returns-in-Err-reopen-clause-not_filled g c is = record {
+  looks = c.in-Err-reopen.ensures.kept (ap Err is);
+  lines = c.in-Err-reopen.ensures.not_filled (ap Err is);
+}
+
+pub returns-in-Err-clause-cause : goal.returns-in-Err-clause-cause
+returns-in-Err-clause-cause g c is = absurd (none (open_why NoMemory is))
+  where
+    none : NoMemory ≡ Failed → ⊥
+    none same = cc
+
+pub returns-in-Err-reopen-clause-cause : goal.returns-in-Err-reopen-clause-cause
+returns-in-Err-reopen-clause-cause g c is = c.in-Err-reopen.ensures.cause (ap Err is)

@@ -1,0 +1,74 @@
+use Rattle.std.proofs.Common.{ℕ, take, Err, sym, ◌∙◌, ap}
+use Rattle.std.proofs.lemmas.Bool.{false≢true}
+use Rattle.rv_journal.specs.Text.{before_zero}
+use Rattle.rv_journal.proofs.Adding.{at_rest, text_is}
+use Rattle.rv_journal.specs.declared.filled.StoreFault.TheVariants as OfStore
+use Rattle.rv_journal.proofs.Causes.{add_why}
+use Rattle.rv_journal.proofs.journal.Parts.add.Goals as goal
+
+pub returns-then-self-clause-any_moment : goal.returns-then-self-clause-any_moment
+returns-then-self-clause-any_moment g c works = absurd (false≢true (sym works ∙ c.if-self.true))
+
+pub returns-then-not-is_text-clause-any_moment : goal.returns-then-not-is_text-clause-any_moment
+returns-then-not-is_text-clause-any_moment g c works told = at_rest g.D.Device.disk c.args.self.now.file
+    c.args.piece.now ((c.requires works).filled told)
+
+pub store-requires-clause-ready : goal.store-requires-clause-ready
+store-requires-clause-ready g c = c.requires c.if-self.false
+
+pub returns-in-Ok-clause-live : goal.returns-in-Ok-clause-live
+returns-in-Ok-clause-live g c _ = c.in-Ok.ensures.ready
+
+pub returns-in-Ok-clause-tells : goal.returns-in-Ok-clause-tells
+returns-in-Ok-clause-tells g c = c.store.ensures.adds.tells
+
+pub returns-in-Ok-clause-stored : goal.returns-in-Ok-clause-stored
+returns-in-Ok-clause-stored g c = record {
+  works = c.if-self.false;
+  text = c.in-Ok.ensures.stored;
+  durable = λ told f left.
+      let is = c.in-Ok.ensures.ready.filled (c.store.ensures.adds.tells ∙ told) in
+      ap before_zero (is.durable f left) ∙ text_is g.D.Device.disk c.store.new.self is;
+}
+
+pub returns-in-Ok-clause-any_moment : goal.returns-in-Ok-clause-any_moment
+returns-in-Ok-clause-any_moment g c _ = c.store.ensures.adds.any_moment
+
+pub returns-in-Err-Full-clause-live : goal.returns-in-Err-Full-clause-live
+returns-in-Err-Full-clause-live g c _ = c.in-Err-Full.ensures.goes_on (ap Err c.in-Err-Full.field-0-is)
+
+pub returns-in-Err-Full-clause-tells : goal.returns-in-Err-Full-clause-tells
+returns-in-Err-Full-clause-tells g c = c.store.ensures.adds.tells
+
+pub returns-in-Err-Full-clause-kept : goal.returns-in-Err-Full-clause-kept
+returns-in-Err-Full-clause-kept g c told =
+    ap (λ (n : ℕ). take n (g.D.Device.disk.seen c.store.new.self.device)) c.in-Err-Full.ensures.end
+    ∙ c.store.ensures.front told
+
+pub returns-in-Err-Full-clause-any_moment : goal.returns-in-Err-Full-clause-any_moment
+returns-in-Err-Full-clause-any_moment g c _ = c.store.ensures.adds.any_moment
+
+pub returns-in-Err-Full-clause-full : goal.returns-in-Err-Full-clause-full
+returns-in-Err-Full-clause-full g c _ = c.in-Err-Full.ensures.full (ap Err c.in-Err-Full.field-0-is)
+
+pub returns-in-Err-Device-clause-live : goal.returns-in-Err-Device-clause-live
+returns-in-Err-Device-clause-live g c works = absurd (false≢true (sym works))
+
+pub returns-in-Err-Device-clause-tells : goal.returns-in-Err-Device-clause-tells
+returns-in-Err-Device-clause-tells g c = c.store.ensures.adds.tells
+
+pub returns-in-Err-Device-clause-kept : goal.returns-in-Err-Device-clause-kept
+returns-in-Err-Device-clause-kept g c told =
+    ap (λ (n : ℕ). take n (g.D.Device.disk.seen c.store.new.self.device)) c.in-Err-Device.ensures.end
+    ∙ c.store.ensures.front told
+
+pub returns-in-Err-Device-clause-any_moment : goal.returns-in-Err-Device-clause-any_moment
+returns-in-Err-Device-clause-any_moment g c _ = c.store.ensures.adds.any_moment
+
+pub returns-in-Err-Device-clause-cause : goal.returns-in-Err-Device-clause-cause
+returns-in-Err-Device-clause-cause g c is = c.in-Err-Device.ensures.cause (ap Err (c.in-Err-Device.field-0-is
+    ∙ ap OfStore.Device (add_why c.in-Err-Device.fault is)))
+
+pub returns-then-not-is_text-clause-not_text : goal.returns-then-not-is_text-clause-not_text
+returns-then-not-is_text-clause-not_text g c is all = false≢true (sym c.if-not-is_text.true
+    ∙ c.is_text.ensures.1 all)

@@ -1,0 +1,20 @@
+-- What is told where the device failed.
+use Rattle.rv_journal.specs.declared.device.DeviceFault.TheVariants.{Failed}
+use Rattle.rv_journal.specs.declared.fault.JournalFault.{JournalFault}
+use Rattle.rv_journal.specs.declared.fault.JournalFault.TheVariants as OfJournal
+use Rattle.rv_journal.specs.declared.fault.OpenFault.{OpenFault}
+use Rattle.rv_journal.specs.declared.fault.OpenFault.TheVariants as OfOpen
+use Rattle.rv_journal.specs.declared.filled.StoreFault.{StoreFault}
+use Rattle.rv_journal.specs.declared.filled.StoreFault.TheVariants as OfStore
+
+-- by a call that adds a piece
+abbrev pub append_failed : JournalFault
+append_failed = OfJournal.Device Failed
+
+-- by one that opens
+abbrev pub open_failed : OpenFault
+open_failed = OfOpen.Device Failed
+
+-- by a file that stores a piece
+abbrev pub store_failed : StoreFault
+store_failed = OfStore.Device Failed

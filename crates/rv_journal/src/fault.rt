@@ -1,0 +1,43 @@
+//! Why a journal refuses a piece.
+ghost use Rattle.std.specs.Prelude.{◌≡◌};
+ghost use Rattle.rv_journal.specs.declared.fault.JournalFault.TheVariants.{Device};
+
+use crate::device::DeviceFault;
+use thiserror::Error;
+
+/// Why a journal did not take a piece.
+#[derive(Clone, Copy, Debug, PartialEq, Eq, Error)]
+pub enum JournalFault {
+    /// The piece has a zero byte, which no text has. Nothing changed.
+    #[error("a piece with a zero byte is no text")]
+    NotText,
+    /// The file would have more than 2^50 bytes. The text is as it was, and shorter pieces may still be
+    /// added.
+    #[error("the journal has no room for the piece")]
+    Full,
+    /// The device failed, or was refused memory. The journal takes nothing more.
+    #[error("the journal's device failed")]
+    Device(DeviceFault),
+    /// An earlier call found that the device had failed. Nothing was done.
+    #[error("the journal's device failed before")]
+    Failed,
+}
+
+impl From<DeviceFault> for JournalFault {
+    ghost from_gives = { λ fault to. to ≡ Device fault };
+
+    fn from(fault: DeviceFault) -> JournalFault {
+        JournalFault::Device(fault)
+    }
+}
+
+/// Why a file was not opened as a journal.
+#[derive(Clone, Copy, Debug, PartialEq, Eq, Error)]
+pub enum OpenFault {
+    /// No zero stands after the file's lines: it is empty, or no journal. Nothing changed.
+    #[error("no zero stands after the file's lines: it is no journal")]
+    NotFilled,
+    /// The device failed, or memory was refused. The file has the lines that it had.
+    #[error("the journal's device failed")]
+    Device(DeviceFault),
+}

@@ -1,0 +1,148 @@
+//! The journal: its text is stored, and a crash at any moment leaves it, with a front of the piece that was
+//! being added.
+ghost use Rattle.std.specs.Prelude.{◌≡◌, ◌+◌, ◌≤◌, ◌<◌, ◌^◌, List, ℕ, true, false, length};
+ghost use Rattle.std.specs.Prelude.{IfErr, IfOk, IsErrOf, IsTrue, OnErr, OnOk};
+ghost use Rattle.std.specs.Prelude.{◌↔◌};
+ghost use Rattle.std.specs.List.{All};
+ghost use Rattle.rv_journal.specs.Device.{LeavesOnly, WhereTold};
+ghost use Rattle.rv_journal.specs.Text.{HasFront, stored_lines};
+ghost use Rattle.rv_journal.specs.Opened.{HasLinesOf};
+ghost use Rattle.rv_journal.specs.Journal.{IsDurable, IsLeftUnfilled, IsLive, KeepsText, Stores};
+ghost use Rattle.rv_journal.specs.Journal.{journal_text, journal_state};
+ghost use Rattle.rv_journal.specs.Faults.{append_failed, open_failed};
+ghost use Rattle.rv_journal.specs.declared.fault.OpenFault.TheVariants.{NotFilled};
+ghost use Rattle.rv_journal.specs.declared.fault.JournalFault.TheVariants.{NotText, Full, Failed};
+
+use crate::device::{Device, DeviceFault};
+use crate::fault::{JournalFault, OpenFault};
+use crate::filled::{AHEAD, FilledFile, StoreFault, zeros};
+use crate::opening::reopen;
+use std::alloc::Global;
+use std::marker::Model;
+
+/// A journal over a device.
+///
+/// Contracts see its device, where its text ends there, and whether it has failed. A piece that was added is
+/// stored: each crash leaves a file that has it. Adding one costs a write and a sync of the device, and for
+/// each MiB one more of each, which put zeros ahead.
+#[derive(Drop)]
+pub struct DiskJournal<D: Device> {
+    parts: Parts<D>,
+}
+
+// A journal's file, and whether its device failed.
+#[derive(Drop)]
+struct Parts<D: Device> {
+    file: FilledFile<D>,
+    failed: bool,
+}
+
+impl<D: Device> Model for DiskJournal<D> {
+    ghost use Rattle.rv_journal.specs.Journal.{IsLive, JournalState, journal_state};
+
+    ghost Value = { JournalState D };
+
+    ghost view = { λ j. journal_state j.parts };
+
+    ghost invariant = { λ j. IsLive D.disk j.parts };
+}
+
+impl<D: Device> DiskJournal<D> {
+    /// The journal of a file that a crash may have left, and its lines: those before its first zero, up to
+    /// the last line feed. What stands after them is cleared. It may crash too.
+    ///
+    /// At `Err` the device is handed back; [`OpenFault`] says what stands in the file.
+    pub fn open(alloc: Global, device: D) -> Result<(DiskJournal<D>, Vec<u8>), (OpenFault, D)>
+        ensures lines { IfOk result (λ opened. WhereTold D.disk device
+            (opened.1.items ≡ stored_lines (D.disk.seen device))) }
+        ensures text { IfOk result (λ opened. WhereTold D.disk device
+            (journal_text D.disk opened.0 ≡ stored_lines (D.disk.seen device))) }
+        ensures works { IfOk result (λ opened. opened.0.failed ≡ false) }
+        ensures durable { IfOk result (λ opened. WhereTold D.disk device (IsDurable D.disk opened.0)) }
+        ensures any_moment { IfOk result (λ opened. WhereTold D.disk device
+            (LeavesOnly D.disk device opened.0.device (HasLinesOf D.disk device))) }
+        ensures any_moment_err { IfErr result (λ failed. WhereTold D.disk device
+            (LeavesOnly D.disk device failed.1 (HasLinesOf D.disk device))) }
+        ensures not_filled { IfErr result (λ failed. failed.0 ≡ NotFilled →
+            IsLeftUnfilled D.disk device failed.1) }
+        ensures cause { IfErr result (λ failed. failed.0 ≡ open_failed →
+            D.disk.failed failed.1 ≡ true) }
+    {
+        let mut device = device;
+        let zeros = match zeros(alloc, AHEAD) {
+            Ok(zeros) => zeros,
+            Err(_) => return Err((OpenFault::Device(DeviceFault::NoMemory), device)),
+        };
+        match reopen(alloc, &mut device) {
+            Ok((lines, filled)) => {
+                let file = FilledFile::new(device, zeros, lines.len(), filled);
+                let failed = false;
+                let parts = Parts { file, failed };
+                Ok((DiskJournal { parts }, lines))
+            }
+            Err(fault) => Err((fault, device)),
+        }
+    }
+
+    /// Adds a piece: bytes without zero. Once it has returned, the piece is stored.
+    ///
+    /// [`JournalFault`] says why it is refused, and whether the journal goes on; its text is as it was. A
+    /// crash at any moment of the call leaves the text and a front of the piece.
+    pub fn append(&mut self, piece: &[u8]) -> Result<(), JournalFault>
+        ensures tells { D.disk.tells self.new.device ≡ D.disk.tells self.old.device }
+        ensures stored { OnOk result (Stores D.disk piece.now self.old self.new) }
+        ensures kept { OnErr result (KeepsText D.disk self.old self.new) }
+        ensures any_moment { self.old.failed ≡ false → WhereTold D.disk self.old.device
+            (LeavesOnly D.disk self.old.device self.new.device
+            (HasFront (journal_text D.disk self.old) piece.now)) }
+        ensures full { IsErrOf result Full → 2 ^ 50 ≤ self.old.end + length piece.now }
+        ensures refused { self.old.failed ≡ true → IsErrOf result Failed }
+        ensures same { self.old.failed ≡ true → self.new ≡ self.old }
+        ensures not_text { IsErrOf result NotText → All (λ byte. 0 < byte) piece.now → ⊥ }
+        ensures cause { IsErrOf result append_failed → D.disk.failed self.new.device ≡ true }
+    {
+        self.parts.add(piece)
+    }
+}
+
+// Whether these bytes can be added: none of them is zero.
+fn is_text(bytes: &[u8]) -> bool
+    ensures { IsTrue result ↔ All (λ byte. 0 < byte) bytes.now }
+{
+    bytes.iter().all(|byte| *byte > 0)
+}
+
+impl<D: Device> Parts<D> {
+    // Adds a piece. After a fault of the device the journal has failed.
+    fn add(&mut self, piece: &[u8]) -> Result<(), JournalFault>
+        requires { IsLive D.disk self.old }
+        ensures live { IsLive D.disk self.new }
+        ensures tells { D.disk.tells self.new.file.device ≡ D.disk.tells self.old.file.device }
+        ensures stored { OnOk result (Stores D.disk piece.now (journal_state self.old)
+            (journal_state self.new)) }
+        ensures kept { OnErr result (KeepsText D.disk (journal_state self.old) (journal_state self.new)) }
+        ensures any_moment { self.old.failed ≡ false → WhereTold D.disk self.old.file.device
+            (LeavesOnly D.disk self.old.file.device self.new.file.device
+            (HasFront (journal_text D.disk (journal_state self.old)) piece.now)) }
+        ensures full { IsErrOf result Full → 2 ^ 50 ≤ self.old.file.end + length piece.now }
+        ensures refused { self.old.failed ≡ true → IsErrOf result Failed }
+        ensures same { self.old.failed ≡ true → journal_state self.new ≡ journal_state self.old }
+        ensures not_text { IsErrOf result NotText → All (λ byte. 0 < byte) piece.now → ⊥ }
+        ensures cause { IsErrOf result append_failed → D.disk.failed self.new.file.device ≡ true }
+    {
+        if self.failed {
+            return Err(JournalFault::Failed);
+        }
+        if !is_text(piece) {
+            return Err(JournalFault::NotText);
+        }
+        match self.file.store(piece) {
+            Ok(()) => Ok(()),
+            Err(StoreFault::Full) => Err(JournalFault::Full),
+            Err(StoreFault::Device(fault)) => {
+                self.failed = true;
+                Err(JournalFault::Device(fault))
+            }
+        }
+    }
+}

@@ -1,0 +1,22 @@
+//! A journal: a file to which pieces of text are added, each of which is stored once it is said to be.
+//!
+//! ```
+//! let (mut journal, lines) = DiskJournal::open(alloc, device)?;
+//! follow(&lines);
+//! journal.append(b"a line\n")?;
+//! ```
+#![tactic(auto)]
+
+mod device;
+mod fault;
+mod filled;
+mod journal;
+pub mod laws;
+mod memory;
+mod opening;
+mod rewriting;
+
+pub use device::{Device, DeviceFault};
+pub use fault::{JournalFault, OpenFault};
+pub use journal::DiskJournal;
+pub use memory::Memory;

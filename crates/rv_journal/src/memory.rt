@@ -1,0 +1,93 @@
+//! A file in memory that keeps its calls: a crash leaves each byte old or written, until a sync.
+ghost use Rattle.std.specs.Prelude.{◌≡◌, [], ◌∷◌, ◌++◌, ◌≤◌, length, IfOk, OnErr, OnOk};
+ghost use Rattle.rv_journal.specs.Device.{Holds, Only};
+ghost use Rattle.rv_journal.specs.Memory.{memory_disk};
+
+use crate::device::{Device, DeviceFault};
+use std::alloc::{AllocError, Global};
+
+#[derive(Drop)]
+enum DeviceCall {
+    Write(usize, Vec<u8>),
+    Sync(Vec<u8>),
+}
+
+/// A file in memory, for tests. It never fails but for want of memory.
+///
+/// It keeps what it had at first and each call, so that contracts can say what a crash at any of its moments
+/// might have left.
+#[derive(Drop)]
+pub struct Memory {
+    alloc: Global,
+    first: Vec<u8>,
+    bytes: Vec<u8>,
+    calls: Vec<DeviceCall>,
+}
+
+impl Memory {
+    /// A file with these bytes, all of them stored.
+    pub fn new(alloc: Global, bytes: Vec<u8>) -> Result<Memory, AllocError>
+        ensures bytes { IfOk result (λ file. memory_disk.seen file ≡ bytes.items) }
+        ensures stored { IfOk result (λ file. Only bytes.items (memory_disk.may_leave file)) }
+    {
+        let first = bytes.to_vec(alloc)?;
+        let calls = Vec::new(alloc);
+        Ok(Memory {
+            alloc,
+            first,
+            bytes,
+            calls,
+        })
+    }
+
+    /// What a read returns.
+    pub fn bytes(&self) -> &[u8]
+        ensures { result.now ≡ memory_disk.seen self.now }
+    {
+        &self.bytes
+    }
+}
+
+// These bytes with others over them from this offset on.
+fn overwritten(alloc: Global, old: &[u8], at: usize, bytes: &[u8]) -> Result<Vec<u8>, AllocError>
+    requires { at ≤ length old.now }
+    ensures { IfOk result (λ next. Holds old.now at bytes.now next.items) }
+{
+    let mut next = old[..at].to_vec(alloc)?;
+    next.extend_from_slice(bytes)?;
+    if bytes.len() < old.len() - at {
+        next.extend_from_slice(&old[at + bytes.len()..])?;
+    }
+    Ok(next)
+}
+
+// Keeps a call. If memory is refused nothing changes.
+fn record(calls: &mut Vec<DeviceCall>, call: DeviceCall) -> Result<(), AllocError>
+    ensures kept { OnOk result (calls.new.items ≡ calls.old.items ++ call ∷ []) }
+    ensures refused { OnErr result (calls.new.items ≡ calls.old.items) }
+{
+    calls.push(call)?;
+    Ok(())
+}
+
+impl Device for Memory {
+    ghost disk = { memory_disk };
+
+    fn read(&mut self, alloc: Global) -> Result<Vec<u8>, DeviceFault> {
+        Ok(self.bytes.to_vec(alloc)?)
+    }
+
+    fn write_at(&mut self, at: usize, bytes: &[u8]) -> Result<(), DeviceFault> {
+        let next = overwritten(self.alloc, &self.bytes, at, bytes)?;
+        let written = bytes.to_vec(self.alloc)?;
+        record(&mut self.calls, DeviceCall::Write(at, written))?;
+        self.bytes = next;
+        Ok(())
+    }
+
+    fn sync(&mut self) -> Result<(), DeviceFault> {
+        let file = self.bytes.to_vec(self.alloc)?;
+        record(&mut self.calls, DeviceCall::Sync(file))?;
+        Ok(())
+    }
+}

@@ -1,0 +1,39 @@
+//! Tests of a journal over a file in memory that a crash left, and of the pieces that it refuses.
+use crate::expect::{holds, same};
+use rv_journal::{DiskJournal, JournalFault, Memory, OpenFault};
+use std::alloc::Global;
+use std::process::Abort;
+
+// Two lines; then the bytes of a piece that was lost, before and after the first zero.
+const TORN: &[u8] = b"A\nB\nC\0D\n\0\0";
+
+fn file(rt: &impl Abort, alloc: Global, bytes: &[u8]) -> Memory {
+    let bytes = bytes.to_vec(alloc).expect(rt, "no memory");
+    Memory::new(alloc, bytes).expect(rt, "no memory")
+}
+
+#[test]
+fn a_lost_piece_is_dropped_and_the_next_one_is_stored(rt: HostRuntime) {
+    let torn = file(&rt, rt.alloc(), TORN);
+    same(&rt, torn.bytes(), TORN);
+    match DiskJournal::open(rt.alloc(), torn) {
+        Ok((mut journal, lines)) => {
+            same(&rt, lines.as_slice(), b"A\nB\n");
+            same(&rt, journal.append(b"E\n"), Ok(()));
+            same(&rt, journal.append(b"\0"), Err(JournalFault::NotText));
+            same(&rt, journal.append(b"F\n"), Ok(()));
+        }
+        Err((fault, _)) => holds(&rt, false, fault),
+    }
+}
+
+#[test]
+fn a_file_without_a_zero_is_no_journal(rt: HostRuntime) {
+    match DiskJournal::open(rt.alloc(), file(&rt, rt.alloc(), b"A\n")) {
+        Ok(_) => holds(&rt, false, "no zero"),
+        Err((fault, left)) => {
+            same(&rt, fault, OpenFault::NotFilled);
+            same(&rt, left.bytes(), b"A\n");
+        }
+    }
+}
