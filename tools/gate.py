@@ -15,6 +15,9 @@ as it is.
 
 Random tests take their seed from the commit, so that each one explores anew; it is printed, and --seed repeats it.
 
+RT_JOBS says how many provers run side by side, and is else set by processors and memory. An empty one leaves that to rt, which
+is quicker where little changed, and takes more of the processor.
+
 usage: tools/gate.py [--anew] [--seed SEED]
   --anew   prove and try all, also what this machine has passed before: to measure what all of it takes
 """
@@ -36,6 +39,8 @@ from tools.outside import BAR, OF_TESTS, PROGRAM, STEPS, count, finish, outcome,
 
 # How many units the gate may take where all is proved from nothing.
 BUDGET = 115
+# How much memory a prover may need, in GiB.
+ROOM = 5
 
 
 class Provers(threading.Thread):
@@ -106,6 +111,13 @@ class Provers(threading.Thread):
         return ", ".join(f"{name} {taken:.1f}" for name, taken in minutes.most_common()) or "none"
 
 
+def side_by_side():
+    """How many provers run side by side: one a processor, as far as memory goes. rt would give idle processors to a single
+    proof, which takes a third more of their time."""
+    memory = os.sysconf("SC_PAGE_SIZE") * os.sysconf("SC_PHYS_PAGES") / 2**30
+    return max(1, min(os.cpu_count() or 1, int(memory / ROOM)))
+
+
 def processor_minutes():
     """The processor time of all commands so far."""
     used = resource.getrusage(resource.RUSAGE_CHILDREN)
@@ -143,7 +155,8 @@ def main():
     parser.add_argument("--anew", action="store_true")
     parser.add_argument("--seed", type=int, default=seed_of_commit())
     asked = parser.parse_args()
-    print(f"seed of random tests: {asked.seed}", flush=True)
+    os.environ.setdefault("RT_JOBS", str(side_by_side()))
+    print(f"seed of random tests: {asked.seed}; provers side by side: {os.environ['RT_JOBS']}", flush=True)
     _, status, _ = run(["rt", "selftest"])
     unit = processor_minutes()
     for path in (PROGRAM, STEPS):
