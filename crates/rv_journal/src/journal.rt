@@ -2,7 +2,7 @@
 //! being added.
 ghost use Rattle.std.specs.Prelude.{◌≡◌, ◌+◌, ◌≤◌, ◌<◌, ◌^◌, List, ℕ, true, false, length};
 ghost use Rattle.std.specs.Prelude.{IfErr, IfOk, IsErrOf, IsTrue, OnErr, OnOk};
-ghost use Rattle.std.specs.Prelude.{◌↔◌};
+ghost use Rattle.std.specs.Prelude.{◌↔◌, ◌⊎◌};
 ghost use Rattle.std.specs.List.{All};
 ghost use Rattle.rv_journal.specs.Device.{LeavesOnly, WhereTold};
 ghost use Rattle.rv_journal.specs.Text.{HasFront, stored_lines};
@@ -96,7 +96,8 @@ impl<D: Device> DiskJournal<D> {
             (LeavesOnly D.disk self.old.device self.new.device
             (HasFront (journal_text D.disk self.old) piece.now)) }
         ensures full { IsErrOf result Full → 2 ^ 50 ≤ self.old.end + length piece.now }
-        ensures refused { self.old.failed ≡ true → IsErrOf result Failed }
+        ensures refused { IsErrOf result Failed ↔ self.old.failed ≡ true }
+        ensures goes_on { IsErrOf result NotText ⊎ IsErrOf result Full → self.new.failed ≡ self.old.failed }
         ensures same { self.old.failed ≡ true → self.new ≡ self.old }
         ensures not_text { IsErrOf result NotText → All (λ byte. 0 < byte) piece.now → ⊥ }
         ensures cause { IsErrOf result append_failed → D.disk.failed self.new.device ≡ true }
@@ -125,7 +126,8 @@ impl<D: Device> Parts<D> {
             (LeavesOnly D.disk self.old.file.device self.new.file.device
             (HasFront (journal_text D.disk (journal_state self.old)) piece.now)) }
         ensures full { IsErrOf result Full → 2 ^ 50 ≤ self.old.file.end + length piece.now }
-        ensures refused { self.old.failed ≡ true → IsErrOf result Failed }
+        ensures refused { IsErrOf result Failed ↔ self.old.failed ≡ true }
+        ensures goes_on { IsErrOf result NotText ⊎ IsErrOf result Full → self.new.failed ≡ self.old.failed }
         ensures same { self.old.failed ≡ true → journal_state self.new ≡ journal_state self.old }
         ensures not_text { IsErrOf result NotText → All (λ byte. 0 < byte) piece.now → ⊥ }
         ensures cause { IsErrOf result append_failed → D.disk.failed self.new.file.device ≡ true }
