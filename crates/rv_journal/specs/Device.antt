@@ -29,8 +29,7 @@ abbrev pub Holds : List ℕ → ℕ → List ℕ → List ℕ → Type 0
 Holds old at bytes new = new ≡ take at old ++ bytes ++ drop (at + length bytes) old
 
 -- After a write that a crash cuts short: below the old end each byte is the old one or, in the range, the one
--- that was
--- written; past the old end any bytes.
+-- that was written; past the old end any bytes.
 pub record Mixed (at : ℕ) (bytes old new : List ℕ) : Type 0 where
   pub no_shorter : length old ≤ length new
   pub no_longer : length new ≤ max (length old) (at + length bytes)

@@ -1,4 +1,5 @@
--- What is told where the device failed.
+-- What is told where the device failed, and what ends a journal.
+use Rattle.std.specs.Prelude.{Bool, false, true}
 use Rattle.rv_journal.specs.declared.device.DeviceFault.TheVariants.{Failed}
 use Rattle.rv_journal.specs.declared.fault.JournalFault.{JournalFault}
 use Rattle.rv_journal.specs.declared.fault.JournalFault.TheVariants as OfJournal
@@ -10,6 +11,13 @@ use Rattle.rv_journal.specs.declared.filled.StoreFault.TheVariants as OfStore
 -- by a call that adds a piece
 abbrev pub append_failed : JournalFault
 append_failed = OfJournal.Device Failed
+
+-- whether a journal that told this takes nothing more
+abbrev pub ends_journal : JournalFault → Bool
+ends_journal OfJournal.NotText = false
+ends_journal OfJournal.Full = false
+ends_journal (OfJournal.Device why) = true
+ends_journal OfJournal.Failed = true
 
 -- by one that opens
 abbrev pub open_failed : OpenFault

@@ -27,8 +27,7 @@ pub record TakesPieces {D : Type 0} (disk : Disk D) (file : FilledFile D) : Type
   pub filled : WhereTold disk file.device (IsFilled disk file)
 
 -- A call that adds a piece, whether or not it ends well: a crash at any moment of it leaves the text, and a
--- front of the
--- piece.
+-- front of the piece.
 pub record AddsPiece {D : Type 0} (disk : Disk D) (piece : List ℕ) (old new : FilledFile D) : Type 0 where
   pub tells : disk.tells new.device ≡ disk.tells old.device
   pub any_moment : WhereTold disk old.device

@@ -3,7 +3,7 @@ ghost use Rattle.std.specs.Prelude.{◌≡◌, ◌≤◌, length, IfOk, OnOk};
 ghost use Rattle.rv_journal.specs.declared.device.DeviceFault.TheVariants.{NoMemory};
 ghost use Rattle.rv_journal.specs.Device.{Disk, HasCause, Holds, KeepsFile, Only, WhereTold, WritesFile};
 
-use std::alloc::{AllocError, AllocFailed, Global};
+use std::alloc::{AllocError, Global};
 
 /// Why a call of a device failed.
 #[derive(Clone, Copy, Debug, PartialEq, Eq)]
@@ -18,14 +18,6 @@ impl From<AllocError> for DeviceFault {
     ghost from_gives = { λ _ fault. fault ≡ NoMemory };
 
     fn from(_refused: AllocError) -> DeviceFault {
-        DeviceFault::NoMemory
-    }
-}
-
-impl<T: Drop> From<AllocFailed<T>> for DeviceFault {
-    ghost from_gives = { λ _ fault. fault ≡ NoMemory };
-
-    fn from(_refused: AllocFailed<T>) -> DeviceFault {
         DeviceFault::NoMemory
     }
 }

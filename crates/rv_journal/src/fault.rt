@@ -1,7 +1,4 @@
-//! Why a journal refuses a piece.
-ghost use Rattle.std.specs.Prelude.{◌≡◌};
-ghost use Rattle.rv_journal.specs.declared.fault.JournalFault.TheVariants.{Device};
-
+//! Why a journal refuses a piece, or a file.
 use crate::device::DeviceFault;
 use thiserror::Error;
 
@@ -21,14 +18,6 @@ pub enum JournalFault {
     /// An earlier call found that the device had failed. Nothing was done.
     #[error("the journal's device failed before")]
     Failed,
-}
-
-impl From<DeviceFault> for JournalFault {
-    ghost from_gives = { λ fault to. to ≡ Device fault };
-
-    fn from(fault: DeviceFault) -> JournalFault {
-        JournalFault::Device(fault)
-    }
 }
 
 /// Why a file was not opened as a journal.

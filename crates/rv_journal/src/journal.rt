@@ -2,14 +2,14 @@
 //! being added.
 ghost use Rattle.std.specs.Prelude.{◌≡◌, ◌+◌, ◌≤◌, ◌<◌, ◌^◌, List, ℕ, true, false, length};
 ghost use Rattle.std.specs.Prelude.{IfErr, IfOk, IsErrOf, IsTrue, OnErr, OnOk};
-ghost use Rattle.std.specs.Prelude.{◌↔◌, ◌⊎◌};
+ghost use Rattle.std.specs.Prelude.{◌↔◌};
 ghost use Rattle.std.specs.List.{All};
 ghost use Rattle.rv_journal.specs.Device.{LeavesOnly, WhereTold};
 ghost use Rattle.rv_journal.specs.Text.{HasFront, stored_lines};
 ghost use Rattle.rv_journal.specs.Opened.{HasLinesOf};
 ghost use Rattle.rv_journal.specs.Journal.{IsDurable, IsLeftUnfilled, IsLive, KeepsText, Stores};
 ghost use Rattle.rv_journal.specs.Journal.{journal_text, journal_state};
-ghost use Rattle.rv_journal.specs.Faults.{append_failed, open_failed};
+ghost use Rattle.rv_journal.specs.Faults.{append_failed, ends_journal, open_failed};
 ghost use Rattle.rv_journal.specs.declared.fault.OpenFault.TheVariants.{NotFilled};
 ghost use Rattle.rv_journal.specs.declared.fault.JournalFault.TheVariants.{NotText, Full, Failed};
 
@@ -57,6 +57,8 @@ impl<D: Device> DiskJournal<D> {
             (opened.1.items ≡ stored_lines (D.disk.seen device))) }
         ensures text { IfOk result (λ opened. WhereTold D.disk device
             (journal_text D.disk opened.0 ≡ stored_lines (D.disk.seen device))) }
+        ensures tells { IfOk result (λ opened. D.disk.tells opened.0.device ≡ D.disk.tells device) }
+        ensures tells_err { IfErr result (λ failed. D.disk.tells failed.1 ≡ D.disk.tells device) }
         ensures works { IfOk result (λ opened. opened.0.failed ≡ false) }
         ensures durable { IfOk result (λ opened. WhereTold D.disk device (IsDurable D.disk opened.0)) }
         ensures any_moment { IfOk result (λ opened. WhereTold D.disk device
@@ -97,7 +99,7 @@ impl<D: Device> DiskJournal<D> {
             (HasFront (journal_text D.disk self.old) piece.now)) }
         ensures full { IsErrOf result Full → 2 ^ 50 ≤ self.old.end + length piece.now }
         ensures refused { IsErrOf result Failed ↔ self.old.failed ≡ true }
-        ensures goes_on { IsErrOf result NotText ⊎ IsErrOf result Full → self.new.failed ≡ self.old.failed }
+        ensures ends { IfErr result (λ fault. self.new.failed ≡ ends_journal fault) }
         ensures same { self.old.failed ≡ true → self.new ≡ self.old }
         ensures not_text { IsErrOf result NotText → All (λ byte. 0 < byte) piece.now → ⊥ }
         ensures cause { IsErrOf result append_failed → D.disk.failed self.new.device ≡ true }
@@ -127,7 +129,7 @@ impl<D: Device> Parts<D> {
             (HasFront (journal_text D.disk (journal_state self.old)) piece.now)) }
         ensures full { IsErrOf result Full → 2 ^ 50 ≤ self.old.file.end + length piece.now }
         ensures refused { IsErrOf result Failed ↔ self.old.failed ≡ true }
-        ensures goes_on { IsErrOf result NotText ⊎ IsErrOf result Full → self.new.failed ≡ self.old.failed }
+        ensures ends { IfErr result (λ fault. self.new.failed ≡ ends_journal fault) }
         ensures same { self.old.failed ≡ true → journal_state self.new ≡ journal_state self.old }
         ensures not_text { IsErrOf result NotText → All (λ byte. 0 < byte) piece.now → ⊥ }
         ensures cause { IsErrOf result append_failed → D.disk.failed self.new.file.device ≡ true }

@@ -71,3 +71,10 @@ returns-in-Err-clause-cause g c is = absurd (none (open_why NoMemory is))
 
 pub returns-in-Err-reopen-clause-cause : goal.returns-in-Err-reopen-clause-cause
 returns-in-Err-reopen-clause-cause g c is = c.in-Err-reopen.ensures.cause (ap Err is)
+
+pub returns-in-Ok-reopen-clause-tells : goal.returns-in-Ok-reopen-clause-tells
+returns-in-Ok-reopen-clause-tells g c =
+    ap g.D.Device.disk.tells c.new-file.ensures.device ∙ c.reopen.ensures.tells
+
+pub returns-in-Err-reopen-clause-tells_err : goal.returns-in-Err-reopen-clause-tells_err
+returns-in-Err-reopen-clause-tells_err g c = c.reopen.ensures.tells
