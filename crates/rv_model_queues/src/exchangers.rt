@@ -57,7 +57,10 @@ fn lay(exchanger: &mut Swap, duty: Duty)
 fn is_above(after: Option<Place>, place: Place) -> bool
     ensures { result ≡ is_above after place }
 {
-    after.is_none_or(|least| least < place)
+    match after {
+        None => true,
+        Some(least) => least < place,
+    }
 }
 
 /// All exchangers, by their numbers.
@@ -104,7 +107,10 @@ impl Exchangers {
         ensures { result ≡ first_above after (place_of_duty (exchanger_at self.now exchanger)) }
     {
         let place = self.exchangers[exchanger as usize].waiting()?;
-        is_above(after, place).then_some(place)
+        if is_above(after, place) {
+            return Some(place);
+        }
+        None
     }
 
     /// An arrival meets the one that waits at the exchanger, which leaves. If none does, it waits, if its

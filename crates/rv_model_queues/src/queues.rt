@@ -80,6 +80,18 @@ fn transfer(queue: &mut Dual, wait: Wait, duty: Duty) -> Arrived
     }
 }
 
+// A giver arrives, a put or a request.
+fn give(queue: &mut Dual, wait: Option<Wait>, duty: Duty) -> Arrived
+    requires room { HasRoomToGive queue.old wait }
+    requires above { IsAbove queue.old duty.place }
+    ensures { Gave queue.old queue.new wait duty result }
+{
+    match wait {
+        None => put(queue, duty),
+        Some(wait) => transfer(queue, wait, duty),
+    }
+}
+
 // A taker arrives: if no item is there it waits, or goes.
 fn receive(queue: &mut Dual, wait: Wait, duty: Duty) -> Arrived
     requires room { HasRoomToTake queue.old (Some wait) }
@@ -220,11 +232,7 @@ impl Queues {
         ensures gave { Gave (queue_at self.old queue) (queue_at self.new queue) wait duty result }
         ensures others { OnlyQueue queue self.old self.new }
     {
-        let dual = &mut self.queues[queue as usize];
-        match wait {
-            None => put(dual, duty),
-            Some(wait) => transfer(dual, wait, duty),
-        }
+        give(&mut self.queues[queue as usize], wait, duty)
     }
 
     /// A taker meets the queue's oldest item, which leaves. If there is none, it waits last, if its wait
