@@ -5,6 +5,7 @@ pub mod EndedMachine
 pub mod Asked
 pub mod Stayed
 pub mod StayedMachine
+pub mod RoomMade
 pub mod Concluded
 pub mod Leaving
 pub mod Lying

@@ -1,5 +1,6 @@
 -- What it is that a request arrives at a machine.
 use Rattle.std.specs.Prelude.{◌≡◌, ◌+◌, ◌≤◌, ◌++◌, ℕ, Option, Some, None}
+use Rattle.std.specs.Prelude.{vec_capacity, vec_len}
 use Rattle.rv_machine.specs.open_places.OpenMap.{most_counted}
 use Rattle.rv_text.specs.declared.message.Key.{Key}
 use Rattle.rv_text.specs.declared.call.Call.{Call}
@@ -40,6 +41,20 @@ pub record Arrives (old new : Holdings) (moment : ℕ) (key : Key) (call : Call)
   pub session : ClientState
   pub known : client_at (state_in new) key.client ≡ Some session
   pub told : told_again session.request ≡ (following (state_in old) moment (Arrive key call)).reply
+
+-- there is room to list one more request than those that wait
+abbrev pub CanListOneMore : Holdings → Type 0
+CanListOneMore m = vec_len m.settled + (count_waiting m.table + 1) ≤ vec_capacity m.settled
+
+-- the list of the settled has as much room or more, and nothing else changed
+pub record DiffersInRoom (old new : Holdings) : Type 0 where
+  pub moment : new.moment ≡ old.moment
+  pub length : new.length ≡ old.length
+  pub table : new.table ≡ old.table
+  pub clients : new.clients ≡ old.clients
+  pub items : new.settled.items ≡ old.settled.items
+  pub listed : vec_len new.settled ≡ vec_len old.settled
+  pub room : vec_capacity old.settled ≤ vec_capacity new.settled
 
 -- nothing changed but room
 pub record IsAsBefore (old new : Holdings) : Type 0 where

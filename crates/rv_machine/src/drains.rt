@@ -14,6 +14,7 @@ use crate::tables::Holdings;
 use rv_account::{Act, Entry, Partners};
 use rv_session::{OpenPlace, Place};
 use rv_text::{Call, Item, Items, Key, NoMemory, Reply};
+use std::alloc::Global;
 
 // The queue that a call drains.
 fn drained_queue(call: &Call) -> u64
@@ -31,6 +32,24 @@ fn drained_queue(call: &Call) -> u64
         Call::Count { .. } => unreachable!(),
         Call::Peek { .. } => unreachable!(),
     }
+}
+
+// What a drain of so many items needs: a copy of its call, and room for the items and their places. Fails
+// only if memory was refused.
+fn growths(
+    alloc: Global,
+    call: &Call,
+    most: usize,
+) -> Result<(Call, Vec<Item>, Vec<Place>), NoMemory>
+    ensures copy { IfOk result (λ made. made.0 ≡ call.now) }
+    ensures no_items { IfOk result (λ made. made.1.items ≡ []) }
+    ensures no_places { IfOk result (λ made. made.2.items ≡ []) }
+    ensures items_room { IfOk result (λ made. most ≤ vec_capacity made.1) }
+    ensures places_room { IfOk result (λ made. most ≤ vec_capacity made.2) }
+{
+    let places = Vec::with_capacity(alloc, most)?;
+    let items = Vec::with_capacity(alloc, most)?;
+    Ok((call.copy(alloc)?, items, places))
 }
 
 // Lists what was taken, for which there is room.
@@ -63,17 +82,21 @@ impl Holdings {
         ensures same { OnErr result (IsAsBefore self.old self.new) }
         ensures ready { IsWhole self.new }
     {
-        let alloc = self.allocator();
         let queue = drained_queue(&call);
-        let copy = call.copy(alloc)?;
         let most = self.table.count(queue).0.min(max as usize);
-        let mut items = Vec::with_capacity(alloc, most)?;
-        let mut places = Vec::with_capacity(alloc, most)?;
-        self.take_items(queue, key, most, &mut items, &mut places);
-        let reply = Reply::Drained(Items::from_vec(items));
-        self.clients.conclude(&key, call, reply);
-        let act = Act::Arrive { key, call: copy };
-        Ok(self.record(moment, act, Partners::from_vec(places)))
+        match growths(self.allocator(), &call, most) {
+            Ok((copy, mut items, mut places)) => {
+                self.take_items(queue, key, most, &mut items, &mut places);
+                let reply = Reply::Drained(Items::from_vec(items));
+                self.clients.conclude(&key, call, reply);
+                let act = Act::Arrive { key, call: copy };
+                Ok(self.record(moment, act, Partners::from_vec(places)))
+            }
+            Err(refused) => {
+                drop(call);
+                Err(refused)
+            }
+        }
     }
 
     // Takes so many of a queue's oldest items for the request of this key, which there must be, one a pass,

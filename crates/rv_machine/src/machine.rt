@@ -16,9 +16,14 @@ pub enum Said {
 
 /// The machine: the state of an account, without its entries. Each step is handed its limits. Contracts see
 /// its tables. They always fit each other and a state, and there is always room to list all that wait.
-#[derive(Drop)]
 pub struct Machine {
     pub(crate) tables: Holdings,
+}
+
+impl Drop for Machine {
+    fn drop(self) {
+        let Machine { tables: _ } = self;
+    }
 }
 
 impl Model for Machine {

@@ -15,6 +15,7 @@ use crate::tables::Holdings;
 use rv_account::{Act, Entry, Partners};
 use rv_session::{Duty, OpenPlace, Place, Waiter};
 use rv_text::{Call, Item, Key, NoMemory, Reply, Side, Version, Wait};
+use std::alloc::Global;
 
 /// The reply of a giver whose item was taken by the request with a key.
 pub(crate) fn receipt(version: Version, taker: Option<Key>) -> Reply
@@ -64,6 +65,25 @@ fn arriving(
     }
 }
 
+// What a request that meets one needs: a copy of its call, one of its item if it hands one over, and room to
+// name its partner. Fails only if memory was refused.
+fn growths(alloc: Global, call: &Call) -> Result<(Call, Option<Item>, Vec<Place>), NoMemory>
+    ensures copy { IfOk result (λ made. made.0 ≡ call.now) }
+    ensures gift { IfOk result (λ made. made.1 ≡ item_of call.now) }
+    ensures none { IfOk result (λ made. made.2.items ≡ []) }
+    ensures room { IfOk result (λ made. 0 < vec_capacity made.2) }
+{
+    let places = Vec::with_capacity(alloc, 1)?;
+    let gift = copy_item(alloc, call)?;
+    match call.copy(alloc) {
+        Ok(copy) => Ok((copy, gift, places)),
+        Err(refused) => {
+            drop(gift);
+            Err(refused)
+        }
+    }
+}
+
 impl Holdings {
     /// A request meets the oldest that it can meet; there must be one. Fails only if memory was refused, and
     /// then the state stays.
@@ -75,11 +95,13 @@ impl Holdings {
         ensures ok { IfOk result (Arrives self.old self.new moment key call) }
         ensures err { OnErr result (IsAsBefore self.old self.new) }
     {
-        let alloc = self.allocator();
-        let copy = call.copy(alloc)?;
-        let gift = copy_item(alloc, &call)?;
-        let places = Vec::with_capacity(alloc, 1)?;
-        Ok(self.meet_now(moment, key, call, copy, gift, places))
+        match growths(self.allocator(), &call) {
+            Ok((copy, gift, places)) => Ok(self.meet_now(moment, key, call, copy, gift, places)),
+            Err(refused) => {
+                drop(call);
+                Err(refused)
+            }
+        }
     }
 
     // The same, with all growths made.

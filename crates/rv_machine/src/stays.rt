@@ -1,5 +1,5 @@
 //! Requests that find nobody and stay: they are open from then on.
-ghost use Rattle.std.specs.Prelude.{◌≡◌, ◌≤◌, [], Some, IfOk, IfSome, OnErr};
+ghost use Rattle.std.specs.Prelude.{◌≡◌, ◌≤◌, [], Some, IfOk, IfSome, OnErr, OnOk};
 ghost use Rattle.rv_session.specs.Clients.{place_awaited};
 ghost use Rattle.rv_account.specs.Calls.{Lasts};
 ghost use Rattle.rv_rules.specs.Steps.{max_moment};
@@ -7,7 +7,8 @@ ghost use Rattle.rv_state.specs.After.{opened_by};
 ghost use Rattle.rv_text.specs.Calls.{item_of, side_of, wait_of};
 ghost use Rattle.rv_text.specs.Limits.{FitsCall};
 ghost use Rattle.rv_model_queues.specs.Meeting.{StaysBy};
-ghost use Rattle.rv_machine.specs.Arriving.{Arrives, IsAsBefore, MayArrive, after_put};
+ghost use Rattle.rv_machine.specs.Arriving.{Arrives, CanListOneMore, DiffersInRoom, IsAsBefore};
+ghost use Rattle.rv_machine.specs.Arriving.{MayArrive, after_put};
 ghost use Rattle.rv_machine.specs.Machines.{IsWhole, state_in};
 ghost use Rattle.rv_machine.specs.open_places.OpenMap.{opposed_in};
 
@@ -59,6 +60,33 @@ impl Holdings {
         })
     }
 
+    // Makes room to list a request that stays, and makes its open place and a copy of its call. Fails only if
+    // memory was refused.
+    fn prepare(
+        &mut self,
+        moment: u64,
+        key: &Key,
+        call: &Call,
+    ) -> Result<(OpenPlace, Call), NoMemory>
+        requires may { MayArrive self.old moment key.now call.now }
+        requires lasts { Lasts (wait_of call.now) }
+        ensures opened { IfOk result
+            (λ made. made.0 ≡ opened_by (state_in self.old) moment key.now call.now) }
+        ensures copy { IfOk result (λ made. made.1 ≡ call.now) }
+        ensures room { OnOk result (CanListOneMore self.new) }
+        ensures rest { DiffersInRoom self.old self.new }
+    {
+        self.settled.reserve(self.table.waiting() + 1)?;
+        let opened = self.opening(moment, key, call)?;
+        match call.copy(self.allocator()) {
+            Ok(copy) => Ok((opened, copy)),
+            Err(refused) => {
+                drop(opened);
+                Err(refused)
+            }
+        }
+    }
+
     /// A request finds nobody and stays. Fails only if memory was refused, and then the state stays.
     pub(crate) fn stay(&mut self, moment: u64, key: Key, call: Call) -> Result<Entry, NoMemory>
         requires may { MayArrive self.old moment key call }
@@ -68,15 +96,48 @@ impl Holdings {
         ensures ok { IfOk result (Arrives self.old self.new moment key call) }
         ensures err { OnErr result (IsAsBefore self.old self.new) }
     {
+        match self.prepare(moment, &key, &call) {
+            Ok((opened, copy)) => self.stay_at(moment, key, call, opened, copy),
+            Err(refused) => {
+                drop(call);
+                Err(refused)
+            }
+        }
+    }
+
+    // The same, with all prepared.
+    fn stay_at(
+        &mut self,
+        moment: u64,
+        key: Key,
+        call: Call,
+        opened: OpenPlace,
+        copy: Call,
+    ) -> Result<Entry, NoMemory>
+        requires may { MayArrive self.old moment key call }
+        requires alone { opposed_in self.old.table (side_of call) ≡ [] }
+        requires stays { StaysBy (side_of call) (wait_of call) }
+        requires opened { opened ≡ opened_by (state_in self.old) moment key call }
+        requires copy { copy ≡ call }
+        requires room { CanListOneMore self.old }
+        ensures ready { IsWhole self.new }
+        ensures ok { IfOk result (Arrives self.old self.new moment key call) }
+        ensures err { OnErr result (IsAsBefore self.old self.new) }
+    {
         let alloc = self.allocator();
-        self.settled.reserve(self.table.waiting() + 1)?;
-        let opened = self.opening(moment, &key, &call)?;
-        let copy = call.copy(alloc)?;
-        let put = self
+        match self
             .table
-            .park(&mut self.clients, opened, &key, call, &copy)?;
-        settle_put(&mut self.clients, put);
-        let act = Act::Arrive { key, call: copy };
-        Ok(self.record(moment, act, Partners::none(alloc)))
+            .park(&mut self.clients, opened, &key, call, &copy)
+        {
+            Ok(put) => {
+                settle_put(&mut self.clients, put);
+                let act = Act::Arrive { key, call: copy };
+                Ok(self.record(moment, act, Partners::none(alloc)))
+            }
+            Err(refused) => {
+                drop(copy);
+                Err(refused)
+            }
+        }
     }
 }

@@ -1,59 +1,37 @@
--- The request is open from now on, and its client's last.
-use Rattle.std.proofs.Common.{◌≡◌, ◌∙◌, [], ap, subst, sym, Some}
-use Rattle.std.specs.Prelude.{◌+◌, ◌≤◌, IfSome, vec_capacity, vec_len}
-use Rattle.rv_session.specs.Clients.{ClientStates, place_awaited}
-use Rattle.rv_account.specs.declared.entry.Entry.{Entry}
-use Rattle.rv_account.specs.declared.entry.Act.TheVariants.{Arrive}
-use Rattle.rv_account.specs.Account.{entry}
-use Rattle.rv_state.specs.State.{OpenPlace}
-use Rattle.rv_machine.specs.declared.tables.Holdings.{Holdings}
-use Rattle.rv_machine.specs.Arriving.{Arrives, after_put}
-use Rattle.rv_machine.specs.open_places.Indexed.{ParksPlace}
-use Rattle.rv_machine.specs.Machines.{IsWhole}
-use Rattle.rv_machine.proofs.StayedMachine.{put_awaits, stay_arrives, stay_ready}
+-- What arrives when the room was made arrives.
+use Rattle.std.proofs.Common.{◌≡◌, [], List, subst, sym}
+use Rattle.std.proofs.lemmas.Result.{IfOk-weaker, on_err_weaker}
+use Rattle.rv_text.specs.Calls.{side_of}
+use Rattle.rv_state.specs.State.{OpenPlace, State}
+use Rattle.rv_state.specs.After.{opened_by}
+use Rattle.rv_machine.specs.Machines.{state_in}
+use Rattle.rv_machine.specs.open_places.OpenMap.{opposed_in}
+use Rattle.rv_machine.proofs.RoomMade.{arrives_since, as_before_since, may_still, same_state}
 use Rattle.rv_machine.proofs.tables.Holdings.stay.Goals as goal
 
-pub settle_put-requires : goal.settle_put-requires
-settle_put-requires c =
-    let parks = subst (λ (o : OpenPlace). ParksPlace c.args.self.now.table c.park.new.self
-    c.args.self.now.clients
-    c.park.new.clients o c.args.key c.args.call c.in_ok-put.put) c.in_ok-opened.ensures c.in_ok-put.ensures.ok
-    in
-    subst (λ (t : ClientStates). IfSome c.in_ok-put.put (λ d. place_awaited t.clients d.client ≡ Some
-    d.place))
-    (sym parks.begins)
-    (put_awaits c.args.self.now c.args.moment c.args.key c.args.call c.requires.may c.requires.alone
-    c.requires.stays c.in_ok-put.put parks.own_is)
+pub stay_at-requires-clause-may : goal.stay_at-requires-clause-may
+stay_at-requires-clause-may c =
+    may_still c.args.self.now c.prepare.new.self c.prepare.ensures.rest c.args.moment c.args.key c.args.call
+    c.requires.may
 
-pub returns-clause-ready : goal.returns-clause-ready
-returns-clause-ready c =
-    let parks = subst (λ (o : OpenPlace). ParksPlace c.args.self.now.table c.park.new.self
-    c.args.self.now.clients
-    c.park.new.clients o c.args.key c.args.call c.in_ok-put.put) c.in_ok-opened.ensures c.in_ok-put.ensures.ok
-    in
-    subst (λ (m : Holdings). IsWhole m) (sym c.record.ensures.counted)
-    (stay_ready c.args.self.now c.args.moment c.args.key c.args.call c.requires.may c.requires.alone
-    c.requires.stays c.in_ok-copy.copy c.in_ok-copy.ensures.same c.park.new.self parks.opens
-    c.settle_put.new.clients c.in_ok-put.put parks.own_is
-    (c.settle_put.ensures ∙ ap (λ (t : ClientStates). after_put t c.in_ok-put.put) parks.begins)
-    c.reserve.new.self c.reserve.ensures.len
-    (subst (λ n. vec_len c.reserve.new.self + (n + 1) ≤ vec_capacity c.reserve.new.self) c.waiting.ensures
-    c.in_ok-reserve.ensures.ok))
+pub stay_at-requires-clause-alone : goal.stay_at-requires-clause-alone
+stay_at-requires-clause-alone c =
+    subst (λ (all : List OpenPlace). opposed_in all (side_of c.args.call) ≡ [])
+    (sym c.prepare.ensures.rest.table) c.requires.alone
 
-pub returns-clause-ok : goal.returns-clause-ok
-returns-clause-ok c =
-    let parks = subst (λ (o : OpenPlace). ParksPlace c.args.self.now.table c.park.new.self
-    c.args.self.now.clients
-    c.park.new.clients o c.args.key c.args.call c.in_ok-put.put) c.in_ok-opened.ensures c.in_ok-put.ensures.ok
-    in
-    subst (λ (e : Entry). Arrives c.args.self.now c.record.new.self c.args.moment c.args.key c.args.call e)
-    (sym (c.record.ensures.entry ∙ ap (entry c.args.moment (Arrive c.args.key c.in_ok-copy.copy))
-    c.none.ensures))
-    (subst (λ (m : Holdings). Arrives c.args.self.now m c.args.moment c.args.key c.args.call
-    (entry c.args.moment (Arrive c.args.key c.in_ok-copy.copy) []))
-    (sym c.record.ensures.counted)
-    (stay_arrives c.args.self.now c.args.moment c.args.key c.args.call c.requires.may c.requires.alone
-    c.requires.stays c.in_ok-copy.copy c.in_ok-copy.ensures.same c.park.new.self parks.opens
-    c.settle_put.new.clients c.in_ok-put.put parks.own_is
-    (c.settle_put.ensures ∙ ap (λ (t : ClientStates). after_put t c.in_ok-put.put) parks.begins)
-    c.reserve.new.self c.reserve.ensures.items))
+pub stay_at-requires-clause-opened : goal.stay_at-requires-clause-opened
+stay_at-requires-clause-opened c =
+    subst (λ (s : State). c.in-Ok.opened ≡ opened_by s c.args.moment c.args.key c.args.call)
+    (sym (same_state c.args.self.now c.prepare.new.self c.prepare.ensures.rest)) c.in-Ok.ensures.opened
+
+pub returns-in-Ok-clause-ok : goal.returns-in-Ok-clause-ok
+returns-in-Ok-clause-ok c =
+    IfOk-weaker c.stay_at.result _ _
+    (arrives_since c.args.self.now c.prepare.new.self c.prepare.ensures.rest c.args.moment c.args.key
+    c.args.call c.stay_at.new.self) c.stay_at.ensures.ok
+
+pub returns-in-Ok-clause-err : goal.returns-in-Ok-clause-err
+returns-in-Ok-clause-err c =
+    on_err_weaker c.stay_at.result
+    (as_before_since c.args.self.now c.prepare.new.self c.prepare.ensures.rest c.stay_at.new.self)
+    c.stay_at.ensures.err
