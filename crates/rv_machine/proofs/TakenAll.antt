@@ -3,7 +3,7 @@ use Rattle.std.proofs.Common.{◌≡◌, ◌<◌, ◌≤◌, ◌++◌, ◌∷◌
 use Rattle.std.proofs.Common.{refl}
 use Rattle.std.proofs.Common.{sym, ap, subst, arith, length, append_assoc}
 use Rattle.std.proofs.lemmas.Bool.{false≢true}
-use Rattle.std.proofs.lemmas.List.{append-nil, length-append, map-append}
+use Rattle.std.proofs.lemmas.List.{append-nil, length-append, length-map, map-append}
 use Rattle.std.proofs.lemmas.List.Elements.{filter_map-append}
 use Rattle.std.proofs.lemmas.List.Sums.{fold-append}
 use Rattle.std.specs.Prelude.{option_and_then, option_map, unwrap_or, vec_capacity, vec_len}
@@ -174,6 +174,29 @@ items_left old now queue most count taker items places is less =
     let few : length (items_of is.takes.gone) ≤ length is.takes.gone =
     no_longer (λ (o : OpenPlace). o.item) is.takes.gone in
     omega (arith, long, same, few, is.takes.number, is.items_room, less)
+
+pub places_left : (old now : Holdings) (queue most count : ℕ) (taker : Key) (items : Vec (List ℕ))
+    (places :
+    Vec ℕ)
+    → TookSoMany old now queue most count taker items places → count < most
+    → vec_len places < vec_capacity places
+places_left old now queue most count taker items places is less =
+    let long : vec_len places ≡ length places.items = places.ok.0 in
+    let same : length places.items ≡ length is.takes.gone = ap length is.takes.places_are
+    ∙ length-map is.takes.gone (λ (o : OpenPlace). o.place) in
+    omega (arith, long, same, is.takes.number, is.places_room, less)
+
+-- and one more to take
+pub line_left : (old now : Holdings) (queue most count : ℕ) (taker : Key) (items : Vec (List ℕ))
+    (places :
+    Vec ℕ)
+    → TookSoMany old now queue most count taker items places → count < most
+    → most ≤ length (line_in old.table (Gives queue)) → 0 < length (line_in now.table (Gives queue))
+line_left old now queue most count taker items places is less there =
+    let parts : length (line_in old.table (Gives queue))
+    ≡ length is.takes.gone + length (line_in now.table (Gives queue)) = ap length is.takes.first
+    ∙ length-append is.takes.gone (line_in now.table (Gives queue)) in
+    omega (arith, parts, is.takes.number, less, there)
 
 pub took_more : (old now new : Holdings) (queue most count : ℕ) (taker : Key) (there : OpenPlace)
     (items after : Vec (List ℕ)) (places then : Vec ℕ)

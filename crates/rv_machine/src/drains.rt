@@ -49,7 +49,13 @@ fn growths(
 {
     let places = Vec::with_capacity(alloc, most)?;
     let items = Vec::with_capacity(alloc, most)?;
-    Ok((call.copy(alloc)?, items, places))
+    match call.copy(alloc) {
+        Ok(copy) => Ok((copy, items, places)),
+        Err(refused) => {
+            drop(items);
+            Err(refused)
+        }
+    }
 }
 
 // Lists what was taken, for which there is room.

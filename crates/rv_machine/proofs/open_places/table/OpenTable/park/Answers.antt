@@ -1,12 +1,12 @@
 -- One more is open, after all others.
-use Rattle.std.proofs.Common.{◌∙◌, ◌+◌, ◌-◌, subst, sym, List}
+use Rattle.std.proofs.Common.{◌∙◌, ◌+◌, ◌++◌, ◌-◌, ◌∷◌, [], ap, subst, sym, List}
 use Rattle.rv_text.specs.declared.call.Call.{Call}
 use Rattle.rv_text.specs.Calls.{side_of, wait_of}
 use Rattle.rv_session.specs.OwedDuty.{OwedDuty}
 use Rattle.rv_state.specs.State.{OpenPlace}
 use Rattle.rv_model_queues.specs.Meeting.{ArrivedOn}
 use Rattle.rv_machine.specs.open_places.OpenMap.{StandBelow}
-use Rattle.rv_machine.specs.open_places.Indexed.{AreIndexed, MayPark}
+use Rattle.rv_machine.specs.open_places.Indexed.{AreIndexed, MayPark, own_duty}
 use Rattle.rv_machine.proofs.OfOpenPlaces.Meetings.{are_below}
 use Rattle.rv_machine.proofs.OfOpenPlaces.Parking.{counted_back, nobody_owed, own_back, parked_index}
 use Rattle.rv_machine.proofs.OfOpenPlaces.Parking.{same_index}
@@ -68,3 +68,27 @@ invariant_of-self c =
     (counted_back c.self.inside.opens c.lay_for.new.wait_queues c.arrive.new.self c.self.inside.waiting
     c.self.inside.due c.args.opened c.args.key.now c.args.copy.now c.arrive.result is may c.parked-own.result
     c.owing.result own c.owing.ensures) c.in-Ok.ensures.limit)
+
+pub returns-in-Ok-clause-ok : goal.returns-in-Ok-clause-ok
+returns-in-Ok-clause-ok c =
+    let may = subst (λ (x : Call). MayPark c.self.inside.opens c.args.opened c.args.key.now x)
+    (sym c.requires.copy)
+    (subst (λ (all : List OpenPlace). MayPark all c.args.opened c.args.key.now c.args.call)
+    (sym c.self.view_is)
+    c.requires.may) in
+    let is = same_index c.self.inside.opens c.self.inside.wait_queues c.lay_for.new.wait_queues
+    c.self.inside.waiting
+    c.self.inside.due c.self.invariant c.lay_for.ensures.makes.same in
+    let arrived = subst (λ (d : OwedDuty). ArrivedOn c.lay_for.new.wait_queues c.arrive.new.self
+    (side_of c.args.copy.now)
+    (wait_of c.args.copy.now) d c.arrive.result) c.begin-duty.ensures.duty c.arrive.ensures in
+    record {
+      opens = c.in-Ok.ensures.opened ∙ ap (λ (all : List OpenPlace). all ++ c.args.opened ∷ [])
+          c.self.view_is;
+      begins = c.begin-duty.ensures.waits;
+      own_is = c.parked-own.ensures
+          ∙ own_back c.self.inside.opens c.lay_for.new.wait_queues c.arrive.new.self c.self.inside.waiting
+          c.self.inside.due c.args.opened c.args.key.now c.args.copy.now c.arrive.result is may arrived
+          ∙ ap (λ (x : Call). own_duty (wait_of x)
+          (record { place = c.args.opened.place; client = c.args.key.now.client })) c.requires.copy;
+    }
