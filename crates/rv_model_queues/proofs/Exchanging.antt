@@ -6,7 +6,9 @@ use Rattle.rv_model_queues.proofs.Words.{ArrivedOn, FindsNobody, AreParked, IsPa
 use Rattle.rv_model_queues.proofs.Words.{WaitQueues, place_of_duty, queue_at, takers_places, waiting_on}
 use Rattle.rv_model_queues.proofs.Words.{eqb_tells}
 use Rattle.rv_dual.specs.Queue.{SameLists}
-use Rattle.rv_model_queues.specs.Meeting.{Exchanged, SwappedNothing, SwappedWith, WaitsAlone}
+use Rattle.std.specs.Prelude.{IfNone, IfSome}
+use Rattle.rv_swap.specs.Exchange.{LeavesExchanger, NotWaiting}
+use Rattle.rv_model_queues.specs.Meeting.{Exchanged, LeftExchanger, SwappedNothing, SwappedWith, WaitsAlone}
 use Rattle.rv_model_queues.specs.Views.{OnlyExchanger, exchanger_at}
 
 -- ---- one exchanger
@@ -118,6 +120,14 @@ module _ (old new : WaitQueues) (exchanger : ℕ) (changed : ExchangerChanged ol
   arrived_exchanges wait duty result (inl swap) = swapped wait duty result swap
   arrived_exchanges wait duty result (inr (inl waits)) = waits_alone wait duty result waits.0 waits.1
   arrived_exchanges wait duty result (inr (inr goes)) = swapped_nothing wait duty result goes.0 goes.1
+
+-- ---- a withdrawal
+
+pub left_as : (old new : Option OwedDuty) (place : ℕ) (result : Option OwedDuty)
+    → IfSome result (LeavesExchanger old place new) → IfNone result (NotWaiting old place)
+    → IfNone result (new ≡ old) → LeftExchanger old new place result
+left_as old new place None taken not_there stays = (not_there, stays)
+left_as old new place (Some duty) taken not_there stays = taken
 
 -- ---- free exchangers
 
