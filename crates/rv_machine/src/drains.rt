@@ -49,13 +49,7 @@ fn growths(
 {
     let places = Vec::with_capacity(alloc, most)?;
     let items = Vec::with_capacity(alloc, most)?;
-    match call.copy(alloc) {
-        Ok(copy) => Ok((copy, items, places)),
-        Err(refused) => {
-            drop(items);
-            Err(refused)
-        }
-    }
+    Ok((call.copy(alloc)?, items, places))
 }
 
 // Lists what was taken, for which there is room.
@@ -90,19 +84,12 @@ impl Holdings {
     {
         let queue = drained_queue(&call);
         let most = self.table.count(queue).0.min(max as usize);
-        match growths(self.allocator(), &call, most) {
-            Ok((copy, mut items, mut places)) => {
-                self.take_items(queue, key, most, &mut items, &mut places);
-                let reply = Reply::Drained(Items::from_vec(items));
-                self.clients.conclude(&key, call, reply);
-                let act = Act::Arrive { key, call: copy };
-                Ok(self.record(moment, act, Partners::from_vec(places)))
-            }
-            Err(refused) => {
-                drop(call);
-                Err(refused)
-            }
-        }
+        let (copy, mut items, mut places) = growths(self.allocator(), &call, most)?;
+        self.take_items(queue, key, most, &mut items, &mut places);
+        let reply = Reply::Drained(Items::from_vec(items));
+        self.clients.conclude(&key, call, reply);
+        let act = Act::Arrive { key, call: copy };
+        Ok(self.record(moment, act, Partners::from_vec(places)))
     }
 
     // Takes so many of a queue's oldest items for the request of this key, which there must be, one a pass,

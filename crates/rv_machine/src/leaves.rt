@@ -51,17 +51,10 @@ impl Holdings {
         ensures ready { IsWhole self.new }
     {
         let alloc = self.allocator();
-        match self.told_alone(&call, alloc) {
-            Ok((copy, reply)) => {
-                self.clients.conclude(&key, call, reply);
-                let act = Act::Arrive { key, call: copy };
-                Ok(self.record(moment, act, Partners::none(alloc)))
-            }
-            Err(refused) => {
-                drop(call);
-                Err(refused)
-            }
-        }
+        let (copy, reply) = self.told_alone(&call, alloc)?;
+        self.clients.conclude(&key, call, reply);
+        let act = Act::Arrive { key, call: copy };
+        Ok(self.record(moment, act, Partners::none(alloc)))
     }
 
     // A copy of the call of a request that finds nobody and doesn't stay, and its reply.
@@ -72,14 +65,8 @@ impl Holdings {
         ensures copy { IfOk result (λ made. made.0 ≡ call.now) }
         ensures reply { IfOk result (λ made. told_alone (state_in self.now) call.now ≡ Some made.1) }
     {
-        let copy = call.copy(alloc)?;
-        match self.reply_alone(call, alloc) {
-            Ok(reply) => Ok((copy, reply)),
-            Err(refused) => {
-                drop(copy);
-                Err(refused)
-            }
-        }
+        let reply = self.reply_alone(call, alloc)?;
+        Ok((call.copy(alloc)?, reply))
     }
 
     // The reply of a request that finds nobody and doesn't stay.

@@ -75,13 +75,7 @@ fn growths(alloc: Global, call: &Call) -> Result<(Call, Option<Item>, Vec<Place>
 {
     let places = Vec::with_capacity(alloc, 1)?;
     let gift = copy_item(alloc, call)?;
-    match call.copy(alloc) {
-        Ok(copy) => Ok((copy, gift, places)),
-        Err(refused) => {
-            drop(gift);
-            Err(refused)
-        }
-    }
+    Ok((call.copy(alloc)?, gift, places))
 }
 
 impl Holdings {
@@ -95,13 +89,8 @@ impl Holdings {
         ensures ok { IfOk result (Arrives self.old self.new moment key call) }
         ensures err { OnErr result (IsAsBefore self.old self.new) }
     {
-        match growths(self.allocator(), &call) {
-            Ok((copy, gift, places)) => Ok(self.meet_now(moment, key, call, copy, gift, places)),
-            Err(refused) => {
-                drop(call);
-                Err(refused)
-            }
-        }
+        let (copy, gift, places) = growths(self.allocator(), &call)?;
+        Ok(self.meet_now(moment, key, call, copy, gift, places))
     }
 
     // The same, with all growths made.

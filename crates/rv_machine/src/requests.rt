@@ -29,13 +29,11 @@ pub(crate) fn stays(call: &Call) -> bool
 }
 
 // No entry for a request of the last number, which came with this call; with another it is refused.
-fn repeat(asked: &Call, call: Call) -> Result<Option<Entry>, Refusal>
-    ensures ok { IfOk result (λ made. (made ≡ None) × (asked.now ≡ call)) }
-    ensures err { IfErr result (λ refusal. (refusal ≡ OtherCall) × (asked.now ≢ call)) }
+fn repeat(asked: &Call, call: &Call) -> Result<Option<Entry>, Refusal>
+    ensures ok { IfOk result (λ made. (made ≡ None) × (asked.now ≡ call.now)) }
+    ensures err { IfErr result (λ refusal. (refusal ≡ OtherCall) × (asked.now ≢ call.now)) }
 {
-    let same = asked.is_same(&call);
-    drop(call);
-    if same {
+    if asked.is_same(call) {
         return Ok(None);
     }
     Err(Refusal::OtherCall)
@@ -64,16 +62,10 @@ impl Holdings {
         ensures refused { IfErr result (λ refusal. refusal ≢ NoMemory → SameListRoom self.old self.new) }
     {
         match self.clients.look(&key) {
-            KeyStanding::Refused(refusal) => {
-                drop(call);
-                Err(refusal)
-            }
-            KeyStanding::Waits(_, asked) => repeat(asked, call),
-            KeyStanding::Replied(asked, _) => repeat(asked, call),
-            KeyStanding::CancelledUnseen => {
-                drop(call);
-                Ok(None)
-            }
+            KeyStanding::Refused(refusal) => Err(refusal),
+            KeyStanding::Waits(_, asked) => repeat(asked, &call),
+            KeyStanding::Replied(asked, _) => repeat(asked, &call),
+            KeyStanding::CancelledUnseen => Ok(None),
             KeyStanding::Next => self.arrive(limits, moment, key, call),
         }
     }
@@ -102,7 +94,6 @@ impl Holdings {
         ensures refused { IfErr result (λ refusal. refusal ≢ NoMemory → SameListRoom self.old self.new) }
     {
         if self.is_full(limits, need_of(&call)) || self.lacks_place(limits, &call) {
-            drop(call);
             return Err(Refusal::EpochFull);
         }
         match self.join(moment, key, call) {

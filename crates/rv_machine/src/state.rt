@@ -66,18 +66,13 @@ impl Holdings {
         let clients = ReturnedClients::from_states(alloc, epoch, MOST_KNOWN, clients)?;
         let opened = OpenTable::resume(alloc, clients, places)?;
         let (table, clients) = opened;
-        match Vec::with_capacity(alloc, table.waiting()) {
-            Ok(settled) => Ok(Holdings {
-                moment,
-                length: length as usize,
-                table,
-                clients,
-                settled,
-            }),
-            Err(refused) => {
-                drop(table);
-                Err(refused)
-            }
-        }
+        let settled = Vec::with_capacity(alloc, table.waiting())?;
+        Ok(Holdings {
+            moment,
+            length: length as usize,
+            table,
+            clients,
+            settled,
+        })
     }
 }

@@ -78,13 +78,7 @@ impl Holdings {
     {
         self.settled.reserve(self.table.waiting() + 1)?;
         let opened = self.opening(moment, key, call)?;
-        match call.copy(self.allocator()) {
-            Ok(copy) => Ok((opened, copy)),
-            Err(refused) => {
-                drop(opened);
-                Err(refused)
-            }
-        }
+        Ok((opened, call.copy(self.allocator())?))
     }
 
     /// A request finds nobody and stays. Fails only if memory was refused, and then the state stays.
@@ -96,13 +90,8 @@ impl Holdings {
         ensures ok { IfOk result (Arrives self.old self.new moment key call) }
         ensures err { OnErr result (IsAsBefore self.old self.new) }
     {
-        match self.prepare(moment, &key, &call) {
-            Ok((opened, copy)) => self.stay_at(moment, key, call, opened, copy),
-            Err(refused) => {
-                drop(call);
-                Err(refused)
-            }
-        }
+        let (opened, copy) = self.prepare(moment, &key, &call)?;
+        self.stay_at(moment, key, call, opened, copy)
     }
 
     // The same, with all prepared.
@@ -125,19 +114,11 @@ impl Holdings {
         ensures err { OnErr result (IsAsBefore self.old self.new) }
     {
         let alloc = self.allocator();
-        match self
+        let put = self
             .table
-            .park(&mut self.clients, opened, &key, call, &copy)
-        {
-            Ok(put) => {
-                settle_put(&mut self.clients, put);
-                let act = Act::Arrive { key, call: copy };
-                Ok(self.record(moment, act, Partners::none(alloc)))
-            }
-            Err(refused) => {
-                drop(copy);
-                Err(refused)
-            }
-        }
+            .park(&mut self.clients, opened, &key, call, &copy)?;
+        settle_put(&mut self.clients, put);
+        let act = Act::Arrive { key, call: copy };
+        Ok(self.record(moment, act, Partners::none(alloc)))
     }
 }

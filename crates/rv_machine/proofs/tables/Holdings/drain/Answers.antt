@@ -47,8 +47,8 @@ record-requires c =
     c.take_items.new.places.items c.requires.may c.take_items.ensures.takes in
     omega arith
 
-pub returns-in-Ok-clause-ready : goal.returns-in-Ok-clause-ready
-returns-in-Ok-clause-ready c =
+pub returns-clause-ready : goal.returns-clause-ready
+returns-clause-ready c =
     c.record.ensures.ready
     (concluded_ready c.take_items.new.self c.args.key (RepliedTo c.args.call (Drained c.from_vec.result))
     c.conclude.new.self c.take_items.ensures.ready
@@ -60,8 +60,8 @@ returns-in-Ok-clause-ready c =
     c.args.call c.min-most.result c.args.moment c.take_items.new.items.items c.take_items.new.places.items
     c.requires.may c.take_items.ensures.takes)
 
-pub returns-in-Ok-clause-arrives : goal.returns-in-Ok-clause-arrives
-returns-in-Ok-clause-arrives c =
+pub returns-clause-arrives : goal.returns-clause-arrives
+returns-clause-arrives c =
     let queue = c.drained_queue-queue.result in
     let most : c.min-most.result ≡ min c.args.max (length (line_in c.args.self.now.table (Gives queue)))
     = omega (arith, c.min-most.ensures, c.count.ensures.items) in
@@ -75,8 +75,8 @@ returns-in-Ok-clause-arrives c =
     (concluded_now c.take_items.new.self c.record.new.self c.args.moment c.args.key request
     c.conclude.new.self told
     c.record.ensures.counted)
-    (copied_entry c.record.result c.args.moment c.args.key c.args.call c.in-Ok.copy c.from_vec-in-Ok.result
-    c.take_items.new.places.items c.record.ensures.entry c.in-Ok.ensures.copy c.from_vec-in-Ok.ensures)
+    (copied_entry c.record.result c.args.moment c.args.key c.args.call c.in_ok-copy.copy c.from_vec-2.result
+    c.take_items.new.places.items c.record.ensures.entry c.in_ok-copy.ensures.copy c.from_vec-2.ensures)
     (drains_by c.args.self.now c.take_items.new.self c.args.key queue c.min-most.result
     c.take_items.new.items.items c.take_items.new.places.items c.take_items.ensures.takes c.args.moment
     c.args.max

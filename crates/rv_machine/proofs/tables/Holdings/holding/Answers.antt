@@ -9,8 +9,7 @@ use Rattle.rv_state.specs.resume.Checking.{state_by}
 use Rattle.rv_session.specs.Clients.{ClientStates}
 use Rattle.rv_state.specs.State.{ClientState, State}
 use Rattle.rv_machine.specs.Machines.{IsConsistent}
-use Rattle.rv_machine.specs.Numbering.{AreNumbered}
-use Rattle.rv_machine.proofs.Resumed.{resumed_consistent, resumed_numbered, resumed_opens}
+use Rattle.rv_machine.proofs.Resumed.{resumed_consistent, resumed_opens}
 use Rattle.rv_machine.proofs.tables.Holdings.holding.Goals as goal
 
 pub from_states-requires-clause-most : goal.from_states-requires-clause-most
@@ -26,32 +25,28 @@ resume-requires c =
     (subst (λ (s : State). MayResume s.open_places s.clients) c.into_parts-epoch.ensures.parts
     (resumed_opens c.args.state c.requires))
 
-pub returns-in-Ok-clause-state : goal.returns-in-Ok-clause-state
-returns-in-Ok-clause-state c =
+pub returns-clause-ready : goal.returns-clause-ready
+returns-clause-ready c =
     let clients = c.in_ok-opened.ensures.clients ∙ c.in_ok-clients.ensures in
     let table = c.in_ok-opened.ensures.table in
     let parts : state_by c.into_parts-epoch.result.0 c.into_parts-epoch.result.1 c.into_parts-epoch.result.2
     c.into_parts-epoch.result.3.items c.into_parts-epoch.result.4.items ≡ c.args.state =
     sym c.into_parts-epoch.ensures.parts in
-    (λ i. record {
+    let is : record {
+      epoch = c.in_ok-opened.opened.1.epoch;
+      moment = c.into_parts-epoch.result.1;
+      length = c.into_parts-epoch.result.2;
+      open_places = c.in_ok-opened.opened.0;
+      clients = c.in_ok-opened.opened.1.clients;
+    } ≡ c.args.state = (λ i. record {
       epoch = (clients i).epoch;
       moment = c.into_parts-epoch.result.1;
       length = c.into_parts-epoch.result.2;
       open_places = table i;
       clients = (clients i).clients;
-    }) ∙ parts
-
-pub returns-in-Ok-clause-ready : goal.returns-in-Ok-clause-ready
-returns-in-Ok-clause-ready c = record {
-  consistent = subst IsConsistent (sym (returns-in-Ok-clause-state c)) (resumed_consistent c.args.state
-      c.requires);
-  most = ap (λ (t : ClientStates). t.most) (c.in_ok-opened.ensures.clients ∙ c.in_ok-clients.ensures);
-  room = omega (arith, c.waiting.ensures, c.in-Ok.ensures.capacity, c.in-Ok.ensures.len);
-}
-
-pub returns-in-Ok-clause-numbered : goal.returns-in-Ok-clause-numbered
-returns-in-Ok-clause-numbered c =
-    subst AreNumbered (sym (returns-in-Ok-clause-state c)) (resumed_numbered c.args.state c.requires)
-
-pub returns-in-Ok-clause-settled : goal.returns-in-Ok-clause-settled
-returns-in-Ok-clause-settled c = c.in-Ok.ensures.items
+    }) ∙ parts in
+    record {
+      consistent = subst IsConsistent (sym is) (resumed_consistent c.args.state c.requires);
+      most = ap (λ (t : ClientStates). t.most) clients;
+      room = omega (arith, c.waiting.ensures, c.in_ok-settled.ensures.capacity, c.in_ok-settled.ensures.len);
+    }

@@ -13,25 +13,25 @@ use Rattle.rv_machine.proofs.tables.Holdings.leave.Goals as goal
 pub record-requires : goal.record-requires
 record-requires c = let least = needs_one (wait_of c.args.call) in omega (arith, c.requires.may.space)
 
-pub returns-in-Ok-clause-ready : goal.returns-in-Ok-clause-ready
-returns-in-Ok-clause-ready c =
+pub returns-clause-ready : goal.returns-clause-ready
+returns-clause-ready c =
     c.record.ensures.ready
-    (concluded_ready c.args.self.now c.args.key (RepliedTo c.args.call c.in-Ok.reply)
+    (concluded_ready c.args.self.now c.args.key (RepliedTo c.args.call c.in_ok-copy.reply)
     c.conclude.new.self
     c.requires.may.ready c.requires.may.next refl c.conclude.ensures) c.requires.may.time
     (let least = needs_one (wait_of c.args.call) in omega (arith, c.requires.may.space))
 
-pub returns-in-Ok-clause-arrives : goal.returns-in-Ok-clause-arrives
-returns-in-Ok-clause-arrives c =
+pub returns-clause-arrives : goal.returns-clause-arrives
+returns-clause-arrives c =
     arrives_as c.args.self.now
-    (counted (asked_in c.args.self.now c.args.key (RepliedTo c.args.call c.in-Ok.reply)) c.args.moment)
+    (counted (asked_in c.args.self.now c.args.key (RepliedTo c.args.call c.in_ok-copy.reply)) c.args.moment)
     c.record.new.self c.args.moment c.args.key c.args.call
     (entry c.args.moment (Arrive c.args.key c.args.call) [])
     c.record.result
     (concluded_now c.args.self.now c.record.new.self c.args.moment c.args.key
-    (RepliedTo c.args.call c.in-Ok.reply) c.conclude.new.self c.conclude.ensures
+    (RepliedTo c.args.call c.in_ok-copy.reply) c.conclude.new.self c.conclude.ensures
     c.record.ensures.counted)
-    (copied_entry c.record.result c.args.moment c.args.key c.args.call c.in-Ok.copy c.none.result []
-    c.record.ensures.entry c.in-Ok.ensures.copy c.none.ensures)
-    (leaves_arrived c.args.self.now c.args.moment c.args.key c.args.call c.in-Ok.reply c.requires.may
-    c.requires.alone c.requires.leaves c.in-Ok.ensures.reply)
+    (copied_entry c.record.result c.args.moment c.args.key c.args.call c.in_ok-copy.copy c.none.result []
+    c.record.ensures.entry c.in_ok-copy.ensures.copy c.none.ensures)
+    (leaves_arrived c.args.self.now c.args.moment c.args.key c.args.call c.in_ok-copy.reply c.requires.may
+    c.requires.alone c.requires.leaves c.in_ok-copy.ensures.reply)

@@ -20,17 +20,17 @@ stay_at-requires-clause-alone c =
 
 pub stay_at-requires-clause-opened : goal.stay_at-requires-clause-opened
 stay_at-requires-clause-opened c =
-    subst (λ (s : State). c.in-Ok.opened ≡ opened_by s c.args.moment c.args.key c.args.call)
-    (sym (same_state c.args.self.now c.prepare.new.self c.prepare.ensures.rest)) c.in-Ok.ensures.opened
+    subst (λ (s : State). c.in_ok-opened.opened ≡ opened_by s c.args.moment c.args.key c.args.call)
+    (sym (same_state c.args.self.now c.prepare.new.self c.prepare.ensures.rest)) c.in_ok-opened.ensures.opened
 
-pub returns-in-Ok-clause-ok : goal.returns-in-Ok-clause-ok
-returns-in-Ok-clause-ok c =
+pub returns-clause-ok : goal.returns-clause-ok
+returns-clause-ok c =
     IfOk-weaker c.stay_at.result _ _
     (arrives_since c.args.self.now c.prepare.new.self c.prepare.ensures.rest c.args.moment c.args.key
     c.args.call c.stay_at.new.self) c.stay_at.ensures.ok
 
-pub returns-in-Ok-clause-err : goal.returns-in-Ok-clause-err
-returns-in-Ok-clause-err c =
+pub returns-clause-err : goal.returns-clause-err
+returns-clause-err c =
     on_err_weaker c.stay_at.result
     (as_before_since c.args.self.now c.prepare.new.self c.prepare.ensures.rest c.stay_at.new.self)
     c.stay_at.ensures.err

@@ -17,32 +17,32 @@ pub settle_put-requires : goal.settle_put-requires
 settle_put-requires c =
     let parks = subst (λ (o : OpenPlace). ParksPlace c.args.self.now.table c.park.new.self
     c.args.self.now.clients
-    c.park.new.clients o c.args.key c.args.call c.in-Ok.put) c.requires.opened c.in-Ok.ensures.ok
+    c.park.new.clients o c.args.key c.args.call c.in_ok-put.put) c.requires.opened c.in_ok-put.ensures.ok
     in
-    subst (λ (t : ClientStates). IfSome c.in-Ok.put (λ d. place_awaited t.clients d.client ≡ Some
+    subst (λ (t : ClientStates). IfSome c.in_ok-put.put (λ d. place_awaited t.clients d.client ≡ Some
     d.place))
     (sym parks.begins)
     (put_awaits c.args.self.now c.args.moment c.args.key c.args.call c.requires.may c.requires.alone
-    c.requires.stays c.in-Ok.put parks.own_is)
+    c.requires.stays c.in_ok-put.put parks.own_is)
 
-pub returns-in-Ok-clause-ready : goal.returns-in-Ok-clause-ready
-returns-in-Ok-clause-ready c =
+pub returns-clause-ready : goal.returns-clause-ready
+returns-clause-ready c =
     let parks = subst (λ (o : OpenPlace). ParksPlace c.args.self.now.table c.park.new.self
     c.args.self.now.clients
-    c.park.new.clients o c.args.key c.args.call c.in-Ok.put) c.requires.opened c.in-Ok.ensures.ok
+    c.park.new.clients o c.args.key c.args.call c.in_ok-put.put) c.requires.opened c.in_ok-put.ensures.ok
     in
     subst (λ (m : Holdings). IsWhole m) (sym c.record.ensures.counted)
     (stay_ready c.args.self.now c.args.moment c.args.key c.args.call c.requires.may c.requires.alone
     c.requires.stays c.args.copy c.requires.copy c.park.new.self parks.opens
-    c.settle_put.new.clients c.in-Ok.put parks.own_is
-    (c.settle_put.ensures ∙ ap (λ (t : ClientStates). after_put t c.in-Ok.put) parks.begins)
+    c.settle_put.new.clients c.in_ok-put.put parks.own_is
+    (c.settle_put.ensures ∙ ap (λ (t : ClientStates). after_put t c.in_ok-put.put) parks.begins)
     c.args.self.now.settled refl c.requires.room)
 
-pub returns-in-Ok-clause-ok : goal.returns-in-Ok-clause-ok
-returns-in-Ok-clause-ok c =
+pub returns-clause-ok : goal.returns-clause-ok
+returns-clause-ok c =
     let parks = subst (λ (o : OpenPlace). ParksPlace c.args.self.now.table c.park.new.self
     c.args.self.now.clients
-    c.park.new.clients o c.args.key c.args.call c.in-Ok.put) c.requires.opened c.in-Ok.ensures.ok
+    c.park.new.clients o c.args.key c.args.call c.in_ok-put.put) c.requires.opened c.in_ok-put.ensures.ok
     in
     subst (λ (e : Entry). Arrives c.args.self.now c.record.new.self c.args.moment c.args.key c.args.call e)
     (sym (c.record.ensures.entry ∙ ap (entry c.args.moment (Arrive c.args.key c.args.copy))
@@ -52,6 +52,6 @@ returns-in-Ok-clause-ok c =
     (sym c.record.ensures.counted)
     (stay_arrives c.args.self.now c.args.moment c.args.key c.args.call c.requires.may c.requires.alone
     c.requires.stays c.args.copy c.requires.copy c.park.new.self parks.opens
-    c.settle_put.new.clients c.in-Ok.put parks.own_is
-    (c.settle_put.ensures ∙ ap (λ (t : ClientStates). after_put t c.in-Ok.put) parks.begins)
+    c.settle_put.new.clients c.in_ok-put.put parks.own_is
+    (c.settle_put.ensures ∙ ap (λ (t : ClientStates). after_put t c.in_ok-put.put) parks.begins)
     c.args.self.now.settled refl))
