@@ -47,25 +47,22 @@ plain_more d from at le within is same =
     (drop from d)) (get_or d at 0) same is)
 
 -- a text between quotes
-pub quoted_here : (d s : List ℕ) (at end : ℕ) → at < length d → get_or d at 0 ≡ 34 → at + 1 ≤ end
-    → end < length d
-    → get_or d end 0 ≡ 34 → s ≡ take (end - (at + 1)) (drop (at + 1) d) → escape s ≡ s
-    → drop at d ≡ quoted s ++ drop (end + 1) d
-quoted_here d s at end within first le inside last is same =
-    byte_here d at 34 within first
+pub quoted_here : (d s : List ℕ) (at from end after : ℕ) → drop at d ≡ 34 ∷ drop from d → from ≤ end
+    → drop end d ≡ 34 ∷ drop after d → s ≡ take (end - from) (drop from d) → escape s ≡ s
+    → drop at d ≡ quoted s ++ drop after d
+quoted_here d s at from end after first le last is same =
+    first
     ∙ ap (λ l. 34 ∷ l)
-    (range_here d (at + 1) end le
-    ∙ ap₂ (λ a b. a ++ b) (sym is ∙ sym same) (byte_here d end 34 inside last)
-    ∙ sym (append_assoc (escape s) (34 ∷ []) (drop (end + 1) d)))
+    (range_here d from end le
+    ∙ ap₂ (λ a b. a ++ b) (sym is ∙ sym same) last
+    ∙ sym (append_assoc (escape s) (34 ∷ []) (drop after d)))
 
 -- a member
-pub field_here : (d name value : List ℕ) (at end after : ℕ) → end < length d
-    → drop at d ≡ quoted name ++ drop end d
-    → get_or d end 0 ≡ 58 → drop (end + 1) d ≡ value ++ drop after d
-    → drop at d ≡ (quoted name ++ (58 ∷ value)) ++ drop after d
-field_here d name value at end after within named colon valued =
-    named ∙ ap (λ l. quoted name ++ l) (byte_here d end 58 within colon ∙ ap (λ l. 58 ∷ l) valued)
-    ∙ sym (append_assoc (quoted name) (58 ∷ value) (drop after d))
+pub field_here : (name value here colon inner after : List ℕ) → here ≡ quoted name ++ colon → colon ≡ 58 ∷ inner
+    → inner ≡ value ++ after → here ≡ (quoted name ++ (58 ∷ value)) ++ after
+field_here name value here colon inner after named parted valued =
+    named ∙ ap (λ l. quoted name ++ l) (parted ∙ ap (λ l. 58 ∷ l) valued)
+    ∙ sym (append_assoc (quoted name) (58 ∷ value) after)
 
 pub each_push : (fs : List FlatMember) (f : FlatMember) → each_text (fs ++ f ∷ [])
     ≡ each_text fs ++ (field_text f ++ 44 ∷ [])
@@ -78,29 +75,33 @@ pub FitEach-push : (fs : List FlatMember) (f : FlatMember) → FitEach fs → Fi
 FitEach-push [] f h k = (k, tt)
 FitEach-push (g ∷ fs) f h k = (h.0, FitEach-push fs f h.1 k)
 
--- a member more, with its comma
-pub more_read : (whole text : List ℕ) (fs : List FlatMember) (f : FlatMember) (at end : ℕ)
-    → whole ≡ 123 ∷ (each_text fs ++ drop at text)
-    → drop at text ≡ field_text f ++ drop end text → end < length text → get_or text end 0 ≡ 44
-    → whole ≡ 123 ∷ (each_text (fs ++ f ∷ []) ++ drop (end + 1) text)
-more_read whole text fs f at end before here within comma =
-    before
-    ∙ ap (λ l. 123 ∷ l)
-    (ap (λ l. each_text fs ++ l) (here ∙ ap (λ l. field_text f ++ l) (byte_here text end 44 within comma)
-    ∙ sym (append_assoc (field_text f) (44 ∷ []) (drop (end + 1) text)))
-    ∙ sym (append_assoc (each_text fs) (field_text f ++ 44 ∷ []) (drop (end + 1) text))
-    ∙ ap (λ l. l ++ drop (end + 1) text) (sym (each_push fs f)))
+module _ (whole : List ℕ) (fs : List FlatMember) (f : FlatMember) (here after : List ℕ) where
+  -- a member more, with its comma
+  pub more_read : whole ≡ 123 ∷ (each_text fs ++ here) → here ≡ field_text f ++ (44 ∷ after)
+      → whole ≡ 123 ∷ (each_text (fs ++ f ∷ []) ++ after)
+  more_read before is =
+      before
+      ∙ ap (λ l. 123 ∷ l)
+      (ap (λ l. each_text fs ++ l) (is ∙ sym (append_assoc (field_text f) (44 ∷ []) after))
+      ∙ sym (append_assoc (each_text fs) (field_text f ++ 44 ∷ []) after)
+      ∙ ap (λ l. l ++ after) (sym (each_push fs f)))
 
--- the last one, with the bracket, at the text's end
-pub last_read : (text : List ℕ) (fs : List FlatMember) (f : FlatMember) (at end : ℕ)
-    → text ≡ 123 ∷ (each_text fs ++ drop at text)
-    → drop at text ≡ field_text f ++ drop end text → end + 1 ≡ length text → get_or text end 0 ≡ 125
-    → text ≡ 123 ∷ (each_text fs ++ (field_text f ++ 125 ∷ []))
-last_read text fs f at end before here ends close =
-    let none : drop (end + 1) text ≡ [] = drop_all (end + 1) text (omega arith) in
-    before
-    ∙ ap (λ l. 123 ∷ (each_text fs ++ l))
-    (here ∙ ap (λ l. field_text f ++ l) (byte_here text end 125 (omega arith) close ∙ ap (λ l. 125 ∷ l) none))
+  -- the last one, with the bracket
+  pub last_read : whole ≡ 123 ∷ (each_text fs ++ here) → here ≡ field_text f ++ (125 ∷ after)
+      → whole ≡ (123 ∷ (each_text fs ++ (field_text f ++ 125 ∷ []))) ++ after
+  last_read before is =
+      before
+      ∙ ap (λ l. 123 ∷ l)
+      (ap (λ l. each_text fs ++ l) (is ∙ sym (append_assoc (field_text f) (125 ∷ []) after))
+      ∙ sym (append_assoc (each_text fs) (field_text f ++ 125 ∷ []) after))
+
+-- the last one, whose bracket is the text's end
+pub last_ends : (text : List ℕ) (fs : List FlatMember) (f : FlatMember) (here : List ℕ) (after : ℕ)
+    → text ≡ 123 ∷ (each_text fs ++ here) → here ≡ field_text f ++ (125 ∷ drop after text)
+    → after ≡ length text → text ≡ 123 ∷ (each_text fs ++ (field_text f ++ 125 ∷ []))
+last_ends text fs f here after before is ends =
+    let none : drop after text ≡ [] = drop_all after text (omega arith) in
+    before ∙ ap (λ l. 123 ∷ (each_text fs ++ l)) (is ∙ ap (λ l. field_text f ++ (125 ∷ l)) none)
 
 -- ---- one byte
 

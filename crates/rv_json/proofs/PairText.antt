@@ -1,27 +1,14 @@
 -- The text of two flat objects, part by part.
 use Rattle.std.proofs.Common.{◌≡◌, ℕ, ◌+◌, ◌-◌, ◌<◌, ◌≤◌, List, [], ◌∷◌, ◌++◌, length, get_or, take, drop}
 use Rattle.std.proofs.Common.{IsUtf8, sym, ap, ◌∙◌, append_assoc}
+use Rattle.json.specs.Print.{quoted}
 use Rattle.serde_json.specs.Data.{Data, object}
 use Rattle.rv_json.specs.declared.flat.FlatMember.{FlatMember}
 use Rattle.rv_json.specs.Flat.{flat_members}
 use Rattle.rv_json.specs.Pair.{BeginsByFlat, IsFlatText, ReadsPair, object_text, pair_text}
 use Rattle.rv_json.specs.Scan.{each_text, field_text}
-use Rattle.rv_json.proofs.FlatParts.{byte_here}
 use Rattle.rv_json.proofs.ListText.{own_range}
 use Rattle.rv_json.proofs.ReadBack.{Makes, flat_makes, makes_read, pair_read}
-
--- the last member, with the bracket
-pub object_read : (whole text : List ℕ) (fs : List FlatMember) (f : FlatMember) (at end : ℕ)
-    → whole ≡ 123 ∷ (each_text fs ++ drop at text)
-    → drop at text ≡ field_text f ++ drop end text → end < length text → get_or text end 0 ≡ 125
-    → whole ≡ object_text fs f ++ drop (end + 1) text
-object_read whole text fs f at end before here within close =
-    let rest = drop (end + 1) text in
-    before
-    ∙ ap (λ l. 123 ∷ l)
-    (ap (λ l. each_text fs ++ l) (here ∙ ap (λ l. field_text f ++ l) (byte_here text end 125 within close)
-    ∙ sym (append_assoc (field_text f) (125 ∷ []) rest))
-    ∙ sym (append_assoc (each_text fs) (field_text f ++ 125 ∷ []) rest))
 
 -- the range of a flat object in the text around it
 pub flat_range : (d : List ℕ) (at end : ℕ) → at ≤ end → end ≤ length d
@@ -32,6 +19,17 @@ flat_range d at end le within begins = record {
   fit = begins.fit;
   text = own_range d (object_text begins.fields begins.last) at end le within begins.text;
 }
+
+-- the text of a pair, from one part to the next
+pub pair_parts : (first one second other text inside comma next close rest : List ℕ)
+    → text ≡ 123 ∷ inside → inside ≡ (quoted first ++ (58 ∷ one)) ++ comma → comma ≡ 44 ∷ next
+    → next ≡ (quoted second ++ (58 ∷ other)) ++ close → close ≡ 125 ∷ rest → rest ≡ []
+    → text ≡ pair_text first one second other
+pair_parts first one second other text inside comma next close rest opens is parted then closes ends =
+    opens
+    ∙ ap (λ l. 123 ∷ l)
+    (is ∙ ap (λ l. (quoted first ++ (58 ∷ one)) ++ l) (parted ∙ ap (λ l. 44 ∷ l)
+    (then ∙ ap (λ l. (quoted second ++ (58 ∷ other)) ++ l) (closes ∙ ap (λ l. 125 ∷ l) ends))))
 
 -- the value of a flat object
 abbrev own_value : (text : List ℕ) → IsFlatText text → Data

@@ -33,9 +33,10 @@ pub record BeginsByList (bytes rest : List ℕ) : Type 0 where
   pub few : length texts ≤ 16
   pub text : bytes ≡ compact_text (list_of texts) ++ rest
 
--- what stands after a text of a list: the closing bracket, if it is the last, or else a comma
-abbrev pub mark_after : Bool → ℕ
-mark_after last = if last then 93 else 44
+-- what stands after a member of an object or a text of a list: the closing bracket, if it is the last, or
+-- else a comma
+abbrev pub mark_after : ℕ → Bool → ℕ
+mark_after close last = if last then close else 44
 
 -- a whole number is one of 64 bits
 abbrev pub FitsPlain : Plain → Type 0

@@ -3,7 +3,7 @@ ghost use Rattle.std.specs.Prelude.{◌≡◌, ◌<◌, ◌≤◌, ◌∷◌, []
 ghost use Rattle.json.specs.Print.{escape, quoted};
 ghost use Rattle.rv_json.specs.Pair.{BeginsByFlat, IsFlatText, ReadsPair, pair_text};
 
-use crate::scan::{scan_field, scan_text};
+use crate::scan::{after_byte, scan_field, scan_text};
 
 // The place after the flat object, of one member or more, that stands at this one.
 fn object_end(text: &str, at: usize) -> Option<usize>
@@ -11,23 +11,13 @@ fn object_end(text: &str, at: usize) -> Option<usize>
     ensures on { IfSome result (λ end. at < end) }
     ensures within { IfSome result (λ end. end ≤ length text.now) }
 {
-    let bytes = text.as_bytes();
-    if at >= bytes.len() || bytes[at] != b'{' {
-        return None;
-    }
-    let mut place = at + 1;
-    'members: while place < bytes.len() {
-        let (_field, end) = scan_field(text, place)?;
-        if end >= bytes.len() {
-            return None;
+    let mut place = after_byte(text, at, b'{')?;
+    'members: while place < text.len() {
+        let (_field, last, next) = scan_field(text, place)?;
+        if last {
+            return Some(next);
         }
-        if bytes[end] == b'}' {
-            return Some(end + 1);
-        }
-        if bytes[end] != b',' {
-            return None;
-        }
-        place = end + 1;
+        place = next;
     }
     None
 }
@@ -49,12 +39,12 @@ fn scan_member<'a>(text: &'a str, at: usize, name: &str) -> Option<(&'a str, usi
     ensures object { IfSome result (λ p. IsFlatText p.0.now) }
     ensures on { IfSome result (λ p. at < p.1) }
 {
-    let bytes = text.as_bytes();
     let (own, end) = scan_text(text, at)?;
-    if own != name || end >= bytes.len() || bytes[end] != b':' {
+    if own != name {
         return None;
     }
-    scan_object(text, end + 1)
+    let start = after_byte(text, end, b':')?;
+    scan_object(text, start)
 }
 
 // The two flat objects of which the text is the compact text under these names, in this order.
@@ -64,19 +54,16 @@ fn scan_pair<'a>(text: &'a str, first: &str, second: &str) -> Option<(&'a str, &
     ensures one { IfSome result (λ p. IsFlatText p.0.now) }
     ensures other { IfSome result (λ p. IsFlatText p.1.now) }
 {
-    let bytes = text.as_bytes();
-    if bytes.is_empty() || bytes[0] != b'{' {
-        return None;
+    let start = after_byte(text, 0, b'{')?;
+    let (one, comma) = scan_member(text, start, first)?;
+    let next = after_byte(text, comma, b',')?;
+    let (other, close) = scan_member(text, next, second)?;
+    let end = after_byte(text, close, b'}')?;
+    if end == text.len() {
+        Some((one, other))
+    } else {
+        None
     }
-    let (one, comma) = scan_member(text, 1, first)?;
-    if comma >= bytes.len() || bytes[comma] != b',' {
-        return None;
-    }
-    let (other, close) = scan_member(text, comma + 1, second)?;
-    if close >= bytes.len() || bytes[close] != b'}' || close + 1 != bytes.len() {
-        return None;
-    }
-    Some((one, other))
 }
 
 /// The texts of the two objects that make up the bytes' object, the first under one name and the second under

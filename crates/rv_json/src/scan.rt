@@ -12,6 +12,22 @@ use crate::flat::{FlatMember, Plain};
 use crate::items::MAX_DRAIN;
 use crate::value::has_body_length;
 
+// The place after this byte, if it stands at the place.
+#[tactic(auto, using(crate::proofs::FlatParts::byte_here))]
+#[inline(always)]
+pub(crate) fn after_byte(text: &str, at: usize, byte: u8) -> Option<usize>
+    ensures text { IfSome result (λ next. drop at text.now ≡ byte ∷ drop next text.now) }
+    ensures on { IfSome result (λ next. at < next) }
+    ensures within { IfSome result (λ next. next ≤ length text.now) }
+{
+    let bytes = text.as_bytes();
+    if at < bytes.len() && bytes[at] == byte {
+        Some(at + 1)
+    } else {
+        None
+    }
+}
+
 // Whether the byte stands for itself in a JSON string.
 #[inline(always)]
 fn is_plain(byte: u8) -> bool
@@ -22,12 +38,13 @@ fn is_plain(byte: u8) -> bool
 
 // The place after the plain bytes that begin at this one.
 #[inline(always)]
-fn plain_end(bytes: &[u8], from: usize) -> usize
-    requires { from ≤ length bytes.now }
-    ensures end { result ≤ length bytes.now }
+fn plain_end(text: &str, from: usize) -> usize
+    requires { from ≤ length text.now }
+    ensures end { result ≤ length text.now }
     ensures after { from ≤ result }
-    ensures plain { let text = take (result - from) (drop from bytes.now) in escape text ≡ text }
+    ensures plain { let plain = take (result - from) (drop from text.now) in escape plain ≡ plain }
 {
+    let bytes = text.as_bytes();
     let mut at = from;
     'plain: while at < bytes.len() && is_plain(bytes[at]) {
         at += 1;
@@ -41,15 +58,10 @@ pub(crate) fn scan_text<'a>(text: &'a str, at: usize) -> Option<(&'a str, usize)
     ensures text { IfSome result (λ p. drop at text.now ≡ quoted p.0.now ++ drop p.1 text.now) }
     ensures on { IfSome result (λ p. at < p.1) }
 {
-    let bytes = text.as_bytes();
-    if at >= bytes.len() || bytes[at] != b'"' {
-        return None;
-    }
-    let end = plain_end(bytes, at + 1);
-    if end >= bytes.len() || bytes[end] != b'"' {
-        return None;
-    }
-    Some((text.get(at + 1..end)?, end + 1))
+    let from = after_byte(text, at, b'"')?;
+    let end = plain_end(text, from);
+    let after = after_byte(text, end, b'"')?;
+    Some((text.get(from..end)?, after))
 }
 
 // A number as great as this gets no digit more: with one, some would be past 64 bits.
@@ -76,26 +88,31 @@ fn scan_whole(bytes: &[u8], at: usize) -> Option<(u64, usize)>
     Some((value, end))
 }
 
+// Whether the closing mark stands at the place, or else a comma; and the place after it.
+#[inline(always)]
+fn scan_mark(text: &str, at: usize, close: u8) -> Option<(bool, usize)>
+    ensures text { IfSome result (λ p. drop at text.now ≡ mark_after close p.0 ∷ drop p.1 text.now) }
+    ensures on { IfSome result (λ p. at < p.1) }
+    ensures within { IfSome result (λ p. p.1 ≤ length text.now) }
+{
+    if let Some(end) = after_byte(text, at, close) {
+        return Some((true, end));
+    }
+    let next = after_byte(text, at, b',')?;
+    Some((false, next))
+}
+
 // The text of a list that stands at the place, whether it is the list's last, and the place after the mark
 // that follows it: a comma, or the closing bracket after the last.
 pub(crate) fn scan_element<'a>(text: &'a str, at: usize) -> Option<(&'a str, bool, usize)>
     ensures text { IfSome result
-        (λ p. drop at text.now ≡ quoted p.0.now ++ (mark_after p.1 ∷ drop p.2 text.now)) }
+        (λ p. drop at text.now ≡ quoted p.0.now ++ (mark_after 93 p.1 ∷ drop p.2 text.now)) }
     ensures on { IfSome result (λ p. at < p.2) }
     ensures within { IfSome result (λ p. p.2 ≤ length text.now) }
 {
-    let bytes = text.as_bytes();
     let (element, end) = scan_text(text, at)?;
-    if end >= bytes.len() {
-        return None;
-    }
-    if bytes[end] == b',' {
-        return Some((element, false, end + 1));
-    }
-    if bytes[end] == b']' {
-        return Some((element, true, end + 1));
-    }
-    None
+    let (last, after) = scan_mark(text, end, b']')?;
+    Some((element, last, after))
 }
 
 // The place after the list of at most 16 texts that stands at this one.
@@ -104,13 +121,9 @@ fn list_end(text: &str, at: usize) -> Option<usize>
     ensures on { IfSome result (λ end. at < end) }
     ensures within { IfSome result (λ end. end ≤ length text.now) }
 {
-    let bytes = text.as_bytes();
-    if at >= bytes.len() || bytes[at] != b'[' {
-        return None;
-    }
-    let first = at + 1;
-    if first < bytes.len() && bytes[first] == b']' {
-        return Some(first + 1);
+    let first = after_byte(text, at, b'[')?;
+    if let Some(end) = after_byte(text, first, b']') {
+        return Some(end);
     }
     elements_end(text, first)
 }
@@ -151,33 +164,31 @@ fn scan_plain<'a>(text: &'a str, at: usize) -> Option<(Plain<'a>, usize)>
     ensures fits { IfSome result (λ p. FitsPlain p.0) }
     ensures on { IfSome result (λ p. at < p.1) }
 {
-    let bytes = text.as_bytes();
-    if at < bytes.len() && bytes[at] == b'"' {
-        let (value, end) = scan_text(text, at)?;
+    if let Some((value, end)) = scan_text(text, at) {
         return Some((Plain::Text(value), end));
     }
-    if at < bytes.len() && bytes[at] == b'[' {
-        let (list, end) = scan_list(text, at)?;
-        return Some((Plain::Texts(list), end));
+    if let Some((value, end)) = scan_whole(text.as_bytes(), at) {
+        return Some((Plain::Whole(value), end));
     }
-    let (value, end) = scan_whole(bytes, at)?;
-    Some((Plain::Whole(value), end))
+    let (list, end) = scan_list(text, at)?;
+    Some((Plain::Texts(list), end))
 }
 
-// The member at the place: its name, a colon, its value; and the place after it.
+// The member at the place, which is its name, a colon and its value; whether it is the object's last; and the
+// place after the mark that follows it: a comma, or the closing bracket after the last.
 #[inline(always)]
-pub(crate) fn scan_field<'a>(text: &'a str, at: usize) -> Option<(FlatMember<'a>, usize)>
-    ensures text { IfSome result (λ p. drop at text.now ≡ field_text p.0 ++ drop p.1 text.now) }
+pub(crate) fn scan_field<'a>(text: &'a str, at: usize) -> Option<(FlatMember<'a>, bool, usize)>
+    ensures text { IfSome result
+        (λ p. drop at text.now ≡ field_text p.0 ++ (mark_after 125 p.1 ∷ drop p.2 text.now)) }
     ensures fits { IfSome result (λ p. FitsPlain p.0.value) }
-    ensures on { IfSome result (λ p. at < p.1) }
+    ensures on { IfSome result (λ p. at < p.2) }
+    ensures within { IfSome result (λ p. p.2 ≤ length text.now) }
 {
-    let bytes = text.as_bytes();
     let (name, end) = scan_text(text, at)?;
-    if end >= bytes.len() || bytes[end] != b':' {
-        return None;
-    }
-    let (value, after) = scan_plain(text, end + 1)?;
-    Some((FlatMember { name, value }, after))
+    let start = after_byte(text, end, b':')?;
+    let (value, after) = scan_plain(text, start)?;
+    let (last, next) = scan_mark(text, after, b'}')?;
+    Some((FlatMember { name, value }, last, next))
 }
 
 // Reads the members of the flat object that the text is into the first places, and tells how many they are,
@@ -188,26 +199,20 @@ fn scan_flat<'a>(text: &'a str, places: &mut [FlatMember<'a>]) -> Option<usize>
     ensures value { IfSome result
         (λ count. read text.now ≡ Some (object (flat_members (take count places.new)))) }
 {
-    let bytes = text.as_bytes();
-    if bytes.is_empty() || bytes[0] != b'{' {
-        return None;
-    }
+    let mut at = after_byte(text, 0, b'{')?;
     let mut count = 0;
-    let mut at = 1;
-    'turns: while at < bytes.len() && count < places.len() {
-        let (field, end) = scan_field(text, at)?;
-        if end >= bytes.len() {
-            return None;
-        }
+    'turns: while count < places.len() {
+        let (field, last, next) = scan_field(text, at)?;
         places[count] = field;
         count += 1;
-        if bytes[end] == b'}' && end + 1 == bytes.len() {
-            return Some(count);
+        if last {
+            return if next == text.len() {
+                Some(count)
+            } else {
+                None
+            };
         }
-        if bytes[end] != b',' {
-            return None;
-        }
-        at = end + 1;
+        at = next;
     }
     None
 }

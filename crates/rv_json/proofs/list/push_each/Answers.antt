@@ -22,7 +22,7 @@ returns-then-last c all =
     let same = c.as_bytes-bytes.ensures.value in
     let opening : get_or d 0 0 ≡ 91 = subst (λ d. get_or d 0 0 ≡ 91) same c.if-bytes-ne91.false in
     let is : drop c.texts.at d ≡ quoted s ++ (93 ∷ drop here.after d) =
-    subst (λ last. drop c.texts.at d ≡ quoted s ++ (mark_after last ∷ drop here.after d)) c.if-last.true
+    subst (λ last. drop c.texts.at d ≡ quoted s ++ (mark_after 93 last ∷ drop here.after d)) c.if-last.true
     here.ensures.text in
     let ends : here.after ≡ length d =
     subst (λ d. here.after ≡ length d) same (eqb-true here.after (length c.as_bytes-bytes.result.now) all) in
@@ -37,7 +37,7 @@ texts-preserved c =
     let s = here.element.now in
     let texts = c.texts.items in
     let is : drop c.texts.at d ≡ quoted s ++ (44 ∷ drop here.after d) =
-    subst (λ last. drop c.texts.at d ≡ quoted s ++ (mark_after last ∷ drop here.after d)) c.if-last.false
+    subst (λ last. drop c.texts.at d ≡ quoted s ++ (mark_after 93 last ∷ drop here.after d)) c.if-last.false
     here.ensures.text in
     let pushed = c.in_ok-push_copy.ensures in (
       text_more (drop 1 d) texts s (drop c.texts.at d) (drop here.after d) c.texts.invariant.0 is

@@ -1,37 +1,37 @@
 -- A member more, and at last the bracket.
-use Rattle.std.proofs.Common.{◌≡◌, ◌<◌, ◌++◌, [], ◌∷◌, length, get_or, subst, arith}
-use Rattle.rv_json.proofs.FlatParts.{FitEach-push, more_read}
-use Rattle.rv_json.proofs.PairText.{object_read}
+use Rattle.std.proofs.Common.{◌≡◌, ◌++◌, [], ◌∷◌, drop, subst, arith}
+use Rattle.rv_json.specs.Scan.{field_text, mark_after}
+use Rattle.rv_json.proofs.FlatParts.{FitEach-push, more_read, last_read}
 use Rattle.rv_json.proofs.pair.object_end.Goals as goal
 
-pub returns-then-bytes-end-eq125-clause-object : goal.returns-then-bytes-end-eq125-clause-object
-returns-then-bytes-end-eq125-clause-object c =
+pub returns-then-last-clause-object : goal.returns-then-last-clause-object
+returns-then-last-clause-object c =
     let t = c.args.text.now in
     let f = c.in_ok-_field._field in
-    let end = c.in_ok-_field.end in
+    let next = c.in_ok-_field.next in
     let fs = c.members.invariant.0 in
-    let same = c.as_bytes-bytes.ensures.value in
-    let close : get_or t end 0 ≡ 125 = subst (λ d. get_or d end 0 ≡ 125) same c.if-bytes-end-eq125.true in
-    let within : end < length t = subst (λ d. end < length d) same c.if-end-bytes.false in
+    let is : drop c.members.place t ≡ field_text f ++ (125 ∷ drop next t) =
+    subst (λ last. drop c.members.place t ≡ field_text f ++ (mark_after 125 last ∷ drop next t))
+    c.if-last.true c.in_ok-_field.ensures.text in
     record {
       fields = fs;
       last = f;
       fit = FitEach-push fs f c.members.invariant.2 c.in_ok-_field.ensures.fits;
-      text = object_read _ t fs f c.members.place end c.members.invariant.1 c.in_ok-_field.ensures.text
-          within close;
+      text = last_read (drop c.args.at t) fs f (drop c.members.place t) (drop next t) c.members.invariant.1
+          is;
     }
 
 pub members-preserved : goal.members-preserved
 members-preserved c =
     let t = c.args.text.now in
     let f = c.in_ok-_field._field in
-    let end = c.in_ok-_field.end in
+    let next = c.in_ok-_field.next in
     let fs = c.members.invariant.0 in
-    let same = c.as_bytes-bytes.ensures.value in
-    let comma : get_or t end 0 ≡ 44 = subst (λ d. get_or d end 0 ≡ 44) same c.if-bytes-end-ne44.false in
-    let within : end < length t = subst (λ d. end < length d) same c.if-end-bytes.false in (
+    let is : drop c.members.place t ≡ field_text f ++ (44 ∷ drop next t) =
+    subst (λ last. drop c.members.place t ≡ field_text f ++ (mark_after 125 last ∷ drop next t))
+    c.if-last.false c.in_ok-_field.ensures.text in (
       fs ++ f ∷ [],
-      more_read _ t fs f c.members.place end c.members.invariant.1 c.in_ok-_field.ensures.text within comma,
+      more_read (drop c.args.at t) fs f (drop c.members.place t) (drop next t) c.members.invariant.1 is,
       FitEach-push fs f c.members.invariant.2 c.in_ok-_field.ensures.fits,
       omega (arith, c.members.invariant.3, c.in_ok-_field.ensures.on),
     )

@@ -11,4 +11,4 @@ invariant-members l =
     × FitEach fields × (l.fn.at < l.place)
 
 abbrev pub decreases-members : goal.decreases-members
-decreases-members l = length l.bytes - l.place
+decreases-members l = length l.text - l.place

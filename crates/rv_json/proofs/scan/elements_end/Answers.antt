@@ -15,7 +15,7 @@ returns-then-last-clause-list c =
     let s = here._element.now in
     let texts = c.texts.invariant.0 in
     let is : drop c.texts.at d ≡ quoted s ++ (93 ∷ drop here.after d) =
-    subst (λ last. drop c.texts.at d ≡ quoted s ++ (mark_after last ∷ drop here.after d)) c.if-last.true
+    subst (λ last. drop c.texts.at d ≡ quoted s ++ (mark_after 93 last ∷ drop here.after d)) c.if-last.true
     here.ensures.text in
     record {
       texts = texts ++ s ∷ [];
@@ -31,7 +31,7 @@ texts-preserved c =
     let s = here._element.now in
     let texts = c.texts.invariant.0 in
     let is : drop c.texts.at d ≡ quoted s ++ (44 ∷ drop here.after d) =
-    subst (λ last. drop c.texts.at d ≡ quoted s ++ (mark_after last ∷ drop here.after d)) c.if-last.false
+    subst (λ last. drop c.texts.at d ≡ quoted s ++ (mark_after 93 last ∷ drop here.after d)) c.if-last.false
     here.ensures.text in (
       texts ++ s ∷ [],
       text_more (drop c.args.first d) texts s (drop c.texts.at d) (drop here.after d) c.texts.invariant.1 is,

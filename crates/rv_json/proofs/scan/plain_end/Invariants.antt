@@ -5,8 +5,8 @@ use Rattle.rv_json.proofs.scan.plain_end.Given as goal
 
 abbrev pub invariant-plain : goal.invariant-plain
 invariant-plain l =
-    (l.from ≤ l.at) × (l.at ≤ length l.bytes)
-    × (escape (take (l.at - l.from) (drop l.from l.bytes)) ≡ take (l.at - l.from) (drop l.from l.bytes))
+    (l.from ≤ l.at) × (l.at ≤ length l.fn.text)
+    × (escape (take (l.at - l.from) (drop l.from l.fn.text)) ≡ take (l.at - l.from) (drop l.from l.fn.text))
 
 abbrev pub decreases-plain : goal.decreases-plain
 decreases-plain l = length l.bytes - l.at

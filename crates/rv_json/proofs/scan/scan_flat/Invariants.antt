@@ -10,4 +10,4 @@ invariant-turns l =
     (l.count ≤ length l.places)
 
 abbrev pub decreases-turns : goal.decreases-turns
-decreases-turns l = length l.bytes - l.at
+decreases-turns l = length l.places - l.count
