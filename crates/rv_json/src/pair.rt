@@ -11,9 +11,13 @@ fn object_end(text: &str, at: usize) -> Option<usize>
     ensures on { IfSome result (λ end. at < end) }
     ensures within { IfSome result (λ end. end ≤ length text.now) }
 {
-    let mut place = after_byte(text, at, b'{')?;
+    let Some(mut place) = after_byte(text, at, b'{') else {
+        return None;
+    };
     'members: while place < text.len() {
-        let (_field, last, next) = scan_field(text, place)?;
+        let Some((_field, last, next)) = scan_field(text, place) else {
+            return None;
+        };
         if last {
             return Some(next);
         }
@@ -39,11 +43,15 @@ fn scan_member<'a>(text: &'a str, at: usize, name: &str) -> Option<(&'a str, usi
     ensures object { IfSome result (λ p. IsFlatText p.0.now) }
     ensures on { IfSome result (λ p. at < p.1) }
 {
-    let (own, end) = scan_text(text, at)?;
+    let Some((own, end)) = scan_text(text, at) else {
+        return None;
+    };
     if own != name {
         return None;
     }
-    let start = after_byte(text, end, b':')?;
+    let Some(start) = after_byte(text, end, b':') else {
+        return None;
+    };
     scan_object(text, start)
 }
 
@@ -54,11 +62,21 @@ fn scan_pair<'a>(text: &'a str, first: &str, second: &str) -> Option<(&'a str, &
     ensures one { IfSome result (λ p. IsFlatText p.0.now) }
     ensures other { IfSome result (λ p. IsFlatText p.1.now) }
 {
-    let start = after_byte(text, 0, b'{')?;
-    let (one, comma) = scan_member(text, start, first)?;
-    let next = after_byte(text, comma, b',')?;
-    let (other, close) = scan_member(text, next, second)?;
-    let end = after_byte(text, close, b'}')?;
+    let Some(start) = after_byte(text, 0, b'{') else {
+        return None;
+    };
+    let Some((one, comma)) = scan_member(text, start, first) else {
+        return None;
+    };
+    let Some(next) = after_byte(text, comma, b',') else {
+        return None;
+    };
+    let Some((other, close)) = scan_member(text, next, second) else {
+        return None;
+    };
+    let Some(end) = after_byte(text, close, b'}') else {
+        return None;
+    };
     if end == text.len() {
         Some((one, other))
     } else {

@@ -58,9 +58,13 @@ pub(crate) fn scan_text<'a>(text: &'a str, at: usize) -> Option<(&'a str, usize)
     ensures text { IfSome result (λ p. drop at text.now ≡ quoted p.0.now ++ drop p.1 text.now) }
     ensures on { IfSome result (λ p. at < p.1) }
 {
-    let from = after_byte(text, at, b'"')?;
+    let Some(from) = after_byte(text, at, b'"') else {
+        return None;
+    };
     let end = plain_end(text, from);
-    let after = after_byte(text, end, b'"')?;
+    let Some(after) = after_byte(text, end, b'"') else {
+        return None;
+    };
     Some((text.get(from..end)?, after))
 }
 
@@ -110,8 +114,12 @@ pub(crate) fn scan_element<'a>(text: &'a str, at: usize) -> Option<(&'a str, boo
     ensures on { IfSome result (λ p. at < p.2) }
     ensures within { IfSome result (λ p. p.2 ≤ length text.now) }
 {
-    let (element, end) = scan_text(text, at)?;
-    let (last, after) = scan_mark(text, end, b']')?;
+    let Some((element, end)) = scan_text(text, at) else {
+        return None;
+    };
+    let Some((last, after)) = scan_mark(text, end, b']') else {
+        return None;
+    };
     Some((element, last, after))
 }
 
@@ -121,7 +129,9 @@ fn list_end(text: &str, at: usize) -> Option<usize>
     ensures on { IfSome result (λ end. at < end) }
     ensures within { IfSome result (λ end. end ≤ length text.now) }
 {
-    let first = after_byte(text, at, b'[')?;
+    let Some(first) = after_byte(text, at, b'[') else {
+        return None;
+    };
     if let Some(end) = after_byte(text, first, b']') {
         return Some(end);
     }
@@ -184,10 +194,18 @@ pub(crate) fn scan_field<'a>(text: &'a str, at: usize) -> Option<(FlatMember<'a>
     ensures on { IfSome result (λ p. at < p.2) }
     ensures within { IfSome result (λ p. p.2 ≤ length text.now) }
 {
-    let (name, end) = scan_text(text, at)?;
-    let start = after_byte(text, end, b':')?;
-    let (value, after) = scan_plain(text, start)?;
-    let (last, next) = scan_mark(text, after, b'}')?;
+    let Some((name, end)) = scan_text(text, at) else {
+        return None;
+    };
+    let Some(start) = after_byte(text, end, b':') else {
+        return None;
+    };
+    let Some((value, after)) = scan_plain(text, start) else {
+        return None;
+    };
+    let Some((last, next)) = scan_mark(text, after, b'}') else {
+        return None;
+    };
     Some((FlatMember { name, value }, last, next))
 }
 
@@ -199,10 +217,14 @@ fn scan_flat<'a>(text: &'a str, places: &mut [FlatMember<'a>]) -> Option<usize>
     ensures value { IfSome result
         (λ count. read text.now ≡ Some (object (flat_members (take count places.new)))) }
 {
-    let mut at = after_byte(text, 0, b'{')?;
+    let Some(mut at) = after_byte(text, 0, b'{') else {
+        return None;
+    };
     let mut count = 0;
     'turns: while count < places.len() {
-        let (field, last, next) = scan_field(text, at)?;
+        let Some((field, last, next)) = scan_field(text, at) else {
+            return None;
+        };
         places[count] = field;
         count += 1;
         if last {

@@ -7,16 +7,16 @@ use Rattle.rv_json.proofs.pair.object_end.Goals as goal
 pub returns-then-last-clause-object : goal.returns-then-last-clause-object
 returns-then-last-clause-object c =
     let t = c.args.text.now in
-    let f = c.in_ok-_field._field in
-    let next = c.in_ok-_field.next in
+    let f = c.in-Some-scan_field._field in
+    let next = c.in-Some-scan_field.next in
     let fs = c.members.invariant.0 in
     let is : drop c.members.place t ≡ field_text f ++ (125 ∷ drop next t) =
     subst (λ last. drop c.members.place t ≡ field_text f ++ (mark_after 125 last ∷ drop next t))
-    c.if-last.true c.in_ok-_field.ensures.text in
+    c.if-last.true c.in-Some-scan_field.ensures.text in
     record {
       fields = fs;
       last = f;
-      fit = FitEach-push fs f c.members.invariant.2 c.in_ok-_field.ensures.fits;
+      fit = FitEach-push fs f c.members.invariant.2 c.in-Some-scan_field.ensures.fits;
       text = last_read (drop c.args.at t) fs f (drop c.members.place t) (drop next t) c.members.invariant.1
           is;
     }
@@ -24,14 +24,14 @@ returns-then-last-clause-object c =
 pub members-preserved : goal.members-preserved
 members-preserved c =
     let t = c.args.text.now in
-    let f = c.in_ok-_field._field in
-    let next = c.in_ok-_field.next in
+    let f = c.in-Some-scan_field._field in
+    let next = c.in-Some-scan_field.next in
     let fs = c.members.invariant.0 in
     let is : drop c.members.place t ≡ field_text f ++ (44 ∷ drop next t) =
     subst (λ last. drop c.members.place t ≡ field_text f ++ (mark_after 125 last ∷ drop next t))
-    c.if-last.false c.in_ok-_field.ensures.text in (
+    c.if-last.false c.in-Some-scan_field.ensures.text in (
       fs ++ f ∷ [],
       more_read (drop c.args.at t) fs f (drop c.members.place t) (drop next t) c.members.invariant.1 is,
-      FitEach-push fs f c.members.invariant.2 c.in_ok-_field.ensures.fits,
-      omega (arith, c.members.invariant.3, c.in_ok-_field.ensures.on),
+      FitEach-push fs f c.members.invariant.2 c.in-Some-scan_field.ensures.fits,
+      omega (arith, c.members.invariant.3, c.in-Some-scan_field.ensures.on),
     )

@@ -11,12 +11,12 @@ pub returns-clause-text : goal.returns-clause-text
 returns-clause-text c =
     let d = c.args.text.now in
     let here = drop c.args.at d in
-    let colon = drop c.in_ok-own.end d in
-    let named : c.in_ok-own.own.now ≡ c.args.name.now =
-    (bytes_eq-Decides c.in_ok-own.own.now c.args.name.now).0
+    let colon = drop c.in-Some.end d in
+    let named : c.in-Some.own.now ≡ c.args.name.now =
+    (bytes_eq-Decides c.in-Some.own.now c.args.name.now).0
     (not-false _ (sym c.ne.ensures ∙ c.if-ne.false)) in
     let own : here ≡ quoted c.args.name.now ++ colon =
-    subst (λ name. here ≡ quoted name ++ colon) named c.in_ok-own.ensures.text in
+    subst (λ name. here ≡ quoted name ++ colon) named c.in-Some.ensures.text in
     IfSome_then c.scan_object.result c.scan_object.ensures.text
-    (λ p is. field_here c.args.name.now p.0.now here colon (drop c.in_ok-start.start d) (drop p.1 d) own
-    c.in_ok-start.ensures.text is)
+    (λ p is. field_here c.args.name.now p.0.now here colon (drop c.in-Some-after_byte.start d) (drop p.1 d) own
+    c.in-Some-after_byte.ensures.text is)

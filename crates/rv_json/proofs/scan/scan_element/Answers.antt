@@ -5,5 +5,5 @@ use Rattle.rv_json.proofs.scan.scan_element.Goals as goal
 
 pub returns-clause-text : goal.returns-clause-text
 returns-clause-text c =
-    c.in_ok-element.ensures.text
-    ∙ ap (λ l. quoted c.in_ok-element.element.now ++ l) c.in_ok-last.ensures.text
+    c.in-Some.ensures.text
+    ∙ ap (λ l. quoted c.in-Some.element.now ++ l) c.in-Some-scan_mark.ensures.text
