@@ -32,7 +32,9 @@ fn scan_object<'a>(text: &'a str, at: usize) -> Option<(&'a str, usize)>
     ensures object { IfSome result (λ p. IsFlatText p.0.now) }
     ensures on { IfSome result (λ p. at < p.1) }
 {
-    let end = object_end(text, at)?;
+    let Some(end) = object_end(text, at) else {
+        return None;
+    };
     Some((text.get(at..end)?, end))
 }
 
@@ -91,6 +93,11 @@ fn scan_pair<'a>(text: &'a str, first: &str, second: &str) -> Option<(&'a str, &
 pub fn two_objects<'a>(bytes: &'a [u8], first: &str, second: &str) -> Option<(&'a [u8], &'a [u8])>
     ensures { IfSome result (λ p. ReadsPair bytes.now first.now p.0.now second.now p.1.now) }
 {
-    let (one, other) = scan_pair(std::str::from_utf8(bytes).ok()?, first, second)?;
+    let Ok(text) = std::str::from_utf8(bytes) else {
+        return None;
+    };
+    let Some((one, other)) = scan_pair(text, first, second) else {
+        return None;
+    };
     Some((one.as_bytes(), other.as_bytes()))
 }

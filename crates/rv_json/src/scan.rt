@@ -102,7 +102,9 @@ fn scan_mark(text: &str, at: usize, close: u8) -> Option<(bool, usize)>
     if let Some(end) = after_byte(text, at, close) {
         return Some((true, end));
     }
-    let next = after_byte(text, at, b',')?;
+    let Some(next) = after_byte(text, at, b',') else {
+        return None;
+    };
     Some((false, next))
 }
 
@@ -147,7 +149,9 @@ fn elements_end(text: &str, first: usize) -> Option<usize>
     let mut at = first;
     let mut count = 0;
     'texts: while count < MAX_DRAIN {
-        let (_element, last, after) = scan_element(text, at)?;
+        let Some((_element, last, after)) = scan_element(text, at) else {
+            return None;
+        };
         if last {
             return Some(after);
         }
@@ -163,7 +167,9 @@ fn scan_list<'a>(text: &'a str, at: usize) -> Option<(&'a str, usize)>
     ensures list { IfSome result (λ p. IsListText p.0.now) }
     ensures on { IfSome result (λ p. at < p.1) }
 {
-    let end = list_end(text, at)?;
+    let Some(end) = list_end(text, at) else {
+        return None;
+    };
     Some((text.get(at..end)?, end))
 }
 
@@ -180,7 +186,9 @@ fn scan_plain<'a>(text: &'a str, at: usize) -> Option<(Plain<'a>, usize)>
     if let Some((value, end)) = scan_whole(text.as_bytes(), at) {
         return Some((Plain::Whole(value), end));
     }
-    let (list, end) = scan_list(text, at)?;
+    let Some((list, end)) = scan_list(text, at) else {
+        return None;
+    };
     Some((Plain::Texts(list), end))
 }
 
@@ -251,5 +259,8 @@ pub(crate) fn scan_body<'a>(bytes: &'a [u8], places: &mut [FlatMember<'a>]) -> O
     if !has_body_length(bytes) {
         return None;
     }
-    scan_flat(std::str::from_utf8(bytes).ok()?, places)
+    match std::str::from_utf8(bytes) {
+        Ok(text) => scan_flat(text, places),
+        Err(_) => None,
+    }
 }

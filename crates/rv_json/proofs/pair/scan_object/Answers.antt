@@ -8,12 +8,12 @@ use Rattle.rv_json.proofs.pair.scan_object.Goals as goal
 pub returns-clause-text : goal.returns-clause-text
 returns-clause-text c =
     let d = c.args.text.now in
-    let end = c.in_ok-end.end in
-    range_here d c.args.at end (omega (arith, c.in_ok-end.ensures.on))
+    let end = c.in-Some.end in
+    range_here d c.args.at end (omega (arith, c.in-Some.ensures.on))
     ∙ ap (λ l. l ++ drop end d) (sym c.in_ok-get.ensures.cases.0)
 
 pub returns-clause-object : goal.returns-clause-object
 returns-clause-object c =
-    let end = c.in_ok-end.end in
+    let end = c.in-Some.end in
     subst IsFlatText (sym c.in_ok-get.ensures.cases.0) (flat_range c.args.text.now c.args.at end
-    (omega (arith, c.in_ok-end.ensures.on)) c.in_ok-end.ensures.within c.in_ok-end.ensures.object)
+    (omega (arith, c.in-Some.ensures.on)) c.in-Some.ensures.within c.in-Some.ensures.object)

@@ -9,5 +9,5 @@ returns c =
     reads_pair c.args.bytes.now c.args.first.now c.as_bytes.result.now c.args.second.now
     c.as_bytes-2.result.now
     (search rules) c.as_bytes.ensures.utf8 c.as_bytes-2.ensures.utf8 (search rules)
-    (subst IsFlatText (sym c.as_bytes.ensures.value) c.in_ok-one.ensures.one)
-    (subst IsFlatText (sym c.as_bytes-2.ensures.value) c.in_ok-one.ensures.other)
+    (subst IsFlatText (sym c.as_bytes.ensures.value) c.in-Some.ensures.one)
+    (subst IsFlatText (sym c.as_bytes-2.ensures.value) c.in-Some.ensures.other)

@@ -11,7 +11,7 @@ texts-init c = ([], refl, refl, omega arith)
 pub returns-then-last-clause-list : goal.returns-then-last-clause-list
 returns-then-last-clause-list c =
     let d = c.args.text.now in
-    let here = c.in_ok-_element in
+    let here = c.in-Some in
     let s = here._element.now in
     let texts = c.texts.invariant.0 in
     let is : drop c.texts.at d ≡ quoted s ++ (93 ∷ drop here.after d) =
@@ -27,7 +27,7 @@ returns-then-last-clause-list c =
 pub texts-preserved : goal.texts-preserved
 texts-preserved c =
     let d = c.args.text.now in
-    let here = c.in_ok-_element in
+    let here = c.in-Some in
     let s = here._element.now in
     let texts = c.texts.invariant.0 in
     let is : drop c.texts.at d ≡ quoted s ++ (44 ∷ drop here.after d) =
