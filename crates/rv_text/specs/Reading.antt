@@ -76,6 +76,18 @@ key_among members = do
   number ← whole_among (codes "number") members
   Some (record { epoch = epoch; client = client; incarnation = incarnation; number = number })
 
+abbrev pub put_among : Members → Option Call
+put_among members = do
+  queue ← queue_among members
+  item ← item_among members
+  Some (call.Put queue item)
+
+abbrev pub take_among : Members → Option Call
+take_among members = do
+  queue ← queue_among members
+  wait ← wait_among members
+  Some (call.Take queue wait)
+
 abbrev pub transfer_among : Members → Option Call
 transfer_among members = do
   queue ← queue_among members
@@ -98,9 +110,9 @@ drain_among members = do
 
 abbrev pub call_lines : List (ReaderLine (List ℕ) Call)
 call_lines =
-    (codes "put", λ ms. queue_among ms >>= λ queue. item_among ms >>= λ item. Some (call.Put queue item)) ∷
+    (codes "put", put_among) ∷
     (codes "transfer", transfer_among) ∷
-    (codes "take", λ ms. queue_among ms >>= λ queue. wait_among ms >>= λ wait. Some (call.Take queue wait)) ∷
+    (codes "take", take_among) ∷
     (codes "swap", swap_among) ∷
     (codes "count", λ ms. queue_among ms >>= λ queue. Some (call.Count queue)) ∷
     (codes "peek", λ ms. queue_among ms >>= λ queue. Some (call.Peek queue)) ∷

@@ -2,6 +2,7 @@
 ghost use Rattle.std.specs.Prelude.{◌≡◌};
 ghost use Rattle.rv_text.specs.Bodies.{IsMessageBody, IsAnswerBody, IsCallBody, Decodes};
 ghost use Rattle.rv_text.specs.Reading.{messages, answers, calls, form_of};
+ghost use Rattle.rv_text.specs.Reading.{FindsAmong, welcome_among, replied_among};
 ghost use Rattle.rv_text.specs.declared.message.Message.{Message};
 ghost use Rattle.rv_text.specs.declared.answer.Answer.{Answer};
 ghost use Rattle.rv_text.specs.declared.call.Call.{Call};
@@ -75,26 +76,34 @@ impl Body for Message {
     fn has_members(&self, _fields: &[FlatMember]) {}
 }
 
+fn read_welcome(members: &Members) -> Result<Answer, TextFault>
+    ensures { FindsAmong members.now result welcome_among }
+{
+    Ok(Answer::Welcome {
+        epoch: read_whole(members, "epoch")?,
+        client: read_whole(members, "client")?,
+        incarnation: read_whole(members, "incarnation")?,
+        version: read_version(members),
+    })
+}
+
+// A request's key and its reply.
+fn read_replied(alloc: Global, members: &mut Members) -> Result<Answer, TextFault>
+    ensures { FindsAmong members.old result replied_among }
+{
+    let key = read_key(members)?;
+    read_reply(alloc, members, key.epoch).map(|reply| Answer::Replied { key, reply })
+}
+
 impl Body for Answer {
     ghost form = { form_of answers };
 
     fn read(alloc: Global, members: &mut Members) -> Result<Answer, TextFault> {
         match read_text(members, "kind")? {
-            "welcome" => Ok(Answer::Welcome {
-                epoch: read_whole(members, "epoch")?,
-                client: read_whole(members, "client")?,
-                incarnation: read_whole(members, "incarnation")?,
-                version: read_version(members),
-            }),
-            "reply" => {
-                let key = read_key(members)?;
-                let reply = read_reply(alloc, members, key.epoch)?;
-                Ok(Answer::Replied { key, reply })
-            }
-            "waiting" => Ok(Answer::Waiting {
-                key: read_key(members)?,
-            }),
-            "refused" => Ok(Answer::Refused(read_refusal(members)?)),
+            "welcome" => read_welcome(members),
+            "reply" => read_replied(alloc, members),
+            "waiting" => read_key(members).map(|key| Answer::Waiting { key }),
+            "refused" => read_refusal(members).map(Answer::Refused),
             _ => Err(TextFault::NotMessage),
         }
     }

@@ -2,8 +2,8 @@
 ghost use Rattle.std.specs.Prelude.{◌≡◌};
 ghost use Rattle.rv_json.specs.Flat.{seen};
 ghost use Rattle.rv_text.specs.Reading.{FindsAmong, key_among, wait_among, call_among, version_among};
-ghost use Rattle.rv_text.specs.Reading.{transfer_among, swap_among, drain_among, counted_among};
-ghost use Rattle.rv_text.specs.Reading.{received_among, reply_among, refusal_among, current_version_among};
+ghost use Rattle.rv_text.specs.Reading.{put_among, take_among, transfer_among, swap_among, drain_among};
+ghost use Rattle.rv_text.specs.Reading.{counted_among, received_among, reply_among, refusal_among, current_version_among};
 
 use crate::answer::{Refusal, Reply};
 use crate::call::{Call, Wait};
@@ -40,21 +40,33 @@ pub(crate) fn read_call(alloc: Global, members: &mut Members) -> Result<Call, Te
     ensures { FindsAmong members.old result call_among }
 {
     match read_text(members, "call")? {
-        "put" => Ok(Call::Put {
-            queue: read_whole(members, "queue")?,
-            item: take_item(alloc, members)?,
-        }),
+        "put" => read_put(alloc, members),
         "transfer" => read_transfer(alloc, members),
-        "take" => Ok(Call::Take {
-            queue: read_whole(members, "queue")?,
-            wait: read_wait(members)?,
-        }),
+        "take" => read_take(members),
         "swap" => read_swap(alloc, members),
         "count" => read_whole(members, "queue").map(|queue| Call::Count { queue }),
         "peek" => read_whole(members, "queue").map(|queue| Call::Peek { queue }),
         "drain" => read_drain(members),
         _ => Err(TextFault::NotMessage),
     }
+}
+
+fn read_put(alloc: Global, members: &mut Members) -> Result<Call, TextFault>
+    ensures { FindsAmong members.old result put_among }
+{
+    Ok(Call::Put {
+        queue: read_whole(members, "queue")?,
+        item: take_item(alloc, members)?,
+    })
+}
+
+fn read_take(members: &Members) -> Result<Call, TextFault>
+    ensures { FindsAmong members.now result take_among }
+{
+    Ok(Call::Take {
+        queue: read_whole(members, "queue")?,
+        wait: read_wait(members)?,
+    })
 }
 
 fn read_transfer(alloc: Global, members: &mut Members) -> Result<Call, TextFault>
