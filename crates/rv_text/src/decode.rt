@@ -2,7 +2,7 @@
 ghost use Rattle.std.specs.Prelude.{◌≡◌};
 ghost use Rattle.rv_text.specs.Bodies.{IsMessageBody, IsAnswerBody, IsCallBody, Decodes};
 ghost use Rattle.rv_text.specs.Reading.{messages, answers, calls, form_of};
-ghost use Rattle.rv_text.specs.Reading.{FindsAmong, welcome_among, replied_among};
+ghost use Rattle.rv_text.specs.Reading.{FindsAmong, hello_among, request_among, welcome_among, replied_among};
 ghost use Rattle.rv_text.specs.declared.message.Message.{Message};
 ghost use Rattle.rv_text.specs.declared.answer.Answer.{Answer};
 ghost use Rattle.rv_text.specs.declared.call.Call.{Call};
@@ -40,23 +40,33 @@ pub fn decode_call(alloc: Global, bytes: &[u8]) -> Result<Call, TextFault>
     decode::<Call>(alloc, bytes)
 }
 
+fn read_hello(members: &Members) -> Result<Message, TextFault>
+    ensures { FindsAmong members.now result hello_among }
+{
+    Ok(Message::Hello {
+        client: read_whole(members, "client")?,
+        incarnation: read_whole(members, "incarnation")?,
+        version: read_version(members),
+    })
+}
+
+fn read_request(alloc: Global, members: &mut Members) -> Result<Message, TextFault>
+    ensures { FindsAmong members.old result request_among }
+{
+    Ok(Message::Request {
+        key: read_key(members)?,
+        call: read_call(alloc, members)?,
+    })
+}
+
 impl Body for Message {
     ghost form = { form_of messages };
 
     fn read(alloc: Global, members: &mut Members) -> Result<Message, TextFault> {
         match read_text(members, "kind")? {
-            "hello" => Ok(Message::Hello {
-                client: read_whole(members, "client")?,
-                incarnation: read_whole(members, "incarnation")?,
-                version: read_version(members),
-            }),
-            "request" => Ok(Message::Request {
-                key: read_key(members)?,
-                call: read_call(alloc, members)?,
-            }),
-            "cancel" => Ok(Message::Cancel {
-                key: read_key(members)?,
-            }),
+            "hello" => read_hello(members),
+            "request" => read_request(alloc, members),
+            "cancel" => read_key(members).map(|key| Message::Cancel { key }),
             _ => Err(TextFault::NotMessage),
         }
     }

@@ -3,7 +3,8 @@ ghost use Rattle.std.specs.Prelude.{◌≡◌};
 ghost use Rattle.rv_json.specs.Flat.{seen};
 ghost use Rattle.rv_text.specs.Reading.{FindsAmong, key_among, wait_among, call_among, version_among};
 ghost use Rattle.rv_text.specs.Reading.{put_among, take_among, transfer_among, swap_among, drain_among};
-ghost use Rattle.rv_text.specs.Reading.{counted_among, received_among, reply_among, refusal_among, current_version_among};
+ghost use Rattle.rv_text.specs.Reading.{counted_among, received_among, reply_among, refusal_among};
+ghost use Rattle.rv_text.specs.Reading.{current_version_among};
 
 use crate::answer::{Refusal, Reply};
 use crate::call::{Call, Wait};
