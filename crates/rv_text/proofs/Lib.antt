@@ -11,3 +11,4 @@ pub mod AnswerReaders
 pub mod Decoding
 pub mod Fitting
 pub mod Written
+mod ByWord
