@@ -1,12 +1,10 @@
 -- The text of two flat objects, part by part.
-use Rattle.std.proofs.Common.{◌≡◌, ℕ, ◌+◌, ◌-◌, ◌<◌, ◌≤◌, List, [], ◌∷◌, ◌++◌, length, get_or, take, drop}
-use Rattle.std.proofs.Common.{IsUtf8, sym, ap, ◌∙◌, append_assoc}
+use Rattle.std.proofs.Common.{◌≡◌, ℕ, ◌-◌, ◌≤◌, List, [], ◌∷◌, ◌++◌, length, take, drop}
+use Rattle.std.proofs.Common.{IsUtf8, ap, ◌∙◌}
 use Rattle.json.specs.Print.{quoted}
 use Rattle.serde_json.specs.Data.{Data, object}
-use Rattle.rv_json.specs.declared.flat.FlatMember.{FlatMember}
 use Rattle.rv_json.specs.Flat.{flat_members}
 use Rattle.rv_json.specs.Pair.{BeginsByFlat, IsFlatText, ReadsPair, object_text, pair_text}
-use Rattle.rv_json.specs.Scan.{each_text, field_text}
 use Rattle.rv_json.proofs.ListText.{own_range}
 use Rattle.rv_json.proofs.ReadBack.{Makes, flat_makes, makes_read, pair_read}
 
