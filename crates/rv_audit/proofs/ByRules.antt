@@ -9,6 +9,7 @@ use Rattle.rv_audit.specs.declared.rule.Rule.{Rule}
 use Rattle.rv_audit.specs.AccountRules.{rank_of}
 use Rattle.rv_audit.specs.Faults.{FirstFault, KeepsRules}
 use Rattle.rv_audit.specs.Laws.{LegalByRules, OneAudit}
+use Rattle.rv_audit.proofs.Ranks.{one_rank}
 use Rattle.rv_audit.proofs.RulesKept.{breaks_nothing}
 use Rattle.rv_audit.proofs.RulesSuffice.{may_follow}
 use Rattle.rv_audit.specs.declared.outcome.Audit.TheVariants as tells
@@ -51,9 +52,6 @@ legal_by_rules a = (
 )
 
 -- ---- one audit
-
-pub one_rank : (r s : Rule) → rank_of r ≡ rank_of s → r ≡ s
-one_rank r s same = grind arith
 
 one_place : (a : Account) (p q : ℕ) (r s : Rule) → FirstFault a p r → FirstFault a q s → p ≡ q
 one_place a p q r s first second = elim (cases_order p q) [

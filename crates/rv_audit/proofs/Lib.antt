@@ -7,6 +7,7 @@ pub mod Closing
 pub mod Saying
 pub mod Audited
 pub mod Passing
+pub mod Ranks
 pub mod Named
 pub mod RulesKept
 pub mod RulesSuffice

@@ -4,7 +4,7 @@ use Rattle.rv_audit.proofs.Words.{◌≡◌, ◌+◌, ◌<◌, ◌≤◌, ◌∷
 use Rattle.rv_audit.proofs.Words.{false, List, [], length, get_or, Some, refl, sym, ap}
 use Rattle.rv_audit.proofs.Words.{arith, slice_get, IsTrue, cases_lt, false≢true, Among}
 use Rattle.rv_audit.proofs.Words.{HasAmong, NoneBefore, is_any}
-use Rattle.std.proofs.lemmas.Option.{get_or_from_slice_get}
+use Rattle.std.proofs.lemmas.Option.{get_or_from_slice_get, slice_get-get_or}
 use Rattle.rv_rules.proofs.Places.{within}
 
 module _ (places : List ℕ) (n : ℕ) where
@@ -15,6 +15,14 @@ module _ (places : List ℕ) (n : ℕ) where
     -- none before a place of the list, and not it
     pub none_next : (Is (get_or places n 0) → ⊥) → NoneBefore Is places n → NoneBefore Is places (n + 1)
     none_next = grind (arith, cases_lt, read_at)
+
+    -- it holds at the next place
+    pub told_next : n < length places → Is (get_or places n 0)
+        → (IsTrue true → HasAmong Is places) × (HasAmong Is places → IsTrue true)
+    told_next within is = (
+      λ t. (get_or places n 0, (n, slice_get-get_or places n 0 within), is),
+      λ has. refl,
+    )
 
     pub told_none : length places ≤ n → NoneBefore Is places n
         → (IsTrue false → HasAmong Is places) × (HasAmong Is places → IsTrue false)

@@ -10,14 +10,17 @@ use Rattle.rv_audit.proofs.Words.{IsOpenOpposite, Legal, SomethingDue, OpenAt}
 use Rattle.rv_audit.proofs.Words.{one_side}
 use Rattle.rv_audit.proofs.Words.{IsPaired, MeetsWrongly, MissesPartner}
 use Rattle.rv_audit.proofs.Words.{NamesTaken, PassesOver, StartsNoNewer}
-use Rattle.rv_audit.proofs.Words.{is_any, AuditSession}
+use Rattle.rv_audit.proofs.Words.{is_any, AuditSession, ClientWaitsAt, HasWaiting, WaitsUnder}
+use Rattle.rv_audit.proofs.Words.{Act, Arrive, Cancel, IsOutOfOrder, key_in, option_and_then, none-some}
+use Rattle.rv_audit.proofs.Words.{get_or}
+use Rattle.rv_audit.specs.AccountRules.{BreaksCount, NamesTooMany, NamesWrongly}
 use Rattle.std.proofs.Common.{nat_lt, nat_le, is_some}
 use Rattle.rv_rules.specs.Sessions.{LastNumber, SaidHello}
 use Rattle.rv_rules.proofs.Histories.{hellos_at_most}
 use Rattle.rv_audit.specs.AccountRules.{ArrivesAs, ArrivesToMeet, CountsTo, IsNotNext}
 use Rattle.rv_audit.specs.AccountRules.{TicksForNothing}
 use Rattle.rv_audit.specs.Passed.{IsOfSessionOf, IsOldestOpposite, LeavesOlder}
-use Rattle.std.proofs.lemmas.Option.{get_or_from_slice_get}
+use Rattle.std.proofs.lemmas.Option.{get_or_from_slice_get, slice_get-get_or}
 use Rattle.std.specs.List.Sorted.{IsStrictlyIncreasing}
 use Rattle.std.specs.List.{slice_index}
 use Rattle.rv_rules.proofs.Counting.{later_is_greater}
@@ -86,6 +89,13 @@ module _ (es : List Entry) (call : Call) (partners : List ℕ) (rising : IsStric
       let up_to = at_most_last leaves.partner last leaves.named is in
       let earlier : leaves.older < leaves.partner = leaves.earlier in
       leaves.unnamed (oldest.2 leaves.older (omega arith) leaves.there))
+
+pub no_partner : (es : List Entry) (call : Call) (partners : List ℕ)
+    → slice_get partners (length partners - 1) ≡ None → Iff (IsTrue false) (LeavesOlder es call partners)
+no_partner es call partners none = never (LeavesOlder es call partners) (λ leaves.
+    let inside = within partners leaves.named.0 leaves.partner leaves.named.1 in
+    none-some (get_or partners (length partners - 1) 0)
+    (sym none ∙ slice_get-get_or partners (length partners - 1) 0 (omega arith)))
 
 pub none_older : (es : List Entry) (call : Call) (partners : List ℕ) → IsOldestOpposite es call partners None
     → Iff (IsTrue false) (LeavesOlder es call partners)
@@ -161,6 +171,25 @@ pub who_meets_not : (es : List Entry) (e : Entry) → (ArrivesToMeet e → ⊥)
 who_meets_not es e meets_not = (
   λ t. let one = some_among e.partners t in record { partner = one.0; names = one.1; wrong = inl meets_not },
   λ breaks. any_among e.partners breaks.partner breaks.names,
+)
+
+-- whether an entry whose partners are free and few names wrongly
+pub rises_or_not : (es : List Entry) (e : Entry) (partners : List ℕ) (b : Bool) → partners ≡ e.partners
+    → (NamesTaken es e → ⊥) → (NamesTooMany e → ⊥) → Iff (IsTrue b) (IsStrictlyIncreasing partners)
+    → Iff (IsTrue (not b)) (NamesWrongly es e)
+rises_or_not es e partners true same free few told = (
+  λ t. absurd (false≢true t),
+  λ wrongly. elim wrongly [
+    | inl taken ↦ absurd (free taken)
+    | inr rest ↦ elim rest [
+      | inl many ↦ absurd (few many)
+      | inr falls ↦ absurd (falls (subst IsStrictlyIncreasing same (told.0 refl)))
+    ]
+  ],
+)
+rises_or_not es e partners false same free few told = (
+  λ t. inr (inr (λ rises. false≢true (told.1 (subst IsStrictlyIncreasing (sym same) rises)))),
+  λ wrongly. refl,
 )
 
 -- the flag of a place tells whether it is taken
@@ -287,4 +316,41 @@ not_next_high es key s is high = not_next es key s (not (nat_eq (key.number - s.
     (λ t same. differs (key.number - s.last) t (omega arith))
     (λ f. let one : key.number - s.last ≡ 1 = agrees (key.number - s.last) f in omega arith)
 
--- ---- who waits
+-- ---- counts
+
+pub waits_before : (es : List Entry) (does : Act) (key : Key) (call : Call) → does ≡ Arrive key call
+    → HasWaiting es key.client → Iff (IsTrue true) (BreaksCount es does)
+waits_before es does key call is waits = subst (λ act. Iff (IsTrue true) (BreaksCount es act)) (sym is)
+    (λ t. inr waits, λ breaks. refl)
+
+module _ (es : List Entry) (does : Act) (key : Key) (b : Bool) where
+  module _ (idle : HasWaiting es key.client → ⊥) (told : Iff (IsTrue b) (IsNotNext es key)) where
+    out_of_order : IsOutOfOrder es key → IsTrue b
+    out_of_order (inl other) = told.1 other
+    out_of_order (inr waits) = absurd (idle waits)
+
+    pub arrives_in_turn : (call : Call) → does ≡ Arrive key call → Iff (IsTrue b) (BreaksCount es does)
+    arrives_in_turn call is = subst (λ act. Iff (IsTrue b) (BreaksCount es act)) (sym is)
+        (λ t. inl (told.0 t), out_of_order)
+
+    pub cancels_in_turn : does ≡ Cancel key → Iff (IsTrue b) (BreaksCount es does)
+    cancels_in_turn is = subst (λ act. Iff (IsTrue b) (BreaksCount es act)) (sym is) (
+      λ t. (
+        λ under. idle (record {
+          place = under.place;
+          key = key;
+          waits = under.waits;
+          names = record { named = ap (option_and_then key_in) under.arrived; of_client = refl };
+        }),
+        inl (told.0 t),
+      ),
+      λ breaks. out_of_order breaks.1,
+    )
+
+  pub cancels_other : does ≡ Cancel key → HasWaiting es key.client
+      → Iff (IsTrue b) (WaitsUnder es key → ⊥) → Iff (IsTrue b) (BreaksCount es does)
+  cancels_other is waits told = subst (λ act. Iff (IsTrue b) (BreaksCount es act)) (sym is)
+      (λ t. (told.0 t, inr waits), λ breaks. told.1 breaks.0)
+
+pub some_waits : (es : List Entry) (client place : ℕ) → ClientWaitsAt es client place → HasWaiting es client
+some_waits es client place at = record { place = place; key = at.key; waits = at.waits; names = at.names }

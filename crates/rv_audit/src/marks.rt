@@ -106,7 +106,7 @@ impl Marks {
 fn is_named(places: &[Place], at: usize, place: Place) -> bool
     ensures { IsTrue result ↔ Among places.now place }
 {
-    places.get(at) == Some(&place) || places.contains(&place)
+    (at < places.len() && places[at] == place) || places.contains(&place)
 }
 
 // The place is no longer marked under the number, if one is given.
