@@ -11,7 +11,8 @@ use Rattle.rv_audit.specs.declared.front.Front.{Front}
 use Rattle.rv_audit.specs.declared.rule.Rule.{Rule}
 use Rattle.rv_audit.specs.AccountRules.{BreaksFirst, BreaksNone}
 use Rattle.rv_audit.specs.Passed.{MayPass}
-use Rattle.rv_audit.specs.Faults.{FirstFault, KeepsRules}
+use Rattle.rv_audit.specs.Faults.{FirstFault, IsToldOf, KeepsRules}
+use Rattle.rv_audit.specs.declared.outcome.Audit.{Audit}
 use Rattle.rv_audit.proofs.RulesSuffice.{may_follow}
 use Rattle.rv_audit.specs.declared.outcome.Audit.TheVariants as tells
 
@@ -90,10 +91,13 @@ module _ (front : Front) (a : Stored) (n : ℕ) (is : IsFront front) (same : fro
 
 -- ---- what is told
 
-pub told_fault : (a : Account) (n : ℕ) (rule : Rule) → FirstFault a n rule
-    → (tells.Fault n rule ≡ tells.Legal → Legal a) × (Legal a → tells.Fault n rule ≡ tells.Legal)
-told_fault = grind (arith, no_fault)
+-- the result is that the account is legal exactly where it is
+abbrev pub IsLegalIf : Account → Audit → Type 0
+IsLegalIf a told = (told ≡ tells.Legal → Legal a) × (Legal a → told ≡ tells.Legal)
 
-pub told_legal : (a : Account) → Legal a
-    → (tells.Legal ≡ tells.Legal → Legal a) × (Legal a → tells.Legal ≡ tells.Legal)
-told_legal a legal = (λ same. legal, λ is. refl)
+pub legal_if_told : (a : Account) (told : Audit) → IsToldOf a told → IsLegalIf a told
+legal_if_told a tells.Legal legal = (λ same. legal, λ is. refl)
+legal_if_told a (tells.Fault place rule) fault = (
+  λ same. absurd (let differ : ⊥ = cc in differ),
+  λ legal. absurd (no_fault a place rule legal fault),
+)

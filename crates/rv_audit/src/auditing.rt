@@ -2,6 +2,7 @@
 ghost use Rattle.std.specs.Prelude.{◌≡◌, ◌↔◌, IfOk};
 ghost use Rattle.rv_rules.specs.Legal.{Legal};
 ghost use Rattle.rv_audit.specs.Faults.{IsToldOf};
+ghost use Rattle.rv_audit.specs.Words.{IsFront};
 ghost use Rattle.rv_audit.specs.declared.outcome.Audit.TheVariants as tells;
 
 use crate::front::Front;
@@ -10,6 +11,24 @@ use crate::rules::first_broken;
 use rv_account::Account;
 use rv_text::NoMemory;
 use std::alloc::Global;
+
+// Audits the entries that the front has not passed yet.
+fn audit_rest(front: &mut Front<'_>, account: &Account) -> Result<Audit, NoMemory>
+    requires front { IsFront front.old }
+    requires same { front.old.account.now ≡ account.now }
+    ensures { IfOk result (IsToldOf account.now.account) }
+{
+    while let Some(entry) = account.entry(front.len()) {
+        match first_broken(front, entry) {
+            Some(rule) => {
+                let place = front.len();
+                return Ok(Audit::Fault { place, rule });
+            }
+            None => front.pass(entry)?,
+        }
+    }
+    Ok(Audit::Legal)
+}
 
 /// Audits any account. The result is that the account is legal, or else the first place at which a rule is
 /// broken, with the first rule that is broken there, in the order of the rules. Fails only if memory was
@@ -24,14 +43,5 @@ pub fn audit(alloc: Global, account: &Account) -> Result<Audit, NoMemory>
     ensures legal { IfOk result (λ told. (told ≡ tells.Legal) ↔ Legal account.now.account) }
 {
     let mut front = Front::empty(alloc, account);
-    while let Some(entry) = account.entry(front.len()) {
-        match first_broken(&front, entry) {
-            Some(rule) => {
-                let place = front.len();
-                return Ok(Audit::Fault { place, rule });
-            }
-            None => front.pass(entry)?,
-        }
-    }
-    Ok(Audit::Legal)
+    audit_rest(&mut front, account)
 }

@@ -17,6 +17,7 @@ use rv_text::{Call, Key, NoMemory, Side};
 use std::alloc::{AllocError, Global};
 
 /// The entries that an audit has passed so far: a legal account.
+#[derive(Drop)]
 pub struct Front<'a> {
     account: &'a Account,
     // The moment of the last entry, or the opening moment.
@@ -25,19 +26,6 @@ pub struct Front<'a> {
     taken: Vec<bool>,
     opens: Opens,
     sessions: AuditSessions,
-}
-
-// Whoever owns one drops it in one step.
-impl<'a> Drop for Front<'a> {
-    fn drop(self) {
-        let Front {
-            account: _,
-            moment: _,
-            taken: _,
-            opens: _,
-            sessions: _,
-        } = self;
-    }
 }
 
 // Sets the flag of a place, if it has one.

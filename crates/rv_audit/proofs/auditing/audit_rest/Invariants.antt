@@ -1,5 +1,5 @@
 use Rattle.rv_audit.proofs.Words.{◌≡◌, ◌-◌, length, IsFront}
-use Rattle.rv_audit.proofs.auditing.audit.Given as goal
+use Rattle.rv_audit.proofs.auditing.audit_rest.Given as goal
 
 abbrev pub invariant-loop-entry : goal.invariant-loop-entry
 invariant-loop-entry l = record { front : IsFront l.front; same : l.front.account.now ≡ l.account }
