@@ -1,12 +1,20 @@
 //! A reply from what is kept of it, with its texts copied from the account.
 ghost use Rattle.std.specs.Prelude.{◌≡◌, Some, IsSome, IfOk, IfSome, OnErr};
-ghost use Rattle.rv_account.specs.Account.{items_at, partners_items};
+ghost use Rattle.rv_account.specs.Account.{item_at, items_at, partners_items};
 ghost use Rattle.rv_book.specs.reply_cache.Recalling.{ReplyHasText, reply_of};
 
 use rv_account::Account;
 use rv_session::{Kept, Place};
-use rv_text::{Items, NoMemory, Reply};
+use rv_text::{Item, Items, NoMemory, Reply};
 use std::alloc::Global;
+
+// A copy of the item that the arrival at a place hands over. Fails only if memory was refused.
+fn item(alloc: Global, account: &Account, place: Place) -> Result<Item, NoMemory>
+    requires { IsSome (item_at account.now.account.entries place) }
+    ensures { IfOk result (λ item. item_at account.now.account.entries place ≡ Some item) }
+{
+    account.item(place).copy(alloc)
+}
 
 /// The reply that is kept, with its text copied from the account. Fails only if that copy does.
 pub fn reply(alloc: Global, account: &Account, kept: Kept) -> Result<Reply, NoMemory>
@@ -16,9 +24,9 @@ pub fn reply(alloc: Global, account: &Account, kept: Kept) -> Result<Reply, NoMe
 {
     match kept {
         Kept::Done => Ok(Reply::Done),
-        Kept::Item(place) => Ok(Reply::Item(account.item(place).copy(alloc)?)),
+        Kept::Item(place) => item(alloc, account, place).map(Reply::Item),
         Kept::Empty => Ok(Reply::Empty),
-        Kept::Swapped(place) => Ok(Reply::Swapped(account.item(place).copy(alloc)?)),
+        Kept::Swapped(place) => item(alloc, account, place).map(Reply::Swapped),
         Kept::Received => Ok(Reply::Received),
         Kept::ReceivedBy(place) => Ok(Reply::ReceivedBy(account.key(place))),
         Kept::Nobody => Ok(Reply::Nobody),
@@ -27,9 +35,9 @@ pub fn reply(alloc: Global, account: &Account, kept: Kept) -> Result<Reply, NoMe
             items: items as u64,
             consumers: consumers as u64,
         }),
-        Kept::Peeked(place) => Ok(Reply::Peeked(account.item(place).copy(alloc)?)),
+        Kept::Peeked(place) => item(alloc, account, place).map(Reply::Peeked),
         Kept::TimedOut => Ok(Reply::TimedOut),
-        Kept::Drained(place) => Ok(Reply::Drained(partners_items(account, place)?)),
+        Kept::Drained(place) => partners_items(account, place).map(Reply::Drained),
     }
 }
 

@@ -1,24 +1,62 @@
 -- The reply that is made of what is kept is the one that was said.
-use Rattle.rv_book.proofs.Words.{◌∙◌, ap, subst, sym, same_Some, Replied, Account, Stored, said_in, IsAsKept}
-use Rattle.rv_book.proofs.Words.{reply_of}
-use Rattle.rv_book.specs.Saying.{kept_of}
-use Rattle.rv_book.specs.Verdicts.{VerdictView}
-use Rattle.rv_book.proofs.Saying.{tells_kept}
-use Rattle.rv_book.specs.declared.verdict.KeptAnswer as said
+use Rattle.std.proofs.lemmas.Result.{IfOk-from_err, MatchResult-from_err}
+use Rattle.rv_book.proofs.Words.{◌≡◌, ◌∙◌, ap, Account, Answer, Stored}
+use Rattle.rv_book.specs.Verdicts.{HasText}
+use Rattle.rv_book.specs.declared.verdict.KeptAnswer.TheVariants as said
+use Rattle.rv_book.proofs.Saying.{kept_text, kept_there, kept_told, stamp_replied, stamp_says}
 use Rattle.rv_book.proofs.book.Book.answer.Goals as goal
+
+pub returns-in-Welcome-clause-ok : goal.returns-in-Welcome-clause-ok
+returns-in-Welcome-clause-ok c = stamp_says c.verdict.inside.asked.value c.verdict.inside.before.value.account
+    c.verdict.inside.after.value.account c.verdict.inside.said c.args.verdict.now c.verdict.view_is
+    (said.Welcome c.in-Welcome.epoch c.in-Welcome.client c.in-Welcome.incarnation c.in-Welcome.version)
+    c.in-Welcome.is
+
+pub returns-in-Waiting-clause-ok : goal.returns-in-Waiting-clause-ok
+returns-in-Waiting-clause-ok c = stamp_says c.verdict.inside.asked.value c.verdict.inside.before.value.account
+    c.verdict.inside.after.value.account c.verdict.inside.said c.args.verdict.now c.verdict.view_is
+    (said.Waiting c.in-Waiting.key) c.in-Waiting.is
+
+pub returns-in-Refused-clause-ok : goal.returns-in-Refused-clause-ok
+returns-in-Refused-clause-ok c = stamp_says c.verdict.inside.asked.value c.verdict.inside.before.value.account
+    c.verdict.inside.after.value.account c.verdict.inside.said c.args.verdict.now c.verdict.view_is
+    (said.Refused c.in-Refused.refusal) c.in-Refused.is
+
+pub reply-requires : goal.reply-requires
+reply-requires c =
+    let same = ap (λ (stored : Stored). stored.account.entries) c.account.ensures
+    ∙ ap (λ (a : Account). a.entries) c.self.view_is in
+    let tells = stamp_replied c.verdict.inside.asked.value c.verdict.inside.before.value.account
+    c.verdict.inside.after.value.account c.verdict.inside.said c.args.verdict.now c.verdict.view_is
+    c.in-Replied.key c.in-Replied.kept c.in-Replied.is c.args.self.now.entries c.requires.says in
+    kept_there c.args.self.now.entries c.account.result.now.account.entries same c.in-Replied.key
+    c.in-Replied.kept c.args.verdict.now.said tells
 
 pub returns-in_ok-reply-in-Replied-clause-ok : goal.returns-in_ok-reply-in-Replied-clause-ok
 returns-in_ok-reply-in-Replied-clause-ok c =
-    let verdict = c.args.verdict.now in
-    let words = c.in-Replied in
-    let entries = c.args.self.now.entries in
-    let after : Account = c.verdict.inside.after.value.account in
-    let kept = sym (ap (λ (v : VerdictView). v.kept) c.verdict.view_is) ∙ ap kept_of words.is in
-    let says = sym (ap (λ (v : VerdictView). v.said) c.verdict.view_is) ∙ ap (said_in after) words.is in
-    let tells = tells_kept entries after words.key words.kept
-    (subst (λ o. IsAsKept entries o (said_in after (said.TheVariants.Replied words.key words.kept))) kept
-    (subst (IsAsKept entries verdict.kept) says c.requires.says)) in
     let same = ap (λ (stored : Stored). stored.account.entries) c.account.ensures
     ∙ ap (λ (a : Account). a.entries) c.self.view_is in
-    let reply = sym c.in_ok-reply-in-Replied.ensures.ok ∙ ap (λ es. reply_of es words.kept) same ∙ tells.is in
-    ap (Replied words.key) (same_Some _ _ reply) ∙ sym tells.tells ∙ sym says
+    let tells = stamp_replied c.verdict.inside.asked.value c.verdict.inside.before.value.account
+    c.verdict.inside.after.value.account c.verdict.inside.said c.args.verdict.now c.verdict.view_is
+    c.in-Replied.key c.in-Replied.kept c.in-Replied.is c.args.self.now.entries c.requires.says in
+    kept_told c.args.self.now.entries c.account.result.now.account.entries same c.in-Replied.key
+    c.in-Replied.kept c.args.verdict.now.said tells _
+    c.in_ok-reply-in-Replied.ensures.ok
+
+pub returns-in_err-reply-in-Replied-clause-ok : goal.returns-in_err-reply-in-Replied-clause-ok
+returns-in_err-reply-in-Replied-clause-ok c = IfOk-from_err c.from_residual.result
+    (λ (answer : Answer). answer ≡ c.args.verdict.now.said) c.from_residual.ensures.0
+
+pub returns-in_err-reply-in-Replied-clause-err : goal.returns-in_err-reply-in-Replied-clause-err
+returns-in_err-reply-in-Replied-clause-err c =
+    let same = ap (λ (stored : Stored). stored.account.entries) c.account.ensures
+    ∙ ap (λ (a : Account). a.entries) c.self.view_is in
+    let tells = stamp_replied c.verdict.inside.asked.value c.verdict.inside.before.value.account
+    c.verdict.inside.after.value.account c.verdict.inside.said c.args.verdict.now c.verdict.view_is
+    c.in-Replied.key c.in-Replied.kept c.in-Replied.is c.args.self.now.entries c.requires.says in
+    MatchResult-from_err c.from_residual.result (λ answer. Unit {0})
+    (λ failed. HasText c.args.verdict.now.said)
+    c.from_residual.ensures.0 (λ failed. kept_text c.args.self.now.entries
+    c.account.result.now.account.entries same c.in-Replied.key
+    c.in-Replied.kept c.args.verdict.now.said tells
+    c.in_err-reply-in-Replied.ensures.err)
