@@ -165,11 +165,11 @@ impl WorldState {
         ensures newest { KnowsNewest self.new }
     {
         let key = self.next_key(client)?;
+        self.asked.reserve(1)?;
+        self.to_server.reserve(1)?;
         let asked = call.copy(alloc)?;
         let own = call.copy(alloc)?;
         let call = call.copy(alloc)?;
-        self.asked.reserve(1)?;
-        self.to_server.reserve(1)?;
         self.clients.begin(client, own);
         self.asked.push_reserved((key, asked));
         Ok(send(&mut self.to_server, Message::Request { key, call }))
@@ -211,11 +211,11 @@ impl WorldState {
             (world_of self.new) result }
         ensures newest { KnowsNewest self.new }
     {
-        let message = match self.to_server.get(packet) {
-            Some(message) => copy_message(alloc, message)?,
-            None => return Err(WorldRefusal::NoSuchPacket),
+        let Some(message) = self.to_server.get(packet) else {
+            return Err(WorldRefusal::NoSuchPacket);
         };
         self.to_client.reserve(1)?;
+        let message = copy_message(alloc, message)?;
         let client = sender(&message);
         let verdict = self.present.handle(moment, message);
         let answer = match self.present.answer(alloc, &verdict) {
@@ -238,8 +238,8 @@ impl WorldState {
         if self.clients.process(client).is_none() {
             return Ok(Seen::Ignored);
         }
-        let answer = copy_answer(alloc, &packet.answer)?;
         self.held.reserve(1)?;
+        let answer = copy_answer(alloc, &packet.answer)?;
         Ok(self.hear(client, answer))
     }
 

@@ -15,10 +15,11 @@ returns-in_err-answer-clause-comes c =
     let found = c.in-Some.ensures.lookup in
     let there = subst (λ (l : List Packet). slice_get l c.args.packet ≡ Some sent) c.deref.ensures.value
     (slice_get_read c.deref.result.now _ c.args.packet sent refl found.3.0 found.1) in
-    lacks_memory (world_of old) (world_of old) (event.ToClient c.args.packet) _ (sent_due (world_of old)
-    c.args.packet sent there)
+    lacks_memory (world_of old) (world_of (record old { held = c.reserve.new.self }))
+    (event.ToClient c.args.packet) _ (sent_due (world_of old) c.args.packet sent there)
     (awaited _ (world_of old) c.args.packet sent _ _ there c.process.ensures c.is_none.ensures
-    c.if-is_none.false) c.from_residual.ensures.1 refl
+    c.if-is_none.false) c.from_residual-in_err-answer.ensures.1
+    (same_world _ _ refl refl refl refl refl c.in_ok-reserve.ensures.items refl refl)
 
 pub returns-in_err-reserve-clause-comes : goal.returns-in_err-reserve-clause-comes
 returns-in_err-reserve-clause-comes c =
@@ -30,7 +31,7 @@ returns-in_err-reserve-clause-comes c =
     lacks_memory (world_of old) (world_of (record old { held = c.reserve.new.self }))
     (event.ToClient c.args.packet) _ (sent_due (world_of old) c.args.packet sent there)
     (awaited _ (world_of old) c.args.packet sent _ _ there c.process.ensures c.is_none.ensures
-    c.if-is_none.false) c.from_residual-in_err-reserve.ensures.1
+    c.if-is_none.false) c.from_residual.ensures.1
     (same_world _ _ refl refl refl refl refl c.in_err-reserve.ensures.items refl refl)
 
 pub returns-clause-comes : goal.returns-clause-comes
