@@ -6,7 +6,7 @@ ghost use Rattle.rv_client.specs.Link.{Asks, link, message_frame};
 ghost use Rattle.rv_client.specs.Process as process;
 
 use crate::fault::LinkFault;
-use crate::link::ask;
+use crate::link::exchange;
 use crate::request::{HearOutcome, Idle, Outstanding};
 use rv_frame::{Sink, Source};
 use rv_text::{Answer, Call, Key, Reply};
@@ -92,6 +92,6 @@ fn ask_for<R: Read, W: Write>(
     ensures { Asks R.remaining W.contents (message_frame (process.request_of outstanding.now))
         (link source.old sink.old) (link source.new sink.new) result }
 {
-    let message = outstanding.message(alloc)?;
-    ask(alloc, source, sink, &message)
+    let request = outstanding.text(alloc)?;
+    exchange(alloc, source, sink, request.as_bytes())
 }

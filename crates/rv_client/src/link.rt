@@ -2,7 +2,7 @@
 ghost use Rattle.std.specs.Prelude.{◌≡◌, ◌<◌, ◌≤◌, [], false, length, IfErr, OnOk};
 ghost use Rattle.std.specs.Vec.{vec_capacity};
 ghost use Rattle.rv_text.specs.Limits.{FitsMessage};
-ghost use Rattle.rv_frame.specs.Cut.{length_bytes};
+ghost use Rattle.rv_frame.specs.Cut.{IsFrameBody, frame_bytes, length_bytes};
 ghost use Rattle.rv_frame.specs.Source.{SourceGives, source_failed};
 ghost use Rattle.rv_client.specs.Link.{Asks, link, message_frame};
 ghost use Rattle.rv_client.specs.Reading.{BreaksOff, FallsShort, ReadsFrame};
@@ -89,8 +89,22 @@ pub fn ask<R: Read, W: Write>(
         (link source.old sink.old) (link source.new sink.new) result }
 {
     let request = encode_message(alloc, message)?;
+    exchange(alloc, source, sink, request.as_bytes())
+}
+
+/// Sends the body of a request as one frame, and reads the frame of its answer, as [`ask`] does.
+pub(crate) fn exchange<R: Read, W: Write>(
+    alloc: Global,
+    source: &mut Source<R>,
+    sink: &mut Sink<W>,
+    request: &[u8],
+) -> Result<Answer, LinkFault>
+    requires { IsFrameBody request.now }
+    ensures { Asks R.remaining W.contents (frame_bytes request.now)
+        (link source.old sink.old) (link source.new sink.new) result }
+{
     let mut body = Vec::with_capacity(alloc, MAX_BODY_BYTES)?;
-    write_frame(sink, request.as_bytes())?;
+    write_frame(sink, request)?;
     read_frame(source, &mut body)?;
     Ok(decode_answer(alloc, body.as_slice())?)
 }

@@ -1,7 +1,12 @@
 //! A client that has a session: between its requests, and with one that it has begun.
-ghost use Rattle.std.specs.Prelude.{◌≡◌, IfOk, IsSome, Some};
+ghost use Rattle.std.specs.Prelude.{◌≡◌, IfOk, IsSome, Some, string_bytes};
+ghost use Rattle.rv_text.specs.Bodies.{message_text};
+ghost use Rattle.rv_text.specs.Limits.{FitsCall, FitsKey};
+ghost use Rattle.rv_frame.specs.Cut.{IsFrameBody};
 
-use rv_text::{Answer, Call, Key, MAX_IDENTIFIER, Message, NoMemory, Refusal, Reply};
+use rv_text::{
+    Answer, Call, Key, MAX_IDENTIFIER, Message, NoMemory, Refusal, Reply, encode_request,
+};
 use std::alloc::Global;
 use std::marker::Model;
 
@@ -144,6 +149,16 @@ impl Outstanding {
             key: self.key,
             call,
         })
+    }
+
+    /// The body of the request, of which no copy is made. Fails only if memory was refused.
+    pub(crate) fn text(&self, alloc: Global) -> Result<String, NoMemory>
+        requires key { FitsKey self.now.key }
+        requires call { FitsCall self.now.call }
+        ensures text { IfOk result (λ s. string_bytes s ≡ message_text (process.request_of self.now)) }
+        ensures of_body { IfOk result (λ s. IsFrameBody (string_bytes s)) }
+    {
+        encode_request(alloc, &self.key, &self.call)
     }
 
     /// The cancel of the request.
