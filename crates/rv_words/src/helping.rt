@@ -9,7 +9,7 @@ use crate::fault::CommandFault;
 use crate::options::host_words;
 use crate::program::{program, with_command, with_commands};
 use crate::verifying;
-use crate::words::words_of_help;
+use crate::words::words_from;
 use clap::error::ErrorKind;
 use std::alloc::{AllocError, Global};
 use std::fmt;
@@ -50,7 +50,7 @@ pub fn read_help<'a>(
         → BeginWithout (codes "help") (texts words.entry.now)) }
     ensures bad { IsErrOf result CommandFault.Bad → fault_of help_app (texts words.entry.now) ≡ [] }
 {
-    match words_of_help(words) {
+    match words_from("help", words) {
         Some(_) => Ok(Some(answer(alloc, words)?)),
         None => Ok(None),
     }
@@ -77,10 +77,7 @@ fn refusal_of<'a>(command: clap::Command<'a>, words: &'a [&'a str]) -> Option<cl
     ensures some { IfSome result (HasKind (fault_of (app_of command.entry) (texts words.entry.now))) }
     ensures none { result ≡ None → fault_of (app_of command.entry) (texts words.entry.now) ≡ [] }
 {
-    match command.try_get_matches_from(words) {
-        Ok(_) => None,
-        Err(error) => Some(error),
-    }
+    command.try_get_matches_from(words).err()
 }
 
 // The program with all its commands, as help shows them.

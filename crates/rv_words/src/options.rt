@@ -1,7 +1,7 @@
 //! The options of the long-running server, `rv host`: what its words name, or what is wrong with them.
-ghost use Rattle.std.specs.Prelude.{◌≡◌, ◌↔◌, [], codes, IfErr, IfOk, None, option_map, Some, true};
+ghost use Rattle.std.specs.Prelude.{◌≡◌, [], IfErr, IfOk};
 ghost use Rattle.clap.specs.Walk.{texts};
-ghost use Rattle.clap.specs.Words.{IsAmong, fault_of, first_of, found_of, kind_of, matches_of, rows_of};
+ghost use Rattle.clap.specs.Words.{fault_of, found_of, matches_of, rows_of};
 ghost use Rattle.rv_words.specs.options.Epochs.{FitsRule, SaysRule};
 ghost use Rattle.rv_words.specs.options.Faults.{IsFault, IsFaultOf};
 ghost use Rattle.rv_words.specs.options.Numbers.{Fits, GivesNumber, given_for};
@@ -15,6 +15,7 @@ mod number;
 mod version;
 mod words;
 
+use crate::reading::{is_given, text_of};
 use clap::ArgMatches;
 pub use epoch::EpochRule;
 pub use fault::HostFault;
@@ -98,7 +99,7 @@ fn options_of<'a>(given: &ArgMatches<'a>) -> Result<HostOptions<'a>, HostFault<'
         memory: number_of(given, HostNumber::Memory)?,
         idle: number_of(given, HostNumber::Idle)?,
         stall: number_of(given, HostNumber::Stall)?,
-        quiet: is_true(given, "quiet"),
+        quiet: is_given(given, "quiet"),
     })
 }
 
@@ -134,21 +135,4 @@ fn number_of<'a>(given: &ArgMatches<'a>, number: HostNumber) -> Result<u64, Host
             given: text,
         }),
     }
-}
-
-// Whether a flag is there.
-fn is_true(given: &ArgMatches, name: &str) -> bool
-    ensures { (result ≡ true) ↔ (first_of name.now (rows_of (found_of given.now)) ≡ Some (codes "true")) }
-{
-    match text_of(given, name) {
-        Some(text) => text == "true",
-        None => false,
-    }
-}
-
-// An option's value.
-fn text_of<'a>(given: &ArgMatches<'a>, name: &str) -> Option<&'a str>
-    ensures { option_map (λ v. v.now) result ≡ first_of name.now (rows_of (found_of given.now)) }
-{
-    given.get_str(name)
 }

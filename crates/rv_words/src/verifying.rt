@@ -1,7 +1,7 @@
 //! Reads the words of `rv verify`.
 ghost use Rattle.std.specs.Prelude.{◌≡◌, ◌∷◌, ◌↔◌, [], codes, false, IfOk, IfSome, IsErrOf, IsTrue};
-ghost use Rattle.std.specs.Prelude.{List, None, Some};
-ghost use Rattle.clap.specs.Words.{Text, app_of, fault_of, first_of, found_of, matches_of, rows_of, rule_of};
+ghost use Rattle.std.specs.Prelude.{List, None};
+ghost use Rattle.clap.specs.Words.{Text, app_of, fault_of, found_of, matches_of, rows_of, rule_of};
 ghost use Rattle.clap.specs.Words.{shape_of};
 ghost use Rattle.clap.specs.Walk.{texts};
 ghost use Rattle.clap.specs.declared.Command.TheViews.{out-Command};
@@ -12,8 +12,8 @@ ghost use Rattle.rv_words.specs.Verifying.{file_rule, verify_app};
 use crate::fault::CommandFault;
 use crate::options::{ListedOption, with_options};
 use crate::program::named;
-use crate::reading::{taken, text_of};
-use crate::words::words_of_verify;
+use crate::reading::{is_given, taken, text_of};
+use crate::words::words_from;
 use clap::{Arg, ArgAction, ArgMatches};
 use std::alloc::{AllocError, Global};
 
@@ -41,7 +41,7 @@ pub fn read_verify<'a>(
     ensures other { IfOk result (λ found. found ≡ None → BeginOtherwise (texts words.entry.now)) }
     ensures bad { IsErrOf result CommandFault.Bad → NamesNoVerify (texts words.entry.now) }
 {
-    match words_of_verify(words) {
+    match words_from("verify", words) {
         Some(own) => Ok(Some(said(alloc, own)?)),
         None => Ok(None),
     }
@@ -71,16 +71,6 @@ fn said_by<'a>(matches: &ArgMatches<'a>) -> Option<VerifyWords<'a>>
         replies: text_of(matches, "replies"),
         follow,
     })
-}
-
-// Whether a flag is given.
-fn is_given(matches: &ArgMatches, name: &str) -> bool
-    ensures { IsTrue result ↔ (first_of name.now (rows_of (found_of matches.now)) ≡ Some (codes "true")) }
-{
-    match text_of(matches, name) {
-        Some(text) => text == "true",
-        None => false,
-    }
 }
 
 // Whether these words call standard input.

@@ -10,32 +10,18 @@ pub fn words_of_host<'a>(words: &'a [&'a str]) -> Option<&'a [&'a str]>
         × (texts words.entry.now ≡ name ∷ codes "host" ∷ rest) × (texts own.now ≡ codes "host" ∷ rest)) }
     ensures none { result ≡ None → BeginWithout (codes "host") (texts words.entry.now) }
 {
-    match words {
-        [_, "host", ..] => Some(&words[1..]),
-        _ => None,
-    }
+    words_from("host", words)
 }
 
-/// The words from `help` on, in the same way.
-pub(crate) fn words_of_help<'a>(words: &'a [&'a str]) -> Option<&'a [&'a str]>
+/// The words from a command on, if that is the word after the program's name.
+pub(crate) fn words_from<'a>(command: &str, words: &'a [&'a str]) -> Option<&'a [&'a str]>
     ensures some { IfSome result (λ own. (name : Text) × (rest : List Text)
-        × (texts words.entry.now ≡ name ∷ codes "help" ∷ rest) × (texts own.now ≡ codes "help" ∷ rest)) }
-    ensures none { result ≡ None → BeginWithout (codes "help") (texts words.entry.now) }
+        × (texts words.entry.now ≡ name ∷ command.now ∷ rest) × (texts own.now ≡ command.now ∷ rest)) }
+    ensures none { result ≡ None → BeginWithout command.now (texts words.entry.now) }
 {
-    match words {
-        [_, "help", ..] => Some(&words[1..]),
-        _ => None,
-    }
-}
-
-/// The words from `verify` on, in the same way.
-pub(crate) fn words_of_verify<'a>(words: &'a [&'a str]) -> Option<&'a [&'a str]>
-    ensures some { IfSome result (λ own. (name : Text) × (rest : List Text)
-        × (texts words.entry.now ≡ name ∷ codes "verify" ∷ rest) × (texts own.now ≡ codes "verify" ∷ rest)) }
-    ensures none { result ≡ None → BeginWithout (codes "verify") (texts words.entry.now) }
-{
-    match words {
-        [_, "verify", ..] => Some(&words[1..]),
-        _ => None,
+    if words.len() > 1 && words[1] == command {
+        Some(&words[1..])
+    } else {
+        None
     }
 }

@@ -7,15 +7,13 @@ use Rattle.std.specs.Option.{IsSomeAnd}
 use Rattle.std.specs.Str.Parse.{digits_value, without_leading_plus}
 use Rattle.clap.proofs.OnLiterals.{clap_on_literals}
 use Rattle.clap.specs.Words.{Row, Text, fault_of, first_of, matches_of}
-use Rattle.rv_words.specs.options.Laws.{AreBare, BareAlone, BareAreNamed, bare_words}
+use Rattle.rv_words.specs.options.Laws.{BareAlone, BareAreNamed, bare_words}
 use Rattle.rv_words.specs.options.Words.{host_app}
 use Rattle.rv_words.specs.options.Epochs.{SaysRule}
 use Rattle.rv_words.specs.options.Numbers.{GivesNumber, WritesWithin, given_for}
-use Rattle.rv_words.specs.options.Options.{NamesOptions, SaysOptions}
 use Rattle.rv_words.specs.declared.options.epoch.EpochRule.{EpochRule}
 use Rattle.rv_words.specs.declared.options.epoch.EpochRule.TheVariants.{Above, Clock, Exactly}
 use Rattle.rv_words.specs.declared.options.number.HostNumber.{HostNumber}
-use Rattle.rv_words.specs.declared.options.HostOptions.{HostOptions}
 use Rattle.rv_words.specs.declared.options.number.HostNumber.TheVariants as number
 
 abbrev rows : List Row

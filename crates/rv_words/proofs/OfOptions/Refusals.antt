@@ -1,7 +1,7 @@
 -- An error of clap's is one of the faults of its words.
 use Rattle.std.proofs.Common.{◌≡◌, Err, IfErr, List, Result, inl, inr, refl, subst, sym}
 use Rattle.clap.specs.Words.{IsAmong, Text, fault_of, kind_of}
-use Rattle.clap.specs.Kinds.{HasKind, Kinds}
+use Rattle.clap.specs.Kinds.{HasKind}
 use Rattle.clap.specs.declared.error.Error.{Error}
 use Rattle.clap.specs.declared.error.kind.ErrorKind.{ErrorKind}
 use Rattle.clap.specs.declared.error.kind.ErrorKind.TheVariants.{OutOfMemory}

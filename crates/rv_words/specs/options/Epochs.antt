@@ -1,5 +1,5 @@
 -- The rules by which a server chooses its epoch.
-use Rattle.std.specs.Prelude.{codes, List, ℕ, None, ◌≡◌}
+use Rattle.std.specs.Prelude.{List, None, ◌≡◌}
 use Rattle.clap.specs.Words.{Row}
 use Rattle.rv_words.specs.options.Numbers.{Fits, GivesNumber, given_for}
 use Rattle.rv_words.specs.declared.options.epoch.EpochRule.{EpochRule}

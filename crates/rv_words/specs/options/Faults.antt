@@ -1,5 +1,5 @@
 -- What is wrong with words that aren't options of `rv host`.
-use Rattle.std.specs.Prelude.{codes, List, ℕ, None, Some, true, is_some, if◌then◌else◌, [], ◌≡◌}
+use Rattle.std.specs.Prelude.{List, ℕ, None, Some, true, is_some, [], ◌≡◌}
 use Rattle.clap.specs.Words.{IsAmong, Row, Text, fault_of, first_of, kind_of, matches_of}
 use Rattle.clap.specs.declared.error.Error.{Error}
 use Rattle.clap.specs.declared.error.kind.ErrorKind.{ErrorKind}

@@ -1,5 +1,5 @@
 -- The options that words name.
-use Rattle.std.specs.Prelude.{codes, List, Option, Some, true, option_map, [], ◌≡◌, ◌↔◌}
+use Rattle.std.specs.Prelude.{codes, List, Some, true, option_map, [], ◌≡◌, ◌↔◌}
 use Rattle.clap.specs.Words.{Row, Text, fault_of, first_of, matches_of}
 use Rattle.rv_words.specs.options.Words.{host_app}
 use Rattle.rv_words.specs.options.Numbers.{Fits, GivesNumber}

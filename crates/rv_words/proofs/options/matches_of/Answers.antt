@@ -1,9 +1,9 @@
 -- The command is one of which clap tells each fault, and its matches.
-use Rattle.std.proofs.Common.{◌≡◌, ◌∙◌, [], ap, inl, inr, refl, subst, true}
+use Rattle.std.proofs.Common.{◌≡◌, ◌∙◌, [], ap, refl, subst, true}
 use Rattle.clap.proofs.OnLiterals.{clap_on_literals}
 use Rattle.clap.specs.Walk.{texts}
 use Rattle.std.proofs.lemmas.Result.{err_from_is_err_and}
-use Rattle.clap.specs.Words.{App, HasKind, HasMatchesOf, Kinds, fault_of, is_simple, is_simple_and_free}
+use Rattle.clap.specs.Words.{App, HasKind, HasMatchesOf, fault_of, is_simple, is_simple_and_free}
 use Rattle.rv_words.specs.options.Faults.{IsFault}
 use Rattle.rv_words.specs.options.Words.{host_app}
 use Rattle.rv_words.proofs.OfOptions.Refusals.{fails_by, refused_as}

@@ -1,8 +1,0 @@
--- The value that clap gives is the one of the rows.
-use Rattle.std.proofs.Common.{◌∙◌}
-use Rattle.clap.proofs.WalkLemmas.{first_value-rows}
-use Rattle.clap.specs.Words.{found_of}
-use Rattle.rv_words.proofs.options.text_of.Goals as goal
-
-pub returns : goal.returns
-returns c = c.get_str.ensures ∙ first_value-rows (found_of c.args.given.now) c.args.name.now
