@@ -16,7 +16,8 @@ use Rattle.rv_text.specs.Members.{max_identifier}
 use Rattle.rv_client.specs.Process.{PassesBy, Starting, key_after}
 use Rattle.rv_run.specs.declared.calls.client.Halt.{Halt}
 use Rattle.rv_run.specs.declared.calls.client.Halt.TheVariants as halt
-use Rattle.rv_run.specs.calls.Calling.{AllInVain, HaltsAt, HasNumbers, HelloEnds, HellosInVain, IsHelloInVain}
+use Rattle.rv_run.specs.calls.Calling.{AllInVain, AnswerEnds, HaltsAt, HasNumbers, HelloEnds, HellosInVain}
+use Rattle.rv_run.specs.calls.Calling.{IsHelloInVain}
 use Rattle.rv_run.specs.calls.Calling.{SaysHello, SettlesLine, SettlesLines, WelcomesOrNot, key_behind}
 use Rattle.rv_run.specs.declared.calls.end_word.EndWord.{EndWord}
 use Rattle.rv_run.specs.declared.calls.end_word.EndWord.TheVariants.{BadLine, EpochEnded, NotWelcome, Refused}
@@ -84,6 +85,23 @@ module _ {R W : Type 0} (remaining : R → Option (List ℕ)) (contents : W → 
     each = length-append vain.answers (once.answer ∷ []) ∙ ap (λ n. n + 1) vain.each;
     in_vain = hellos_more starting vain.answers once.answer a b c vain.in_vain once.asked once.passed_by;
   }
+
+  -- one hello ended by its answer
+  pub hello_ends : (starting : Starting) (answer : Answer) (a b : Link R W)
+      (ended : Result (Option Key) EndWord) → SaysHello remaining contents starting a b (Ok answer)
+      → AnswerEnds starting answer ended → HelloEnds remaining contents starting a b ended
+  hello_ends starting answer a b (Ok next) said ends = (
+    ends.0,
+    subst (λ (x : Answer). SaysHello remaining contents starting a b (Ok x)) ends.1 said,
+    ends.2,
+  )
+  hello_ends starting answer a b (Err (Refused refusal)) said ends =
+      subst (λ (x : Answer). SaysHello remaining contents starting a b (Ok x)) ends said
+  hello_ends starting answer a b (Err NotWelcome) said ends = absurd ends
+  hello_ends starting answer a b (Err (Unsettled n)) said ends = absurd ends
+  hello_ends starting answer a b (Err (EpochEnded n)) said ends = absurd ends
+  hello_ends starting answer a b (Err (Replaced n)) said ends = absurd ends
+  hello_ends starting answer a b (Err BadLine) said ends = absurd ends
 
   pub hello_ended : (starting : Starting) (times tries : ℕ) (a b c : Link R W) (ended : Result (Option Key)
       EndWord) → AllInVain remaining contents starting times a b → times < tries

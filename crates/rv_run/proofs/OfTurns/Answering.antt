@@ -1,5 +1,5 @@
 -- A run that read all of its input and answered its lines, from the book that it opened.
-use Rattle.std.proofs.Common.{◌≡◌, ◌^◌, ℕ, List, [], Option, Some, None, IfSome, min, sym, subst, true}
+use Rattle.std.proofs.Common.{◌≡◌, ◌^◌, ℕ, List, [], Option, Some, None, IfSome, min, subst, true}
 use Rattle.rv_frame.specs.declared.sink.Sink.{Sink}
 use Rattle.rv_frame.specs.declared.source.Source.{Source}
 use Rattle.rv_frame.specs.Sink.{sink_failed}

@@ -1,5 +1,5 @@
 -- What stands after the first line of an input.
-use Rattle.std.proofs.Common.{◌≡◌, ◌+◌, ◌-◌, ℕ, List, ◌∷◌, ◌++◌, drop, length, length-append, arith, ap, sym}
+use Rattle.std.proofs.Common.{◌≡◌, ◌+◌, ◌-◌, ℕ, List, ◌∷◌, drop, length, length-append, arith, ap, sym}
 use Rattle.std.proofs.Common.{inl, inr, subst, ◌∙◌}
 use Rattle.std.proofs.Math.Seq.{drop-append-add, drop-length}
 use Rattle.rv_lines.specs.Lines.{BeginsWithLine}

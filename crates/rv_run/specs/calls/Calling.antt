@@ -14,7 +14,7 @@ use Rattle.rv_client.specs.declared.fault.LinkFault.{LinkFault}
 use Rattle.rv_client.specs.Calls.{Calls}
 use Rattle.rv_client.specs.Link.{Asks, Link, message_frame}
 use Rattle.rv_text.specs.Members.{max_identifier}
-use Rattle.rv_client.specs.Process.{Asking, PassesBy, Starting, first_key, hello_of}
+use Rattle.rv_client.specs.Process.{Asking, PassesBy, Starting, Welcomes, first_key, hello_of}
 use Rattle.rv_run.specs.declared.calls.client.Halt.{Halt}
 use Rattle.rv_run.specs.declared.calls.client.Halt.TheVariants as halt
 use Rattle.rv_run.specs.declared.calls.end_word.EndWord.{EndWord}
@@ -34,6 +34,13 @@ pub record HasNumbers (idle : Option Key) (requests : ℕ) : Type 0 where
 -- no call is read from the line
 abbrev pub IsNoCall : List ℕ → Type 0
 IsNoCall line = (call : Call) → ¬ IsCallBody line call
+
+-- an answer to a hello welcomes the client, or refuses it with this word; for private clauses
+abbrev pub AnswerEnds : Starting → Answer → Result (Option Key) EndWord → Type 0
+AnswerEnds starting answer (Ok next) =
+    (epoch : ℕ) × Welcomes starting answer epoch × (next ≡ Some (first_key starting epoch))
+AnswerEnds starting answer (Err (word.Refused refusal)) = answer ≡ answers.Refused refusal
+AnswerEnds starting answer (Err _) = ⊥
 
 -- no call was read from the line: it says none, or memory was refused
 abbrev pub HaltsReading : List ℕ → Halt → Type 0

@@ -1,17 +1,19 @@
 //! The client of a run of calls: it says hello, and makes the call that a line says.
 ghost use Rattle.std.specs.Prelude.{◌≡◌, IfErr, IfOk, IfSome, IsSome, Ok, string_bytes};
-ghost use Rattle.rv_text.specs.Bodies.{HasBodyLength, IsCallBody};
-ghost use Rattle.rv_text.specs.Limits.{FitsIdentifier, FitsKey};
+ghost use Rattle.rv_text.specs.Bodies.{HasBodyLength, IsCallBody, answer_text};
+ghost use Rattle.rv_text.specs.Limits.{FitsAnswer, FitsIdentifier, FitsKey};
 ghost use Rattle.rv_client.specs.Link.{link};
-ghost use Rattle.rv_client.specs.Process.{key_after};
+ghost use Rattle.rv_client.specs.Process.{PassesBy, key_after};
 ghost use Rattle.rv_run.specs.calls.Calling.{HaltsAt, HaltsReading, HelloEnds, IsHelloInVain, SettlesLine};
-ghost use Rattle.rv_run.specs.calls.Calling.{WelcomesOrNot};
+ghost use Rattle.rv_run.specs.calls.Calling.{AnswerEnds, WelcomesOrNot};
 ghost use Rattle.rv_run.specs.calls.Records.{IsRequestBody};
 
 use crate::calls::end_word::EndWord;
 use rv_client::{CallOutcome, Idle, New, WelcomeOutcome, ask, call};
 use rv_frame::{Sink, Source};
-use rv_text::{Answer, Call, Key, NoMemory, TextFault, decode_call, encode_answer, encode_request};
+use rv_text::{
+    Answer, Call, Key, NoMemory, Reply, TextFault, decode_call, encode_answer, encode_request,
+};
 use std::alloc::{AllocError, Global};
 use std::io::{Read, Write};
 
@@ -86,10 +88,7 @@ impl Caller {
         let key = idle.next_key().unwrap();
         let asked = read_call(self.alloc, line)?;
         match call(self.alloc, idle, from, to, asked, self.tries) {
-            CallOutcome::Settled(next, reply) => {
-                let answer = Answer::Replied { key, reply };
-                Ok((next, encode_answer(self.alloc, &answer)?))
-            }
+            CallOutcome::Settled(next, reply) => Ok((next, reply_text(self.alloc, key, reply)?)),
             CallOutcome::Unsettled(outstanding, _) => {
                 let number = outstanding.abandon().number;
                 Err(Halt::Word(EndWord::Unsettled(number)))
@@ -126,6 +125,16 @@ impl Caller {
     }
 }
 
+// The text of the answer that a reply to this key is.
+fn reply_text(alloc: Global, key: Key, reply: Reply) -> Result<String, NoMemory>
+    ensures text { IfOk result (λ text. string_bytes text ≡ answer_text (Answer.Replied key reply)) }
+    ensures short { FitsAnswer (Answer.Replied key reply)
+        → IfOk result (λ text. HasBodyLength (string_bytes text)) }
+{
+    let answer = Answer::Replied { key, reply };
+    encode_answer(alloc, &answer)
+}
+
 // Says hello once. The client comes back if the answer says nothing to it.
 fn try_hello<R: Read, W: Write>(
     alloc: Global,
@@ -140,13 +149,22 @@ fn try_hello<R: Read, W: Write>(
     ensures ended { IfErr result (HelloEnds R.remaining W.contents new
         (link from.old to.old) (link from.new to.new)) }
 {
-    match ask(alloc, from, to, &new.message()) {
-        Ok(answer) => match new.welcome(&answer) {
-            WelcomeOutcome::Idle(idle) => Err(Ok(idle)),
-            WelcomeOutcome::Again(same) => Ok(same),
-            WelcomeOutcome::Refused(_, refusal) => Err(Err(EndWord::Refused(refusal))),
-        },
+    let hello = new.message();
+    match ask(alloc, from, to, &hello) {
+        Ok(answer) => hear_hello(new, &answer),
         Err(_) => Err(Err(EndWord::NotWelcome)),
+    }
+}
+
+// Hears the answer to a hello. The client comes back if it says nothing to it.
+fn hear_hello(new: New, answer: &Answer) -> Result<New, Result<Idle, EndWord>>
+    ensures again { IfOk result (λ same. (same ≡ new) × PassesBy new answer.now) }
+    ensures ended { IfErr result (AnswerEnds new answer.now) }
+{
+    match new.welcome(answer) {
+        WelcomeOutcome::Idle(idle) => Err(Ok(idle)),
+        WelcomeOutcome::Again(same) => Ok(same),
+        WelcomeOutcome::Refused(_, refusal) => Err(Err(EndWord::Refused(refusal))),
     }
 }
 

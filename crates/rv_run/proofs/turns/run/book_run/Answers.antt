@@ -1,7 +1,6 @@
 -- A run that read its input and answered each line, or a write that failed.
-use Rattle.std.proofs.Common.{◌≡◌, ◌∙◌, Err, ap, subst, sym, ℕ}
+use Rattle.std.proofs.Common.{◌≡◌, subst}
 use Rattle.std.proofs.lemmas.Result.{err_from_is_err_and}
-use Rattle.rv_run.specs.declared.fault.RunFault.{RunFault}
 use Rattle.rv_run.specs.declared.output.OutputFault.{OutputFault}
 use Rattle.rv_run.specs.turns.Outcomes.{StoppedWriting}
 use Rattle.rv_run.specs.turns.Unanswered.{unanswered}
