@@ -1,7 +1,7 @@
 -- A worker answers frame after frame: how far it has come, and what stands where it ends.
 use Rattle.std.proofs.Common.{inl, inr, ◌≡◌, ◌∙◌, ◌+◌, ◌++◌, ◌∷◌, ◌<◌, ◌≤◌, [], ℕ, List, None, Ok, Err}
 use Rattle.std.proofs.Common.{Option, Some, add-zero, add_assoc, ap, append-nil, append_assoc, arith, length}
-use Rattle.std.proofs.Common.{length-append, map, refl, subst, sym, take, zero-add}
+use Rattle.std.proofs.Common.{length-append, map, refl, subst, sym, take, zero-add, IfErr, OnOk, Result}
 use Rattle.std.proofs.KnownBytes.{Appends-nil, Appends-trans, Consumes-nil, Consumes-trans}
 use Rattle.std.proofs.lemmas.List.{length-map, map-append}
 use Rattle.std.proofs.lemmas.List.Elements.{All-nil}
@@ -13,7 +13,7 @@ use Rattle.rv_frame.specs.declared.sink.Sink.{Sink}
 use Rattle.rv_frame.proofs.Cuts.{row_append}
 use Rattle.rv_server.specs.locked.Asking.{Cover, GetsStamps}
 use Rattle.rv_server.specs.Progress.{AnswersFrame, Out, Progress, StopsAtFrame, out}
-use Rattle.rv_server.specs.Reading.{FailsAtSink, ReadsOn, ReadsOut, TakesFrame}
+use Rattle.rv_server.specs.Reading.{FailsAtSink, MeetsNoEnd, ReadsOn, ReadsOut, TakesFrame}
 use Rattle.rv_server.specs.locked.Stamps.{Numbered, added_entries}
 use Rattle.rv_server.specs.locked.FrameStamps.{AreFor, IsFor, IsWaiting}
 use Rattle.rv_server.specs.AnsweredFrames.{AnsweredFrame, AreAnsweredFrames, IsAnsweredFrame, stamps_of}
@@ -210,7 +210,8 @@ module _ {R W : Type 0} (remaining : R → Option (List ℕ)) (contents : W → 
     took.1,
   )
 
-  stops_reading : (before mid : Connection R W) (listed : Listed) (old new : Stream) (number : ℕ) (source :
+  pub stops_reading : (before mid : Connection R W) (listed : Listed) (old new : Stream) (number : ℕ)
+      (source :
       Source R) (fault : WorkFault)
       → Progress remaining contents before mid listed old number → number ≤ max_frames
       → TakesFrame remaining mid.source source old new (Err fault)
@@ -247,7 +248,7 @@ module _ {R W : Type 0} (remaining : R → Option (List ℕ)) (contents : W → 
   }
   stops_reading before mid listed old new number source TooLong so_far few took failed = absurd took
 
-  pub too_long : (before mid : Connection R W) (listed : Listed) (old new : Stream) (number : ℕ) (source :
+  too_long : (before mid : Connection R W) (listed : Listed) (old new : Stream) (number : ℕ) (source :
       Source R) (body : List ℕ)
       → number ≡ max_frames → Progress remaining contents before mid listed old number
       → ReadsOn remaining mid.source source old new (body ∷ [])
@@ -261,6 +262,50 @@ module _ {R W : Type 0} (remaining : R → Option (List ℕ)) (contents : W → 
     ap length so_far.items ∙ length-map so_far.answered (λ (t : AnsweredFrame). t.item) ∙ so_far.count
         ∙ whole,
   )
+
+  -- where no further frame may follow
+  stops_whole : (before mid : Connection R W) (listed : Listed) (old new : Stream) (number : ℕ) (source :
+      Source R) (fault : WorkFault)
+      → number ≡ max_frames → Progress remaining contents before mid listed old number
+      → MeetsNoEnd remaining mid.source source old new fault → FailsAtSink (sink_failed mid.sink) fault
+      → Works remaining contents before (connection source mid.sink mid.share) listed (Some fault)
+  stops_whole before mid listed old new number source TooLong whole so_far stops failed =
+      too_long before mid listed old new number source stops.0 whole so_far stops.1
+  stops_whole before mid listed old new number source ReadFault whole so_far stops failed =
+      stops_reading before mid listed old new number source ReadFault so_far (omega (arith, whole)) stops
+      failed
+  stops_whole before mid listed old new number source CutFrame whole so_far stops failed =
+      stops_reading before mid listed old new number source CutFrame so_far (omega (arith, whole)) stops
+      failed
+  stops_whole before mid listed old new number source NoMemory whole so_far stops failed =
+      stops_reading before mid listed old new number source NoMemory so_far (omega (arith, whole)) stops
+      failed
+  stops_whole before mid listed old new number source (BadLength n) whole so_far stops failed =
+      stops_reading before mid listed old new number source (BadLength n) so_far (omega (arith, whole)) stops
+      failed
+  stops_whole before mid listed old new number source (WriteFault sent) whole so_far stops failed =
+      stops_reading before mid listed old new number source (WriteFault sent) so_far (omega (arith, whole))
+      stops failed
+
+  pub stopped_whole : {X : Type 0} (before mid : Connection R W) (listed : Listed) (old new : Stream)
+      (number : ℕ) (source : Source R) (r : Result X WorkFault)
+      → number ≡ max_frames → Progress remaining contents before mid listed old number
+      → IfErr r (MeetsNoEnd remaining mid.source source old new)
+      → IfErr r (FailsAtSink (sink_failed mid.sink))
+      → IfErr r (λ fault. Works remaining contents before (connection source mid.sink mid.share) listed
+      (Some fault))
+  stopped_whole before mid listed old new number source (Ok x) whole so_far stops failed = tt
+  stopped_whole before mid listed old new number source (Err fault) whole so_far stops failed =
+      stops_whole before mid listed old new number source fault whole so_far stops failed
+
+  pub ended_whole : {X : Type 0} (before mid : Connection R W) (listed : Listed) (old new : Stream)
+      (number : ℕ) (source : Source R) (r : Result X WorkFault)
+      → number ≡ max_frames → Progress remaining contents before mid listed old number
+      → OnOk r (TakesFrame remaining mid.source source old new (Ok None))
+      → OnOk r (Works remaining contents before (connection source mid.sink mid.share) listed None)
+  ended_whole before mid listed old new number source (Ok x) whole so_far took =
+      ends before mid listed old new number source so_far (omega (arith, whole)) took
+  ended_whole before mid listed old new number source (Err fault) whole so_far took = tt
 
   -- stamps were got for the next frame, and these bytes of an answer went out
   stopped_at : (before mid : Connection R W) (listed listed' : Listed) (old new : Stream) (number : ℕ) (body :
@@ -373,17 +418,6 @@ module _ {R W : Type 0} (remaining : R → Option (List ℕ)) (contents : W → 
       absurd none
 
   -- ---- with the fault as a `?` hands it on
-
-  pub stopped_reading : (before mid : Connection R W) (listed : Listed) (old new : Stream) (number : ℕ)
-      (source : Source R) (cause fault : WorkFault) → fault ≡ cause
-      → Progress remaining contents before mid listed old number → number ≤ max_frames
-      → TakesFrame remaining mid.source source old new (Err cause)
-      → FailsAtSink (sink_failed mid.sink) cause
-      → Works remaining contents before (connection source mid.sink mid.share) listed (Some fault)
-  stopped_reading before mid listed old new number source cause fault is so_far few took failed =
-      subst (λ (f : WorkFault). Works remaining contents before (connection source mid.sink mid.share) listed
-      (Some f)) (sym is)
-      (stops_reading before mid listed old new number source cause so_far few took failed)
 
   pub stopped_frame : (before mid : Connection R W) (listed listed' : Listed) (old new : Stream) (number : ℕ)
       (body : List ℕ) (source : Source R) (after : Out W)

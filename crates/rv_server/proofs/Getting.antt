@@ -1,6 +1,6 @@
 -- Stamps that are got for a frame, one after the other.
 use Rattle.std.proofs.Common.{add-zero, ◌≡◌, ◌∙◌, ◌+◌, ◌++◌, ◌∷◌, ◌≤◌, [], ℕ, Bool, List, true, ap, arith}
-use Rattle.std.proofs.Common.{subst, sym, append_assoc}
+use Rattle.std.proofs.Common.{subst, sym, append_assoc, Err, IfErr, Ok, OnErr, Result, refl}
 use Rattle.std.specs.List.{All}
 use Rattle.std.proofs.lemmas.List.Elements.{All-append, All-cons, All-head, All-nil, All-tail}
 use Rattle.std.proofs.lemmas.List.Sums.{sum_by-append, sum_by-cons}
@@ -8,7 +8,7 @@ use Rattle.rv_text.specs.declared.answer.Answer.{Answer}
 use Rattle.rv_server.specs.locked.Asking.{Cover, GetsStamps, GetsTold, TellsFrame}
 use Rattle.rv_server.proofs.OfLocked.Getting.{nothing_got}
 use Rattle.rv_server.specs.Asking.{GetsSome, OnlyWaited, StopsAsking, Waits}
-use Rattle.rv_server.specs.locked.Stamps.{Covers, Numbered, added_entries, added_by}
+use Rattle.rv_server.specs.locked.Stamps.{Covers, Numbered, Stamped, added_entries, added_by, shown_stamps}
 use Rattle.rv_server.specs.locked.FrameStamps.{IsFor, IsWaiting, LastSays, WaitsBetween}
 use Rattle.rv_server.specs.declared.fault.WorkFault.{WorkFault}
 use Rattle.rv_server.specs.declared.fault.WorkFault.TheVariants as fault
@@ -140,14 +140,25 @@ lacks_behind number body share share' share'' old mid new failed cause is first 
     (subst (λ (l : List Numbered). GetsSome number body share old share' l) (sym same)
     (record { got = first.got; gets = first.gets })))
 
+-- the same where the last asking may have had an answer
+pub lacks_at : {S : Type 0} (stamped : S → Stamped) (number : ℕ) (body : List ℕ) (share share' share'' : ℕ)
+    (old : List Numbered) (mid new : List (ℕ × S)) (failed : Bool) (r : Result FrameAnswer WorkFault)
+    → OnlyWaited number body share old share' (shown_stamps stamped mid)
+    → IfErr r (λ cause. cause ≡ fault.NoMemory) → OnErr r ((share'' ≡ share') × (new ≡ mid))
+    → IfErr r (StopsAsking number body share old share'' (shown_stamps stamped new) failed)
+lacks_at stamped number body share share' share'' old mid new failed (Ok told) first is same = tt
+lacks_at stamped number body share share' share'' old mid new failed (Err cause) first is same =
+    lacks_behind number body share share' share'' old (shown_stamps stamped mid) (shown_stamps stamped new)
+    failed cause is first same.0 (ap (shown_stamps stamped) same.1)
+
 -- and then the sink failed
 pub unsent_behind : (number : ℕ) (body : List ℕ) (share share' : ℕ) (old new : List Numbered) (failed : Bool)
-    (sent : ℕ) (cause : WorkFault) → cause ≡ fault.WriteFault sent → sent ≡ 0
+    (cause : WorkFault) → cause ≡ fault.WriteFault 0
     → OnlyWaited number body share old share' new → failed ≡ true
     → StopsAsking number body share old share' new failed cause
-unsent_behind number body share share' old new failed sent cause is none waited fails =
+unsent_behind number body share share' old new failed cause is waited fails =
     subst (λ (f : WorkFault). StopsAsking number body share old share' new failed f) (sym is)
-    (none, waited, fails)
+    (refl, waited, fails)
 
 pub none_waited : (number : ℕ) (body : List ℕ) (share : ℕ) (old : List Numbered)
     → OnlyWaited number body share old share old

@@ -90,3 +90,8 @@ module _ {R : Type 0} (remaining : R → Option (List ℕ)) where
   TakesFrame before after old new (Err (WriteFault sent)) =
       (sent ≡ 0) × ReadsOut before after old new (λ end. Unit {0})
   TakesFrame before after old new (Err TooLong) = ⊥
+
+  -- no end was found: a further frame was taken, or none was, and why
+  abbrev pub MeetsNoEnd : Source R → Source R → Stream → Stream → WorkFault → Type 0
+  MeetsNoEnd before after old new TooLong = (body : List ℕ) × ReadsOn before after old new (body ∷ [])
+  MeetsNoEnd before after old new fault = TakesFrame before after old new (Err fault)

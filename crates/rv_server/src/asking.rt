@@ -4,12 +4,13 @@ ghost use Rattle.rv_frame.specs.Sink.{SinkTakes, sink_failed};
 ghost use Rattle.rv_server.specs.locked.Asking.{GetsTold};
 ghost use Rattle.rv_server.specs.locked.Stamps.{shown_stamps};
 ghost use Rattle.rv_server.specs.Asking.{StopsAsking, Waits};
+ghost use Rattle.rv_server.specs.declared.fault.WorkFault.TheVariants.{NoMemory, WriteFault};
 
 use crate::context::WorkerContext;
 use crate::fault::WorkFault;
-use crate::locked::{Clock, Desk, FrameAnswer, Gate, Seat};
-use rv_frame::{Sink, WriteFault};
-use rv_text::{Answer, NoMemory};
+use crate::locked::{Clock, Desk, FrameAnswer, Gate, Seat, read_body};
+use rv_frame::Sink;
+use rv_text::Answer;
 use std::io::Write;
 use std::sync::Wait;
 use std::sync::ledger::Ledger;
@@ -27,47 +28,49 @@ fn waits(told: &FrameAnswer) -> bool
     }
 }
 
+// Pauses. Over a sink that has failed it never does.
+fn pause<G: Gate, W>(gate: &G, _sink: &Sink<W>)
+    requires { sink_failed _sink.now ≡ false }
+{
+    gate.pause();
+}
+
+// Flushes the sink, so that no answer is held back, and then pauses.
+fn flush_and_pause<G: Gate, W: Write>(gate: &G, sink: &mut Sink<W>) -> Result<(), WorkFault>
+    ensures bytes { SinkTakes W.contents sink.old sink.new [] }
+    ensures fault { IfErr result (λ fault. fault ≡ WriteFault 0) }
+    ensures failed { OnErr result (sink_failed sink.new ≡ true) }
+{
+    sink.flush()?;
+    pause(gate, sink);
+    Ok(())
+}
+
 impl<'a, T: Wait, D: Desk, L: Ledger, C: Clock, G: Gate> WorkerContext<'a, T, D, L, C, G> {
-    // Asks for the frame once.
+    // Asks the desk once for the frame of this number and body, under the lock, at the clock's present
+    // moment. Room for the stamp is made before the desk is asked; if that is refused, nothing is asked, and
+    // it is an error. A body that isn't a message is answered without the desk.
     fn ask_once(
         &self,
         seat: &mut Seat<L>,
         stamps: &mut Vec<(u32, D::Stamp)>,
         number: u32,
         body: &[u8],
-    ) -> Result<FrameAnswer, NoMemory>
+    ) -> Result<FrameAnswer, WorkFault>
         ensures told { IfOk result (GetsTold number body.now seat.old
             (shown_stamps D.stamped stamps.old.items) seat.new (shown_stamps D.stamped stamps.new.items)) }
+        ensures fault { IfErr result (λ fault. fault ≡ NoMemory) }
         ensures refused { OnErr result ((seat.new ≡ seat.old) × (stamps.new.items ≡ stamps.old.items)) }
     {
-        crate::locked::ask_once(
-            self.rt,
-            self.alloc,
-            self.shared,
-            self.clock,
-            seat,
-            stamps,
-            number,
-            body,
-        )
-    }
-
-    // Pauses. Over a sink that has failed it never does.
-    fn pause<W>(&self, _sink: &Sink<W>)
-        requires { sink_failed _sink.now ≡ false }
-    {
-        self.gate.pause();
-    }
-
-    // Flushes the sink, so that no answer is held back, and then pauses.
-    fn flush_and_pause<W: Write>(&self, sink: &mut Sink<W>) -> Result<(), WriteFault>
-        ensures bytes { SinkTakes W.contents sink.old sink.new [] }
-        ensures none { IfErr result (λ fault. fault.sent ≡ 0) }
-        ensures fault { OnErr result (sink_failed sink.new ≡ true) }
-    {
-        sink.flush()?;
-        self.pause(sink);
-        Ok(())
+        stamps.reserve(1)?;
+        let message = match read_body(self.alloc, body) {
+            Ok(message) => message,
+            Err(told) => return Ok(told),
+        };
+        let now = self.clock.now();
+        let (stamp, told) = self.shared.ask(self.rt, self.alloc, seat, now, message);
+        stamps.push_reserved((number, stamp));
+        Ok(told)
     }
 
     /// Asks the desk for the frame of this number and body. While its request waits, it flushes the sink,
@@ -93,8 +96,8 @@ impl<'a, T: Wait, D: Desk, L: Ledger, C: Clock, G: Gate> WorkerContext<'a, T, D,
             if !waits(&told) {
                 return Ok(told);
             }
-            self.flush_and_pause(sink)?;
+            flush_and_pause(self.gate, sink)?;
         }
-        Ok(self.ask_once(seat, stamps, number, body)?)
+        self.ask_once(seat, stamps, number, body)
     }
 }

@@ -1,6 +1,6 @@
 //! The frames of a connection, read from its source.
 ghost use Rattle.rv_frame.specs.Sink.{SinkTakes, sink_failed};
-ghost use Rattle.rv_server.specs.Reading.{FailsAtSink, ReadsPiece, TakesFrame, TakesWhole};
+ghost use Rattle.rv_server.specs.Reading.{FailsAtSink, MeetsNoEnd, ReadsPiece, TakesFrame, TakesWhole};
 
 use crate::fault::WorkFault;
 use rv_frame::{FrameFault, Frames, Sink, Source};
@@ -12,10 +12,16 @@ use std::marker::Model;
 const PIECE_BYTES: usize = 4_096;
 
 // The bytes that were read and not taken yet, and the bad length that was met among them.
-#[derive(Drop)]
 pub(crate) struct Inlet {
     frames: Frames,
     bad: Option<u16>,
+}
+
+// Whoever owns one drops it in one step.
+impl Drop for Inlet {
+    fn drop(self) {
+        let Inlet { frames: _, bad: _ } = self;
+    }
 }
 
 impl Model for Inlet {
@@ -30,7 +36,7 @@ impl Model for Inlet {
 }
 
 impl Inlet {
-    ghost use Rattle.std.specs.Prelude.{◌≡◌, ◌<◌, ◌≤◌, [], IfErr, IfOk, None, OnErr, OnOk, take};
+    ghost use Rattle.std.specs.Prelude.{◌≡◌, ◌<◌, ◌≤◌, [], IfErr, IfOk, None, Ok, OnErr, OnOk, take};
     ghost use Rattle.rv_frame.specs.Cut.{Open};
     ghost use Rattle.rv_frame.specs.Stream.{Feeds, HasFed, IsOpen, rest_length};
     ghost use Rattle.rv_server.specs.Works.{IsCut};
@@ -68,6 +74,25 @@ impl Inlet {
             if !self.read_on(source)? {
                 return self.at_end();
             }
+        }
+    }
+
+    /// Reads to the end of the source, where no frame may follow: one that does is a fault.
+    pub(crate) fn expect_end<R: Read, W: Write>(
+        &mut self,
+        source: &mut Source<R>,
+        sink: &mut Sink<W>,
+    ) -> Result<(), WorkFault>
+        ensures ended { OnOk result (TakesFrame R.remaining source.old source.new self.old self.new
+            (Ok None)) }
+        ensures stopped { IfErr result (MeetsNoEnd R.remaining source.old source.new self.old self.new) }
+        ensures none_written { SinkTakes W.contents sink.old sink.new [] }
+        ensures failed { IfErr result (FailsAtSink (sink_failed sink.new)) }
+    {
+        match self.next_frame(source, sink) {
+            Ok(Some(_)) => Err(WorkFault::TooLong),
+            Ok(None) => Ok(()),
+            Err(fault) => Err(fault),
         }
     }
 

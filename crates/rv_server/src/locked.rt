@@ -7,7 +7,7 @@ mod item;
 mod shared;
 mod telling;
 
-pub use asking::{FrameAnswer, ask_once};
+pub use asking::{FrameAnswer, read_body};
 pub use desk::{Clock, Desk, Gate};
 pub use item::Item;
 pub use shared::{Closing, ForeignSeat, Locked, MAX_WORKERS, Seat, Shared, finish, serve_message};

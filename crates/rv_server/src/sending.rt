@@ -10,10 +10,9 @@ use crate::context::WorkerContext;
 use crate::fault::WorkFault;
 use crate::locked::{Clock, Desk, Gate, Seat};
 use crate::served::Served;
-use crate::worker::work;
 use rv_frame::{Sink, Source};
-use std::alloc::Global;
-use std::io;
+use rv_text::NoMemory;
+use std::alloc::{AllocError, Global};
 use std::io::{BufWriter, Read, Write};
 use std::sync::Wait;
 use std::sync::ledger::Ledger;
@@ -23,12 +22,23 @@ const HELD_BYTES: usize = 16_384;
 
 // The outcome of a connection: the report on its frames, the fault that ended it, if one did, and its writer,
 // with the bytes of answers that it did not take.
-#[derive(Drop)]
-pub(crate) struct Passed<D: Desk, W> {
+pub(crate) struct Passed<D: Desk, W: Drop> {
     pub(crate) served: Served<D>,
     pub(crate) fault: Option<WorkFault>,
     pub(crate) writer: W,
     pub(crate) held: Vec<u8>,
+}
+
+// Whoever owns one drops it in one step.
+impl<D: Desk, W: Drop> Drop for Passed<D, W> {
+    fn drop(self) {
+        let Passed {
+            served: _,
+            fault: _,
+            writer: _,
+            held: _,
+        } = self;
+    }
 }
 
 // The sink's writer, to which all that was held back is written, and the bytes that it did not take. A sink
@@ -92,7 +102,7 @@ impl<'a, T: Wait, D: Desk, L: Ledger, C: Clock, G: Gate> WorkerContext<'a, T, D,
         seat: &mut Seat<L>,
         source: &mut Source<R>,
         writer: W,
-    ) -> io::Result<Passed<D, W>>
+    ) -> Result<Passed<D, W>, NoMemory>
         // The promise of `work` holds for the bytes that the writer took, followed by those that it did not.
         ensures worked { IfOk result (λ passed. WorksThrough R.remaining W.contents
             source.old source.new writer passed.writer passed.held.items seat.old seat.new
@@ -100,20 +110,12 @@ impl<'a, T: Wait, D: Desk, L: Ledger, C: Clock, G: Gate> WorkerContext<'a, T, D,
         ensures all_sent { IfOk result (λ passed. passed.fault ≡ None → passed.held.items ≡ []) }
         ensures no_memory { OnErr result ((source.new ≡ source.old) × (seat.new ≡ seat.old)) }
     {
-        let mut sink = Sink::new(BufWriter::with_capacity(self.alloc, HELD_BYTES, writer)?);
-        let ended = work(
-            self.rt,
-            self.alloc,
-            self.shared,
-            seat,
-            self.clock,
-            self.gate,
-            source,
-            &mut sink,
-        );
-        match ended {
-            Ok(served) => Ok(closed(self.alloc, served, None, sink)),
-            Err((served, fault)) => Ok(closed(self.alloc, served, Some(fault), sink)),
-        }
+        let Ok(buffered) = BufWriter::with_capacity(self.alloc, HELD_BYTES, writer) else {
+            return Err(AllocError);
+        };
+        let mut sink = Sink::new(buffered);
+        let mut served = Served::nothing(self.alloc);
+        let ended = self.serve_frames(seat, source, &mut sink, &mut served);
+        Ok(closed(self.alloc, served, ended.err(), sink))
     }
 }

@@ -123,14 +123,14 @@ impl<'a, T: Wait, D: Desk, L: Ledger, C: Clock, G: Gate> WorkerContext<'a, T, D,
     }
 
     // Answers the frames of a connection. Returns whether it came to its end and all answers were sent.
-    fn serve_connection(&self, seat: &mut Seat<L>, stream: TcpStream) -> bool {
-        if limit(&stream).is_err() {
+    fn serve_connection(&self, seat: &mut Seat<L>, stream: &TcpStream) -> bool {
+        if limit(stream).is_err() {
             return false;
         }
         // A connection that won't send at once is served all the same.
         let _ = stream.set_nodelay(true);
-        let mut source = Source::new(&stream);
-        match self.answer_through(seat, &mut source, &stream) {
+        let mut source = Source::new(stream);
+        match self.answer_through(seat, &mut source, stream) {
             Ok(passed) => passed.fault.is_none(),
             Err(_) => false,
         }
@@ -142,7 +142,7 @@ impl<'a, T: Wait, D: Desk, L: Ledger, C: Clock, G: Gate> WorkerContext<'a, T, D,
             let Ok(stream) = handed.recv(self.rt) else {
                 break;
             };
-            if self.serve_connection(&mut worker.seat, stream) {
+            if self.serve_connection(&mut worker.seat, &stream) {
                 worker.served = worker.served.saturating_add(1);
             }
         }
@@ -159,28 +159,33 @@ where
     G: Gate + Sync,
 {
     // Starts a thread for each worker, accepts this many connections, and returns when all of them were
-    // served. It is false if no thread could be started: then none is accepted.
+    // served. If no thread can be started, none is accepted.
     fn run(
         &self,
         workers: &mut [Worker<L>],
-        handed: &Receiver<TcpStream>,
-        to: Sender<TcpStream>,
         listener: TcpListener,
         connections: u32,
-    ) -> bool
+    ) -> Result<(), ServeFault>
         ensures { length workers.new ≡ length workers.old }
     {
-        thread::scope(thread::scope_env(), self.rt, move |scope| {
+        let (to, handed) = crossbeam_channel::bounded(self.alloc, workers.len())?;
+        let handed = &handed;
+        let started = thread::scope(thread::scope_env(), self.rt, move |scope| {
             let mut started = false;
             for worker in workers.iter_mut() {
-                let thread = scope.spawn(move || self.serve_handed(worker, handed));
-                started = started || thread.is_ok();
+                started |= scope
+                    .spawn(move || self.serve_handed(worker, handed))
+                    .is_ok();
             }
-            if started {
-                self.accept_all(listener, to, connections);
-            }
+            let most = if started { connections } else { 0 };
+            self.accept_all(listener, to, most);
             started
-        })
+        });
+        if started {
+            Ok(())
+        } else {
+            Err(ServeFault::NoWorker)
+        }
     }
 
     // Serves this many connections, and counts those that came to their end. The seats come back either way.
@@ -196,14 +201,12 @@ where
         if seats.is_empty() {
             return Err(ServeFault::NoWorker);
         }
-        let (to, handed) = crossbeam_channel::bounded(self.alloc, seats.len())?;
         let mut workers = seated(self.alloc, seats)?;
-        let started = self.run(workers.as_mut_slice(), &handed, to, listener, connections);
+        let ran = self.run(workers.as_mut_slice(), listener, connections);
         let served = unseated(workers, seats);
-        if started {
-            Ok(served)
-        } else {
-            Err(ServeFault::NoWorker)
+        match ran {
+            Ok(()) => Ok(served),
+            Err(fault) => Err(fault),
         }
     }
 }

@@ -39,8 +39,8 @@ impl<'a, T: Wait, D: Desk, L: Ledger, C: Clock, G: Gate> WorkerContext<'a, T, D,
         Ok(())
     }
 
-    // Answers frames until the source ends.
-    fn serve_frames<R: Read, W: Write>(
+    /// Answers frames until the source ends.
+    pub(crate) fn serve_frames<R: Read, W: Write>(
         &self,
         seat: &mut Seat<L>,
         source: &mut Source<R>,
@@ -56,15 +56,13 @@ impl<'a, T: Wait, D: Desk, L: Ledger, C: Clock, G: Gate> WorkerContext<'a, T, D,
     {
         let mut inlet = Inlet::new(self.alloc);
         for number in 0..MAX_FRAMES {
-            match inlet.next_frame(source, sink)? {
-                Some(body) => self.serve_frame(seat, sink, served, number, body.as_slice())?,
-                None => return Ok(()),
+            match inlet.next_frame(source, sink) {
+                Ok(Some(body)) => self.serve_frame(seat, sink, served, number, body.as_slice())?,
+                Ok(None) => return Ok(()),
+                Err(fault) => return Err(fault),
             }
         }
-        match inlet.next_frame(source, sink)? {
-            Some(_) => Err(WorkFault::TooLong),
-            None => Ok(()),
-        }
+        inlet.expect_end(source, sink)
     }
 }
 

@@ -1,22 +1,26 @@
 -- What is got for one frame by asking the desk for it once.
-use Rattle.std.specs.Prelude.{ℕ, ◌≡◌, ◌+◌, ◌≤◌, ◌∷◌, ◌++◌, [], IfOk, List, Result}
+use Rattle.std.specs.Prelude.{ℕ, ◌≡◌, ◌+◌, ◌≤◌, ◌∷◌, ◌++◌, [], List}
 use Rattle.rv_text.specs.Limits.{FitsAnswer}
-use Rattle.rv_text.specs.declared.answer.Answer.{Answer}
 use Rattle.rv_text.specs.declared.message.Message.{Message}
 use Rattle.rv_server.specs.locked.Stamps.{Numbered, Stamped, added_entries, added_by}
 use Rattle.rv_server.specs.locked.FrameStamps.{AreFor, IsNoMessage, LastSays}
 use Rattle.rv_server.specs.declared.locked.asking.FrameAnswer.{FrameAnswer}
 use Rattle.rv_server.specs.declared.locked.asking.FrameAnswer.TheVariants.{BadText, NoMemory, Said}
 
--- the desk handled this message for the seat, and this is its stamp, with the stamp's answer, if its text
--- found memory
-pub record IsAsked {S E : Type 0} (stamped : S → Stamped) (message : Message) (share share' : ℕ)
-    (result : S × Result Answer E) : Type 0 where
+-- what is told of a stamp: its answer, unless memory was refused for the text
+abbrev pub TellsStamp : Stamped → FrameAnswer → Type 0
+TellsStamp stamp BadText = ⊥
+TellsStamp stamp NoMemory = Unit {0}
+TellsStamp stamp (Said answer) = answer ≡ stamp.said
+
+-- the desk handled this message for the seat, and this is its stamp, with what is told of it
+pub record IsAsked {S : Type 0} (stamped : S → Stamped) (message : Message) (share share' : ℕ)
+    (result : S × FrameAnswer) : Type 0 where
   pub asked : (stamped result.0).asked ≡ message
   pub adds : share' ≡ share + added_by (stamped result.0)
   pub within : share' ≤ (stamped result.0).length
   pub grows : (stamped result.0).before ≤ (stamped result.0).length
-  pub said : IfOk result.1 (λ answer. answer ≡ (stamped result.0).said)
+  pub told : TellsStamp (stamped result.0) result.1
   pub fits : FitsAnswer (stamped result.0).said
 
 -- the same as `Covers`, stamp by stamp

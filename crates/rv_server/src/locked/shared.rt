@@ -4,8 +4,9 @@ ghost use Rattle.rv_text.specs.Limits.{FitsAnswer, FitsMessage};
 ghost use Rattle.rv_server.specs.locked.Asking.{IsAsked};
 ghost use Rattle.rv_server.specs.locked.Stamps.{added_by};
 
+use crate::locked::asking::FrameAnswer;
 use crate::locked::desk::Desk;
-use rv_text::{Answer, Message, NoMemory};
+use rv_text::{Message, NoMemory};
 use std::alloc::Global;
 use std::marker::Model;
 use std::sync::ledger::{Blank, Book as Tally, Ledger, Share};
@@ -103,13 +104,15 @@ impl<D: Desk, L: Ledger> Locked<D, L> {
         seat: &mut Seat<L>,
         now: u64,
         message: Message,
-    ) -> (D::Stamp, Result<Answer, NoMemory>)
+    ) -> (D::Stamp, FrameAnswer)
         requires { FitsMessage message }
         ensures { IsAsked D.stamped message seat.old seat.new result }
     {
         let stamp = serve_message(self, seat, now, message);
-        let answer = self.desk.answer(alloc, &stamp);
-        (stamp, answer)
+        match self.desk.answer(alloc, &stamp) {
+            Ok(answer) => (stamp, FrameAnswer::Said(answer)),
+            Err(_) => (stamp, FrameAnswer::NoMemory),
+        }
     }
 }
 
@@ -177,7 +180,7 @@ impl<D: Desk, L: Ledger> Shared<D, L> {
         seat: &mut Seat<L>,
         now: u64,
         message: Message,
-    ) -> (D::Stamp, Result<Answer, NoMemory>)
+    ) -> (D::Stamp, FrameAnswer)
         requires { FitsMessage message }
         ensures { IsAsked D.stamped message seat.old seat.new result }
     {
