@@ -1,5 +1,5 @@
 -- Frame after frame, to the end or to a fault.
-use Rattle.std.proofs.Common.{◌≡◌, ◌∷◌, [], ℕ, List, Ok, None, Some, arith, subst, sym}
+use Rattle.std.proofs.Common.{◌≡◌, ◌∷◌, [], ℕ, List, Ok, Some, arith, subst, sym}
 use Rattle.rv_server.specs.Reading.{ReadsOn, TakesFrame}
 use Rattle.rv_server.proofs.Advancing.{advance, begin, ended_whole, ends, flushed, stopped_frame}
 use Rattle.rv_server.proofs.Advancing.{stopped_whole, stops_reading}
