@@ -1,5 +1,5 @@
 //! Answers a connection through bytes that are held back, so that its answers go out together.
-ghost use Rattle.std.specs.Prelude.{◌≡◌, [], IfOk, None, OnErr};
+ghost use Rattle.std.specs.Prelude.{◌≡◌, [], IfNone, IfSome, None};
 ghost use Rattle.std.specs.Io.Buffered.{writer_contents};
 ghost use Rattle.std.specs.Io.KnownBytes.{Keeps};
 ghost use Rattle.rv_frame.specs.Sink.{sink_contents};
@@ -11,8 +11,7 @@ use crate::fault::WorkFault;
 use crate::locked::{Clock, Desk, Gate, Seat};
 use crate::served::Served;
 use rv_frame::{Sink, Source};
-use rv_text::NoMemory;
-use std::alloc::{AllocError, Global};
+use std::alloc::Global;
 use std::io::{BufWriter, Read, Write};
 use std::sync::Wait;
 use std::sync::ledger::Ledger;
@@ -97,25 +96,26 @@ fn told(fault: Option<WorkFault>, held: &[u8]) -> Option<WorkFault>
 impl<'a, T: Wait, D: Desk, L: Ledger, C: Clock, G: Gate> WorkerContext<'a, T, D, L, C, G> {
     // Answers the frames of a connection as `work` does, over a writer with at most 16,384 bytes of answers
     // held back in front of it. They go to the writer before each read, before each pause, and at the end.
+    // If memory was refused for them, nothing is read.
     pub(crate) fn answer_through<R: Read, W: Write + Drop>(
         &self,
         seat: &mut Seat<L>,
         source: &mut Source<R>,
         writer: W,
-    ) -> Result<Passed<D, W>, NoMemory>
+    ) -> Option<Passed<D, W>>
         // The promise of `work` holds for the bytes that the writer took, followed by those that it did not.
-        ensures worked { IfOk result (λ passed. WorksThrough R.remaining W.contents
+        ensures worked { IfSome result (λ passed. WorksThrough R.remaining W.contents
             source.old source.new writer passed.writer passed.held.items seat.old seat.new
             (listing_of D.stamped passed.served) passed.fault) }
-        ensures all_sent { IfOk result (λ passed. passed.fault ≡ None → passed.held.items ≡ []) }
-        ensures no_memory { OnErr result ((source.new ≡ source.old) × (seat.new ≡ seat.old)) }
+        ensures all_sent { IfSome result (λ passed. passed.fault ≡ None → passed.held.items ≡ []) }
+        ensures no_memory { IfNone result ((source.new ≡ source.old) × (seat.new ≡ seat.old)) }
     {
         let Ok(buffered) = BufWriter::with_capacity(self.alloc, HELD_BYTES, writer) else {
-            return Err(AllocError);
+            return None;
         };
         let mut sink = Sink::new(buffered);
         let mut served = Served::nothing(self.alloc);
         let ended = self.serve_frames(seat, source, &mut sink, &mut served);
-        Ok(closed(self.alloc, served, ended.err(), sink))
+        Some(closed(self.alloc, served, ended.err(), sink))
     }
 }

@@ -107,32 +107,48 @@ fn limit(stream: &TcpStream) -> io::Result<()> {
     stream.set_write_timeout(Some(Duration::from_secs(WRITE_SECONDS)))
 }
 
+// Makes a connection ready to be served, and returns whether it can be: its time has to be limited.
+fn is_ready(stream: &TcpStream) -> bool {
+    if limit(stream).is_err() {
+        return false;
+    }
+    // A connection that won't send at once is served all the same.
+    let _ = stream.set_nodelay(true);
+    true
+}
+
+// The next connection, unless it can't be accepted.
+fn accepted(listener: &TcpListener) -> Option<TcpStream> {
+    match listener.accept() {
+        Ok((stream, _)) => Some(stream),
+        Err(_) => None,
+    }
+}
+
 impl<'a, T: Wait, D: Desk, L: Ledger, C: Clock, G: Gate> WorkerContext<'a, T, D, L, C, G> {
     // Accepts this many connections, and hands each to the next worker that is free. Then the listener is
     // closed, so that later peers are refused, and the workers learn that no more will come.
     fn accept_all(&self, listener: TcpListener, to: Sender<TcpStream>, connections: u32) {
         for _ in 0..connections {
-            match listener.accept() {
-                Ok((stream, _)) => {
+            match accepted(&listener) {
+                Some(stream) => {
                     // If this finds no memory, the connection is closed.
                     let _ = to.send(self.rt, stream);
                 }
-                Err(_) => self.gate.pause(),
+                None => self.gate.pause(),
             }
         }
     }
 
     // Answers the frames of a connection. Returns whether it came to its end and all answers were sent.
     fn serve_connection(&self, seat: &mut Seat<L>, stream: &TcpStream) -> bool {
-        if limit(stream).is_err() {
+        if !is_ready(stream) {
             return false;
         }
-        // A connection that won't send at once is served all the same.
-        let _ = stream.set_nodelay(true);
         let mut source = Source::new(stream);
         match self.answer_through(seat, &mut source, stream) {
-            Ok(passed) => passed.fault.is_none(),
-            Err(_) => false,
+            Some(passed) => passed.fault.is_none(),
+            None => false,
         }
     }
 
