@@ -8,7 +8,7 @@ use Rattle.std.proofs.lemmas.List.{ext_get_or, get_or-take, get_or-drop, get_or-
 use Rattle.std.proofs.lemmas.List.{length-take-le, take_at, append-nil}
 use Rattle.rv_journal.specs.Device.{Holds, Mixed}
 use Rattle.rv_journal.specs.Text.{before_zero, IsBlankFrom, HasFront}
-use Rattle.rv_journal.proofs.Texts.{before_zero-behind, positive, front, none_before, thinner}
+use Rattle.rv_journal.proofs.Texts.{all_text, before_zero-behind, positive, front, none_before, thinner}
 
 pub same_front : (at : ℕ) (old c : List ℕ) → at ≤ length old → length old ≤ length c
     → ((i : ℕ) → i < length old → i < at → get_or c i 0 ≡ get_or old i 0) → take at c ≡ take at old
@@ -18,9 +18,6 @@ same_front at old c within longer below =
     ext_get_or 0 (take at c) (take at old) (long ∙ sym short) (λ i lt.
     let low : i < at = omega (arith, lt, long) in
     get_or-take at c i 0 low ∙ below i (omega arith) low ∙ sym (get_or-take at old i 0 low))
-
-whole : (piece : List ℕ) → All (λ byte. 0 < byte) piece → before_zero piece ≡ piece
-whole piece all = ap before_zero (sym (append-nil piece)) ∙ before_zero-behind piece [] all ∙ append-nil piece
 
 -- a text, and behind it what a crash left
 pub text_and : (old c : List ℕ) (at : ℕ) → take at c ≡ before_zero old
@@ -52,7 +49,7 @@ module _ (old piece : List ℕ) (at : ℕ) (is_end : at ≡ length (before_zero 
       let rest = thinner (drop at c) piece each in (
         rest.0,
         text_and old c at kept ∙ ap (λ (l : List ℕ). before_zero old ++ l) (rest.1
-            ∙ ap (λ (l : List ℕ). take rest.0 l) (whole piece text)),
+            ∙ ap (λ (l : List ℕ). take rest.0 l) (all_text piece text)),
       )
 
   size : length (take at old ++ piece) ≡ at + length piece

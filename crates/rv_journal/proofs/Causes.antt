@@ -1,7 +1,7 @@
 -- A device that has failed has a cause for what is told after another call, and by a call above it.
 use Rattle.std.proofs.Common.{◌≡◌, true, Result, Ok, Err, IsErrOf, ap}
 use Rattle.rv_journal.specs.Device.{Disk, HasCause}
-use Rattle.rv_journal.specs.Faults.{append_failed, open_failed, store_failed}
+use Rattle.rv_journal.specs.Faults.{IfRefused, append_failed, open_failed, store_failed}
 use Rattle.rv_journal.specs.declared.device.DeviceFault.{DeviceFault}
 use Rattle.rv_journal.specs.declared.device.DeviceFault.TheVariants.{NoMemory, Failed}
 use Rattle.rv_journal.specs.declared.fault.JournalFault.{JournalFault}
@@ -37,20 +37,29 @@ pub store_why : {T : Type 0} (why : DeviceFault) → IsErrOf {T = T} (Err (OfSto
     → why ≡ Failed
 store_why {T = T} why is = ap (stored_by {T = T}) is
 
-abbrev opened_by : OpenFault → DeviceFault
+abbrev opened_by : {F : Type 0} → OpenFault F → DeviceFault
 opened_by (OfOpen.Device why) = why
 opened_by OfOpen.NotFilled = NoMemory
+opened_by (OfOpen.Refused why) = NoMemory
 
-pub open_why : (why : DeviceFault) → OfOpen.Device why ≡ open_failed → why ≡ Failed
-open_why why is = ap opened_by is
+pub open_why : {F : Type 0} (why : DeviceFault) → ◌≡◌ {A = OpenFault F} (OfOpen.Device why) open_failed
+    → why ≡ Failed
+open_why {F = F} why is = ap (opened_by {F = F}) is
 
-abbrev opened_as : {T : Type 0} → Result T OpenFault → OpenFault
+abbrev opened_as : {T F : Type 0} → Result T (OpenFault F) → OpenFault F
 opened_as (Err fault) = fault
 opened_as (Ok value) = OfOpen.NotFilled
 
-pub reopen_why : {T : Type 0} (why : DeviceFault) → IsErrOf {T = T} (Err (OfOpen.Device why)) open_failed
-    → why ≡ Failed
-reopen_why {T = T} why is = open_why why (ap (opened_as {T = T}) is)
+pub reopen_why : {T F : Type 0} (why : DeviceFault)
+    → IsErrOf {T = T} {E = OpenFault F} (Err (OfOpen.Device why)) open_failed → why ≡ Failed
+reopen_why {T = T} {F = F} why is = open_why {F = F} why (ap (opened_as {T = T} {F = F}) is)
+
+-- of a refusal something else is told
+pub if_refused : {F : Type 0} (fault : OpenFault F) (P Q : F → Type 0) → ((why : F) → P why → Q why)
+    → IfRefused fault P → IfRefused fault Q
+if_refused (OfOpen.Refused why) P Q so told = so why told
+if_refused OfOpen.NotFilled P Q so told = told
+if_refused (OfOpen.Device why) P Q so told = told
 
 abbrev added_by : {T : Type 0} → Result T JournalFault → DeviceFault
 added_by (Err (OfJournal.Device why)) = why

@@ -1,38 +1,77 @@
 -- What zeros leave that are written after the lines of a file, and stored.
-use Rattle.std.proofs.Common.{◌≡◌, ℕ, ◌-◌, ◌≤◌, List, replicate, length, take, sym, ◌∙◌, ap, subst}
+use Rattle.std.proofs.Common.{◌≡◌, ⊎_elim, ℕ, ◌+◌, ◌<◌, ◌≤◌, List, replicate, length, get_or, take, sym, ◌∙◌}
+use Rattle.std.proofs.Common.{ap}
+use Rattle.std.proofs.Common.{subst, arith, length-take}
+use Rattle.std.specs.Prelude.{slice_index}
+use Rattle.std.proofs.lemmas.Bool.{cases_lt}
+use Rattle.std.proofs.lemmas.List.{get_or-take, get_or_past, get_or-replicate, length-replicate}
 use Rattle.std.proofs.lemmas.List.{length-take-le}
-use Rattle.rv_journal.specs.Device.{Disk, IsRewritten, LeavesOnly, MayMix, Mixed, Only, Rewrites}
-use Rattle.rv_journal.specs.Opened.{IsCleared}
-use Rattle.rv_journal.specs.Text.{stored_lines, IsBlankFrom}
-use Rattle.rv_journal.proofs.Moments.{started, weaker}
-use Rattle.rv_journal.proofs.Reopened.{mixed_lines, length_new, blank_new, text_new}
+use Rattle.rv_journal.specs.Device.{Disk, IsRewritten, LeavesOnly, MayMix, Mixed, Rewrites}
+use Rattle.rv_journal.specs.Opened.{HasLines, IsCleared, IsClearedTo, file_lines}
+use Rattle.rv_journal.proofs.Holding.{holds_mixed, same_size}
+use Rattle.rv_journal.proofs.Moments.{weaker}
+use Rattle.rv_journal.proofs.Reopened.{mixed_lines, only_lines, zeros_on}
 
-module _ {D : Type 0} (disk : Disk D) (old : D) (end : ℕ) (within : end ≤ length (disk.seen old)) (is_end :
-    take end (disk.seen old) ≡ stored_lines (disk.seen old)) (durable : Only (disk.seen old)
-    (disk.may_leave old))
+-- no byte of some zeros is other than zero
+pub zeros_blank : (zeros : List ℕ) (n i : ℕ) → zeros ≡ replicate (length zeros) 0
+    → get_or (take n zeros) i 0 ≡ 0
+zeros_blank zeros n i are = ⊎_elim (λ (low : i < n). get_or-take n zeros i 0 low
+    ∙ ap (λ (l : List ℕ). get_or l i 0) are ∙ all_zero (length zeros) i) (λ (past : n ≤ i). get_or_past
+    (take n
+    zeros) i 0 (omega (arith, past, length-take n zeros))) (cases_lt i n)
   where
-    pub at_first : LeavesOnly disk old old (λ c. stored_lines c ≡ stored_lines (disk.seen old))
-    at_first = started disk old (λ c. stored_lines c ≡ stored_lines (disk.seen old))
-        (λ c left. ap stored_lines
-        (durable c left))
+    all_zero : (size i : ℕ) → slice_index (replicate size 0) i ≡ 0
+    all_zero size i = ⊎_elim (λ (low : i < size). get_or-replicate size i 0 0 low) (λ (past : size ≤ i).
+        get_or_past (replicate size 0) i 0 (omega (arith, past, length-replicate {A = ℕ} size 0)))
+        (cases_lt i size)
 
-    module _ (zeros : List ℕ) (are : zeros ≡ replicate (length (disk.seen old) - end) 0) (new : D) where
-      pub any_moment : Rewrites disk end zeros old new
-          → LeavesOnly disk old new (λ c. stored_lines c ≡ stored_lines (disk.seen old))
+module _ {D : Type 0} (disk : Disk D) (end at size : ℕ) (old : D) (is : IsClearedTo disk end at size old)
+  where
+    -- it is cleared once zeros stand as far as it goes
+    pub is_cleared : end < size → size ≤ at → (lines : List ℕ) → HasLines lines (disk.seen old)
+        → IsCleared disk lines size old
+    is_cleared some whole lines has = record {
+      text = only_lines (disk.seen old) end is.lines (is.zeros end (omega arith) (omega (arith, some, whole)))
+          ∙ has;
+      filled = is.filled;
+      blank = λ i past. ⊎_elim (λ (low : i < size). is.zeros i (omega (arith, past, is.lines, ap length has))
+          (omega (arith, low, whole))) (λ (behind : size ≤ i). get_or_past (disk.seen old) i 0
+          (omega (arith, behind, is.filled))) (cases_lt i size);
+      durable = is.durable;
+    }
+
+    module _ (after : end ≤ at) (zeros : List ℕ) (are : zeros ≡ replicate (length zeros) 0) (count : ℕ)
+        (short :
+        count ≤ length zeros) (fit : at + count ≤ size) (new : D) where
+      piece_size : length (take count zeros) ≡ count
+      piece_size = length-take-le count zeros short
+
+      inside : at + length (take count zeros) ≤ length (disk.seen old)
+      inside = omega (arith, fit, is.filled, piece_size)
+
+      same : (c : List ℕ) → Mixed at (take count zeros) (disk.seen old) c → HasLines (file_lines disk old) c
+      same c mixed = mixed_lines (disk.seen old) end is.lines at after (take count zeros)
+          (λ i. zeros_blank zeros count i are) inside c mixed
+
+      pub any_moment : Rewrites disk at (take count zeros) old new
+          → LeavesOnly disk old new (HasLines (file_lines disk old))
       any_moment writes =
-          weaker disk old new (MayMix disk end zeros old) (λ c. stored_lines c ≡ stored_lines (disk.seen old))
-          writes.any_moment
-          (λ c has. mixed_lines (disk.seen old) end within is_end zeros are c
-          (subst (λ (f : List ℕ). Mixed end zeros f c) (durable has.0 has.1) has.2))
+          weaker disk old new (MayMix disk at (take count zeros) old) (HasLines (file_lines disk old))
+          writes.any_moment (λ c has. same c (subst (λ (f : List ℕ). Mixed at (take count zeros) f c)
+          (is.durable has.0 has.1) has.2))
 
-      pub cleared : (size : ℕ) → size ≡ length (disk.seen old) → IsRewritten disk end zeros old new
-          → IsCleared disk (stored_lines (disk.seen old)) size new
-      cleared size is done = record {
-        text = text_new (disk.seen old) end within is_end zeros are (disk.seen new) done.holds;
-        filled = is ∙ sym (length_new (disk.seen old) end within is_end zeros are (disk.seen new) done.holds);
-        blank = subst (λ (n : ℕ). IsBlankFrom n (disk.seen new))
-            (sym (length-take-le end (disk.seen old) within) ∙ ap length is_end) (blank_new (disk.seen old)
-            end
-            within is_end zeros are (disk.seen new) done.holds);
-        durable = done.durable;
-      }
+      module _ (done : IsRewritten disk at (take count zeros) old new) where
+        pub same_lines : HasLines (file_lines disk old) (disk.seen new)
+        same_lines = same (disk.seen new) (holds_mixed (disk.seen old) (take count zeros) (disk.seen new) at
+            (omega (arith, inside)) done.holds)
+
+        pub cleared_on : IsClearedTo disk end (at + count) size new
+        cleared_on = record {
+          lines = is.lines ∙ ap length (sym same_lines);
+          filled = is.filled ∙ sym (same_size (disk.seen old) (take count zeros) (disk.seen new) at
+              (omega (arith, inside)) done.holds inside);
+          zeros = λ i past low. zeros_on (disk.seen old) end is.lines at after (take count zeros)
+              (λ k. zeros_blank zeros count k are) inside is.zeros (disk.seen new) done.holds i past
+              (omega (arith, low, piece_size));
+          durable = done.durable;
+        }

@@ -1,5 +1,6 @@
 mod Moments
 mod Mixing
+mod Holding
 mod Causes
 mod Texts
 mod Lines
@@ -15,3 +16,4 @@ mod Clearing
 mod Calls
 mod Memories
 mod Cleared
+mod Cutting

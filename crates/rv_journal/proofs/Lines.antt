@@ -1,11 +1,12 @@
 -- What the lines of a text are.
 use Rattle.std.proofs.Common.{◌≡◌, ◌≢◌, inl, inr, ℕ, zero, suc, Bool, true, false, cond, List, [], ◌∷◌, ◌++◌}
-use Rattle.std.proofs.Common.{length, take, drop, refl, sym, ◌∙◌, ap, arith}
+use Rattle.std.proofs.Common.{length, take, drop, refl, sym, ◌∙◌, ap, arith, append_assoc, ◌<◌}
+use Rattle.std.proofs.lemmas.List.{append-nil}
 use Rattle.std.specs.Prelude.{◌==◌, ◌||◌}
 use Rattle.std.specs.List.{list_any}
 use Rattle.std.proofs.lemmas.Bool.{cases_Bool}
 use Rattle.std.proofs.lemmas.Bool.Decides.{nat_tests}
-use Rattle.rv_journal.specs.Text.{whole_lines}
+use Rattle.rv_journal.specs.Text.{whole_lines, IsLines}
 
 abbrev pub has_lf : List ℕ → Bool
 has_lf text = list_any (λ b. b == 10) text
@@ -98,6 +99,35 @@ whole_lines-behind (b ∷ rest) end is = elim (cases_Bool (has_lf (b ∷ rest)))
           ∙ sym (without_lf b rest has)
     ]
 
+-- nor do its bytes behind any text
+pub whole_lines-none : (text end : List ℕ) → has_lf end ≡ false → whole_lines (text ++ end) ≡ whole_lines text
+whole_lines-none text end is =
+    let cut = parts text in
+    ap (λ (l : List ℕ). whole_lines (l ++ end)) cut.split
+    ∙ ap whole_lines (append_assoc (whole_lines text) cut.end end)
+    ∙ whole_lines-behind text (cut.end ++ end) (has_lf-append cut.end end
+    ∙ both_false (has_lf cut.end) (has_lf end) cut.no_lf is)
+
+pub lines_only : (text : List ℕ) → IsLines (whole_lines text)
+lines_only text = ap whole_lines (sym (append-nil (whole_lines text))) ∙ whole_lines-behind text [] refl
+
+some_lf : (lines : List ℕ) → IsLines lines → 0 < length lines → has_lf lines ≡ true
+some_lf lines is some = elim (cases_Bool (has_lf lines)) [
+  | inl has ↦ has
+  | inr has ↦ absurd (omega (arith, some, ap length (sym is ∙ none lines has)))
+]
+
+ends_lf : (text lines : List ℕ) → IsLines lines → has_lf lines ≡ true → IsLines (text ++ lines)
+ends_lf [] lines is has = is
+ends_lf (b ∷ text) lines is has =
+    let still : has_lf (b ∷ (text ++ lines)) ≡ true = has_lf-append (b ∷ text) lines
+    ∙ ap (λ (t : Bool). has_lf (b ∷ text) || t) has ∙ or_true (has_lf (b ∷ text)) in
+    with_lf b (text ++ lines) still ∙ ap (λ (l : List ℕ). b ∷ l) (ends_lf text lines is has)
+
+-- whatever ends by lines is lines
+pub lines_end : (text lines : List ℕ) → IsLines lines → 0 < length lines → IsLines (text ++ lines)
+lines_end text lines is some = ends_lf text lines is (some_lf lines is some)
+
 pub whole_lines-lf : (text : List ℕ) → whole_lines (text ++ 10 ∷ []) ≡ text ++ 10 ∷ []
 whole_lines-lf [] = refl
 whole_lines-lf (b ∷ text) = with_lf b (text ++ 10 ∷ []) (ap (λ (t : Bool). (b == 10) || t)
@@ -130,3 +160,14 @@ whole_lines-append (b ∷ text) rest is = elim (cases_Bool (has_lf (b ∷ text))
           let none : [] ≡ b ∷ text = sym (without_lf b text has) ∙ is in
           absurd (omega (arith, ap length none))
     ]
+
+-- the lines of a text are a front of those of a longer one
+pub more_lines : (text rest : List ℕ)
+    → (more : List ℕ) × (whole_lines (text ++ rest) ≡ whole_lines text ++ more)
+more_lines text rest =
+    let cut = parts text in (
+      whole_lines (cut.end ++ rest),
+      ap (λ (l : List ℕ). whole_lines (l ++ rest)) cut.split
+          ∙ ap whole_lines (append_assoc (whole_lines text) cut.end rest)
+          ∙ whole_lines-append (whole_lines text) (cut.end ++ rest) (lines_only text),
+    )

@@ -1,8 +1,5 @@
 -- What the calls of a file in memory leave.
-use Rattle.std.proofs.Common.{◌≡◌, inr, ℕ, ◌+◌, ◌-◌, ◌≤◌, List, [], ◌∷◌, ◌++◌, length, get_or, take, drop}
-use Rattle.std.proofs.Common.{refl, sym, ◌∙◌, ap, subst, arith, append_assoc, length-append, length-drop}
-use Rattle.std.proofs.lemmas.List.{get_or-take, get_or-drop, get_or_append_left, get_or-append_right}
-use Rattle.std.proofs.lemmas.List.{length-take-le}
+use Rattle.std.proofs.Common.{◌≡◌, ℕ, ◌≤◌, List, [], ◌∷◌, ◌++◌, length, refl, sym, subst}
 use Rattle.std.specs.Prelude.{Vec}
 use Rattle.std.specs.declared.alloc.Global.{Global}
 use Rattle.rv_journal.specs.Device.{Holds, KeepsFile, Mixed, Only, WritesFile}
@@ -10,49 +7,8 @@ use Rattle.rv_journal.specs.Memory.{LeavesOf, memory_disk}
 use Rattle.rv_journal.specs.declared.memory.DeviceCall.TheVariants.{Write, Sync}
 use Rattle.rv_journal.specs.declared.memory.Memory.{Memory}
 use Rattle.rv_journal.proofs.Calls.{elapses_none, elapses_to, synced, written}
+use Rattle.rv_journal.proofs.Holding.{holds_mixed}
 use Rattle.rv_journal.proofs.Mixing.{mixed_same}
-
--- bytes that are written whole are one of the ways to mix them
-module _ (old bytes new : List ℕ) (at : ℕ) (within : at ≤ length old) (holds : Holds old at bytes new) where
-  front_size : length (take at old) ≡ at
-  front_size = length-take-le at old within
-
-  whole_size : length (take at old ++ bytes) ≡ at + length bytes
-  whole_size = omega (arith, length-append (take at old) bytes, front_size)
-
-  size : length new ≡ at + length bytes + (length old - (at + length bytes))
-  size = omega (
-    arith,
-    ap length holds,
-    length-append (take at old ++ bytes) (drop (at + length bytes) old),
-    whole_size,
-    length-drop (at + length bytes) old,
-  )
-
-  pub holds_mixed : Mixed at bytes old new
-  holds_mixed = record {
-    no_shorter = omega (arith, size);
-    no_longer = omega (arith, size);
-    below = λ i _ before.
-        ap (λ (l : List ℕ). get_or l i 0) (holds ∙ append_assoc (take at old) bytes (drop (at + length bytes)
-        old))
-        ∙ get_or_append_left (take at old) (bytes ++ drop (at + length bytes) old) 0 i
-        (omega (arith, before, front_size)) ∙ get_or-take at old i 0 before;
-    above = λ i _ after.
-        let back : at + length bytes + (i - (at + length bytes)) ≡ i = omega (arith, after) in
-        ap (λ (l : List ℕ). get_or l i 0) holds
-        ∙ get_or-append_right (take at old ++ bytes) (drop (at + length bytes) old) (at + length bytes) i 0
-        whole_size after
-        ∙ get_or-drop (at + length bytes) old (i - (at + length bytes)) 0 ∙ ap (λ (n : ℕ). get_or old n 0)
-        back;
-    each = λ i low _.
-        let back : at + i - at ≡ i = omega arith in
-        inr (ap (λ (l : List ℕ). get_or l (at + i) 0) holds
-        ∙ get_or_append_left (take at old ++ bytes) (drop (at + length bytes) old) 0 (at + i)
-        (omega (arith, low, whole_size))
-        ∙ get_or-append_right (take at old) bytes at (at + i) 0 front_size (omega arith)
-        ∙ ap (λ (n : ℕ). get_or bytes n 0) back);
-  }
 
 -- a call that nothing came of
 module _ (old new : Memory) (first : new.first.items ≡ old.first.items) (bytes : new.bytes.items ≡

@@ -1,6 +1,7 @@
 -- What stands before the first zero.
 use Rattle.std.proofs.Common.{◌≡◌, ◌⊎◌, inl, inr, ℕ, zero, suc, ◌<◌, ◌≤◌, List, [], ◌∷◌, ◌++◌, length, get_or}
-use Rattle.std.proofs.Common.{take, refl, ◌∙◌, ap, arith}
+use Rattle.std.proofs.Common.{take, refl, sym, ◌∙◌, ap, subst, arith, length-append}
+use Rattle.std.proofs.lemmas.List.{append-nil, get_or_append_left}
 use Rattle.std.specs.List.{All}
 use Rattle.rv_journal.specs.Text.{before_zero}
 
@@ -42,6 +43,30 @@ pub none_before : (xs : List ℕ) → get_or xs 0 0 ≡ 0 → before_zero xs ≡
 none_before [] is = refl
 none_before (zero ∷ xs) is = refl
 none_before (suc b ∷ xs) is = absurd (omega (arith, is))
+
+-- bytes without a zero
+pub all_text : (text : List ℕ) → All (λ byte. 0 < byte) text → before_zero text ≡ text
+all_text text all = ap before_zero (sym (append-nil text)) ∙ before_zero-behind text [] all ∙ append-nil text
+
+pub no_zero : (text : List ℕ) → before_zero text ≡ text → All (λ byte. 0 < byte) text
+no_zero text is = subst (λ (l : List ℕ). All (λ byte. 0 < byte) l) is (positive text)
+
+pub all_front : (text end : List ℕ) → All (λ byte. 0 < byte) (text ++ end) → All (λ byte. 0 < byte) text
+all_front text end all k d low =
+    subst (λ (b : ℕ). 0 < b) (get_or_append_left text end d k low)
+    (all k d (omega (arith, low, length-append text end)))
+
+pub more_text : (xs ys : List ℕ) → (more : List ℕ) × (before_zero (xs ++ ys) ≡ before_zero xs ++ more)
+more_text [] ys = (before_zero ys, refl)
+more_text (zero ∷ xs) ys = ([], refl)
+more_text (suc b ∷ xs) ys = let more = more_text xs ys in (more.0, ap (λ (l : List ℕ). suc b ∷ l) more.1)
+
+-- nothing counts after a zero
+pub zero_stays : (xs ys : List ℕ) → length (before_zero xs) < length xs
+    → before_zero (xs ++ ys) ≡ before_zero xs
+zero_stays [] ys some = absurd (omega arith)
+zero_stays (zero ∷ xs) ys some = refl
+zero_stays (suc b ∷ xs) ys some = ap (λ (l : List ℕ). suc b ∷ l) (zero_stays xs ys (omega arith))
 
 not_zero : (b : ℕ) → (suc b ≡ 0) ⊎ (suc b ≡ 0) → ⊥
 not_zero b (inl h) = omega (arith, h)

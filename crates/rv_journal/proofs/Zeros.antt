@@ -11,6 +11,10 @@ use Rattle.rv_journal.proofs.Texts.{positive, front}
 use Rattle.rv_journal.proofs.Appended.{same_front}
 use Rattle.rv_journal.proofs.Scan.{text_ends}
 
+pub zeros_same : (zeros others : List ℕ) → zeros ≡ others → others ≡ replicate (length others) 0
+    → zeros ≡ replicate (length zeros) 0
+zeros_same zeros others same are = same ∙ are ∙ ap (λ (l : List ℕ). replicate (length l) 0) (sym same)
+
 module _ (old zeros : List ℕ) (end more : ℕ) (is_end : end ≡ length (before_zero old)) (behind :
     end < length old) (blank : IsBlankFrom end old) (are : zeros ≡ replicate more 0) where
   at_end : take end old ≡ before_zero old

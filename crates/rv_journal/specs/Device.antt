@@ -28,6 +28,12 @@ pub record Disk (D : Type 0) : Type 1 where
 abbrev pub Holds : List ℕ → ℕ → List ℕ → List ℕ → Type 0
 Holds old at bytes new = new ≡ take at old ++ bytes ++ drop (at + length bytes) old
 
+-- The room begins with so many bytes of the file from this offset on: none only at its end, or where there is
+-- no room.
+pub record Reads (file : List ℕ) (at count : ℕ) (room : List ℕ) : Type 0 where
+  pub bytes : take count room ≡ take count (drop at file)
+  pub some : at < length file → 0 < length room → 0 < count
+
 -- After a write that a crash cuts short: below the old end each byte is the old one or, in the range, the one
 -- that was written; past the old end any bytes.
 pub record Mixed (at : ℕ) (bytes old new : List ℕ) : Type 0 where

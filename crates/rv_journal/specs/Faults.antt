@@ -20,8 +20,14 @@ ends_journal (OfJournal.Device why) = true
 ends_journal OfJournal.Failed = true
 
 -- by one that opens
-abbrev pub open_failed : OpenFault
+abbrev pub open_failed : {F : Type 0} → OpenFault F
 open_failed = OfOpen.Device Failed
+
+-- where the lines were refused, of the reason
+abbrev pub IfRefused : {F : Type 0} → OpenFault F → (F → Type 0) → Type 0
+IfRefused (OfOpen.Refused why) P = P why
+IfRefused OfOpen.NotFilled P = Unit {0}
+IfRefused (OfOpen.Device fault) P = Unit {0}
 
 -- by a file that stores a piece
 abbrev pub store_failed : StoreFault

@@ -2,8 +2,7 @@
 use Rattle.std.specs.Prelude.{◌≡◌, ◌++◌, ℕ, Bool, false, List, take}
 use Rattle.rv_journal.specs.Device.{Disk, WhereTold}
 use Rattle.rv_journal.specs.Filled.{TakesPieces}
-use Rattle.rv_journal.specs.Opened.{Looks}
-use Rattle.rv_journal.specs.Text.{before_zero, stored_lines}
+use Rattle.rv_journal.specs.Text.{before_zero}
 use Rattle.rv_journal.specs.declared.journal.Parts.{Parts}
 
 -- its device, where its text ends there, and whether it takes nothing more
@@ -29,11 +28,6 @@ pub record Stores {D : Type 0} (disk : Disk D) (piece : List ℕ) (old new : Jou
   pub works : new.failed ≡ false
   pub text : WhereTold disk old.device (journal_text disk new ≡ journal_text disk old ++ piece)
   pub durable : WhereTold disk old.device (IsDurable disk new)
-
--- A file that has no zero after its lines is as it was.
-pub record IsLeftUnfilled {D : Type 0} (disk : Disk D) (old new : D) : Type 0 where
-  pub looks : Looks disk old new
-  pub lines : WhereTold disk old (stored_lines (disk.seen old) ≡ disk.seen old)
 
 -- its text is the same
 abbrev pub KeepsText : {D : Type 0} → Disk D → JournalState D → JournalState D → Type 0

@@ -14,6 +14,10 @@ abbrev pub whole_lines : List ℕ → List ℕ
 whole_lines [] = []
 whole_lines (byte ∷ rest) = if list_any (λ b. b == 10) (byte ∷ rest) then byte ∷ whole_lines rest else []
 
+-- whole lines, and nothing after them
+abbrev pub IsLines : List ℕ → Type 0
+IsLines text = whole_lines text ≡ text
+
 -- the lines that a file stands for
 abbrev pub stored_lines : List ℕ → List ℕ
 stored_lines file = whole_lines (before_zero file)

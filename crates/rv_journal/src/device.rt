@@ -1,9 +1,10 @@
 //! A file as the journal sees it: what a read returns, and what a crash may leave.
-ghost use Rattle.std.specs.Prelude.{◌≡◌, ◌≤◌, length, IfOk, OnOk};
+ghost use Rattle.std.specs.Prelude.{◌≡◌, ◌+◌, ◌<◌, ◌≤◌, ◌^◌, length, IfOk, OnOk};
 ghost use Rattle.rv_journal.specs.declared.device.DeviceFault.TheVariants.{NoMemory};
-ghost use Rattle.rv_journal.specs.Device.{Disk, HasCause, Holds, KeepsFile, Only, WhereTold, WritesFile};
+ghost use Rattle.rv_journal.specs.Device.{Disk, HasCause, Holds, KeepsFile, Only, Reads, WhereTold};
+ghost use Rattle.rv_journal.specs.Device.{WritesFile};
 
-use std::alloc::{AllocError, Global};
+use std::alloc::AllocError;
 
 /// Why a call of a device failed.
 #[derive(Clone, Copy, Debug, PartialEq, Eq)]
@@ -27,9 +28,15 @@ pub trait Device {
     /// What contracts see of it.
     ghost disk: { Disk Self };
 
-    /// All its bytes.
-    fn read(&mut self, alloc: Global) -> Result<Vec<u8>, DeviceFault>
-        ensures bytes { IfOk result (λ bytes. WhereTold disk self.old (bytes.items ≡ disk.seen self.old)) }
+    /// Its bytes from this offset on, in the front of the room, as many as it says. It says 0 at the file's
+    /// end, and where there is no room. What stands in the room after them is left open.
+    fn read_at(&mut self, at: usize, room: &mut [u8]) -> Result<usize, DeviceFault>
+        ensures bytes { IfOk result (λ count. WhereTold disk self.old
+            (Reads (disk.seen self.old) at count room.new)) }
+        ensures within { IfOk result (λ count. count ≤ length room.new) }
+
+        // No file has a byte from this offset on.
+        ensures below { IfOk result (λ count. 0 < count → at + count < 2 ^ 63) }
         ensures kept { KeepsFile disk self.old self.new }
         ensures cause { HasCause disk self.old self.new result };
 

@@ -21,12 +21,15 @@ pub enum JournalFault {
 }
 
 /// Why a file was not opened as a journal.
-#[derive(Clone, Copy, Debug, PartialEq, Eq, Error)]
-pub enum OpenFault {
+#[derive(Debug, Drop, PartialEq, Eq, Error)]
+pub enum OpenFault<F> {
     /// No zero stands after the file's lines: it is empty, or no journal. Nothing changed.
     #[error("no zero stands after the file's lines: it is no journal")]
     NotFilled,
     /// The device failed, or memory was refused. The file has the lines that it had.
     #[error("the journal's device failed")]
     Device(DeviceFault),
+    /// Its lines were refused, for this reason. Nothing changed.
+    #[error("the journal's lines were refused")]
+    Refused(F),
 }

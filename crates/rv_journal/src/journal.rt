@@ -5,11 +5,11 @@ ghost use Rattle.std.specs.Prelude.{IfErr, IfOk, IsErrOf, IsTrue, OnErr, OnOk};
 ghost use Rattle.std.specs.Prelude.{◌↔◌};
 ghost use Rattle.std.specs.List.{All};
 ghost use Rattle.rv_journal.specs.Device.{LeavesOnly, WhereTold};
-ghost use Rattle.rv_journal.specs.Text.{HasFront, stored_lines};
-ghost use Rattle.rv_journal.specs.Opened.{HasLinesOf};
-ghost use Rattle.rv_journal.specs.Journal.{IsDurable, IsLeftUnfilled, IsLive, KeepsText, Stores};
+ghost use Rattle.rv_journal.specs.Text.{HasFront};
+ghost use Rattle.rv_journal.specs.Opened.{HasLinesOf, IsLeftRefused, IsLeftUnfilled, file_lines};
+ghost use Rattle.rv_journal.specs.Journal.{IsDurable, IsLive, KeepsText, Stores};
 ghost use Rattle.rv_journal.specs.Journal.{journal_text, journal_state};
-ghost use Rattle.rv_journal.specs.Faults.{append_failed, ends_journal, open_failed};
+ghost use Rattle.rv_journal.specs.Faults.{IfRefused, append_failed, ends_journal, open_failed};
 ghost use Rattle.rv_journal.specs.declared.fault.OpenFault.TheVariants.{NotFilled};
 ghost use Rattle.rv_journal.specs.declared.fault.JournalFault.TheVariants.{NotText, Full, Failed};
 
@@ -17,6 +17,7 @@ use crate::device::{Device, DeviceFault};
 use crate::fault::{JournalFault, OpenFault};
 use crate::filled::{AHEAD, FilledFile, StoreFault, zeros};
 use crate::opening::reopen;
+use crate::reader::TakesLines;
 use std::alloc::Global;
 use std::marker::Model;
 
@@ -48,25 +49,33 @@ impl<D: Device> Model for DiskJournal<D> {
 }
 
 impl<D: Device> DiskJournal<D> {
-    /// The journal of a file that a crash may have left, and its lines: those before its first zero, up to
-    /// the last line feed. What stands after them is cleared. It may crash too.
+    /// The journal of a file that a crash may have left. A reader takes its lines, some at a time: those
+    /// before its first zero, up to the last line feed. Once it has taken all of them, what stands after them
+    /// is cleared. It may crash too.
     ///
-    /// At `Err` the device is handed back; [`OpenFault`] says what stands in the file.
-    pub fn open(alloc: Global, device: D) -> Result<(DiskJournal<D>, Vec<u8>), (OpenFault, D)>
-        ensures lines { IfOk result (λ opened. WhereTold D.disk device
-            (opened.1.items ≡ stored_lines (D.disk.seen device))) }
+    /// The file is read once, in memory for about 1 MiB and its longest line. At `Err` the device is handed
+    /// back; [`OpenFault`] says what stands in the file. The reader may then have taken a front of the lines.
+    pub fn open<R: TakesLines>(
+        alloc: Global,
+        device: D,
+        reader: &mut R,
+    ) -> Result<DiskJournal<D>, (OpenFault<R::Fault>, D)>
+        ensures lines { OnOk result (WhereTold D.disk device
+            (R.takes reader.old (file_lines D.disk device) reader.new)) }
         ensures text { IfOk result (λ opened. WhereTold D.disk device
-            (journal_text D.disk opened.0 ≡ stored_lines (D.disk.seen device))) }
-        ensures tells { IfOk result (λ opened. D.disk.tells opened.0.device ≡ D.disk.tells device) }
+            (journal_text D.disk opened ≡ file_lines D.disk device)) }
+        ensures tells { IfOk result (λ opened. D.disk.tells opened.device ≡ D.disk.tells device) }
         ensures tells_err { IfErr result (λ failed. D.disk.tells failed.1 ≡ D.disk.tells device) }
-        ensures works { IfOk result (λ opened. opened.0.failed ≡ false) }
-        ensures durable { IfOk result (λ opened. WhereTold D.disk device (IsDurable D.disk opened.0)) }
+        ensures works { IfOk result (λ opened. opened.failed ≡ false) }
+        ensures durable { IfOk result (λ opened. WhereTold D.disk device (IsDurable D.disk opened)) }
         ensures any_moment { IfOk result (λ opened. WhereTold D.disk device
-            (LeavesOnly D.disk device opened.0.device (HasLinesOf D.disk device))) }
+            (LeavesOnly D.disk device opened.device (HasLinesOf D.disk device))) }
         ensures any_moment_err { IfErr result (λ failed. WhereTold D.disk device
             (LeavesOnly D.disk device failed.1 (HasLinesOf D.disk device))) }
         ensures not_filled { IfErr result (λ failed. failed.0 ≡ NotFilled →
             IsLeftUnfilled D.disk device failed.1) }
+        ensures refused { IfErr result (λ failed. IfRefused failed.0 (λ why.
+            IsLeftRefused D.disk R.refuses device failed.1 reader.old why)) }
         ensures cause { IfErr result (λ failed. failed.0 ≡ open_failed →
             D.disk.failed failed.1 ≡ true) }
     {
@@ -75,12 +84,12 @@ impl<D: Device> DiskJournal<D> {
             Ok(zeros) => zeros,
             Err(_) => return Err((OpenFault::Device(DeviceFault::NoMemory), device)),
         };
-        match reopen(alloc, &mut device) {
-            Ok((lines, filled)) => {
-                let file = FilledFile::new(device, zeros, lines.len(), filled);
+        match reopen(alloc, &mut device, &zeros, reader) {
+            Ok(ends) => {
+                let file = FilledFile::new(device, zeros, ends.lines, ends.file);
                 let failed = false;
                 let parts = Parts { file, failed };
-                Ok((DiskJournal { parts }, lines))
+                Ok(DiskJournal { parts })
             }
             Err(fault) => Err((fault, device)),
         }

@@ -1,12 +1,13 @@
 //! A journal: a file to which pieces of text are added, each of which is stored once it is said to be.
 //!
 //! ```
-//! let (mut journal, lines) = DiskJournal::open(alloc, device)?;
-//! follow(&lines);
+//! let mut lines = Vec::new(alloc);
+//! let mut journal = DiskJournal::open(alloc, device, &mut lines)?;
 //! journal.append(b"a line\n")?;
 //! ```
 #![tactic(auto)]
 
+mod cutter;
 mod device;
 mod fault;
 mod filled;
@@ -14,9 +15,12 @@ mod journal;
 pub mod laws;
 mod memory;
 mod opening;
+mod reader;
+mod reading;
 mod rewriting;
 
 pub use device::{Device, DeviceFault};
 pub use fault::{JournalFault, OpenFault};
 pub use journal::DiskJournal;
 pub use memory::Memory;
+pub use reader::TakesLines;

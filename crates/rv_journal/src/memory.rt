@@ -1,6 +1,6 @@
 //! A file in memory that keeps its calls: a crash leaves each byte old or written, until a sync.
-ghost use Rattle.std.specs.Prelude.{◌≡◌, [], ◌∷◌, ◌++◌, ◌≤◌, length, IfOk, OnErr, OnOk};
-ghost use Rattle.rv_journal.specs.Device.{Holds, Only};
+ghost use Rattle.std.specs.Prelude.{◌≡◌, [], ◌∷◌, ◌++◌, ◌+◌, ◌<◌, ◌≤◌, length, IfOk, OnErr, OnOk};
+ghost use Rattle.rv_journal.specs.Device.{Holds, Only, Reads};
 ghost use Rattle.rv_journal.specs.Memory.{memory_disk};
 
 use crate::device::{Device, DeviceFault};
@@ -61,6 +61,20 @@ fn overwritten(alloc: Global, old: &[u8], at: usize, bytes: &[u8]) -> Result<Vec
     Ok(next)
 }
 
+// How many bytes from this offset on were copied to the front of the room: as many as there are, and fit.
+fn copied_from(bytes: &[u8], at: usize, room: &mut [u8]) -> usize
+    ensures reads { Reads bytes.now at result room.new }
+    ensures within { result ≤ length room.new }
+    ensures below { 0 < result → at + result ≤ length bytes.now }
+{
+    if bytes.len() <= at {
+        return 0;
+    }
+    let count = room.len().min(bytes.len() - at);
+    room[..count].copy_from_slice(&bytes[at..at + count]);
+    count
+}
+
 // Keeps a call. If memory is refused nothing changes.
 fn record(calls: &mut Vec<DeviceCall>, call: DeviceCall) -> Result<(), AllocError>
     ensures kept { OnOk result (calls.new.items ≡ calls.old.items ++ call ∷ []) }
@@ -73,8 +87,8 @@ fn record(calls: &mut Vec<DeviceCall>, call: DeviceCall) -> Result<(), AllocErro
 impl Device for Memory {
     ghost disk = { memory_disk };
 
-    fn read(&mut self, alloc: Global) -> Result<Vec<u8>, DeviceFault> {
-        Ok(self.bytes.to_vec(alloc)?)
+    fn read_at(&mut self, at: usize, room: &mut [u8]) -> Result<usize, DeviceFault> {
+        Ok(copied_from(&self.bytes, at, room))
     }
 
     fn write_at(&mut self, at: usize, bytes: &[u8]) -> Result<(), DeviceFault> {

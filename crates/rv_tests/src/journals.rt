@@ -16,8 +16,9 @@ fn file(rt: &impl Abort, alloc: Global, bytes: &[u8]) -> Memory {
 fn a_lost_piece_is_dropped_and_the_next_one_is_stored(rt: HostRuntime) {
     let torn = file(&rt, rt.alloc(), TORN);
     same(&rt, torn.bytes(), TORN);
-    match DiskJournal::open(rt.alloc(), torn) {
-        Ok((mut journal, lines)) => {
+    let mut lines = Vec::new(rt.alloc());
+    match DiskJournal::open(rt.alloc(), torn, &mut lines) {
+        Ok(mut journal) => {
             same(&rt, lines.as_slice(), b"A\nB\n");
             same(&rt, journal.append(b"E\n"), Ok(()));
             same(&rt, journal.append(b"\0"), Err(JournalFault::NotText));
@@ -29,7 +30,8 @@ fn a_lost_piece_is_dropped_and_the_next_one_is_stored(rt: HostRuntime) {
 
 #[test]
 fn a_file_without_a_zero_is_no_journal(rt: HostRuntime) {
-    match DiskJournal::open(rt.alloc(), file(&rt, rt.alloc(), b"A\n")) {
+    let mut lines = Vec::new(rt.alloc());
+    match DiskJournal::open(rt.alloc(), file(&rt, rt.alloc(), b"A\n"), &mut lines) {
         Ok(_) => holds(&rt, false, "no zero"),
         Err((fault, left)) => {
             same(&rt, fault, OpenFault::NotFilled);

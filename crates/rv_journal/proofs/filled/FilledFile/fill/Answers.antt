@@ -1,11 +1,8 @@
-use Rattle.std.proofs.Common.{List, ℕ, ◌≡◌, ◌+◌, replicate, length, refl, sym, ◌∙◌, ap, arith}
+use Rattle.std.proofs.Common.{List, ℕ, ◌≡◌, ◌+◌, length, refl, sym, ◌∙◌, ap, arith}
 use Rattle.rv_journal.specs.Filled.{ahead}
 use Rattle.rv_journal.proofs.Filling.{any_moment, kept, filled_after}
+use Rattle.rv_journal.proofs.Zeros.{zeros_same}
 use Rattle.rv_journal.proofs.filled.FilledFile.fill.Goals as goal
-
-zeros_are : (zeros vec : List ℕ) → zeros ≡ vec → vec ≡ replicate (length vec) 0
-    → zeros ≡ replicate (length zeros) 0
-zeros_are zeros vec same are = same ∙ are ∙ ap (λ (l : List ℕ). replicate (length l) 0) (sym same)
 
 pub rewrite-requires : goal.rewrite-requires
 rewrite-requires g c = record {
@@ -16,28 +13,28 @@ pub returns-in-Err-clause-adds : goal.returns-in-Err-clause-adds
 returns-in-Err-clause-adds g c = record {
   tells = c.rewrite.ensures.rewrites.tells;
   any_moment = λ told. any_moment g.D.Device.disk c.args.self.now (c.requires.ready.filled told)
-      c.requires.ready.behind c.deref.result.now (zeros_are c.deref.result.now _ c.deref.ensures.value
+      c.requires.ready.behind c.deref.result.now (zeros_same c.deref.result.now _ c.deref.ensures.value
       c.requires.ready.zeros) c.rewrite.new.device c.rewrite.ensures.rewrites;
 }
 
 pub returns-in-Err-clause-front : goal.returns-in-Err-clause-front
 returns-in-Err-clause-front g c told =
     kept g.D.Device.disk c.args.self.now (c.requires.ready.filled told) c.requires.ready.behind
-    c.deref.result.now (zeros_are c.deref.result.now _ c.deref.ensures.value c.requires.ready.zeros)
+    c.deref.result.now (zeros_same c.deref.result.now _ c.deref.ensures.value c.requires.ready.zeros)
     c.rewrite.new.device c.rewrite.ensures.rewrites told
 
 pub returns-clause-adds : goal.returns-clause-adds
 returns-clause-adds g c = record {
   tells = c.rewrite.ensures.rewrites.tells;
   any_moment = λ told. any_moment g.D.Device.disk c.args.self.now (c.requires.ready.filled told)
-      c.requires.ready.behind c.deref.result.now (zeros_are c.deref.result.now _ c.deref.ensures.value
+      c.requires.ready.behind c.deref.result.now (zeros_same c.deref.result.now _ c.deref.ensures.value
       c.requires.ready.zeros) c.rewrite.new.device c.rewrite.ensures.rewrites;
 }
 
 pub returns-clause-front : goal.returns-clause-front
 returns-clause-front g c told =
     kept g.D.Device.disk c.args.self.now (c.requires.ready.filled told) c.requires.ready.behind
-    c.deref.result.now (zeros_are c.deref.result.now _ c.deref.ensures.value c.requires.ready.zeros)
+    c.deref.result.now (zeros_same c.deref.result.now _ c.deref.ensures.value c.requires.ready.zeros)
     c.rewrite.new.device c.rewrite.ensures.rewrites told
 
 length_is : (zeros vec : List ℕ) (added count size : ℕ) → zeros ≡ vec → length zeros ≡ count → added ≡ count
@@ -59,7 +56,7 @@ returns-clause-ready g c = record {
       let told = sym c.rewrite.ensures.rewrites.tells ∙ told_last in
       let more = c.len.ensures ∙ sym c.deref.ensures.len in
       filled_after g.D.Device.disk c.args.self.now (c.requires.ready.filled told) c.requires.ready.behind
-      c.deref.result.now (zeros_are c.deref.result.now _ c.deref.ensures.value c.requires.ready.zeros)
+      c.deref.result.now (zeros_same c.deref.result.now _ c.deref.ensures.value c.requires.ready.zeros)
       c.rewrite.new.device _ refl refl (ap (λ (n : ℕ). c.args.self.now.filled + n) more)
       (c.in_default.ensures.stored told);
 }

@@ -1,12 +1,13 @@
-use Rattle.std.proofs.Common.{◌≡◌, Err, inl, ℕ, List, length, sym, ◌∙◌, ap, subst}
+use Rattle.std.proofs.Common.{◌≡◌, Err, inl, length, sym, ◌∙◌, ap, subst, arith}
 use Rattle.rv_journal.specs.Device.{LeavesOnly}
-use Rattle.rv_journal.specs.Opened.{HasLinesOf, IsCleared}
-use Rattle.rv_journal.specs.Text.{before_zero, stored_lines}
+use Rattle.rv_journal.specs.Opened.{HasLinesOf, file_lines}
+use Rattle.rv_journal.specs.Text.{before_zero}
 use Rattle.rv_journal.specs.declared.device.DeviceFault.TheVariants.{NoMemory, Failed}
 use Rattle.rv_journal.proofs.Causes.{open_why}
 use Rattle.rv_journal.proofs.Moments.{started}
 use Rattle.rv_journal.proofs.Cleared.{is_whole, is_ready, text_lines}
 use Rattle.rv_journal.proofs.Adding.{text_is}
+use Rattle.rv_journal.proofs.Zeros.{zeros_same}
 use Rattle.rv_journal.proofs.journal.DiskJournal.open.Goals as goal
 
 pub returns-in-Err-clause-any_moment_err : goal.returns-in-Err-clause-any_moment_err
@@ -16,52 +17,8 @@ returns-in-Err-clause-any_moment_err g c told = started g.D.Device.disk c.args.d
 pub returns-in-Err-clause-not_filled : goal.returns-in-Err-clause-not_filled
 returns-in-Err-clause-not_filled g c is = absurd (cc)
 
-pub invariant_of-result : goal.invariant_of-result
-invariant_of-result g c _ =
-    let made = c.new-file.ensures in
-    let end = made.end ∙ c.len.ensures ∙ c.in-Ok-reopen.lines.ok.0 in
-    is_ready g.D.Device.disk c.reopen.new.device c.in-Ok-reopen.lines.items c.in-Ok-reopen.filled
-    c.new-file.result made.device end made.filled c.in-Ok-reopen.ensures.room c.in-Ok.zeros.items
-    made.zeros c.in-Ok.ensures.blank c.in-Ok.ensures.size
-    (λ told_now. let told = sym c.reopen.ensures.tells ∙ told_now in
-    subst (λ (lines : List ℕ). IsCleared g.D.Device.disk lines c.in-Ok-reopen.filled c.reopen.new.device)
-    (sym (c.in-Ok-reopen.ensures.lines told)) (c.in-Ok-reopen.ensures.cleared told))
-
-pub returns-in-Ok-reopen-clause-lines : goal.returns-in-Ok-reopen-clause-lines
-returns-in-Ok-reopen-clause-lines g c = c.in-Ok-reopen.ensures.lines
-
-pub returns-in-Ok-reopen-clause-text : goal.returns-in-Ok-reopen-clause-text
-returns-in-Ok-reopen-clause-text g c told =
-    let made = c.new-file.ensures in
-    let end = made.end ∙ c.len.ensures ∙ c.in-Ok-reopen.lines.ok.0 ∙ ap length (c.in-Ok-reopen.ensures.lines
-    told) in
-    text_lines g.D.Device.disk c.reopen.new.device (stored_lines (g.D.Device.disk.seen c.args.device))
-    c.in-Ok-reopen.filled c.new-file.result made.device end made.filled (c.in-Ok-reopen.ensures.cleared
-    told)
-
-pub returns-in-Ok-reopen-clause-durable : goal.returns-in-Ok-reopen-clause-durable
-returns-in-Ok-reopen-clause-durable g c told f left =
-    let made = c.new-file.ensures in
-    let end = made.end ∙ c.len.ensures ∙ c.in-Ok-reopen.lines.ok.0 ∙ ap length (c.in-Ok-reopen.ensures.lines
-    told) in
-    let is = is_whole g.D.Device.disk c.reopen.new.device (stored_lines (g.D.Device.disk.seen c.args.device))
-    c.in-Ok-reopen.filled c.new-file.result made.device end made.filled (c.in-Ok-reopen.ensures.cleared
-    told) in
-    ap before_zero (is.durable f left) ∙ text_is g.D.Device.disk c.new-file.result is
-
-pub returns-in-Ok-reopen-clause-any_moment : goal.returns-in-Ok-reopen-clause-any_moment
-returns-in-Ok-reopen-clause-any_moment g c told =
-    subst (λ d. LeavesOnly g.D.Device.disk c.args.device d (HasLinesOf g.D.Device.disk c.args.device))
-    (sym c.new-file.ensures.device) (c.reopen.ensures.any_moment told)
-
-pub returns-in-Err-reopen-clause-any_moment_err : goal.returns-in-Err-reopen-clause-any_moment_err
-returns-in-Err-reopen-clause-any_moment_err g c = c.reopen.ensures.any_moment
-
-pub returns-in-Err-reopen-clause-not_filled : goal.returns-in-Err-reopen-clause-not_filled
-returns-in-Err-reopen-clause-not_filled g c is = record {
-  looks = c.in-Err-reopen.ensures.kept (ap Err is);
-  lines = c.in-Err-reopen.ensures.not_filled (ap Err is);
-}
+pub returns-in-Err-clause-refused : goal.returns-in-Err-clause-refused
+returns-in-Err-clause-refused g c = tt
 
 pub returns-in-Err-clause-cause : goal.returns-in-Err-clause-cause
 returns-in-Err-clause-cause g c is = absurd (none (open_why NoMemory is))
@@ -69,8 +26,46 @@ returns-in-Err-clause-cause g c is = absurd (none (open_why NoMemory is))
     none : NoMemory ≡ Failed → ⊥
     none same = cc
 
-pub returns-in-Err-reopen-clause-cause : goal.returns-in-Err-reopen-clause-cause
-returns-in-Err-reopen-clause-cause g c is = c.in-Err-reopen.ensures.cause (ap Err is)
+pub reopen-requires-clause-zeros : goal.reopen-requires-clause-zeros
+reopen-requires-clause-zeros g c = zeros_same c.deref.result.now c.in-Ok.zeros.items c.deref.ensures.value
+    c.in-Ok.ensures.blank
+
+pub reopen-requires-clause-some : goal.reopen-requires-clause-some
+reopen-requires-clause-some g c = omega (arith, ap length c.deref.ensures.value, c.in-Ok.ensures.size)
+
+pub invariant_of-result : goal.invariant_of-result
+invariant_of-result g c _ =
+    let made = c.new-file.ensures in
+    let told = c.reopen.ensures.tells in
+    is_ready g.D.Device.disk c.reopen.new.device (file_lines g.D.Device.disk c.args.device)
+    c.in-Ok-reopen.ends.file c.new-file.result made.device made.filled
+    (omega (arith, made.end, c.in-Ok-reopen.ensures.room)) c.in-Ok.zeros.items made.zeros
+    c.in-Ok.ensures.blank c.in-Ok.ensures.size
+    (λ told_now. made.end ∙ c.in-Ok-reopen.ensures.end (sym told ∙ told_now))
+    (λ told_now. c.in-Ok-reopen.ensures.cleared (sym told ∙ told_now))
+
+pub returns-in-Ok-reopen-clause-lines : goal.returns-in-Ok-reopen-clause-lines
+returns-in-Ok-reopen-clause-lines g c = c.in-Ok-reopen.ensures.taken
+
+pub returns-in-Ok-reopen-clause-text : goal.returns-in-Ok-reopen-clause-text
+returns-in-Ok-reopen-clause-text g c told =
+    let made = c.new-file.ensures in
+    text_lines g.D.Device.disk c.reopen.new.device (file_lines g.D.Device.disk c.args.device)
+    c.in-Ok-reopen.ends.file c.new-file.result made.device made.filled
+    (made.end ∙ c.in-Ok-reopen.ensures.end told) (c.in-Ok-reopen.ensures.cleared told)
+
+pub returns-in-Ok-reopen-clause-durable : goal.returns-in-Ok-reopen-clause-durable
+returns-in-Ok-reopen-clause-durable g c told f left =
+    let made = c.new-file.ensures in
+    let is = is_whole g.D.Device.disk c.reopen.new.device (file_lines g.D.Device.disk c.args.device)
+    c.in-Ok-reopen.ends.file c.new-file.result made.device made.filled
+    (made.end ∙ c.in-Ok-reopen.ensures.end told) (c.in-Ok-reopen.ensures.cleared told) in
+    ap before_zero (is.durable f left) ∙ text_is g.D.Device.disk c.new-file.result is
+
+pub returns-in-Ok-reopen-clause-any_moment : goal.returns-in-Ok-reopen-clause-any_moment
+returns-in-Ok-reopen-clause-any_moment g c told =
+    subst (λ d. LeavesOnly g.D.Device.disk c.args.device d (HasLinesOf g.D.Device.disk c.args.device))
+    (sym c.new-file.ensures.device) (c.reopen.ensures.any_moment told)
 
 pub returns-in-Ok-reopen-clause-tells : goal.returns-in-Ok-reopen-clause-tells
 returns-in-Ok-reopen-clause-tells g c =
@@ -78,3 +73,15 @@ returns-in-Ok-reopen-clause-tells g c =
 
 pub returns-in-Err-reopen-clause-tells_err : goal.returns-in-Err-reopen-clause-tells_err
 returns-in-Err-reopen-clause-tells_err g c = c.reopen.ensures.tells
+
+pub returns-in-Err-reopen-clause-any_moment_err : goal.returns-in-Err-reopen-clause-any_moment_err
+returns-in-Err-reopen-clause-any_moment_err g c = c.reopen.ensures.any_moment
+
+pub returns-in-Err-reopen-clause-not_filled : goal.returns-in-Err-reopen-clause-not_filled
+returns-in-Err-reopen-clause-not_filled g c is = c.in-Err-reopen.ensures.not_filled (ap Err is)
+
+pub returns-in-Err-reopen-clause-refused : goal.returns-in-Err-reopen-clause-refused
+returns-in-Err-reopen-clause-refused g c = c.in-Err-reopen.ensures.refused
+
+pub returns-in-Err-reopen-clause-cause : goal.returns-in-Err-reopen-clause-cause
+returns-in-Err-reopen-clause-cause g c is = c.in-Err-reopen.ensures.cause (ap Err is)

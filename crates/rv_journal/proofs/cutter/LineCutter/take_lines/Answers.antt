@@ -1,0 +1,37 @@
+use Rattle.std.proofs.Common.{◌≡◌, ◌<◌, ◌+◌, Bool, false, List, ℕ, length, refl, sym, ◌∙◌, ap, subst, arith}
+use Rattle.std.specs.Prelude.{◌==◌}
+use Rattle.std.proofs.lemmas.Bool.Decides.{nat_tests}
+use Rattle.rv_journal.specs.Text.{IsLines}
+use Rattle.rv_journal.proofs.Lines.{lines_end}
+use Rattle.rv_journal.proofs.Cutting.{lines_refused, lines_taken}
+use Rattle.rv_journal.proofs.cutter.LineCutter.take_lines.Goals as goal
+
+some : (n : ℕ) (none : Bool) → none ≡ (n == 0) → none ≡ false → 0 < n
+some n none is other = grind (arith, nat_tests)
+
+pub take-requires : goal.take-requires
+take-requires g c = subst (λ (l : List ℕ). IsLines l)
+    (sym (c.deref.ensures.value ∙ c.in_default.ensures.items))
+    (lines_end c.args.self.now.rest.items c.args.lines.now c.requires.lines
+    (some (length c.args.lines.now) c.is_empty.result c.is_empty.ensures c.if-is_empty.false))
+
+pub returns-in-Err-take-clause-refused : goal.returns-in-Err-take-clause-refused
+returns-in-Err-take-clause-refused g c first front had =
+    lines_refused g.R.TakesLines.takes first front c.args.self.now c.args.reader.now had c.requires.going
+    c.args.lines.now c.requires.lines c.requires.text
+    (some (length c.args.lines.now) c.is_empty.result c.is_empty.ensures c.if-is_empty.false)
+    g.R.TakesLines.refuses g.met.R.TakesLines.refused_on c.in-Err-take.why
+    (subst (λ (l : List ℕ). g.R.TakesLines.refuses c.args.reader.now l c.in-Err-take.why)
+    (c.deref.ensures.value ∙ c.in_default.ensures.items) c.in-Err-take.ensures.refused)
+
+pub returns-clause-taken : goal.returns-clause-taken
+returns-clause-taken g c first front had =
+    let is = c.deref.ensures.value ∙ c.in_default.ensures.items in
+    lines_taken g.R.TakesLines.takes first front c.args.self.now c.args.reader.now had c.requires.going
+    c.args.lines.now c.requires.lines c.requires.text
+    (some (length c.args.lines.now) c.is_empty.result c.is_empty.ensures c.if-is_empty.false)
+    g.met.R.TakesLines.joined c.take.new.self
+    (subst (λ (l : List ℕ). g.R.TakesLines.takes c.args.reader.now l c.take.new.self) is
+    c.in_default-take.ensures.taken)
+    _ (ap (λ (n : ℕ). c.args.self.now.end + n) (c.len.ensures ∙ sym c.deref.ensures.len ∙ ap length is))
+    c.clear.ensures.items refl

@@ -1,0 +1,46 @@
+use Rattle.std.proofs.Common.{◌≡◌, ◌<◌, ◌≤◌, true, false, ℕ, length, take, drop, refl}
+use Rattle.std.proofs.Common.{arith, take-append-drop}
+use Rattle.std.specs.Prelude.{nat_lt}
+use Rattle.std.proofs.lemmas.Bool.Decides.{nat_tests}
+use Rattle.rv_journal.proofs.Cutting.{after_zero, piece_lines, piece_taken, piece_text, refused_sooner}
+use Rattle.rv_journal.proofs.cutter.LineCutter.take_piece.Goals as goal
+
+pub returns-then-self-clause-taken : goal.returns-then-self-clause-taken
+returns-then-self-clause-taken g c first front had = after_zero g.R.TakesLines.takes first front
+    c.args.self.now c.args.reader.now had c.args.piece.now c.if-self.true
+
+pub take_lines-requires-clause-lines : goal.take_lines-requires-clause-lines
+take_lines-requires-clause-lines g c =
+    let ends = c.ends_of-ends.result in
+    let is = c.ends_of-ends.ensures in
+    piece_lines c.args.piece.now ends.lines ends.text is.within is.lines is.text
+
+pub take_lines-requires-clause-text : goal.take_lines-requires-clause-text
+take_lines-requires-clause-text g c =
+    let ends = c.ends_of-ends.result in
+    let is = c.ends_of-ends.ensures in
+    piece_text c.args.piece.now ends.lines ends.text is.within is.lines is.text
+
+pub returns-in-Err-clause-refused : goal.returns-in-Err-clause-refused
+returns-in-Err-clause-refused g c = refused_sooner g.R.TakesLines.takes g.R.TakesLines.refuses
+    (take c.ends_of-ends.result.lines c.args.piece.now) c.args.piece.now
+    (drop c.ends_of-ends.result.lines c.args.piece.now)
+    (take-append-drop c.ends_of-ends.result.lines c.args.piece.now)
+    c.args.self.now c.args.reader.now c.in-Err.fault c.in-Err.ensures.refused
+
+not_below : (n m : ℕ) → nat_lt n m ≡ false → m ≤ n
+not_below n m is = grind (arith, nat_tests)
+
+below : (n m : ℕ) → nat_lt n m ≡ true → n < m
+below n m is = grind (arith, nat_tests)
+
+pub returns-clause-taken : goal.returns-clause-taken
+returns-clause-taken g c first front had =
+    let ends = c.ends_of-ends.result in
+    let is = c.ends_of-ends.ensures in
+    let size = length c.args.piece.now in
+    piece_taken c.args.piece.now ends.lines ends.text is.within is.lines is.text g.R.TakesLines.takes first
+    front
+    c.take_lines.new.self c.take_lines.new.reader (c.in_default.ensures.taken first front had)
+    c.take_lines.ensures.going _ refl c.in_default-extend_from_slice.ensures.items
+    (not_below ends.text size) (below ends.text size) is.inside

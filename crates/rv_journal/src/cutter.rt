@@ -1,0 +1,131 @@
+//! Cuts the bytes of a file into lines, up to its first zero, and hands the lines on.
+ghost use Rattle.std.specs.Prelude.{◌≡◌, ◌+◌, ◌<◌, ◌≤◌, ◌^◌, ◌++◌, [], List, ℕ, false, length, take, vec_len};
+ghost use Rattle.std.specs.Prelude.{IfErr, OnOk, IsErrOf};
+ghost use Rattle.std.specs.List.{All};
+ghost use Rattle.rv_journal.specs.Text.{before_zero, stored_lines, whole_lines, IsLines};
+ghost use Rattle.rv_journal.specs.Cutter.{RefusesOn, TakesOn};
+ghost use Rattle.rv_journal.specs.Faults.{IfRefused, open_failed};
+ghost use Rattle.rv_journal.specs.declared.fault.OpenFault.TheVariants.{NotFilled};
+
+use crate::device::DeviceFault;
+use crate::fault::OpenFault;
+use crate::reader::TakesLines;
+use std::alloc::{AllocError, Global};
+
+const LINE_FEED: u8 = 10;
+
+// Where the last line ends of those before the first zero, and where that zero stands.
+#[derive(Clone, Copy)]
+struct Ends {
+    lines: usize,
+    text: usize,
+}
+
+fn ends_of(bytes: &[u8]) -> Ends
+    ensures within { result.lines ≤ result.text }
+    ensures inside { result.text ≤ length bytes.now }
+    ensures lines { take result.lines bytes.now ≡ stored_lines bytes.now }
+    ensures text { take result.text bytes.now ≡ before_zero bytes.now }
+{
+    let mut lines = 0;
+    for (i, byte) in bytes.iter().enumerate() {
+        if *byte == 0 {
+            return Ends { lines, text: i };
+        }
+        if *byte == LINE_FEED {
+            lines = i + 1;
+        }
+    }
+    Ends {
+        lines,
+        text: bytes.len(),
+    }
+}
+
+// The bytes of a file that are cut into lines.
+#[derive(Drop)]
+pub(crate) struct LineCutter {
+    // how many bytes were handed on
+    pub(crate) end: usize,
+    // what stands after them
+    rest: Vec<u8>,
+    // whether a zero was found
+    ended: bool,
+}
+
+impl LineCutter {
+    // Before the first byte.
+    pub(crate) fn new(alloc: Global) -> LineCutter
+        ensures end { result.end ≡ 0 }
+        ensures rest { result.rest.items ≡ [] }
+        ensures ended { result.ended ≡ false }
+    {
+        LineCutter {
+            end: 0,
+            rest: Vec::new(alloc),
+            ended: false,
+        }
+    }
+
+    // Hands on these lines, the rest before them; if there are none, nothing.
+    fn take_lines<R: TakesLines>(
+        &mut self,
+        lines: &[u8],
+        reader: &mut R,
+    ) -> Result<(), OpenFault<R::Fault>>
+        requires lines { IsLines lines.now }
+        requires text { All (λ byte. 0 < byte) lines.now }
+        requires going { self.old.ended ≡ false }
+        requires fits { self.old.end + vec_len self.old.rest + length lines.now < 2 ^ 63 }
+        ensures going { self.new.ended ≡ false }
+        ensures size { OnOk result (self.new.end + vec_len self.new.rest
+            ≤ self.old.end + vec_len self.old.rest + length lines.now) }
+        ensures taken { OnOk result (TakesOn R.takes lines.now self.old reader.old self.new reader.new) }
+        ensures refused { IfErr result (λ fault.
+            IfRefused fault (RefusesOn R.takes R.refuses lines.now self.old reader.old)) }
+        ensures cause { IsErrOf result open_failed → ⊥ }
+        ensures filled { IsErrOf result NotFilled → ⊥ }
+    {
+        if lines.is_empty() {
+            return Ok(());
+        }
+        if let Err(_) = self.rest.extend_from_slice(lines) {
+            return Err(OpenFault::Device(DeviceFault::NoMemory));
+        }
+        if let Err(why) = reader.take(&self.rest) {
+            return Err(OpenFault::Refused(why));
+        }
+        self.end += self.rest.len();
+        self.rest.clear();
+        Ok(())
+    }
+
+    // Cuts the next bytes of the file.
+    pub(crate) fn take_piece<R: TakesLines>(
+        &mut self,
+        piece: &[u8],
+        reader: &mut R,
+    ) -> Result<(), OpenFault<R::Fault>>
+        requires fits { self.old.end + vec_len self.old.rest + length piece.now < 2 ^ 63 }
+        ensures size { OnOk result (self.new.end + vec_len self.new.rest
+            ≤ self.old.end + vec_len self.old.rest + length piece.now) }
+        ensures taken { OnOk result (TakesOn R.takes piece.now self.old reader.old self.new reader.new) }
+        ensures refused { IfErr result (λ fault.
+            IfRefused fault (RefusesOn R.takes R.refuses piece.now self.old reader.old)) }
+        ensures cause { IsErrOf result open_failed → ⊥ }
+        ensures filled { IsErrOf result NotFilled → ⊥ }
+    {
+        if self.ended {
+            return Ok(());
+        }
+        let ends = ends_of(piece);
+        if let Err(fault) = self.take_lines(&piece[..ends.lines], reader) {
+            return Err(fault);
+        }
+        if let Err(_) = self.rest.extend_from_slice(&piece[ends.lines..ends.text]) {
+            return Err(OpenFault::Device(DeviceFault::NoMemory));
+        }
+        self.ended = ends.text < piece.len();
+        Ok(())
+    }
+}
