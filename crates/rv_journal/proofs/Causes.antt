@@ -1,9 +1,11 @@
 -- A device that has failed has a cause for what is told after another call, and by a call above it.
 use Rattle.std.proofs.Common.{◌≡◌, true, Result, Ok, Err, IsErrOf, ap}
 use Rattle.rv_journal.specs.Device.{Disk, HasCause}
-use Rattle.rv_journal.specs.Faults.{IfRefused, append_failed, open_failed, store_failed}
+use Rattle.rv_journal.specs.Faults.{IfRefused, append_failed, create_failed, open_failed, store_failed}
 use Rattle.rv_journal.specs.declared.device.DeviceFault.{DeviceFault}
 use Rattle.rv_journal.specs.declared.device.DeviceFault.TheVariants.{NoMemory, Failed}
+use Rattle.rv_journal.specs.declared.fault.CreateFault.{CreateFault}
+use Rattle.rv_journal.specs.declared.fault.CreateFault.TheVariants as OfCreate
 use Rattle.rv_journal.specs.declared.fault.JournalFault.{JournalFault}
 use Rattle.rv_journal.specs.declared.fault.JournalFault.TheVariants as OfJournal
 use Rattle.rv_journal.specs.declared.fault.OpenFault.{OpenFault}
@@ -53,6 +55,15 @@ opened_as (Ok value) = OfOpen.NotFilled
 pub reopen_why : {T F : Type 0} (why : DeviceFault)
     → IsErrOf {T = T} {E = OpenFault F} (Err (OfOpen.Device why)) open_failed → why ≡ Failed
 reopen_why {T = T} {F = F} why is = open_why {F = F} why (ap (opened_as {T = T} {F = F}) is)
+
+abbrev created_by : CreateFault → DeviceFault
+created_by (OfCreate.Device why) = why
+created_by OfCreate.NotText = NoMemory
+created_by OfCreate.TooLong = NoMemory
+created_by OfCreate.Full = NoMemory
+
+pub create_why : (why : DeviceFault) → OfCreate.Device why ≡ create_failed → why ≡ Failed
+create_why why is = ap created_by is
 
 -- of a refusal something else is told
 pub if_refused : {F : Type 0} (fault : OpenFault F) (P Q : F → Type 0) → ((why : F) → P why → Q why)

@@ -2,28 +2,23 @@
 use Rattle.std.proofs.Common.{◌≡◌, ⊎_elim, ℕ, ◌+◌, ◌<◌, ◌≤◌, List, replicate, length, get_or, take, sym, ◌∙◌}
 use Rattle.std.proofs.Common.{ap}
 use Rattle.std.proofs.Common.{subst, arith, length-take}
-use Rattle.std.specs.Prelude.{slice_index}
 use Rattle.std.proofs.lemmas.Bool.{cases_lt}
-use Rattle.std.proofs.lemmas.List.{get_or-take, get_or_past, get_or-replicate, length-replicate}
+use Rattle.std.proofs.lemmas.List.{get_or-take, get_or_past}
 use Rattle.std.proofs.lemmas.List.{length-take-le}
 use Rattle.rv_journal.specs.Device.{Disk, IsRewritten, LeavesOnly, MayMix, Mixed, Rewrites}
 use Rattle.rv_journal.specs.Opened.{HasLines, IsCleared, IsClearedTo, file_lines}
 use Rattle.rv_journal.proofs.Holding.{holds_mixed, same_size}
 use Rattle.rv_journal.proofs.Moments.{weaker}
+use Rattle.rv_journal.proofs.Zeros.{all_blank}
 use Rattle.rv_journal.proofs.Reopened.{mixed_lines, only_lines, zeros_on}
 
 -- no byte of some zeros is other than zero
 pub zeros_blank : (zeros : List ℕ) (n i : ℕ) → zeros ≡ replicate (length zeros) 0
     → get_or (take n zeros) i 0 ≡ 0
-zeros_blank zeros n i are = ⊎_elim (λ (low : i < n). get_or-take n zeros i 0 low
-    ∙ ap (λ (l : List ℕ). get_or l i 0) are ∙ all_zero (length zeros) i) (λ (past : n ≤ i). get_or_past
-    (take n
-    zeros) i 0 (omega (arith, past, length-take n zeros))) (cases_lt i n)
-  where
-    all_zero : (size i : ℕ) → slice_index (replicate size 0) i ≡ 0
-    all_zero size i = ⊎_elim (λ (low : i < size). get_or-replicate size i 0 0 low) (λ (past : size ≤ i).
-        get_or_past (replicate size 0) i 0 (omega (arith, past, length-replicate {A = ℕ} size 0)))
-        (cases_lt i size)
+zeros_blank zeros n i are = ⊎_elim (λ (low : i < n). get_or-take n zeros i 0 low ∙ all_blank zeros are i
+    (omega arith)) (λ (past : n ≤ i). get_or_past (take n zeros) i 0
+    (omega (arith, past, length-take n zeros)))
+    (cases_lt i n)
 
 module _ {D : Type 0} (disk : Disk D) (end at size : ℕ) (old : D) (is : IsClearedTo disk end at size old)
   where

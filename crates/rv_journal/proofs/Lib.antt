@@ -17,3 +17,4 @@ mod Calls
 mod Memories
 mod Cleared
 mod Cutting
+mod Beginning

@@ -1,6 +1,7 @@
 -- What zeros leave that are written past the end.
 use Rattle.std.proofs.Common.{◌≡◌, ⊎_elim, ℕ, ◌+◌, ◌-◌, ◌<◌, ◌≤◌, replicate, List, ◌++◌, length, get_or, take}
 use Rattle.std.proofs.Common.{drop, refl, sym, ◌∙◌, ap, subst, arith, length-append}
+use Rattle.std.specs.Prelude.{slice_index}
 use Rattle.std.specs.List.{All}
 use Rattle.std.proofs.lemmas.Bool.{cases_lt}
 use Rattle.std.proofs.lemmas.List.{get_or_append_left, get_or-append_right, get_or_past, get_or-replicate}
@@ -10,6 +11,14 @@ use Rattle.rv_journal.specs.Text.{before_zero, IsBlankFrom}
 use Rattle.rv_journal.proofs.Texts.{positive, front}
 use Rattle.rv_journal.proofs.Appended.{same_front}
 use Rattle.rv_journal.proofs.Scan.{text_ends}
+
+all_zero : (size i : ℕ) → slice_index (replicate size 0) i ≡ 0
+all_zero size i = ⊎_elim (λ (low : i < size). get_or-replicate size i 0 0 low) (λ (past : size ≤ i).
+    get_or_past (replicate size 0) i 0 (omega (arith, past, length-replicate {A = ℕ} size 0)))
+    (cases_lt i size)
+
+pub all_blank : (zeros : List ℕ) → zeros ≡ replicate (length zeros) 0 → IsBlankFrom 0 zeros
+all_blank zeros are i _ = ap (λ (l : List ℕ). slice_index l i) are ∙ all_zero (length zeros) i
 
 pub zeros_same : (zeros others : List ℕ) → zeros ≡ others → others ≡ replicate (length others) 0
     → zeros ≡ replicate (length zeros) 0

@@ -1,6 +1,8 @@
 -- What is told where the device failed, and what ends a journal.
 use Rattle.std.specs.Prelude.{Bool, false, true}
 use Rattle.rv_journal.specs.declared.device.DeviceFault.TheVariants.{Failed}
+use Rattle.rv_journal.specs.declared.fault.CreateFault.{CreateFault}
+use Rattle.rv_journal.specs.declared.fault.CreateFault.TheVariants as OfCreate
 use Rattle.rv_journal.specs.declared.fault.JournalFault.{JournalFault}
 use Rattle.rv_journal.specs.declared.fault.JournalFault.TheVariants as OfJournal
 use Rattle.rv_journal.specs.declared.fault.OpenFault.{OpenFault}
@@ -18,6 +20,10 @@ ends_journal OfJournal.NotText = false
 ends_journal OfJournal.Full = false
 ends_journal (OfJournal.Device why) = true
 ends_journal OfJournal.Failed = true
+
+-- by one that makes a journal
+abbrev pub create_failed : CreateFault
+create_failed = OfCreate.Device Failed
 
 -- by one that opens
 abbrev pub open_failed : {F : Type 0} → OpenFault F

@@ -1,3 +1,4 @@
+pub mod Created
 pub mod Cutter
 pub mod Device
 pub mod Faults

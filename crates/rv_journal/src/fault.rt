@@ -33,3 +33,20 @@ pub enum OpenFault<F> {
     #[error("the journal's lines were refused")]
     Refused(F),
 }
+
+/// Why a device was not made a journal.
+#[derive(Clone, Copy, Debug, PartialEq, Eq, Error)]
+pub enum CreateFault {
+    /// The first piece has a zero byte, which no text has. Nothing changed.
+    #[error("a piece with a zero byte is no text")]
+    NotText,
+    /// The file has more than 1 MiB, so it is no leftover. Nothing changed.
+    #[error("the file is too long to be made a journal")]
+    TooLong,
+    /// The file would have more than 2^50 bytes. It stands for a front of the first piece.
+    #[error("the journal has no room for the piece")]
+    Full,
+    /// The device failed, or memory was refused. What the file had may be lost.
+    #[error("the journal's device failed")]
+    Device(DeviceFault),
+}

@@ -60,6 +60,19 @@ impl<D: Device> FilledFile<D> {
         }
     }
 
+    // Its device.
+    pub(crate) fn into_device(self) -> D
+        ensures { result ≡ self.device }
+    {
+        let FilledFile {
+            device,
+            zeros: _,
+            end: _,
+            filled: _,
+        } = self;
+        device
+    }
+
     // Adds a piece for which there is room. Once it has returned, each crash leaves a file that has it.
     fn write_piece(&mut self, piece: &[u8]) -> Result<(), DeviceFault>
         requires ready { TakesPieces D.disk self.old }

@@ -4,17 +4,21 @@ ghost use Rattle.std.specs.Prelude.{◌≡◌, ◌+◌, ◌≤◌, ◌<◌, ◌^
 ghost use Rattle.std.specs.Prelude.{IfErr, IfOk, IsErrOf, IsTrue, OnErr, OnOk};
 ghost use Rattle.std.specs.Prelude.{◌↔◌};
 ghost use Rattle.std.specs.List.{All};
+ghost use Rattle.rv_journal.specs.Created.{IsLeftLong, MayBegin};
 ghost use Rattle.rv_journal.specs.Device.{LeavesOnly, WhereTold};
+ghost use Rattle.rv_journal.specs.Filled.{ahead};
 ghost use Rattle.rv_journal.specs.Text.{HasFront};
 ghost use Rattle.rv_journal.specs.Opened.{HasLinesOf, IsLeftRefused, IsLeftUnfilled, file_lines};
 ghost use Rattle.rv_journal.specs.Journal.{IsDurable, IsLive, KeepsText, Stores};
 ghost use Rattle.rv_journal.specs.Journal.{journal_text, journal_state};
-ghost use Rattle.rv_journal.specs.Faults.{IfRefused, append_failed, ends_journal, open_failed};
+ghost use Rattle.rv_journal.specs.Faults.{IfRefused, append_failed, create_failed, ends_journal, open_failed};
+ghost use Rattle.rv_journal.specs.declared.fault.CreateFault.TheVariants as OfCreate;
 ghost use Rattle.rv_journal.specs.declared.fault.OpenFault.TheVariants.{NotFilled};
 ghost use Rattle.rv_journal.specs.declared.fault.JournalFault.TheVariants.{NotText, Full, Failed};
 
+use crate::creating::begin;
 use crate::device::{Device, DeviceFault};
-use crate::fault::{JournalFault, OpenFault};
+use crate::fault::{CreateFault, JournalFault, OpenFault};
 use crate::filled::{AHEAD, FilledFile, StoreFault, zeros};
 use crate::opening::reopen;
 use crate::reader::TakesLines;
@@ -92,6 +96,49 @@ impl<D: Device> DiskJournal<D> {
                 Ok(DiskJournal { parts })
             }
             Err(fault) => Err((fault, device)),
+        }
+    }
+
+    /// A new journal whose text is this piece: bytes without zero. What the device had is lost. Once it has
+    /// returned, the piece is stored.
+    ///
+    /// At `Err` the device is handed back; [`CreateFault`] says what stands in it. Until zeros stand in the
+    /// first MiB and are stored, a crash leaves each byte as it was or zero, and any past its end; from then
+    /// on a front of the piece. So it is made under a name that no one opens, and renamed.
+    pub fn create(
+        alloc: Global,
+        device: D,
+        first: &[u8],
+    ) -> Result<DiskJournal<D>, (CreateFault, D)>
+        ensures text { IfOk result (λ made. WhereTold D.disk device
+            (journal_text D.disk made ≡ first.now)) }
+        ensures tells { IfOk result (λ made. D.disk.tells made.device ≡ D.disk.tells device) }
+        ensures tells_err { IfErr result (λ failed. D.disk.tells failed.1 ≡ D.disk.tells device) }
+        ensures works { IfOk result (λ made. made.failed ≡ false) }
+        ensures durable { IfOk result (λ made. WhereTold D.disk device (IsDurable D.disk made)) }
+        ensures any_moment { IfOk result (λ made. WhereTold D.disk device
+            (LeavesOnly D.disk device made.device (MayBegin D.disk ahead device first.now))) }
+        ensures any_moment_err { IfErr result (λ failed. WhereTold D.disk device
+            (LeavesOnly D.disk device failed.1 (MayBegin D.disk ahead device first.now))) }
+        ensures not_text { IfErr result (λ failed. failed.0 ≡ OfCreate.NotText →
+            All (λ byte. 0 < byte) first.now → ⊥) }
+        ensures same { IfErr result (λ failed. failed.0 ≡ OfCreate.NotText → failed.1 ≡ device) }
+        ensures long { IfErr result (λ failed. failed.0 ≡ OfCreate.TooLong →
+            IsLeftLong D.disk ahead device failed.1) }
+        ensures full { IfErr result (λ failed. failed.0 ≡ OfCreate.Full → 2 ^ 50 ≤ length first.now) }
+        ensures cause { IfErr result (λ failed. failed.0 ≡ create_failed →
+            D.disk.failed failed.1 ≡ true) }
+    {
+        if !is_text(first) {
+            return Err((CreateFault::NotText, device));
+        }
+        match begin(alloc, device, first) {
+            Ok(file) => {
+                let failed = false;
+                let parts = Parts { file, failed };
+                Ok(DiskJournal { parts })
+            }
+            Err(failed) => Err(failed),
         }
     }
 

@@ -7,6 +7,7 @@
 //! ```
 #![tactic(auto)]
 
+mod creating;
 mod cutter;
 mod device;
 mod fault;
@@ -20,7 +21,7 @@ mod reading;
 mod rewriting;
 
 pub use device::{Device, DeviceFault};
-pub use fault::{JournalFault, OpenFault};
+pub use fault::{CreateFault, JournalFault, OpenFault};
 pub use journal::DiskJournal;
 pub use memory::Memory;
 pub use reader::TakesLines;

@@ -1,4 +1,4 @@
-//! Tests of a journal over a file in memory that a crash left, and of the pieces that it refuses.
+//! Tests of a journal over a file in memory that a crash left, and of what it refuses.
 use crate::expect::{holds, same};
 use rv_journal::{DiskJournal, JournalFault, Memory, OpenFault};
 use std::alloc::Global;
@@ -37,5 +37,14 @@ fn a_file_without_a_zero_is_no_journal(rt: HostRuntime) {
             same(&rt, fault, OpenFault::NotFilled);
             same(&rt, left.bytes(), b"A\n");
         }
+    }
+}
+
+#[test]
+fn a_new_journal_takes_a_second_piece(rt: HostRuntime) {
+    let left = file(&rt, rt.alloc(), b"left");
+    match DiskJournal::create(rt.alloc(), left, b"A\n") {
+        Ok(mut journal) => same(&rt, journal.append(b"B\n"), Ok(())),
+        Err((fault, _)) => holds(&rt, false, fault),
     }
 }
