@@ -18,3 +18,4 @@ mod Memories
 mod Cleared
 mod Cutting
 mod Beginning
+mod Fuses

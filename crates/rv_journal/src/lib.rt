@@ -12,6 +12,7 @@ mod cutter;
 mod device;
 mod fault;
 mod filled;
+mod fuse;
 mod journal;
 pub mod laws;
 mod memory;
@@ -22,6 +23,7 @@ mod rewriting;
 
 pub use device::{Device, DeviceFault};
 pub use fault::{CreateFault, JournalFault, OpenFault};
+pub use fuse::Fuse;
 pub use journal::DiskJournal;
 pub use memory::Memory;
 pub use reader::TakesLines;

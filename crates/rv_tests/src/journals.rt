@@ -1,6 +1,6 @@
-//! Tests of a journal over a file in memory that a crash left, and of what it refuses.
+//! Tests of a journal over a file in memory that a crash left or that froze, and of what it refuses.
 use crate::expect::{holds, same};
-use rv_journal::{DiskJournal, JournalFault, Memory, OpenFault};
+use rv_journal::{DeviceFault, DiskJournal, Fuse, JournalFault, Memory, OpenFault};
 use std::alloc::Global;
 use std::process::Abort;
 
@@ -46,5 +46,29 @@ fn a_new_journal_takes_a_second_piece(rt: HostRuntime) {
     match DiskJournal::create(rt.alloc(), left, b"A\n") {
         Ok(mut journal) => same(&rt, journal.append(b"B\n"), Ok(())),
         Err((fault, _)) => holds(&rt, false, fault),
+    }
+}
+
+// Opens a file that froze while it was opened.
+fn opens(rt: &impl Abort, alloc: Global, left: Memory) {
+    let mut lines = Vec::new(alloc);
+    match DiskJournal::open(alloc, left, &mut lines) {
+        Ok(_) => same(rt, lines.as_slice(), b"A\nB\n"),
+        Err((fault, _)) => holds(rt, false, fault),
+    }
+}
+
+#[test]
+fn a_file_that_froze_at_a_call_has_its_lines(rt: HostRuntime) {
+    for calls in 0..5 {
+        let torn = Fuse::new(file(&rt, rt.alloc(), TORN), calls);
+        let mut lines = Vec::new(rt.alloc());
+        match DiskJournal::open(rt.alloc(), torn, &mut lines) {
+            Ok(_) => holds(&rt, false, calls),
+            Err((fault, left)) => {
+                same(&rt, fault, OpenFault::Device(DeviceFault::Failed));
+                opens(&rt, rt.alloc(), left.into_inner());
+            }
+        }
     }
 }
