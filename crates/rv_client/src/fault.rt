@@ -5,43 +5,30 @@ ghost use Rattle.rv_client.specs.declared.fault.LinkFault.TheVariants.{NoMemory,
 
 use rv_text::TextFault;
 use std::alloc::AllocError;
-use std::error::Error;
-use std::fmt;
+use thiserror::Error;
 
 /// Why a request got no answer over its link. [`ask`](crate::ask) says how the link is left.
-#[derive(Clone, Copy, Debug, PartialEq, Eq)]
+#[derive(Clone, Copy, Debug, PartialEq, Eq, Error)]
 pub enum LinkFault {
     /// 1: a read of the source failed before the answer's frame was whole. The whole request went out.
+    #[error("a read of the link failed")]
     ReadFault,
     /// 2: a write to the sink failed, after this many bytes of the request's frame. Nothing was read.
+    #[error("a write to the link failed after {0} bytes")]
     WriteFault(usize),
     /// 3: the source ended before the answer's frame was whole. The whole request went out.
+    #[error("the link ended before the answer was whole")]
     Closed,
     /// 4: the two bytes that were read are not the length of a frame. The whole request went out.
+    #[error("the answer has a bad length")]
     BadFrame,
     /// 5: one whole frame came, and its body is not an answer. The whole request went out.
+    #[error("the body is not an answer")]
     BadBody,
     /// 6: memory was refused, before a byte went out or after the whole answer was read.
+    #[error("out of memory")]
     NoMemory,
 }
-
-impl fmt::Display for LinkFault {
-    fn fmt<W: fmt::Write>(&self, f: &mut fmt::Formatter<W>) -> fmt::Result {
-        match self {
-            LinkFault::ReadFault => f.write_str("a read of the link failed"),
-            LinkFault::WriteFault(sent) => write!(
-                f,
-                "a write to the link failed after {sent} bytes"
-            ),
-            LinkFault::Closed => f.write_str("the link ended before the answer was whole"),
-            LinkFault::BadFrame => f.write_str("the answer has a bad length"),
-            LinkFault::BadBody => f.write_str("the body is not an answer"),
-            LinkFault::NoMemory => f.write_str("out of memory"),
-        }
-    }
-}
-
-impl Error for LinkFault {}
 
 impl From<rv_frame::ReadFault> for LinkFault {
     ghost from_gives = { λ _ fault. fault ≡ ReadFault };

@@ -19,9 +19,15 @@ pub const DEFAULT_PATIENCE: u32 = 10_000;
 
 /// The engine of a server: thousands of connections over one machine. Contracts see its parts, which always
 /// are as they must be between two events.
-#[derive(Drop)]
 pub struct Hub {
     parts: HubParts,
+}
+
+// Whoever owns one drops it in one step.
+impl Drop for Hub {
+    fn drop(self) {
+        let Hub { parts: _ } = self;
+    }
 }
 
 impl Model for Hub {

@@ -1,4 +1,5 @@
--- A device that is frozen after some calls: what it holds, and what a crash may leave, is the device's beneath.
+-- A device that is frozen after some calls: what it holds, and what a crash may leave, is the device's
+-- beneath.
 use Rattle.std.specs.Prelude.{◌||◌, ℕ, Bool}
 use Rattle.rv_journal.specs.Device.{Disk}
 use Rattle.rv_journal.specs.declared.fuse.Fuse.{Fuse}

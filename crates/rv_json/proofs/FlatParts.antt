@@ -58,7 +58,8 @@ quoted_here d s at from end after first le last is same =
     ∙ sym (append_assoc (escape s) (34 ∷ []) (drop after d)))
 
 -- a member
-pub field_here : (name value here colon inner after : List ℕ) → here ≡ quoted name ++ colon → colon ≡ 58 ∷ inner
+pub field_here : (name value here colon inner after : List ℕ) → here ≡ quoted name ++ colon
+    → colon ≡ 58 ∷ inner
     → inner ≡ value ++ after → here ≡ (quoted name ++ (58 ∷ value)) ++ after
 field_here name value here colon inner after named parted valued =
     named ∙ ap (λ l. quoted name ++ l) (parted ∙ ap (λ l. 58 ∷ l) valued)

@@ -45,11 +45,21 @@ pub enum Beside {
 
 /// A record of replies, with what became of their requests in an account whose entries pass one by one. It
 /// first takes its lines, and then each entry. Memory grows with the record alone.
-#[derive(Drop)]
 pub struct Records {
     lines: Vec<Line>,
     fates: Fates,
     firsts: Firsts,
+}
+
+// Whoever owns one drops it in one step.
+impl Drop for Records {
+    fn drop(self) {
+        let Records {
+            lines: _,
+            fates: _,
+            firsts: _,
+        } = self;
+    }
 }
 
 impl Records {

@@ -13,7 +13,6 @@ use rv_text::NoMemory;
 use std::alloc::Global;
 
 /// What hears lines.
-#[derive(Drop)]
 pub(crate) enum Driver {
     /// A machine.
     Machine {
@@ -26,6 +25,20 @@ pub(crate) enum Driver {
     },
     /// A hub.
     Hub(Hub),
+}
+
+// Whoever owns one drops it in one step.
+impl Drop for Driver {
+    fn drop(self) {
+        match self {
+            Driver::Machine {
+                machine: _,
+                limits: _,
+                anew: _,
+            } => {}
+            Driver::Hub(_) => {}
+        }
+    }
 }
 
 impl Driver {

@@ -39,10 +39,16 @@ pub enum Pause {
 
 /// An audit of an account whose bytes come bit by bit. It keeps what is open, the clients, and the last
 /// bytes, if they lack their LF.
-#[derive(Drop)]
 pub struct OngoingAudit {
     pub(crate) stage: Stage,
     pub(crate) piece: Vec<u8>,
+}
+
+// Whoever owns one drops it in one step.
+impl Drop for OngoingAudit {
+    fn drop(self) {
+        let OngoingAudit { stage: _, piece: _ } = self;
+    }
 }
 
 impl OngoingAudit {

@@ -18,5 +18,6 @@ returns-clause-text c =
     let own : here ≡ quoted c.args.name.now ++ colon =
     subst (λ name. here ≡ quoted name ++ colon) named c.in-Some.ensures.text in
     IfSome_then c.scan_object.result c.scan_object.ensures.text
-    (λ p is. field_here c.args.name.now p.0.now here colon (drop c.in-Some-after_byte.start d) (drop p.1 d) own
+    (λ p is. field_here c.args.name.now p.0.now here colon (drop c.in-Some-after_byte.start d) (drop p.1 d)
+    own
     c.in-Some-after_byte.ensures.text is)
