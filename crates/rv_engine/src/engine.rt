@@ -93,8 +93,7 @@ impl Engine {
         ensures journal { IfOk result (λ e. e.hub.has_journal ≡ has_account) }
         ensures calls { IfOk result (λ e. CallsAreCounted [] e.calls) }
     {
-        let looks = LookList::new(alloc, room)?;
-        let round = LookList::new(alloc, room)?;
+        let (looks, round) = LookList::pair(alloc, room)?;
         let hub = Hub::new(alloc, machine, limits, patience, has_account)?;
         let gathered = hub.entries().len();
         let book = hub.machine();

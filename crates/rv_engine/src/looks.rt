@@ -9,11 +9,20 @@ use rv_server_connections::subscribers::ConnectionNumber;
 use std::alloc::{AllocError, Global};
 
 /// The numbers that are listed, with room for all that have a flag.
-#[derive(Drop)]
 pub struct LookList {
     pub(crate) numbers: Vec<ConnectionNumber>,
     // Whether each number is listed.
     pub(crate) flags: Vec<bool>,
+}
+
+// Whoever owns one drops it in one step.
+impl Drop for LookList {
+    fn drop(self) {
+        let LookList {
+            numbers: _,
+            flags: _,
+        } = self;
+    }
 }
 
 impl LookList {
@@ -29,6 +38,18 @@ impl LookList {
         };
         list.add_flags(most);
         Ok(list)
+    }
+
+    /// Two empty lists, each with room for all numbers below this one.
+    pub(crate) fn pair(alloc: Global, most: usize) -> Result<(LookList, LookList), AllocError>
+        ensures sound { IfOk result (λ lists. IsLooks lists.0 × IsLooks lists.1) }
+        ensures none { IfOk result (λ lists. (lists.0.numbers.items ≡ []) × (lists.1.numbers.items ≡ [])) }
+        ensures room { IfOk result (λ lists. (length lists.0.flags.items ≡ most)
+            × (length lists.1.flags.items ≡ most)) }
+    {
+        let one = LookList::new(alloc, most)?;
+        let other = LookList::new(alloc, most)?;
+        Ok((one, other))
     }
 
     /// Whether no number is listed.
