@@ -1,6 +1,6 @@
 -- One frame is answered: from what was got and told of it to the answered frame.
 use Rattle.std.proofs.Common.{inl, inr, ◌≡◌, ◌++◌, ◌∷◌, [], ℕ, List, Err, IsErrAnd, IfErr, Ok}
-use Rattle.std.proofs.Common.{Option, Result, arith, refl, subst, sym}
+use Rattle.std.proofs.Common.{Option, Result, refl, subst, sym}
 use Rattle.rv_frame.specs.Cut.{IsFrameBody}
 use Rattle.rv_frame.specs.Sink.{SinkTakes, sink_failed}
 use Rattle.rv_frame.specs.declared.sink.Sink.{Sink}

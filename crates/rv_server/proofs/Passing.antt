@@ -1,5 +1,5 @@
 -- What is said of a sink holds of another one whose contents are the same, up to what it was given up with.
-use Rattle.std.proofs.Common.{inl, inr, ◌≡◌, ◌∙◌, [], ℕ, List, None, Option, Some, ap, arith, refl, subst}
+use Rattle.std.proofs.Common.{inl, inr, ◌≡◌, ◌∙◌, [], ℕ, List, None, Option, Some, ap, refl, subst}
 use Rattle.std.proofs.Common.{sym}
 use Rattle.std.proofs.Common.{Err, IfErr, Ok, OnOk, Result, true}
 use Rattle.std.specs.Result.{result_err}

@@ -117,25 +117,17 @@ fn is_ready(stream: &TcpStream) -> bool {
     true
 }
 
-// The next connection, unless it can't be accepted.
-fn accepted(listener: &TcpListener) -> Option<TcpStream> {
-    match listener.accept() {
-        Ok((stream, _)) => Some(stream),
-        Err(_) => None,
-    }
-}
-
 impl<'a, T: Wait, D: Desk, L: Ledger, C: Clock, G: Gate> WorkerContext<'a, T, D, L, C, G> {
     // Accepts this many connections, and hands each to the next worker that is free. Then the listener is
     // closed, so that later peers are refused, and the workers learn that no more will come.
     fn accept_all(&self, listener: TcpListener, to: Sender<TcpStream>, connections: u32) {
         for _ in 0..connections {
-            match accepted(&listener) {
-                Some(stream) => {
+            match listener.accept() {
+                Ok((stream, _)) => {
                     // If this finds no memory, the connection is closed.
                     let _ = to.send(self.rt, stream);
                 }
-                None => self.gate.pause(),
+                Err(_) => self.gate.pause(),
             }
         }
     }

@@ -1,5 +1,5 @@
 -- What is said of the sink over the held bytes is said of the writer and of what it did not take.
-use Rattle.std.proofs.Common.{◌≡◌, [], ap, false, None, Option, refl, subst, sym, true}
+use Rattle.std.proofs.Common.{[], ap, false, Option, refl, subst, sym, true}
 use Rattle.std.specs.Io.Buffered.{writer_contents}
 use Rattle.rv_frame.specs.Sink.{sink_over}
 use Rattle.rv_server.specs.Sending.{WorksThrough, passing, passing_contents}

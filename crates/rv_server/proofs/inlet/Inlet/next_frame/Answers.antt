@@ -1,10 +1,9 @@
 -- Each turn flushes the sink and reads one piece after those of the turns before it.
-use Rattle.std.proofs.Common.{[], Err, Ok, false, rules, subst, sym, true, ◌≡◌, ◌<◌}
+use Rattle.std.proofs.Common.{[], Ok, false, rules, subst, sym, true, ◌≡◌, ◌<◌}
 use Rattle.std.proofs.KnownBytes.{Appends-nil, Appends-trans}
 use Rattle.rv_frame.specs.Sink.{sink_failed}
 use Rattle.rv_frame.specs.Stream.{IsOpen, Stream}
 use Rattle.rv_server.specs.Reading.{FailsAtSink, ReadsOn, TakesWhole}
-use Rattle.rv_server.specs.declared.fault.WorkFault.TheVariants.{WriteFault}
 use Rattle.rv_server.proofs.Answering.{fault_gives}
 use Rattle.rv_server.proofs.Intake.{end_then, lacks_whole_then, none_read, read_fails, read_then}
 use Rattle.rv_server.proofs.Intake.{stopped_then}
