@@ -5,7 +5,7 @@ use Rattle.std.specs.List.{All}
 use Rattle.std.proofs.lemmas.Bool.{false≢true}
 use Rattle.std.proofs.lemmas.List.{append-nil, append_cancel_left, length-take-le, take_all}
 use Rattle.std.proofs.Math.Seq.{take-add}
-use Rattle.rv_journal.specs.Cutter.{HasTaken, RefusesFront, RefusesOn}
+use Rattle.rv_journal.specs.Cutter.{HasTakenLines, RefusesFront, RefusesOn}
 use Rattle.rv_journal.specs.Faults.{IfRefused}
 use Rattle.rv_journal.specs.Text.{before_zero, stored_lines, whole_lines, IsLines}
 use Rattle.rv_journal.specs.declared.cutter.LineCutter.{LineCutter}
@@ -51,10 +51,10 @@ refused_sooner takes refuses piece whole rest is old was fault =
     (refuses_sooner refuses first (front ++ piece) rest why (refused first front had)))
 
 module _ {R : Type 0} (takes : R → List ℕ → R → Type 0) (first : R) (front : List ℕ) (cutter : LineCutter)
-    (was : R) (had : HasTaken takes first front cutter was) where
+    (was : R) (had : HasTakenLines takes first front cutter was) where
   -- once a zero came, no more counts
   pub after_zero : (piece : List ℕ) → cutter.ended ≡ true
-      → HasTaken takes first (front ++ piece) cutter was
+      → HasTakenLines takes first (front ++ piece) cutter was
   after_zero piece ended =
       let same : before_zero (front ++ piece) ≡ before_zero front = zero_stays front piece
       (had.cut.zero ended) in
@@ -91,7 +91,7 @@ module _ {R : Type 0} (takes : R → List ℕ → R → Type 0) (first : R) (fro
           → takes old (l ++ m) new) (now : R) → takes was (cutter.rest.items ++ lines) now
           → (new : LineCutter) → new.end ≡ cutter.end + length (cutter.rest.items ++ lines)
           → new.rest.items ≡ []
-          → new.ended ≡ cutter.ended → HasTaken takes first (front ++ lines) new now
+          → new.ended ≡ cutter.ended → HasTakenLines takes first (front ++ lines) new now
       lines_taken joined now took new end rest same = record {
         cut = record {
           end = omega (
@@ -148,7 +148,8 @@ module _ (piece : List ℕ) (lines text : ℕ) (below : lines ≤ text) (is_line
       cut_text.end (subst (λ (l : List ℕ). All (λ byte. 0 < byte) l) cut_text.split (positive piece)))
 
   module _ {R : Type 0} (takes : R → List ℕ → R → Type 0) (first : R) (front : List ℕ) (mid : LineCutter)
-      (now : R) (had : HasTaken takes first (front ++ take lines piece) mid now) (going : mid.ended ≡ false)
+      (now : R) (had : HasTakenLines takes first (front ++ take lines piece) mid now) (going :
+      mid.ended ≡ false)
     where
       front_text : before_zero front ≡ front
       front_text = all_text front (all_front front (take lines piece) (no_zero (front ++ take lines piece)
@@ -174,7 +175,7 @@ module _ (piece : List ℕ) (lines text : ℕ) (below : lines ≤ text) (is_line
       pub piece_taken : (new : LineCutter) → new.end ≡ mid.end
           → new.rest.items ≡ mid.rest.items ++ take (text - lines) (drop lines piece)
           → (new.ended ≡ false → length piece ≤ text) → (new.ended ≡ true → text < length piece)
-          → text ≤ length piece → HasTaken takes first (front ++ piece) new now
+          → text ≤ length piece → HasTakenLines takes first (front ++ piece) new now
       piece_taken new end rest whole short inside = record {
         cut = record {
           end = end ∙ had.cut.end ∙ ap length (sym same_lines);

@@ -3,18 +3,13 @@ use Rattle.std.proofs.Common.{◌≡◌, ℕ, zero, suc, List, [], ◌++◌, tak
 use Rattle.std.specs.Prelude.{IsTrue}
 use Rattle.rv_journal.specs.Device.{Disk, LeavesOnly}
 use Rattle.rv_journal.specs.Text.{HasFront}
-use Rattle.rv_journal.specs.Filled.{AddsPiece, TakesPieces, KeepsFront, file_text}
+use Rattle.rv_journal.specs.Filled.{AddsPiece, OnlyFills, KeepsFront, TakesPieces, file_text}
 use Rattle.rv_journal.specs.declared.filled.FilledFile.{FilledFile}
 use Rattle.rv_journal.proofs.Moments.{joined, weaker}
 use Rattle.rv_journal.proofs.Adding.{at_rest}
 
--- what calls that only fill leave of a file
-pub record GoesOn {D : Type 0} (disk : Disk D) (start now : FilledFile D) : Type 0 where
-  pub end : now.end ≡ start.end
-  pub front : KeepsFront disk start now
-  pub adds : AddsPiece disk [] start now
-
-pub begun : {D : Type 0} (disk : Disk D) (file : FilledFile D) → TakesPieces disk file → GoesOn disk file file
+pub begun : {D : Type 0} (disk : Disk D) (file : FilledFile D) → TakesPieces disk file
+    → OnlyFills disk file file
 begun disk file ready = record {
   end = refl;
   front = λ told. refl;
@@ -22,13 +17,13 @@ begun disk file ready = record {
 }
 
 -- the text is the same
-pub same_text : {D : Type 0} (disk : Disk D) (start now : FilledFile D) → GoesOn disk start now
+pub same_text : {D : Type 0} (disk : Disk D) (start now : FilledFile D) → OnlyFills disk start now
     → IsTrue (disk.tells start.device) → file_text disk now ≡ file_text disk start
 same_text disk start now on told = ap (λ (n : ℕ). take n (disk.seen now.device)) on.end ∙ on.front told
 
 -- a call that adds a piece after them adds it to what there was
 pub adds_on : {D : Type 0} (disk : Disk D) (start mid new : FilledFile D) (piece : List ℕ)
-    → GoesOn disk start mid
+    → OnlyFills disk start mid
     → ((c : List ℕ) → HasFront (file_text disk start) [] c → HasFront (file_text disk start) piece c)
     → AddsPiece disk piece mid new → AddsPiece disk piece start new
 adds_on disk start mid new piece on more adds = record {
@@ -43,18 +38,18 @@ adds_on disk start mid new piece on more adds = record {
       (same_text disk start mid on told) later);
 }
 
-pub front_on : {D : Type 0} (disk : Disk D) (start mid new : FilledFile D) → GoesOn disk start mid
+pub front_on : {D : Type 0} (disk : Disk D) (start mid new : FilledFile D) → OnlyFills disk start mid
     → KeepsFront disk mid new → KeepsFront disk start new
 front_on disk start mid new on front told =
     ap (λ (n : ℕ). take n (disk.seen new.device)) (sym on.end) ∙ front (on.adds.tells ∙ told) ∙ same_text disk
     start mid on told
 
-pub goes_further : {D : Type 0} (disk : Disk D) (start mid new : FilledFile D) → GoesOn disk start mid
-    → new.end ≡ mid.end → KeepsFront disk mid new → AddsPiece disk [] mid new → GoesOn disk start new
-goes_further disk start mid new on end front adds = record {
-  end = end ∙ on.end;
-  front = front_on disk start mid new on front;
-  adds = adds_on disk start mid new [] on (λ c has. has) adds;
+pub goes_further : {D : Type 0} (disk : Disk D) (start mid new : FilledFile D) → OnlyFills disk start mid
+    → OnlyFills disk mid new → OnlyFills disk start new
+goes_further disk start mid new on later = record {
+  end = later.end ∙ on.end;
+  front = front_on disk start mid new on later.front;
+  adds = adds_on disk start mid new [] on (λ c has. has) later.adds;
 }
 
 -- a front of no piece is one of any
@@ -66,7 +61,7 @@ any_piece text piece file has = (0, has.1 ∙ ap (λ (l : List ℕ). text ++ l) 
     none (suc n) = refl
 
 pub stored_on : {D : Type 0} (disk : Disk D) (start mid new : FilledFile D) (piece : List ℕ)
-    → GoesOn disk start mid
+    → OnlyFills disk start mid
     → (IsTrue (disk.tells mid.device) → file_text disk new ≡ file_text disk mid ++ piece)
     → IsTrue (disk.tells start.device) → file_text disk new ≡ file_text disk start ++ piece
 stored_on disk start mid new piece on stored told =

@@ -5,16 +5,16 @@ use Rattle.rv_journal.specs.declared.cutter.LineCutter.{LineCutter}
 
 -- The file begins with these bytes, and they were cut: until a zero comes, what stands after their lines is
 -- kept.
-pub record IsCut (front : List ℕ) (cutter : LineCutter) : Type 0 where
+pub record IsCutIntoLines (front : List ℕ) (cutter : LineCutter) : Type 0 where
   pub end : cutter.end ≡ length (stored_lines front)
   pub text : cutter.ended ≡ false → before_zero front ≡ front
   pub rest : cutter.ended ≡ false → stored_lines front ++ cutter.rest.items ≡ front
   pub zero : cutter.ended ≡ true → length (before_zero front) < length front
 
 -- And a reader took their lines.
-pub record HasTaken {R : Type 0} (takes : R → List ℕ → R → Type 0) (first : R) (front : List ℕ)
+pub record HasTakenLines {R : Type 0} (takes : R → List ℕ → R → Type 0) (first : R) (front : List ℕ)
     (cutter : LineCutter) (now : R) : Type 0 where
-  pub cut : IsCut front cutter
+  pub cut : IsCutIntoLines front cutter
   pub lines : takes first (stored_lines front) now
 
 -- It refused a front of these lines for this reason.
@@ -29,10 +29,10 @@ pub record RefusesFront {R F : Type 0} (refuses : R → List ℕ → F → Type 
 abbrev pub TakesOn : {R : Type 0} → (R → List ℕ → R → Type 0) → List ℕ → LineCutter → R → LineCutter → R
     → Type 0
 TakesOn {R = R} takes piece old was new now = (first : R) (front : List ℕ)
-    → HasTaken takes first front old was → HasTaken takes first (front ++ piece) new now
+    → HasTakenLines takes first front old was → HasTakenLines takes first (front ++ piece) new now
 
 -- while they were cut, it refused lines of them
 abbrev pub RefusesOn : {R F : Type 0} → (R → List ℕ → R → Type 0) → (R → List ℕ → F → Type 0) → List ℕ
     → LineCutter → R → F → Type 0
 RefusesOn {R = R} takes refuses piece old was why = (first : R) (front : List ℕ)
-    → HasTaken takes first front old was → RefusesFront refuses first (stored_lines (front ++ piece)) why
+    → HasTakenLines takes first front old was → RefusesFront refuses first (stored_lines (front ++ piece)) why

@@ -30,7 +30,7 @@ Holds old at bytes new = new ≡ take at old ++ bytes ++ drop (at + length bytes
 
 -- The room begins with so many bytes of the file from this offset on: none only at its end, or where there is
 -- no room.
-pub record Reads (file : List ℕ) (at count : ℕ) (room : List ℕ) : Type 0 where
+pub record ReadsAt (file : List ℕ) (at count : ℕ) (room : List ℕ) : Type 0 where
   pub bytes : take count room ≡ take count (drop at file)
   pub some : at < length file → 0 < length room → 0 < count
 

@@ -1,5 +1,5 @@
 -- A file that is filled with zeros after its text.
-use Rattle.std.specs.Prelude.{◌≡◌, ◌<◌, ◌^◌, ℕ, List, length, replicate, take}
+use Rattle.std.specs.Prelude.{◌≡◌, ◌<◌, ◌^◌, ℕ, List, [], length, replicate, take}
 use Rattle.rv_journal.specs.Device.{Disk, LeavesOnly, Only, WhereTold}
 use Rattle.rv_journal.specs.Text.{before_zero, HasFront, IsBlankFrom}
 use Rattle.rv_journal.specs.declared.filled.FilledFile.{FilledFile}
@@ -36,3 +36,9 @@ pub record AddsPiece {D : Type 0} (disk : Disk D) (piece : List ℕ) (old new : 
 -- what stood before is there, whether the call ended well or not
 abbrev pub KeepsFront : {D : Type 0} → Disk D → FilledFile D → FilledFile D → Type 0
 KeepsFront disk old new = WhereTold disk old.device (take old.end (disk.seen new.device) ≡ file_text disk old)
+
+-- A call that only fills it, whether or not it ends well: the text goes on as it was.
+pub record OnlyFills {D : Type 0} (disk : Disk D) (old new : FilledFile D) : Type 0 where
+  pub end : new.end ≡ old.end
+  pub front : KeepsFront disk old new
+  pub adds : AddsPiece disk [] old new

@@ -1,5 +1,4 @@
--- A device that is frozen after some calls: what it holds, and what a crash may leave, is the device's
--- beneath.
+-- A device that is frozen after some calls. It holds what the one beneath does, and a crash leaves the same.
 use Rattle.std.specs.Prelude.{◌||◌, ℕ, Bool}
 use Rattle.rv_journal.specs.Device.{Disk}
 use Rattle.rv_journal.specs.declared.fuse.Fuse.{Fuse}

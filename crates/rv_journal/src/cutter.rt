@@ -9,19 +9,19 @@ ghost use Rattle.rv_journal.specs.declared.fault.OpenFault.TheVariants.{NotFille
 
 use crate::device::DeviceFault;
 use crate::fault::OpenFault;
-use crate::reader::TakesLines;
+use crate::reader::JournalReader;
 use std::alloc::{AllocError, Global};
 
 const LINE_FEED: u8 = 10;
 
 // Where the last line ends of those before the first zero, and where that zero stands.
 #[derive(Clone, Copy)]
-struct Ends {
+struct TextEnds {
     lines: usize,
     text: usize,
 }
 
-fn ends_of(bytes: &[u8]) -> Ends
+fn ends_of(bytes: &[u8]) -> TextEnds
     ensures within { result.lines ≤ result.text }
     ensures inside { result.text ≤ length bytes.now }
     ensures lines { take result.lines bytes.now ≡ stored_lines bytes.now }
@@ -30,13 +30,13 @@ fn ends_of(bytes: &[u8]) -> Ends
     let mut lines = 0;
     for (i, byte) in bytes.iter().enumerate() {
         if *byte == 0 {
-            return Ends { lines, text: i };
+            return TextEnds { lines, text: i };
         }
         if *byte == LINE_FEED {
             lines = i + 1;
         }
     }
-    Ends {
+    TextEnds {
         lines,
         text: bytes.len(),
     }
@@ -68,7 +68,7 @@ impl LineCutter {
     }
 
     // Hands on these lines, the rest before them; if there are none, nothing.
-    fn take_lines<R: TakesLines>(
+    fn take_lines<R: JournalReader>(
         &mut self,
         lines: &[u8],
         reader: &mut R,
@@ -101,7 +101,7 @@ impl LineCutter {
     }
 
     // Cuts the next bytes of the file.
-    pub(crate) fn take_piece<R: TakesLines>(
+    pub(crate) fn take_piece<R: JournalReader>(
         &mut self,
         piece: &[u8],
         reader: &mut R,

@@ -1,7 +1,7 @@
 //! A file as the journal sees it: what a read returns, and what a crash may leave.
 ghost use Rattle.std.specs.Prelude.{◌≡◌, ◌+◌, ◌<◌, ◌≤◌, ◌^◌, length, IfOk, OnOk};
 ghost use Rattle.rv_journal.specs.declared.device.DeviceFault.TheVariants.{NoMemory};
-ghost use Rattle.rv_journal.specs.Device.{Disk, HasCause, Holds, KeepsFile, Only, Reads, WhereTold};
+ghost use Rattle.rv_journal.specs.Device.{Disk, HasCause, Holds, KeepsFile, Only, ReadsAt, WhereTold};
 ghost use Rattle.rv_journal.specs.Device.{WritesFile};
 
 use std::alloc::AllocError;
@@ -32,7 +32,7 @@ pub trait Device {
     /// end, and where there is no room. What stands in the room after them is left open.
     fn read_at(&mut self, at: usize, room: &mut [u8]) -> Result<usize, DeviceFault>
         ensures bytes { IfOk result (λ count. WhereTold disk self.old
-            (Reads (disk.seen self.old) at count room.new)) }
+            (ReadsAt (disk.seen self.old) at count room.new)) }
         ensures within { IfOk result (λ count. count ≤ length room.new) }
 
         // No file has a byte from this offset on.

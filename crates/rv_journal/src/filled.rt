@@ -1,10 +1,10 @@
 //! A file that is filled with zeros after its text: a piece is written over zeros that are stored, so one
 //! sync stores it.
-ghost use Rattle.std.specs.Prelude.{◌≡◌, ◌+◌, ◌<◌, ◌≤◌, ◌^◌, ◌++◌, [], List, ℕ, length, OnOk, OnErr};
+ghost use Rattle.std.specs.Prelude.{◌≡◌, ◌+◌, ◌<◌, ◌≤◌, ◌^◌, ◌++◌, length, OnOk, OnErr};
 ghost use Rattle.std.specs.List.{All};
 ghost use Rattle.rv_journal.specs.Device.{HasCause, WhereTold};
 ghost use Rattle.std.specs.Prelude.{IfOk, IsErrOf, replicate, true};
-ghost use Rattle.rv_journal.specs.Filled.{AddsPiece, TakesPieces, KeepsFront, ahead, file_text};
+ghost use Rattle.rv_journal.specs.Filled.{AddsPiece, OnlyFills, KeepsFront, TakesPieces, ahead, file_text};
 ghost use Rattle.rv_journal.specs.declared.filled.StoreFault.TheVariants.{Full};
 ghost use Rattle.rv_journal.specs.Faults.{store_failed};
 
@@ -99,9 +99,7 @@ impl<D: Device> FilledFile<D> {
         requires fits { self.old.filled + ahead < 2 ^ 63 }
         ensures ready { OnOk result (TakesPieces D.disk self.new) }
         ensures filled { OnOk result (self.new.filled ≡ self.old.filled + ahead) }
-        ensures end { self.new.end ≡ self.old.end }
-        ensures front { KeepsFront D.disk self.old self.new }
-        ensures adds { AddsPiece D.disk [] self.old self.new }
+        ensures text { OnlyFills D.disk self.old self.new }
         ensures cause { HasCause D.disk self.old.device self.new.device result }
     {
         if let Err(fault) = rewrite(&mut self.device, self.filled, &self.zeros) {
@@ -116,9 +114,7 @@ impl<D: Device> FilledFile<D> {
         requires ready { TakesPieces D.disk self.old }
         ensures ready { OnOk result (TakesPieces D.disk self.new) }
         ensures room { OnOk result (self.new.end + length < self.new.filled) }
-        ensures end { self.new.end ≡ self.old.end }
-        ensures front { KeepsFront D.disk self.old self.new }
-        ensures adds { AddsPiece D.disk [] self.old self.new }
+        ensures text { OnlyFills D.disk self.old self.new }
         ensures full { IsErrOf result Full → 2 ^ 50 ≤ self.old.end + length }
         ensures goes_on { IsErrOf result Full → TakesPieces D.disk self.new }
         ensures cause { IsErrOf result store_failed → D.disk.failed self.new.device ≡ true }

@@ -26,16 +26,17 @@ impl<D> Fuse<D> {
         }
     }
 
-    /// The device beneath, as the last call left it.
-    pub fn into_inner(self) -> D
-        ensures { result ≡ fuse_device self }
+    /// The device beneath, as the last call left it, and how many calls were not made yet.
+    pub fn into_inner(self) -> (D, usize)
+        ensures device { result.0 ≡ fuse_device self }
+        ensures calls { result.1 ≡ fuse_calls self }
     {
         let Fuse {
             device,
-            calls: _,
+            calls,
             frozen: _,
         } = self;
-        device
+        (device, calls)
     }
 
     // Counts a call, and says whether it is made.

@@ -21,7 +21,7 @@ use crate::device::{Device, DeviceFault};
 use crate::fault::{CreateFault, JournalFault, OpenFault};
 use crate::filled::{AHEAD, FilledFile, StoreFault, zeros};
 use crate::opening::reopen;
-use crate::reader::TakesLines;
+use crate::reader::JournalReader;
 use std::alloc::Global;
 use std::marker::Model;
 
@@ -59,7 +59,7 @@ impl<D: Device> DiskJournal<D> {
     ///
     /// The file is read once, in memory for about 1 MiB and its longest line. At `Err` the device is handed
     /// back; [`OpenFault`] says what stands in the file. The reader may then have taken a front of the lines.
-    pub fn open<R: TakesLines>(
+    pub fn open<R: JournalReader>(
         alloc: Global,
         device: D,
         reader: &mut R,

@@ -26,4 +26,4 @@ pub use fault::{CreateFault, JournalFault, OpenFault};
 pub use fuse::Fuse;
 pub use journal::DiskJournal;
 pub use memory::Memory;
-pub use reader::TakesLines;
+pub use reader::JournalReader;

@@ -1,6 +1,6 @@
 //! A file in memory that keeps its calls: a crash leaves each byte old or written, until a sync.
 ghost use Rattle.std.specs.Prelude.{◌≡◌, [], ◌∷◌, ◌++◌, ◌+◌, ◌<◌, ◌≤◌, length, IfOk, OnErr, OnOk};
-ghost use Rattle.rv_journal.specs.Device.{Holds, Only, Reads};
+ghost use Rattle.rv_journal.specs.Device.{Holds, Only, ReadsAt};
 ghost use Rattle.rv_journal.specs.Memory.{memory_disk};
 
 use crate::device::{Device, DeviceFault};
@@ -63,7 +63,7 @@ fn overwritten(alloc: Global, old: &[u8], at: usize, bytes: &[u8]) -> Result<Vec
 
 // How many bytes from this offset on were copied to the front of the room: as many as there are, and fit.
 fn copied_from(bytes: &[u8], at: usize, room: &mut [u8]) -> usize
-    ensures reads { Reads bytes.now at result room.new }
+    ensures reads { ReadsAt bytes.now at result room.new }
     ensures within { result ≤ length room.new }
     ensures below { 0 < result → at + result ≤ length bytes.now }
 {

@@ -8,7 +8,7 @@ ghost use Rattle.rv_journal.specs.declared.fault.OpenFault.TheVariants.{NotFille
 
 use crate::device::{Device, DeviceFault};
 use crate::fault::OpenFault;
-use crate::reader::TakesLines;
+use crate::reader::JournalReader;
 use crate::reading::{FileEnds, read_lines};
 use crate::rewriting::rewrite;
 use std::alloc::Global;
@@ -74,7 +74,7 @@ fn clear_after<D: Device>(
 }
 
 // Hands on the lines of a file, and clears it after them once all of them were taken.
-pub(crate) fn reopen<D: Device, R: TakesLines>(
+pub(crate) fn reopen<D: Device, R: JournalReader>(
     alloc: Global,
     device: &mut D,
     zeros: &[u8],

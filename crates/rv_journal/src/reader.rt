@@ -7,7 +7,7 @@ ghost use Rattle.rv_journal.specs.Text.{IsLines};
 use std::alloc::AllocError;
 
 /// Who takes the lines of a journal that is opened, in order, some at a time.
-pub trait TakesLines {
+pub trait JournalReader {
     /// Why it refuses lines.
     type Fault;
 
@@ -36,7 +36,7 @@ pub trait TakesLines {
 }
 
 /// A vector keeps the lines after what it has.
-impl TakesLines for Vec<u8> {
+impl JournalReader for Vec<u8> {
     type Fault = AllocError;
 
     ghost takes = { λ old lines new. new.items ≡ old.items ++ lines };

@@ -1,7 +1,7 @@
 //! Reads a file in pieces, and hands its lines on.
 ghost use Rattle.std.specs.Prelude.{◌≡◌, ◌+◌, ◌<◌, ◌≤◌, ◌^◌, length, take, vec_len, IfErr, IfOk, OnOk};
 ghost use Rattle.std.specs.Prelude.{IsErrOf, true};
-ghost use Rattle.rv_journal.specs.Cutter.{HasTaken, RefusesFront};
+ghost use Rattle.rv_journal.specs.Cutter.{HasTakenLines, RefusesFront};
 ghost use Rattle.rv_journal.specs.Device.{KeepsFile, Only, WhereTold};
 ghost use Rattle.rv_journal.specs.Faults.{IfRefused, open_failed};
 ghost use Rattle.rv_journal.specs.declared.fault.OpenFault.TheVariants.{NotFilled};
@@ -11,7 +11,7 @@ use crate::cutter::LineCutter;
 use crate::device::{Device, DeviceFault};
 use crate::fault::OpenFault;
 use crate::filled::zeros;
-use crate::reader::TakesLines;
+use crate::reader::JournalReader;
 use std::alloc::Global;
 
 // How many bytes are read at once.
@@ -25,7 +25,7 @@ pub(crate) struct FileEnds {
 }
 
 // Reads from this offset on, cuts what was read, and says how much it was: 0 at the file's end.
-fn read_piece<D: Device, R: TakesLines>(
+fn read_piece<D: Device, R: JournalReader>(
     device: &mut D,
     at: usize,
     room: &mut [u8],
@@ -41,10 +41,10 @@ fn read_piece<D: Device, R: TakesLines>(
     ensures end { IfOk result (λ count. count ≡ 0 → WhereTold D.disk device.old
         (length (D.disk.seen device.old) ≤ at)) }
     ensures taken { IfOk result (λ count. WhereTold D.disk device.old ((first : R)
-        → HasTaken R.takes first (take at (D.disk.seen device.old)) cutter.old reader.old
-        → HasTaken R.takes first (take (at + count) (D.disk.seen device.old)) cutter.new reader.new)) }
+        → HasTakenLines R.takes first (take at (D.disk.seen device.old)) cutter.old reader.old
+        → HasTakenLines R.takes first (take (at + count) (D.disk.seen device.old)) cutter.new reader.new)) }
     ensures refused { IfErr result (λ fault. IfRefused fault (λ why. WhereTold D.disk device.old ((first : R)
-        → HasTaken R.takes first (take at (D.disk.seen device.old)) cutter.old reader.old
+        → HasTakenLines R.takes first (take at (D.disk.seen device.old)) cutter.old reader.old
         → RefusesFront R.refuses first (file_lines D.disk device.old) why))) }
     ensures kept { KeepsFile D.disk device.old device.new }
     ensures cause { IsErrOf result open_failed → D.disk.failed device.new ≡ true }
@@ -62,7 +62,7 @@ fn read_piece<D: Device, R: TakesLines>(
 }
 
 // Reads a file whose bytes are stored, and says where its lines end, and where it does.
-fn read_pieces<D: Device, R: TakesLines>(
+fn read_pieces<D: Device, R: JournalReader>(
     alloc: Global,
     device: &mut D,
     room: &mut [u8],
@@ -101,7 +101,7 @@ fn read_pieces<D: Device, R: TakesLines>(
 
 // Hands on the lines of a file, and says where they end, and where it does. What is read is stored, and stays
 // as it is.
-pub(crate) fn read_lines<D: Device, R: TakesLines>(
+pub(crate) fn read_lines<D: Device, R: JournalReader>(
     alloc: Global,
     device: &mut D,
     reader: &mut R,

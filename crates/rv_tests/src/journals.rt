@@ -67,7 +67,7 @@ fn a_file_that_froze_at_a_call_has_its_lines(rt: HostRuntime) {
             Ok(_) => holds(&rt, false, calls),
             Err((fault, left)) => {
                 same(&rt, fault, OpenFault::Device(DeviceFault::Failed));
-                opens(&rt, rt.alloc(), left.into_inner());
+                opens(&rt, rt.alloc(), left.into_inner().0);
             }
         }
     }

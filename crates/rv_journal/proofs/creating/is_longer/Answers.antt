@@ -2,7 +2,7 @@ use Rattle.std.proofs.Common.{◌<◌, ◌≤◌, List, ℕ, length, drop, ap, a
 use Rattle.std.specs.Prelude.{IsTrue, nat_lt}
 use Rattle.std.proofs.lemmas.List.{length-take-le, length-take}
 use Rattle.std.proofs.lemmas.Bool.Decides.{nat_tests}
-use Rattle.rv_journal.specs.Device.{Reads}
+use Rattle.rv_journal.specs.Device.{ReadsAt}
 use Rattle.rv_journal.proofs.creating.is_longer.Goals as goal
 
 test : (n : ℕ) → 0 < n → IsTrue (nat_lt 0 n)
@@ -12,7 +12,7 @@ tested : (n : ℕ) → IsTrue (nat_lt 0 n) → 0 < n
 tested n is = grind (arith, nat_tests)
 
 -- where a byte was read there is one
-there_is : (file room : List ℕ) (at count : ℕ) → Reads file at count room → count ≤ length room → 0 < count
+there_is : (file room : List ℕ) (at count : ℕ) → ReadsAt file at count room → count ≤ length room → 0 < count
     → at < length file
 there_is file room at count read within some = omega (
   arith,

@@ -17,21 +17,21 @@ take-requires g c = subst (λ (l : List ℕ). IsLines l)
 
 pub returns-in-Err-take-clause-refused : goal.returns-in-Err-take-clause-refused
 returns-in-Err-take-clause-refused g c first front had =
-    lines_refused g.R.TakesLines.takes first front c.args.self.now c.args.reader.now had c.requires.going
+    lines_refused g.R.JournalReader.takes first front c.args.self.now c.args.reader.now had c.requires.going
     c.args.lines.now c.requires.lines c.requires.text
     (some (length c.args.lines.now) c.is_empty.result c.is_empty.ensures c.if-is_empty.false)
-    g.R.TakesLines.refuses g.met.R.TakesLines.refused_on c.in-Err-take.why
-    (subst (λ (l : List ℕ). g.R.TakesLines.refuses c.args.reader.now l c.in-Err-take.why)
+    g.R.JournalReader.refuses g.met.R.JournalReader.refused_on c.in-Err-take.why
+    (subst (λ (l : List ℕ). g.R.JournalReader.refuses c.args.reader.now l c.in-Err-take.why)
     (c.deref.ensures.value ∙ c.in_default.ensures.items) c.in-Err-take.ensures.refused)
 
 pub returns-clause-taken : goal.returns-clause-taken
 returns-clause-taken g c first front had =
     let is = c.deref.ensures.value ∙ c.in_default.ensures.items in
-    lines_taken g.R.TakesLines.takes first front c.args.self.now c.args.reader.now had c.requires.going
+    lines_taken g.R.JournalReader.takes first front c.args.self.now c.args.reader.now had c.requires.going
     c.args.lines.now c.requires.lines c.requires.text
     (some (length c.args.lines.now) c.is_empty.result c.is_empty.ensures c.if-is_empty.false)
-    g.met.R.TakesLines.joined c.take.new.self
-    (subst (λ (l : List ℕ). g.R.TakesLines.takes c.args.reader.now l c.take.new.self) is
+    g.met.R.JournalReader.joined c.take.new.self
+    (subst (λ (l : List ℕ). g.R.JournalReader.takes c.args.reader.now l c.take.new.self) is
     c.in_default-take.ensures.taken)
     _ (ap (λ (n : ℕ). c.args.self.now.end + n) (c.len.ensures ∙ sym c.deref.ensures.len ∙ ap length is))
     c.clear.ensures.items refl

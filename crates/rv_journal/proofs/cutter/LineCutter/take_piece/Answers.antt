@@ -6,7 +6,7 @@ use Rattle.rv_journal.proofs.Cutting.{after_zero, piece_lines, piece_taken, piec
 use Rattle.rv_journal.proofs.cutter.LineCutter.take_piece.Goals as goal
 
 pub returns-then-self-clause-taken : goal.returns-then-self-clause-taken
-returns-then-self-clause-taken g c first front had = after_zero g.R.TakesLines.takes first front
+returns-then-self-clause-taken g c first front had = after_zero g.R.JournalReader.takes first front
     c.args.self.now c.args.reader.now had c.args.piece.now c.if-self.true
 
 pub take_lines-requires-clause-lines : goal.take_lines-requires-clause-lines
@@ -22,7 +22,7 @@ take_lines-requires-clause-text g c =
     piece_text c.args.piece.now ends.lines ends.text is.within is.lines is.text
 
 pub returns-in-Err-clause-refused : goal.returns-in-Err-clause-refused
-returns-in-Err-clause-refused g c = refused_sooner g.R.TakesLines.takes g.R.TakesLines.refuses
+returns-in-Err-clause-refused g c = refused_sooner g.R.JournalReader.takes g.R.JournalReader.refuses
     (take c.ends_of-ends.result.lines c.args.piece.now) c.args.piece.now
     (drop c.ends_of-ends.result.lines c.args.piece.now)
     (take-append-drop c.ends_of-ends.result.lines c.args.piece.now)
@@ -39,7 +39,7 @@ returns-clause-taken g c first front had =
     let ends = c.ends_of-ends.result in
     let is = c.ends_of-ends.ensures in
     let size = length c.args.piece.now in
-    piece_taken c.args.piece.now ends.lines ends.text is.within is.lines is.text g.R.TakesLines.takes first
+    piece_taken c.args.piece.now ends.lines ends.text is.within is.lines is.text g.R.JournalReader.takes first
     front
     c.take_lines.new.self c.take_lines.new.reader (c.in_default.ensures.taken first front had)
     c.take_lines.ensures.going _ refl c.in_default-extend_from_slice.ensures.items

@@ -9,33 +9,35 @@ rewrite-requires g c = record {
   within = λ told. let is = c.requires.ready.filled told in omega (arith, is.filled);
 }
 
-pub returns-in-Err-clause-adds : goal.returns-in-Err-clause-adds
-returns-in-Err-clause-adds g c = record {
-  tells = c.rewrite.ensures.rewrites.tells;
-  any_moment = λ told. any_moment g.D.Device.disk c.args.self.now (c.requires.ready.filled told)
-      c.requires.ready.behind c.deref.result.now (zeros_same c.deref.result.now _ c.deref.ensures.value
-      c.requires.ready.zeros) c.rewrite.new.device c.rewrite.ensures.rewrites;
-}
+pub returns-in-Err-clause-text : goal.returns-in-Err-clause-text
+returns-in-Err-clause-text g c =
+    let disk = g.D.Device.disk in
+    let ready = c.requires.ready in
+    let are = zeros_same c.deref.result.now _ c.deref.ensures.value ready.zeros in record {
+      end = refl;
+      front = λ told. kept disk c.args.self.now (ready.filled told) ready.behind c.deref.result.now are
+          c.rewrite.new.device c.rewrite.ensures.rewrites told;
+      adds = record {
+        tells = c.rewrite.ensures.rewrites.tells;
+        any_moment = λ told. any_moment disk c.args.self.now (ready.filled told) ready.behind
+            c.deref.result.now are c.rewrite.new.device c.rewrite.ensures.rewrites;
+      };
+    }
 
-pub returns-in-Err-clause-front : goal.returns-in-Err-clause-front
-returns-in-Err-clause-front g c told =
-    kept g.D.Device.disk c.args.self.now (c.requires.ready.filled told) c.requires.ready.behind
-    c.deref.result.now (zeros_same c.deref.result.now _ c.deref.ensures.value c.requires.ready.zeros)
-    c.rewrite.new.device c.rewrite.ensures.rewrites told
-
-pub returns-clause-adds : goal.returns-clause-adds
-returns-clause-adds g c = record {
-  tells = c.rewrite.ensures.rewrites.tells;
-  any_moment = λ told. any_moment g.D.Device.disk c.args.self.now (c.requires.ready.filled told)
-      c.requires.ready.behind c.deref.result.now (zeros_same c.deref.result.now _ c.deref.ensures.value
-      c.requires.ready.zeros) c.rewrite.new.device c.rewrite.ensures.rewrites;
-}
-
-pub returns-clause-front : goal.returns-clause-front
-returns-clause-front g c told =
-    kept g.D.Device.disk c.args.self.now (c.requires.ready.filled told) c.requires.ready.behind
-    c.deref.result.now (zeros_same c.deref.result.now _ c.deref.ensures.value c.requires.ready.zeros)
-    c.rewrite.new.device c.rewrite.ensures.rewrites told
+pub returns-clause-text : goal.returns-clause-text
+returns-clause-text g c =
+    let disk = g.D.Device.disk in
+    let ready = c.requires.ready in
+    let are = zeros_same c.deref.result.now _ c.deref.ensures.value ready.zeros in record {
+      end = refl;
+      front = λ told. kept disk c.args.self.now (ready.filled told) ready.behind c.deref.result.now are
+          c.rewrite.new.device c.rewrite.ensures.rewrites told;
+      adds = record {
+        tells = c.rewrite.ensures.rewrites.tells;
+        any_moment = λ told. any_moment disk c.args.self.now (ready.filled told) ready.behind
+            c.deref.result.now are c.rewrite.new.device c.rewrite.ensures.rewrites;
+      };
+    }
 
 length_is : (zeros vec : List ℕ) (added count size : ℕ) → zeros ≡ vec → length zeros ≡ count → added ≡ count
     → length vec ≡ size → added ≡ size

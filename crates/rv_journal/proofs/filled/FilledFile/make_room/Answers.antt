@@ -1,6 +1,6 @@
-use Rattle.std.proofs.Common.{[], ◌∙◌, arith, ap, Err}
+use Rattle.std.proofs.Common.{arith, ap, Err}
 use Rattle.rv_journal.proofs.Causes.{store_why}
-use Rattle.rv_journal.proofs.Rooming.{begun, front_on, adds_on, goes_further}
+use Rattle.rv_journal.proofs.Rooming.{begun, goes_further}
 use Rattle.rv_journal.proofs.filled.FilledFile.make_room.Goals as goal
 
 pub loop-self-init : goal.loop-self-init
@@ -9,11 +9,8 @@ loop-self-init g c = (c.requires.ready, begun g.D.Device.disk c.args.self.now c.
 pub overflow_sub-self : goal.overflow_sub-self
 overflow_sub-self g c = omega (arith, c.loop-self.invariant.0.behind)
 
-pub returns-then-self-ge-MOST-clause-front : goal.returns-then-self-ge-MOST-clause-front
-returns-then-self-ge-MOST-clause-front g c = c.loop-self.invariant.1.front
-
-pub returns-then-self-ge-MOST-clause-adds : goal.returns-then-self-ge-MOST-clause-adds
-returns-then-self-ge-MOST-clause-adds g c = c.loop-self.invariant.1.adds
+pub returns-then-self-ge-MOST-clause-text : goal.returns-then-self-ge-MOST-clause-text
+returns-then-self-ge-MOST-clause-text g c = c.loop-self.invariant.1
 
 pub returns-then-self-ge-MOST-clause-full : goal.returns-then-self-ge-MOST-clause-full
 returns-then-self-ge-MOST-clause-full g c _ = omega (
@@ -37,19 +34,12 @@ pub loop-self-preserved : goal.loop-self-preserved
 loop-self-preserved g c = (
   c.in_default.ensures.ready,
   goes_further g.D.Device.disk c.args.self.now c.loop-self.self c.fill.new.self
-      c.loop-self.invariant.1 c.fill.ensures.end c.fill.ensures.front c.fill.ensures.adds,
+      c.loop-self.invariant.1 c.fill.ensures.text,
 )
 
-pub returns-in-Err-clause-end : goal.returns-in-Err-clause-end
-returns-in-Err-clause-end g c = c.fill.ensures.end ∙ c.loop-self.invariant.1.end
-
-pub returns-in-Err-clause-front : goal.returns-in-Err-clause-front
-returns-in-Err-clause-front g c = front_on g.D.Device.disk c.args.self.now c.loop-self.self c.fill.new.self
-    c.loop-self.invariant.1 c.fill.ensures.front
-
-pub returns-in-Err-clause-adds : goal.returns-in-Err-clause-adds
-returns-in-Err-clause-adds g c = adds_on g.D.Device.disk c.args.self.now c.loop-self.self c.fill.new.self []
-    c.loop-self.invariant.1 (λ f has. has) c.fill.ensures.adds
+pub returns-in-Err-clause-text : goal.returns-in-Err-clause-text
+returns-in-Err-clause-text g c = goes_further g.D.Device.disk c.args.self.now c.loop-self.self
+    c.fill.new.self c.loop-self.invariant.1 c.fill.ensures.text
 
 pub returns-clause-ready : goal.returns-clause-ready
 returns-clause-ready g c = c.loop-self.invariant.0
@@ -57,14 +47,8 @@ returns-clause-ready g c = c.loop-self.invariant.0
 pub returns-clause-room : goal.returns-clause-room
 returns-clause-room g c = omega (arith, c.loop-self-test.false)
 
-pub returns-clause-end : goal.returns-clause-end
-returns-clause-end g c = c.loop-self.invariant.1.end
-
-pub returns-clause-front : goal.returns-clause-front
-returns-clause-front g c = c.loop-self.invariant.1.front
-
-pub returns-clause-adds : goal.returns-clause-adds
-returns-clause-adds g c = c.loop-self.invariant.1.adds
+pub returns-clause-text : goal.returns-clause-text
+returns-clause-text g c = c.loop-self.invariant.1
 
 pub returns-then-self-ge-MOST-clause-goes_on : goal.returns-then-self-ge-MOST-clause-goes_on
 returns-then-self-ge-MOST-clause-goes_on g c _ = c.loop-self.invariant.0

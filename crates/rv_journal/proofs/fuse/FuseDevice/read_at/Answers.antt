@@ -1,6 +1,6 @@
 use Rattle.std.proofs.Common.{◌≡◌, ℕ, List, refl, sym, subst}
 use Rattle.std.specs.Prelude.{IfOk, Result}
-use Rattle.rv_journal.specs.Device.{Disk, Reads, WhereTold}
+use Rattle.rv_journal.specs.Device.{Disk, ReadsAt, WhereTold}
 use Rattle.rv_journal.specs.declared.device.DeviceFault.{DeviceFault}
 use Rattle.rv_journal.proofs.Fuses.{frozen_cause, fuse_cause, fuse_kept, nothing_kept}
 use Rattle.rv_journal.proofs.fuse.FuseDevice.read_at.Goals as goal
@@ -16,10 +16,10 @@ returns-then-not-is_made-clause-cause g c = frozen_cause g.D.Device.disk c.args.
     c.if-not-is_made.true)
 
 given : {D : Type 0} (disk : Disk D) (was old : D) (at : ℕ) (room : List ℕ) (result : Result ℕ DeviceFault)
-    → was ≡ old → IfOk result (λ count. WhereTold disk was (Reads (disk.seen was) at count room))
-    → IfOk result (λ count. WhereTold disk old (Reads (disk.seen old) at count room))
+    → was ≡ old → IfOk result (λ count. WhereTold disk was (ReadsAt (disk.seen was) at count room))
+    → IfOk result (λ count. WhereTold disk old (ReadsAt (disk.seen old) at count room))
 given {D = D} disk was old at room result same is =
-    subst (λ (d : D). IfOk result (λ count. WhereTold disk d (Reads
+    subst (λ (d : D). IfOk result (λ count. WhereTold disk d (ReadsAt
     (disk.seen d) at count room))) same is
 
 pub returns-clause-bytes : goal.returns-clause-bytes
