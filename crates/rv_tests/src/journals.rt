@@ -58,17 +58,23 @@ fn opens(rt: &impl Abort, alloc: Global, left: Memory) {
     }
 }
 
+// Opens a file that freezes at a call of that, and then what it left.
+fn freezes(rt: &impl Abort, alloc: Global, calls: usize) {
+    let torn = Fuse::new(file(rt, alloc, TORN), calls);
+    let mut lines = Vec::new(alloc);
+    match DiskJournal::open(alloc, torn, &mut lines) {
+        Ok(_) => holds(rt, false, calls),
+        Err((fault, left)) => {
+            same(rt, fault, OpenFault::Device(DeviceFault::Failed));
+            let (left, _) = left.into_inner();
+            opens(rt, alloc, left);
+        }
+    }
+}
+
 #[test]
 fn a_file_that_froze_at_a_call_has_its_lines(rt: HostRuntime) {
     for calls in 0..5 {
-        let torn = Fuse::new(file(&rt, rt.alloc(), TORN), calls);
-        let mut lines = Vec::new(rt.alloc());
-        match DiskJournal::open(rt.alloc(), torn, &mut lines) {
-            Ok(_) => holds(&rt, false, calls),
-            Err((fault, left)) => {
-                same(&rt, fault, OpenFault::Device(DeviceFault::Failed));
-                opens(&rt, rt.alloc(), left.into_inner().0);
-            }
-        }
+        freezes(&rt, rt.alloc(), calls);
     }
 }
