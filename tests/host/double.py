@@ -1,5 +1,5 @@
-"""A test double of `rv host`, over the model's hub: for the tests of tests/host themselves. All other commands are those of the
-double of tests/sockets, but for `verify` of an account alone. double.sh beside it is the program.
+"""A test double of `rv host`, and of `rv verify` of an account alone, over the model's hub: for the tests of tests/host themselves.
+double.sh beside it is the program, whose other commands are those of the double of tests/sockets.
 
 RV_WRONG in the environment names what it does wrong; `python3 -m tests --selftest host` sees that a case fails for each of these.
 
@@ -433,8 +433,6 @@ def main() -> None:
     words = sys.argv[1:]
     if words[:1] == ["verify"] and len(words) == 2:
         sys.exit(verify(words[1]))
-    if words[:1] != ["host"]:
-        os.execv(sys.executable, [sys.executable, "-B", "-m", "tests.sockets.double", *words])
     try:
         DoubleHost(options_of(words[1:])).run()
     except HostEnds as end:

@@ -1,20 +1,13 @@
 """What comes of cases; and the doubles of the program, on which they are tested themselves."""
 from __future__ import annotations
 
-import concurrent.futures
-import contextlib
-import multiprocessing
 import os
-import signal
 import sys
-import tempfile
 import time
 from collections.abc import Callable, Iterable, Iterator
-from multiprocessing.connection import Connection
 from typing import Any, NoReturn, Tuple
-from unittest import mock
 
-from tests import ROOT
+from tests import ROOT, apart, interpreter
 from tests.sockets.wire import PATIENCE, Wrong
 
 DOUBLE = str(ROOT / "tests/sockets/double.sh")
@@ -58,38 +51,10 @@ def came_of_double(wrong: str, case: Callable[..., object], *given: Any) -> Came
 
 def came_at_once(came_of_name: CameOfName, tried: list[Tried], patience: int = PATIENCE,
                  first_fault: str = "counts") -> Iterator[tuple[Tried, Came]]:
-    """Each wrong and name with what came of it. Several are tried at once, in processes that read anew how long they wait, and
+    """Each wrong and name with what came of it. Several are tried at once, from a process that reads anew how long they wait, and
     whether the first fault `ends` a case."""
-    told = {"RV_PATIENCE": str(patience), "RV_FIRST_FAULT": first_fault}
-    spawns = multiprocessing.get_context("spawn")
-    with mock.patch.dict(os.environ, told), concurrent.futures.ProcessPoolExecutor(AT_ONCE, spawns) as pool:
-        yield from zip(tried, pool.map(came_apart, *zip(*((came_of_name, *one) for one in tried))))
-
-
-def came_apart(came_of_name: CameOfName, wrong: str, name: str) -> Came:
-    """What came of a wrong and a name, in a process of its own, behind which nothing that it started runs on, and no file that it
-    made is left."""
-    forks = multiprocessing.get_context("fork")
-    hears, tells = forks.Pipe(duplex=False)
-    with tempfile.TemporaryDirectory(prefix="rv-try-", ignore_cleanup_errors=True) as folder:
-        tries = forks.Process(target=tell_apart, args=(tells, folder, came_of_name, wrong, name))
-        tries.start()
-        assert tries.pid
-        tells.close()
-        try:
-            return hears.recv()
-        finally:
-            with contextlib.suppress(ProcessLookupError):
-                os.killpg(tries.pid, signal.SIGKILL)
-            tries.join()
-
-
-def tell_apart(tells: Connection, folder: str, came_of_name: CameOfName, wrong: str, name: str) -> None:
-    """Tells what came of a wrong and a name, in a group of processes whose files stand in a folder."""
-    os.setpgid(0, 0)
-    os.environ["TMPDIR"] = tempfile.tempdir = folder
-    tells.send(came_of_name(wrong, name))
-    signal.pause()
+    told = {"RV_PATIENCE": str(patience), "RV_FIRST_FAULT": first_fault, **interpreter.variables()}
+    yield from zip(tried, apart.each(came_of_name, tried, AT_ONCE, told))
 
 
 def double_faults(wrongs: Iterable[Tried], came_of_name: CameOfName, words: str = "") -> Iterator[tuple[str, object]]:

@@ -1,3 +1,4 @@
 #!/bin/sh
-# The program that is the double of `rv serve` and `rv call`: it runs tests.sockets.double, wherever it is started.
-PYTHONPATH="${0%/*}/../.." exec python3 -B -m tests.sockets.double "$@"
+# The program that is the double of `rv serve` and `rv call`: it runs tests.sockets.double, wherever it is started, with none of the machine's
+# packages. The tests of the tests name an interpreter, and a copy of its modules that is compiled.
+PYTHONPATH="${RV_COMPILED:-${0%/*}/../..}" exec "${RV_PYTHON:-python3}" -BSP -m tests.sockets.double "$@"
