@@ -4,4 +4,4 @@
 # and a copy of its modules that is compiled.
 folder=sockets
 case "$1 $#" in "host "* | "verify 2") folder=host ;; esac
-PYTHONPATH="${RV_COMPILED:-${0%/*}/../..}" exec "${RV_PYTHON:-python3}" -BSP -m "tests.$folder.double" "$@"
+PYTHONPATH="${RV_COMPILED:-${0%/*}/../..}" exec "${RV_PYTHON:-python3}" -BS -m "tests.$folder.double" "$@"
