@@ -25,7 +25,7 @@ use Rattle.rv_audit.specs.declared.outcome.Audit.{Audit}
 use Rattle.rv_audit.specs.declared.outcome.Audit.TheVariants as tells
 use Rattle.rv_audit.specs.declared.rule.Rule.{Rule}
 use Rattle.rv_audit.specs.declared.rule.Rule.TheVariants.{M1, M2, M3, N1, N2, N3, P1, P2, P3, P4, S1, S2}
-use Rattle.rv_audit.proofs.ByRules.{one_rank}
+use Rattle.rv_audit.proofs.Ranks.{one_rank}
 use Rattle.rv_audit.proofs.RulesKept.{breaks_nothing}
 use Rattle.rv_follow.specs.state_rules.Laws.{ClosedBreaks, FollowsLegally, RulesBreak, ToldOnNamed}
 use Rattle.rv_follow.specs.state_rules.Ruling.{IsFirstBroken, IsOnNamed, KeepsUpTo, KeepsRule, NamesClosed}
