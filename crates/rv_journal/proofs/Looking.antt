@@ -24,6 +24,16 @@ looks_on disk old mid new looks keeps = record {
       (λ c left. looks.crash c (keeps.crash c left));
 }
 
+pub looks_further : {D : Type 0} (disk : Disk D) (old mid new : D) → Looks disk old mid → Looks disk mid new
+    → Looks disk old new
+looks_further disk old mid new looks later = record {
+  tells = later.tells ∙ looks.tells;
+  seen = λ told. later.seen (looks.tells ∙ told) ∙ looks.seen told;
+  crash = λ c left. looks.crash c (later.crash c left);
+  any_moment = joined disk old mid new (disk.may_leave old) looks.any_moment
+      (weaker disk mid new (disk.may_leave mid) (disk.may_leave old) later.any_moment looks.crash);
+}
+
 pub only_looked : {D : Type 0} (disk : Disk D) (old new : D) → Looks disk old new
     → LeavesOnly disk old new (HasLinesOf disk old)
 only_looked disk old new looks = weaker disk old new (disk.may_leave old) (HasLinesOf disk old)

@@ -67,7 +67,7 @@ impl LineCutter {
         }
     }
 
-    // Hands on these lines, the rest before them; if there are none, nothing.
+    // Hands on the rest and these lines after it; without lines, nothing.
     fn take_lines<R: JournalReader>(
         &mut self,
         lines: &[u8],

@@ -35,7 +35,7 @@ pub trait Device {
             (ReadsAt (disk.seen self.old) at count room.new)) }
         ensures within { IfOk result (λ count. count ≤ length room.new) }
 
-        // No file has a byte from this offset on.
+        // A file ends below 2^63.
         ensures below { IfOk result (λ count. 0 < count → at + count < 2 ^ 63) }
         ensures kept { KeepsFile disk self.old self.new }
         ensures cause { HasCause disk self.old self.new result };

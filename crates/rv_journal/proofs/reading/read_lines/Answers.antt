@@ -1,0 +1,16 @@
+use Rattle.rv_journal.proofs.Looking.{looked, looks_further}
+use Rattle.rv_journal.proofs.reading.read_lines.Goals as goal
+
+pub returns-in-Err-clause-looks : goal.returns-in-Err-clause-looks
+returns-in-Err-clause-looks g c = looked g.D.Device.disk c.args.device.now c.sync.new.self
+    c.sync.ensures.kept
+
+pub returns-in-Err-zeros-clause-looks : goal.returns-in-Err-zeros-clause-looks
+returns-in-Err-zeros-clause-looks g c = looked g.D.Device.disk c.args.device.now c.sync.new.self
+    c.sync.ensures.kept
+
+pub returns-clause-looks : goal.returns-clause-looks
+returns-clause-looks g c =
+    looks_further g.D.Device.disk c.args.device.now c.sync.new.self c.read_pieces.new.device
+    (looked g.D.Device.disk c.args.device.now c.sync.new.self c.sync.ensures.kept)
+    c.read_pieces.ensures.looks
