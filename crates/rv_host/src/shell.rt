@@ -167,6 +167,7 @@ pub(crate) struct Shell<W> {
 
 /// A shell without its engine and its account: its listeners, a poll that reports who comes, and room for
 /// sockets.
+#[derive(Drop)]
 pub(crate) struct ShellParts {
     doors: ShellDoors,
     // How many connections there may be.
@@ -179,24 +180,6 @@ pub(crate) struct ShellParts {
     frames: FrameLooks,
     origins: Origins,
     answers: AnswerTally,
-}
-
-// Whoever owns one drops it in one step.
-impl Drop for ShellParts {
-    fn drop(self) {
-        let ShellParts {
-            doors: _,
-            connections: _,
-            start: _,
-            poll: _,
-            events: _,
-            links: _,
-            waits: _,
-            frames: _,
-            origins: _,
-            answers: _,
-        } = self;
-    }
 }
 
 /// The listeners of a server: for connections, and for its status.
