@@ -10,7 +10,7 @@ import signal
 import tempfile
 from collections.abc import Callable, Mapping, Sequence
 from multiprocessing.connection import Connection, wait
-from typing import Any, Generic, TypeVar
+from typing import Any, Generic, TypeVar, cast
 from unittest import mock
 
 Gives = TypeVar("Gives")
@@ -31,13 +31,18 @@ def each_forked(deed: Callable[..., Gives], given: Sequence[tuple[Any, ...]], at
         importlib.import_module(module)
     gave: dict[int, Gives] = {}
     running: dict[int, Forked[Gives]] = {}
-    for number, words in enumerate(given):
-        running[number] = Forked(deed, words)
-        is_last = number == len(given) - 1
-        while len(running) == at_once or running and is_last:
-            ready = wait([one.hears for one in running.values()])
-            for ended in [ended for ended, one in running.items() if one.hears in ready]:
-                gave[ended] = running.pop(ended).end()
+    try:
+        for number, words in enumerate(given):
+            running[number] = Forked(deed, words)
+            is_last = number == len(given) - 1
+            while len(running) == at_once or running and is_last:
+                ready = wait([one.hears for one in running.values()])
+                for told in [told for told, one in running.items() if one.hears in ready]:
+                    gave[told] = running[told].told()
+                    running.pop(told).end()
+    finally:
+        for one in running.values():
+            one.end()
     return [gave[number] for number in range(len(given))]
 
 
@@ -52,22 +57,30 @@ class Forked(Generic[Gives]):
         self.process.start()
         tells.close()
 
-    def end(self) -> Gives:
-        """What it gave, once that is told; it ends."""
+    def told(self) -> Gives:
+        """What it gave, or raised, once that is told."""
+        gave, fault = self.hears.recv()
+        if fault:
+            raise fault
+        return cast(Gives, gave)
+
+    def end(self) -> None:
+        """Ends it, and what it started."""
         assert self.process.pid
-        with self.folder, self.hears:
-            try:
-                gave: Gives = self.hears.recv()
-                return gave
-            finally:
-                with contextlib.suppress(ProcessLookupError):
-                    os.killpg(self.process.pid, signal.SIGKILL)
-                self.process.join()
+        with self.folder, self.hears, contextlib.suppress(ProcessLookupError):
+            os.killpg(self.process.pid, signal.SIGKILL)
+        # where it isn't in its group yet
+        self.process.kill()
+        self.process.join()
 
 
 def tell(tells: Connection, folder: str, deed: Callable[..., object], given: tuple[Any, ...]) -> None:
-    """Tells what a deed gives, in a group of processes whose files stand in a folder."""
+    """Tells what a deed gives, or raises, in a group of processes whose files stand in a folder."""
     os.setpgid(0, 0)
     os.environ["TMPDIR"] = tempfile.tempdir = folder
-    tells.send(deed(*given))
+    try:
+        told: tuple[object, Exception | None] = deed(*given), None
+    except Exception as fault:
+        told = None, fault
+    tells.send(told)
     signal.pause()

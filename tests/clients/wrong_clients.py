@@ -13,30 +13,37 @@ import os
 import pathlib
 import py_compile
 import shutil
+import signal
 import subprocess
 import sys
 import tempfile
-from collections.abc import Callable, Iterable
+from collections.abc import Callable, Iterable, Sequence
 from typing import List, Tuple
+from unittest import mock
 
-from tests import ROOT
+from tests import ROOT, apart
+from tests.__main__ import main as run_tests
 from tests.cases import Case, SelfTest, Tool
 from tests.clients import java
 from tests.clients.wrong import Edit, WrongClient
 from tests.clients.wrong_java import IN_JAVA
 from tests.clients.wrong_python import IN_PYTHON, TESTS
-from tests.sockets.wire import demand
+from tests.sockets.wire import Wrong, demand
 
 # What a case of the runner's takes, and what a test of the Python client does.
 FOLDERS, CLIENT = ["clients", "examples", "tests"], ["clients/python"]
 # What runs a case, and what it says at last where that passed.
 RUNNER, PASSED = ["-B", "-m", "tests"], "\n1 passed, 0 failed\n"
 PATIENCE = 1200
+# What tells that nothing is waited for long, and the module that has the cases.
+SHORT, LOADED = {"RV_PATIENCE": "20"}, ["tests.clients.run"]
 # How many are run at once: those in Python mostly wait.
 AT_ONCE = {"Python": 16, "Java": 8}
 # What tells that a wrong client does not run at all.
 BROKEN = ("SyntaxError", "NameError", "ImportError", "_FailedTest", "IndentationError", "javac says",
           "NoSuchMethodError", "NoSuchFieldError")
+# What is said of a case where some edits are made, and whether it passes.
+Said = Callable[[str, List[Edit]], Tuple[str, bool]]
 # Cases of right clients.
 RIGHT = {"Python": ["test_calls", "test_refusals"], "Java": ["clients.java: the java process", "clients.java: refusals"]}
 
@@ -77,21 +84,22 @@ def copied(parts, edits):
 
 
 def compiled(compiler, folder, edits):
-    """Compiles the files that these edits change, into a folder; gives the folders of all classes. An edit changes
+    """Compiles the files that these edits change, into a folder; gives what is wrong with that, if something is. An edit changes
     bodies alone, so that the classes of other files are as they were."""
-    sources = []
-    for file, text in edited(edits).items():
-        sources.append(pathlib.Path(folder, pathlib.Path(file).name))
-        sources[-1].write_text(text)
-    if sources:
-        told = compiler.tell("\t".join(java.compiler(java.class_path(), folder, *sources)))
-        demand(not told, told)
-    return f"{folder}:{java.classes()}"
+    folder.mkdir()
+    try:
+        texts = edited(edits)
+    except Wrong as wrong:
+        return str(wrong)
+    sources = [folder / pathlib.Path(file).name for file in texts]
+    for source, text in zip(sources, texts.values()):
+        source.write_text(text)
+    return compiler.tell("\t".join(java.compiler(java.class_path(), folder, *sources)))
 
 
 def ran(words, folder, edits, **more):
     """What a program of Python says, and whether it ends well. A wrong client waits not long for what never comes."""
-    short = {"RV_PATIENCE": "20"} if edits else {}
+    short = SHORT if edits else {}
     done = subprocess.run([sys.executable, *words], cwd=folder, capture_output=True, text=True, timeout=PATIENCE,
                           env={**os.environ, **short, **more})
     return done.stdout + done.stderr, done.returncode == 0
@@ -114,12 +122,48 @@ def said_in_python(test, edits):
     return told, ends and told.endswith("\nOK\n") and "\nRan 0 " not in told
 
 
-def said_in_java(compiler, case, edits):
-    """The same of a case of the Java client."""
-    with tempfile.TemporaryDirectory(prefix="rv-wrong-") as folder:
-        classes = {java.CLASSES: compiled(compiler, folder, edits)}
-        told, ends = ran([*RUNNER, "--program", Case.fixture.program, case], ROOT, edits, **classes)
+def said_in_java(wrongs: Sequence[WrongClient]) -> Said:
+    """What tells the same of a case of the Java client, without an edit, or with those of one of these. All of these are compiled by
+    one compiler, and their cases run from one process that has loaded them."""
+    with tempfile.TemporaryDirectory(prefix="rv-wrong-") as name, java.driver("rendezvous.Compiles") as compiler:
+        folders = [pathlib.Path(name, str(number)) for number in range(len(wrongs))]
+        tried = [(Case.fixture.program, wrong.case, f"{folder}:{java.classes()}", compiled(compiler, folder, wrong.edits))
+                 for wrong, folder in zip(wrongs, folders)]
+        told = apart.each(said_of_classes, tried, AT_ONCE["Java"], SHORT, LOADED)
+    said = {(wrong.case, *wrong.edits): one for wrong, one in zip(wrongs, told)}
+    return lambda case, edits: said[case, *edits] if edits else said_as_it_is(case)
+
+
+def said_as_it_is(case: str) -> tuple[str, bool]:
+    """The same of a case of the Java client, without an edit."""
+    told, ends = ran([*RUNNER, "--program", Case.fixture.program, case], ROOT, [], **{java.CLASSES: java.classes()})
     return told, ends and told.endswith(PASSED)
+
+
+def said_of_classes(program: str, case: str, classes: str, fault: str) -> tuple[str, bool]:
+    """The same of a case where these are the classes, unless something is wrong with them; this process runs it alone."""
+    if fault:
+        return fault, False
+    os.environ[java.CLASSES] = classes
+    signal.alarm(PATIENCE)
+    with tempfile.TemporaryFile("w+") as said:
+        for stream in (sys.stdout, sys.stderr):
+            os.dup2(said.fileno(), stream.fileno())
+        with mock.patch.object(sys, "argv", ["tests", "--program", program, case]):
+            ends = ends_well(run_tests)
+        sys.stdout.flush()
+        said.seek(0)
+        told = said.read()
+    return told, ends and told.endswith(PASSED)
+
+
+def ends_well(program: Callable[[], object]) -> bool:
+    """Runs a program in this process, and tells whether it ends well."""
+    try:
+        program()
+    except SystemExit as end:
+        return not end.code
+    return True
 
 
 def is_found(said, wrong):
@@ -135,10 +179,6 @@ def is_right(said, cases):
     """A client without an edit must pass all cases of these."""
     told, passes = said(cases, [])
     demand(passes, told[-2000:])
-
-
-# What is said of a case where some edits are made, and whether it passes.
-Said = Callable[[str, List[Edit]], Tuple[str, bool]]
 
 
 class WrongClients(SelfTest):
@@ -159,8 +199,8 @@ class WrongClients(SelfTest):
         """The client in Java."""
         Tool("the Java client", java.missing).demand()
         java.classes()
-        with java.driver("rendezvous.Compiles") as compiler:
-            self.judge_all("Java", self.named("Java", IN_JAVA), functools.partial(said_in_java, compiler))
+        named = self.named("Java", IN_JAVA)
+        self.judge_all("Java", named, said_in_java([given for *_, given in named if isinstance(given, WrongClient)]))
 
     def named(self, language: str, wrongs: Iterable[WrongClient]) -> list[tuple[str, Callable[..., object], object]]:
         """The clients in one language that are to be tried, the right ones first: each with its name and what judges it."""
