@@ -34,6 +34,8 @@ PATIENCE = PATIENCES.get(WRONG, 10_000)
 # The bytes of a read, and the seconds between two looks at all connections, between two accepts without a descriptor, and for which
 # it pauses where no more may be held.
 READ, LOOK, AGAIN, FULL_PAUSE = 4_096, 0.5, 0.1, 0.01
+# For how long one that is wrong rests in a turn: less than a host that rests is looked at.
+NO_REST = 0.01
 
 
 class HostEnds(Exception):
@@ -173,7 +175,7 @@ class DoubleHost:
         late = 1_000 if WRONG == "polls past the end of a wait" else 0
         ends = LOOK if moment is None else min(LOOK, max(0, moment + late - self.moment()) / 1_000)
         if any(self.has_more(number) for number in self.links):
-            return 0.0
+            return NO_REST if WRONG == "turns while a peer is blocked" else 0.0
         return ends if self.listens or WRONG == "spins without descriptors" else min(ends, AGAIN)
 
     def has_more(self, number: int) -> bool:

@@ -56,7 +56,7 @@ def listens_at(pid: int, port: int) -> bool:
     """Whether a process has a listening TCP socket at a port of this machine: known without a fixed wait, so that a
     slow machine cannot have it missed."""
     try:
-        own = {os.readlink(path) for path in pathlib.Path(f"/proc/{pid}/fd").glob("*")}
+        own = {os.readlink(path) for path in paths_in(f"/proc/{pid}/fd")}
     except OSError:
         return False
     sockets = {name for name in own if name.startswith("socket:")}
@@ -74,7 +74,15 @@ def listening(table: str, port: int) -> list[str]:
     return [f"socket:[{cells[9]}]" for cells in rows if cells[3] == "0A" and int(cells[1].rpartition(":")[2], 16) == port]
 
 
-def is_socket(path: pathlib.Path) -> bool:
+def paths_in(folder: str) -> list[str]:
+    """The paths of what a folder has; none where it is gone. It is looked at often, of thousands of descriptors too."""
+    try:
+        return [f"{folder}/{name}" for name in os.listdir(folder)]
+    except OSError:
+        return []
+
+
+def is_socket(path: str) -> bool:
     """Whether this descriptor of a process is a socket; not where it was closed meanwhile."""
     try:
         return os.readlink(path).startswith("socket:")
@@ -207,8 +215,8 @@ class Served(Process):
 
     def waits(self) -> list[list[str]] | None:
         """How often each of its threads waited so far, where all of them do so now."""
-        told = [path.read_text() for path in pathlib.Path(f"/proc/{self.process.pid}/task").glob("*/status")]
-        asleep = all(re.search(r"^State:\tS", text, re.MULTILINE) for text in told)
+        told = [pathlib.Path(path, "status").read_text() for path in paths_in(f"/proc/{self.process.pid}/task")]
+        asleep = all("\nState:\tS" in text for text in told)
         return [re.findall(r"ctxt_switches:\t(\d+)", text) for text in told] if asleep else None
 
     def rests(self) -> bool:
@@ -220,7 +228,7 @@ class Served(Process):
 
     def accepted(self) -> int:
         """How many connections it has accepted that are open; it listens."""
-        return sum(map(is_socket, pathlib.Path(f"/proc/{self.process.pid}/fd").glob("*"))) - 1
+        return sum(map(is_socket, paths_in(f"/proc/{self.process.pid}/fd"))) - 1
 
     def judged(self, asked: Mapping[Key, Members], told: Iterable[tuple[Key, Members]], patience: float = PATIENCE) -> Account:
         """Ends with an account in which all that was told stands; `asked` has each key's call."""
