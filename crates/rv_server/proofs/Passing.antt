@@ -1,8 +1,7 @@
 -- What is said of a sink holds of another one whose contents are the same, up to what it was given up with.
 use Rattle.std.proofs.Common.{inl, inr, ◌≡◌, ◌∙◌, [], ℕ, List, None, Option, Some, ap, refl, subst}
 use Rattle.std.proofs.Common.{sym}
-use Rattle.std.proofs.Common.{Err, IfErr, Ok, OnOk, Result, true}
-use Rattle.std.specs.Result.{result_err}
+use Rattle.std.proofs.Common.{true}
 use Rattle.std.specs.Io.Buffered.{writer_buffer, writer_contents, writer_inner}
 use Rattle.std.specs.Io.KnownBytes.{Appends, Keeps}
 use Rattle.std.specs.declared.io.buffered.BufWriter.{BufWriter}
@@ -126,12 +125,6 @@ module _ {R V W : Type 0} (remaining : R → Option (List ℕ)) (contents : V �
   told_along None (Some fault) held is works =
       subst (λ (f : WorkFault). Works remaining contents' (connection source old' share)
       (connection source' new' share') list (Some f)) (sym is) (unsent works)
-
--- what holds after each end holds after this one, by the fault that it tells
-pub ended_with : {X : Type 0} (P : Option WorkFault → Type 0) (r : Result X WorkFault) → OnOk r (P None)
-    → IfErr r (λ fault. P (Some fault)) → P (result_err r)
-ended_with P (Ok x) all stopped = all
-ended_with P (Err fault) all stopped = stopped
 
 -- over a writer that holds nothing back yet
 pub begins_empty : {W A : Type 0} (contents : W → Option (List ℕ)) (buffered : BufWriter W A) (writer : W)

@@ -1,5 +1,5 @@
 //! Answers a connection through bytes that are held back, so that its answers go out together.
-ghost use Rattle.std.specs.Prelude.{◌≡◌, [], IfNone, IfSome, None};
+ghost use Rattle.std.specs.Prelude.{◌≡◌, [], IfOk, None, OnErr};
 ghost use Rattle.std.specs.Io.Buffered.{writer_contents};
 ghost use Rattle.std.specs.Io.KnownBytes.{Keeps};
 ghost use Rattle.rv_frame.specs.Sink.{sink_contents};
@@ -10,8 +10,10 @@ use crate::context::WorkerContext;
 use crate::fault::WorkFault;
 use crate::locked::{Clock, Desk, Gate, Seat};
 use crate::served::Served;
+use crate::worker::work;
 use rv_frame::{Sink, Source};
 use std::alloc::Global;
+use std::io;
 use std::io::{BufWriter, Read, Write};
 use std::sync::Wait;
 use std::sync::ledger::Ledger;
@@ -21,23 +23,12 @@ const HELD_BYTES: usize = 16_384;
 
 // The outcome of a connection: the report on its frames, the fault that ended it, if one did, and its writer,
 // with the bytes of answers that it did not take.
-pub(crate) struct Passed<D: Desk, W: Drop> {
+#[derive(Drop)]
+pub(crate) struct Passed<D: Desk, W> {
     pub(crate) served: Served<D>,
     pub(crate) fault: Option<WorkFault>,
     pub(crate) writer: W,
     pub(crate) held: Vec<u8>,
-}
-
-// Whoever owns one drops it in one step.
-impl<D: Desk, W: Drop> Drop for Passed<D, W> {
-    fn drop(self) {
-        let Passed {
-            served: _,
-            fault: _,
-            writer: _,
-            held: _,
-        } = self;
-    }
 }
 
 // The sink's writer, to which all that was held back is written, and the bytes that it did not take. A sink
@@ -96,26 +87,33 @@ fn told(fault: Option<WorkFault>, held: &[u8]) -> Option<WorkFault>
 impl<'a, T: Wait, D: Desk, L: Ledger, C: Clock, G: Gate> WorkerContext<'a, T, D, L, C, G> {
     // Answers the frames of a connection as `work` does, over a writer with at most 16,384 bytes of answers
     // held back in front of it. They go to the writer before each read, before each pause, and at the end.
-    // If memory was refused for them, nothing is read.
     pub(crate) fn answer_through<R: Read, W: Write + Drop>(
         &self,
         seat: &mut Seat<L>,
         source: &mut Source<R>,
         writer: W,
-    ) -> Option<Passed<D, W>>
+    ) -> io::Result<Passed<D, W>>
         // The promise of `work` holds for the bytes that the writer took, followed by those that it did not.
-        ensures worked { IfSome result (λ passed. WorksThrough R.remaining W.contents
+        ensures worked { IfOk result (λ passed. WorksThrough R.remaining W.contents
             source.old source.new writer passed.writer passed.held.items seat.old seat.new
             (listing_of D.stamped passed.served) passed.fault) }
-        ensures all_sent { IfSome result (λ passed. passed.fault ≡ None → passed.held.items ≡ []) }
-        ensures no_memory { IfNone result ((source.new ≡ source.old) × (seat.new ≡ seat.old)) }
+        ensures all_sent { IfOk result (λ passed. passed.fault ≡ None → passed.held.items ≡ []) }
+        ensures no_memory { OnErr result ((source.new ≡ source.old) × (seat.new ≡ seat.old)) }
     {
-        let Ok(buffered) = BufWriter::with_capacity(self.alloc, HELD_BYTES, writer) else {
-            return None;
-        };
-        let mut sink = Sink::new(buffered);
-        let mut served = Served::nothing(self.alloc);
-        let ended = self.serve_frames(seat, source, &mut sink, &mut served);
-        Some(closed(self.alloc, served, ended.err(), sink))
+        let mut sink = Sink::new(BufWriter::with_capacity(self.alloc, HELD_BYTES, writer)?);
+        let ended = work(
+            self.rt,
+            self.alloc,
+            self.shared,
+            seat,
+            self.clock,
+            self.gate,
+            source,
+            &mut sink,
+        );
+        match ended {
+            Ok(served) => Ok(closed(self.alloc, served, None, sink)),
+            Err((served, fault)) => Ok(closed(self.alloc, served, Some(fault), sink)),
+        }
     }
 }

@@ -139,8 +139,8 @@ impl<'a, T: Wait, D: Desk, L: Ledger, C: Clock, G: Gate> WorkerContext<'a, T, D,
         }
         let mut source = Source::new(stream);
         match self.answer_through(seat, &mut source, stream) {
-            Some(passed) => passed.fault.is_none(),
-            None => false,
+            Ok(passed) => passed.fault.is_none(),
+            Err(_) => false,
         }
     }
 
@@ -212,10 +212,7 @@ where
         let mut workers = seated(self.alloc, seats)?;
         let ran = self.run(workers.as_mut_slice(), listener, connections);
         let served = unseated(workers, seats);
-        match ran {
-            Ok(()) => Ok(served),
-            Err(fault) => Err(fault),
-        }
+        ran.map(|()| served)
     }
 }
 

@@ -39,8 +39,8 @@ impl<'a, T: Wait, D: Desk, L: Ledger, C: Clock, G: Gate> WorkerContext<'a, T, D,
         Ok(())
     }
 
-    /// Answers frames until the source ends.
-    pub(crate) fn serve_frames<R: Read, W: Write>(
+    // Answers frames until the source ends.
+    fn serve_frames<R: Read, W: Write>(
         &self,
         seat: &mut Seat<L>,
         source: &mut Source<R>,
