@@ -2,6 +2,7 @@
 use Rattle.std.proofs.Common.{◌≡◌, ⊎_elim, ℕ, ◌+◌, ◌<◌, ◌≤◌, List, replicate, length, get_or, take, sym, ◌∙◌}
 use Rattle.std.proofs.Common.{ap}
 use Rattle.std.proofs.Common.{subst, arith, length-take}
+use Rattle.std.specs.Prelude.{IsTrue}
 use Rattle.std.proofs.lemmas.Bool.{cases_lt}
 use Rattle.std.proofs.lemmas.List.{get_or-take, get_or_past}
 use Rattle.std.proofs.lemmas.List.{length-take-le}
@@ -55,8 +56,12 @@ module _ {D : Type 0} (disk : Disk D) (end at size : ℕ) (old : D) (is : IsClea
           writes.any_moment (λ c has. same c (subst (λ (f : List ℕ). Mixed at (take count zeros) f c)
           (is.durable has.0 has.1) has.2))
 
+      pub lines_stay : Rewrites disk at (take count zeros) old new → IsTrue (disk.tells old)
+          → HasLines (file_lines disk old) (disk.seen new)
+      lines_stay writes told = same (disk.seen new) (writes.others told)
+
       module _ (done : IsRewritten disk at (take count zeros) old new) where
-        pub same_lines : HasLines (file_lines disk old) (disk.seen new)
+        same_lines : HasLines (file_lines disk old) (disk.seen new)
         same_lines = same (disk.seen new) (holds_mixed (disk.seen old) (take count zeros) (disk.seen new) at
             (omega (arith, inside)) done.holds)
 

@@ -33,6 +33,7 @@ pub refuses_sooner : {R F : Type 0} (refuses : R → List ℕ → F → Type 0) 
 refuses_sooner refuses first file rest why is =
     let lines = lines_of_more file rest in record {
       front = is.front;
+      whole_lines = is.whole_lines;
       more = is.more ++ lines.0;
       whole = sym (append_assoc is.front is.more lines.0) ∙ ap (λ (l : List ℕ). l ++ lines.0) is.whole
           ∙ sym lines.1;
@@ -118,6 +119,7 @@ module _ {R : Type 0} (takes : R → List ℕ → R → Type 0) (first : R) (fro
           → RefusesFront refuses first (stored_lines (front ++ lines)) why
       lines_refused refuses joined why refused = record {
         front = stored_lines front ++ (cutter.rest.items ++ lines);
+        whole_lines = subst (λ (l : List ℕ). IsLines l) (sym handed) (ap (λ (l : List ℕ). whole_lines l) (sym stored) ∙ lines_only (before_zero (front ++ lines)) ∙ stored);
         more = [];
         whole = append-nil (stored_lines front ++ (cutter.rest.items ++ lines)) ∙ handed ∙ sym stored;
         refused = joined first was (stored_lines front) (cutter.rest.items ++ lines) why

@@ -1,6 +1,6 @@
 -- The bytes of a file that are cut into lines, up to its first zero.
-use Rattle.std.specs.Prelude.{◌≡◌, ◌<◌, ◌++◌, ℕ, List, length, true, false}
-use Rattle.rv_journal.specs.Text.{before_zero, stored_lines}
+use Rattle.std.specs.Prelude.{◌≡◌, ◌+◌, ◌<◌, ◌≤◌, ◌++◌, ℕ, List, length, true, false, vec_len}
+use Rattle.rv_journal.specs.Text.{before_zero, stored_lines, HasZero, IsLines}
 use Rattle.rv_journal.specs.declared.cutter.LineCutter.{LineCutter}
 
 -- The file begins with these bytes, and they were cut: until a zero comes, what stands after their lines is
@@ -9,7 +9,12 @@ pub record IsCutIntoLines (front : List ℕ) (cutter : LineCutter) : Type 0 wher
   pub end : cutter.end ≡ length (stored_lines front)
   pub text : cutter.ended ≡ false → before_zero front ≡ front
   pub rest : cutter.ended ≡ false → stored_lines front ++ cutter.rest.items ≡ front
-  pub zero : cutter.ended ≡ true → length (before_zero front) < length front
+  pub zero : cutter.ended ≡ true → HasZero front
+
+-- So many bytes were cut: its lines and what stands after them, and then the zero that it found.
+pub record HasCut (count : ℕ) (cutter : LineCutter) : Type 0 where
+  pub within : cutter.end + vec_len cutter.rest ≤ count
+  pub zero : cutter.ended ≡ true → cutter.end + vec_len cutter.rest < count
 
 -- And a reader took their lines.
 pub record HasTakenLines {R : Type 0} (takes : R → List ℕ → R → Type 0) (first : R) (front : List ℕ)
@@ -17,11 +22,12 @@ pub record HasTakenLines {R : Type 0} (takes : R → List ℕ → R → Type 0) 
   pub cut : IsCutIntoLines front cutter
   pub lines : takes first (stored_lines front) now
 
--- It refused a front of these lines for this reason.
+-- It refused the first of these lines for this reason.
 pub record RefusesFront {R F : Type 0} (refuses : R → List ℕ → F → Type 0) (reader : R) (lines : List ℕ)
     (why : F) : Type 0 where
   pub front : List ℕ
   pub more : List ℕ
+  pub whole_lines : IsLines front
   pub whole : front ++ more ≡ lines
   pub refused : refuses reader front why
 

@@ -2,7 +2,7 @@
 use Rattle.std.specs.Prelude.{◌≡◌, ◌<◌, ◌≤◌, ◌⊎◌, ℕ, IsTrue, List, length, slice_index}
 use Rattle.rv_journal.specs.Cutter.{RefusesFront}
 use Rattle.rv_journal.specs.Device.{Disk, LeavesOnly, Only, WhereTold}
-use Rattle.rv_journal.specs.Text.{before_zero, stored_lines, IsBlankFrom}
+use Rattle.rv_journal.specs.Text.{before_zero, stored_lines, HasZero, IsBlankFrom}
 
 -- the lines that a file stands for
 abbrev pub file_lines : {D : Type 0} → Disk D → D → List ℕ
@@ -37,10 +37,10 @@ pub record IsCleared {D : Type 0} (disk : Disk D) (lines : List ℕ) (size : ℕ
 abbrev pub HasLinesOf : {D : Type 0} → Disk D → D → List ℕ → Type 0
 HasLinesOf disk file c = disk.may_leave file c ⊎ HasLines (file_lines disk file) c
 
--- A file that has no zero after its lines is as it was.
+-- A file without a zero is as it was.
 pub record IsLeftUnfilled {D : Type 0} (disk : Disk D) (old new : D) : Type 0 where
   pub looks : Looks disk old new
-  pub lines : WhereTold disk old (file_lines disk old ≡ disk.seen old)
+  pub no_zero : WhereTold disk old (HasZero (disk.seen old) → ⊥)
 
 -- A file whose lines a reader refused is as it was, and what it refused was a front of them.
 pub record IsLeftRefused {D R F : Type 0} (disk : Disk D) (refuses : R → List ℕ → F → Type 0) (old new : D)

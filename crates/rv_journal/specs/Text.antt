@@ -1,5 +1,5 @@
 -- The lines that a file stands for: those before its first zero.
-use Rattle.std.specs.Prelude.{◌≡◌, ℕ, ◌≤◌, ◌==◌, List, [], ◌∷◌, ◌++◌, take, slice_index, if◌then◌else◌}
+use Rattle.std.specs.Prelude.{◌≡◌, ℕ, ◌<◌, ◌≤◌, ◌==◌, List, length, [], ◌∷◌, ◌++◌, take, slice_index, if◌then◌else◌}
 use Rattle.std.proofs.Common.{zero, suc}
 use Rattle.std.specs.List.{list_any}
 
@@ -8,6 +8,10 @@ abbrev pub before_zero : List ℕ → List ℕ
 before_zero [] = []
 before_zero (zero ∷ rest) = []
 before_zero (suc byte ∷ rest) = suc byte ∷ before_zero rest
+
+-- a zero stands in it
+abbrev pub HasZero : List ℕ → Type 0
+HasZero file = length (before_zero file) < length file
 
 -- a text up to its last LF, with it
 abbrev pub whole_lines : List ℕ → List ℕ

@@ -1,6 +1,6 @@
 //! Makes a filled file of a device whose bytes need not be kept.
 ghost use Rattle.std.specs.Prelude.{◌≡◌, ◌<◌, ◌≤◌, ◌^◌, ◌↔◌, [], length, replicate, IfErr, IfOk, IsTrue};
-ghost use Rattle.std.specs.Prelude.{true, false};
+ghost use Rattle.std.specs.Prelude.{OnOk, true, false};
 ghost use Rattle.std.specs.List.{All};
 ghost use Rattle.rv_journal.specs.Created.{IsLeftLong, IsZeroed, MayBegin, MayZero};
 ghost use Rattle.rv_journal.specs.Device.{HasCause, KeepsFile, LeavesOnly, WhereTold};
@@ -23,10 +23,8 @@ fn is_longer<D: Device>(device: &mut D, size: usize) -> Result<bool, DeviceFault
     ensures cause { HasCause D.disk device.old device.new result }
 {
     let mut room = [0u8; 1];
-    match device.read_at(size, &mut room) {
-        Ok(count) => Ok(count > 0),
-        Err(fault) => Err(fault),
-    }
+    let count = device.read_at(size, &mut room)?;
+    Ok(count > 0)
 }
 
 // Puts zeros over all that the file has, and stores them. It says whether it did: if the file is longer,
@@ -36,21 +34,19 @@ fn put_zeros<D: Device>(device: &mut D, zeros: &[u8]) -> Result<bool, DeviceFaul
     ensures tells { D.disk.tells device.new ≡ D.disk.tells device.old }
     ensures zeroed { IfOk result (λ done. done ≡ true →
         WhereTold D.disk device.old (IsZeroed D.disk (length zeros.now) device.new)) }
+    ensures short { IfOk result (λ done. done ≡ true →
+        WhereTold D.disk device.old (length (D.disk.seen device.old) ≤ length zeros.now)) }
     ensures long { IfOk result (λ done. done ≡ false →
         IsLeftLong D.disk (length zeros.now) device.old device.new) }
     ensures any_moment { WhereTold D.disk device.old
         (LeavesOnly D.disk device.old device.new (MayZero D.disk (length zeros.now) device.old)) }
     ensures cause { HasCause D.disk device.old device.new result }
 {
-    match is_longer(device, zeros.len()) {
-        Ok(true) => return Ok(false),
-        Ok(false) => {}
-        Err(fault) => return Err(fault),
+    if is_longer(device, zeros.len())? {
+        return Ok(false);
     }
-    match rewrite(device, 0, zeros) {
-        Ok(()) => Ok(true),
-        Err(fault) => Err(fault),
-    }
+    rewrite(device, 0, zeros)?;
+    Ok(true)
 }
 
 // Stores the first text of a file that has none.
@@ -92,6 +88,7 @@ pub(crate) fn begin<D: Device>(
     requires { All (λ byte. 0 < byte) text.now }
     ensures ready { IfOk result (λ file. TakesPieces D.disk file) }
     ensures text { IfOk result (λ file. WhereTold D.disk device (file_text D.disk file ≡ text.now)) }
+    ensures short { OnOk result (WhereTold D.disk device (length (D.disk.seen device) ≤ ahead)) }
     ensures tells { IfOk result (λ file. D.disk.tells file.device ≡ D.disk.tells device) }
     ensures tells_err { IfErr result (λ failed. D.disk.tells failed.1 ≡ D.disk.tells device) }
     ensures any_moment { IfOk result (λ file. WhereTold D.disk device

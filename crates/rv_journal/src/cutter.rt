@@ -3,14 +3,13 @@ ghost use Rattle.std.specs.Prelude.{◌≡◌, ◌+◌, ◌<◌, ◌≤◌, ◌^
 ghost use Rattle.std.specs.Prelude.{IfErr, OnOk, IsErrOf};
 ghost use Rattle.std.specs.List.{All};
 ghost use Rattle.rv_journal.specs.Text.{before_zero, stored_lines, whole_lines, IsLines};
-ghost use Rattle.rv_journal.specs.Cutter.{RefusesOn, TakesOn};
+ghost use Rattle.rv_journal.specs.Cutter.{HasCut, RefusesOn, TakesOn};
 ghost use Rattle.rv_journal.specs.Faults.{IfRefused, open_failed};
 ghost use Rattle.rv_journal.specs.declared.fault.OpenFault.TheVariants.{NotFilled};
 
-use crate::device::DeviceFault;
 use crate::fault::OpenFault;
 use crate::reader::JournalReader;
-use std::alloc::{AllocError, Global};
+use std::alloc::Global;
 
 const LINE_FEED: u8 = 10;
 
@@ -50,7 +49,7 @@ pub(crate) struct LineCutter {
     // what stands after them
     rest: Vec<u8>,
     // whether a zero was found
-    ended: bool,
+    pub(crate) ended: bool,
 }
 
 impl LineCutter {
@@ -78,8 +77,8 @@ impl LineCutter {
         requires going { self.old.ended ≡ false }
         requires fits { self.old.end + vec_len self.old.rest + length lines.now < 2 ^ 63 }
         ensures going { self.new.ended ≡ false }
-        ensures size { OnOk result (self.new.end + vec_len self.new.rest
-            ≤ self.old.end + vec_len self.old.rest + length lines.now) }
+        ensures cut { OnOk result ((count : ℕ) → HasCut count self.old
+            → HasCut (count + length lines.now) self.new) }
         ensures taken { OnOk result (TakesOn R.takes lines.now self.old reader.old self.new reader.new) }
         ensures refused { IfErr result (λ fault.
             IfRefused fault (RefusesOn R.takes R.refuses lines.now self.old reader.old)) }
@@ -89,9 +88,7 @@ impl LineCutter {
         if lines.is_empty() {
             return Ok(());
         }
-        if let Err(_) = self.rest.extend_from_slice(lines) {
-            return Err(OpenFault::Device(DeviceFault::NoMemory));
-        }
+        self.rest.extend_from_slice(lines)?;
         if let Err(why) = reader.take(&self.rest) {
             return Err(OpenFault::Refused(why));
         }
@@ -107,8 +104,8 @@ impl LineCutter {
         reader: &mut R,
     ) -> Result<(), OpenFault<R::Fault>>
         requires fits { self.old.end + vec_len self.old.rest + length piece.now < 2 ^ 63 }
-        ensures size { OnOk result (self.new.end + vec_len self.new.rest
-            ≤ self.old.end + vec_len self.old.rest + length piece.now) }
+        ensures cut { OnOk result ((count : ℕ) → HasCut count self.old
+            → HasCut (count + length piece.now) self.new) }
         ensures taken { OnOk result (TakesOn R.takes piece.now self.old reader.old self.new reader.new) }
         ensures refused { IfErr result (λ fault.
             IfRefused fault (RefusesOn R.takes R.refuses piece.now self.old reader.old)) }
@@ -119,12 +116,8 @@ impl LineCutter {
             return Ok(());
         }
         let ends = ends_of(piece);
-        if let Err(fault) = self.take_lines(&piece[..ends.lines], reader) {
-            return Err(fault);
-        }
-        if let Err(_) = self.rest.extend_from_slice(&piece[ends.lines..ends.text]) {
-            return Err(OpenFault::Device(DeviceFault::NoMemory));
-        }
+        self.take_lines(&piece[..ends.lines], reader)?;
+        self.rest.extend_from_slice(&piece[ends.lines..ends.text])?;
         self.ended = ends.text < piece.len();
         Ok(())
     }

@@ -1,5 +1,10 @@
 //! Why a journal refuses a piece, or a file.
+ghost use Rattle.std.specs.Prelude.{◌≡◌};
+ghost use Rattle.rv_journal.specs.declared.device.DeviceFault.TheVariants.{NoMemory};
+ghost use Rattle.rv_journal.specs.declared.fault.OpenFault.TheVariants as OfOpen;
+
 use crate::device::DeviceFault;
+use std::alloc::AllocError;
 use thiserror::Error;
 
 /// Why a journal did not take a piece.
@@ -21,10 +26,10 @@ pub enum JournalFault {
 }
 
 /// Why a file was not opened as a journal.
-#[derive(Debug, Drop, PartialEq, Eq, Error)]
+#[derive(Clone, Copy, Debug, PartialEq, Eq, Error)]
 pub enum OpenFault<F> {
-    /// No zero stands after the file's lines: it is empty, or no journal. Nothing changed.
-    #[error("no zero stands after the file's lines: it is no journal")]
+    /// No zero stands in the file: it is empty, or no journal. Nothing changed.
+    #[error("no zero stands in the file: it is no journal")]
     NotFilled,
     /// The device failed, or memory was refused. The file has the lines that it had.
     #[error("the journal's device failed")]
@@ -32,6 +37,22 @@ pub enum OpenFault<F> {
     /// Its lines were refused, for this reason. Nothing changed.
     #[error("the journal's lines were refused")]
     Refused(F),
+}
+
+impl<F> From<DeviceFault> for OpenFault<F> {
+    ghost from_gives = { λ fault told. told ≡ OfOpen.Device fault };
+
+    fn from(fault: DeviceFault) -> OpenFault<F> {
+        OpenFault::Device(fault)
+    }
+}
+
+impl<F> From<AllocError> for OpenFault<F> {
+    ghost from_gives = { λ _ told. told ≡ OfOpen.Device NoMemory };
+
+    fn from(refused: AllocError) -> OpenFault<F> {
+        OpenFault::from(DeviceFault::from(refused))
+    }
 }
 
 /// Why a device was not made a journal.

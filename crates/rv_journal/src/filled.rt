@@ -5,7 +5,7 @@ ghost use Rattle.std.specs.List.{All};
 ghost use Rattle.rv_journal.specs.Device.{HasCause, WhereTold};
 ghost use Rattle.std.specs.Prelude.{IfOk, IsErrOf, replicate, true};
 ghost use Rattle.rv_journal.specs.Filled.{AddsPiece, OnlyFills, KeepsFront, TakesPieces, ahead, file_text};
-ghost use Rattle.rv_journal.specs.declared.filled.StoreFault.TheVariants.{Full};
+ghost use Rattle.rv_journal.specs.declared.filled.StoreFault.TheVariants as OfStore;
 ghost use Rattle.rv_journal.specs.Faults.{store_failed};
 
 use crate::device::{Device, DeviceFault};
@@ -33,6 +33,14 @@ pub(crate) enum StoreFault {
     // The file would have more bytes than it may have. It can take a shorter piece.
     Full,
     Device(DeviceFault),
+}
+
+impl From<DeviceFault> for StoreFault {
+    ghost from_gives = { λ fault store. store ≡ OfStore.Device fault };
+
+    fn from(fault: DeviceFault) -> StoreFault {
+        StoreFault::Device(fault)
+    }
 }
 
 /// A file with a text, and zeros after it.
@@ -86,9 +94,7 @@ impl<D: Device> FilledFile<D> {
         ensures adds { AddsPiece D.disk piece.now self.old self.new }
         ensures cause { HasCause D.disk self.old.device self.new.device result }
     {
-        if let Err(fault) = rewrite(&mut self.device, self.end, piece) {
-            return Err(fault);
-        }
+        rewrite(&mut self.device, self.end, piece)?;
         self.end += piece.len();
         Ok(())
     }
@@ -102,9 +108,7 @@ impl<D: Device> FilledFile<D> {
         ensures text { OnlyFills D.disk self.old self.new }
         ensures cause { HasCause D.disk self.old.device self.new.device result }
     {
-        if let Err(fault) = rewrite(&mut self.device, self.filled, &self.zeros) {
-            return Err(fault);
-        }
+        rewrite(&mut self.device, self.filled, &self.zeros)?;
         self.filled += self.zeros.len();
         Ok(())
     }
@@ -115,17 +119,15 @@ impl<D: Device> FilledFile<D> {
         ensures ready { OnOk result (TakesPieces D.disk self.new) }
         ensures room { OnOk result (self.new.end + length < self.new.filled) }
         ensures text { OnlyFills D.disk self.old self.new }
-        ensures full { IsErrOf result Full → 2 ^ 50 ≤ self.old.end + length }
-        ensures goes_on { IsErrOf result Full → TakesPieces D.disk self.new }
+        ensures full { IsErrOf result OfStore.Full → 2 ^ 50 ≤ self.old.end + length }
+        ensures goes_on { IsErrOf result OfStore.Full → TakesPieces D.disk self.new }
         ensures cause { IsErrOf result store_failed → D.disk.failed self.new.device ≡ true }
     {
         while self.filled - self.end <= length {
             if self.filled >= MOST {
                 return Err(StoreFault::Full);
             }
-            if let Err(fault) = self.fill() {
-                return Err(StoreFault::Device(fault));
-            }
+            self.fill()?;
         }
         Ok(())
     }
@@ -141,16 +143,12 @@ impl<D: Device> FilledFile<D> {
         ensures end { OnErr result (self.new.end ≡ self.old.end) }
         ensures front { KeepsFront D.disk self.old self.new }
         ensures adds { AddsPiece D.disk piece.now self.old self.new }
-        ensures full { IsErrOf result Full → 2 ^ 50 ≤ self.old.end + length piece.now }
-        ensures goes_on { IsErrOf result Full → TakesPieces D.disk self.new }
+        ensures full { IsErrOf result OfStore.Full → 2 ^ 50 ≤ self.old.end + length piece.now }
+        ensures goes_on { IsErrOf result OfStore.Full → TakesPieces D.disk self.new }
         ensures cause { IsErrOf result store_failed → D.disk.failed self.new.device ≡ true }
     {
-        if let Err(fault) = self.make_room(piece.len()) {
-            return Err(fault);
-        }
-        if let Err(fault) = self.write_piece(piece) {
-            return Err(StoreFault::Device(fault));
-        }
+        self.make_room(piece.len())?;
+        self.write_piece(piece)?;
         Ok(())
     }
 }

@@ -7,8 +7,9 @@ ghost use Rattle.std.specs.List.{All};
 ghost use Rattle.rv_journal.specs.Created.{IsLeftLong, MayBegin};
 ghost use Rattle.rv_journal.specs.Device.{LeavesOnly, WhereTold};
 ghost use Rattle.rv_journal.specs.Filled.{ahead};
-ghost use Rattle.rv_journal.specs.Text.{HasFront};
-ghost use Rattle.rv_journal.specs.Opened.{HasLinesOf, IsLeftRefused, IsLeftUnfilled, file_lines};
+ghost use Rattle.rv_journal.specs.Text.{HasFront, HasZero};
+ghost use Rattle.rv_journal.specs.Opened.{HasLines, HasLinesOf, IsLeftRefused, IsLeftUnfilled};
+ghost use Rattle.rv_journal.specs.Opened.{file_lines};
 ghost use Rattle.rv_journal.specs.Journal.{IsDurable, IsLive, KeepsText, Stores};
 ghost use Rattle.rv_journal.specs.Journal.{journal_text, journal_state};
 ghost use Rattle.rv_journal.specs.Faults.{IfRefused, append_failed, create_failed, ends_journal, open_failed};
@@ -58,7 +59,7 @@ impl<D: Device> DiskJournal<D> {
     /// is cleared. It may crash too.
     ///
     /// The file is read once, in memory for about 1 MiB and its longest line. At `Err` the device is handed
-    /// back; [`OpenFault`] says what stands in the file. The reader may then have taken a front of the lines.
+    /// back with the same lines, and the reader is of no use; [`OpenFault`] says what changed in the file.
     pub fn open<R: JournalReader>(
         alloc: Global,
         device: D,
@@ -66,8 +67,11 @@ impl<D: Device> DiskJournal<D> {
     ) -> Result<DiskJournal<D>, (OpenFault<R::Fault>, D)>
         ensures lines { OnOk result (WhereTold D.disk device
             (R.takes reader.old (file_lines D.disk device) reader.new)) }
+        ensures filled { OnOk result (WhereTold D.disk device (HasZero (D.disk.seen device))) }
         ensures text { IfOk result (λ opened. WhereTold D.disk device
             (journal_text D.disk opened ≡ file_lines D.disk device)) }
+        ensures lines_err { IfErr result (λ failed. WhereTold D.disk device
+            (HasLines (file_lines D.disk device) (D.disk.seen failed.1))) }
         ensures tells { IfOk result (λ opened. D.disk.tells opened.device ≡ D.disk.tells device) }
         ensures tells_err { IfErr result (λ failed. D.disk.tells failed.1 ≡ D.disk.tells device) }
         ensures works { IfOk result (λ opened. opened.failed ≡ false) }
@@ -102,9 +106,9 @@ impl<D: Device> DiskJournal<D> {
     /// A new journal whose text is this piece: bytes without zero. What the device had is lost. Once it has
     /// returned, the piece is stored.
     ///
-    /// At `Err` the device is handed back; [`CreateFault`] says what stands in it. Until zeros stand in the
-    /// first MiB and are stored, a crash leaves each byte as it was or zero, and any past its end; from then
-    /// on a front of the piece. So it is made under a name that no one opens, and renamed.
+    /// At `Err` the device is handed back; [`CreateFault`] says what stands in it. A crash leaves each byte
+    /// as it was or zero, and any past its end, or a file of a front of the piece. So it is made under a name
+    /// that no one opens, and renamed.
     pub fn create(
         alloc: Global,
         device: D,
@@ -114,6 +118,7 @@ impl<D: Device> DiskJournal<D> {
             (journal_text D.disk made ≡ first.now)) }
         ensures tells { IfOk result (λ made. D.disk.tells made.device ≡ D.disk.tells device) }
         ensures tells_err { IfErr result (λ failed. D.disk.tells failed.1 ≡ D.disk.tells device) }
+        ensures short { OnOk result (WhereTold D.disk device (length (D.disk.seen device) ≤ ahead)) }
         ensures works { IfOk result (λ made. made.failed ≡ false) }
         ensures durable { IfOk result (λ made. WhereTold D.disk device (IsDurable D.disk made)) }
         ensures any_moment { IfOk result (λ made. WhereTold D.disk device

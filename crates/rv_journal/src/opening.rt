@@ -4,6 +4,7 @@ ghost use Rattle.rv_journal.specs.Device.{HasCause, LeavesOnly, WhereTold};
 ghost use Rattle.rv_journal.specs.Faults.{IfRefused, open_failed};
 ghost use Rattle.rv_journal.specs.Opened.{HasLines, HasLinesOf, IsCleared, IsClearedTo, IsLeftRefused};
 ghost use Rattle.rv_journal.specs.Opened.{IsLeftUnfilled, file_lines};
+ghost use Rattle.rv_journal.specs.Text.{HasZero};
 ghost use Rattle.rv_journal.specs.declared.fault.OpenFault.TheVariants.{NotFilled};
 
 use crate::device::{Device, DeviceFault};
@@ -30,8 +31,8 @@ fn clear_piece<D: Device>(
     ensures tells { D.disk.tells device.new ≡ D.disk.tells device.old }
     ensures cleared { IfOk result (λ next. WhereTold D.disk device.old
         (IsClearedTo D.disk end next filled device.new)) }
-    ensures lines { OnOk result (WhereTold D.disk device.old
-        (HasLines (file_lines D.disk device.old) (D.disk.seen device.new))) }
+    ensures lines { WhereTold D.disk device.old
+        (HasLines (file_lines D.disk device.old) (D.disk.seen device.new)) }
     ensures further { IfOk result (λ next. at < next) }
     ensures within { IfOk result (λ next. next ≤ filled) }
     ensures any_moment { WhereTold D.disk device.old (LeavesOnly D.disk device.old device.new
@@ -39,9 +40,7 @@ fn clear_piece<D: Device>(
     ensures cause { HasCause D.disk device.old device.new result }
 {
     let count = zeros.len().min(filled - at);
-    if let Err(fault) = rewrite(device, at, &zeros[..count]) {
-        return Err(fault);
-    }
+    rewrite(device, at, &zeros[..count])?;
     Ok(at + count)
 }
 
@@ -59,16 +58,15 @@ fn clear_after<D: Device>(
     ensures tells { D.disk.tells device.new ≡ D.disk.tells device.old }
     ensures cleared { OnOk result (WhereTold D.disk device.old
         (IsCleared D.disk (file_lines D.disk device.old) filled device.new)) }
+    ensures lines { WhereTold D.disk device.old
+        (HasLines (file_lines D.disk device.old) (D.disk.seen device.new)) }
     ensures any_moment { WhereTold D.disk device.old (LeavesOnly D.disk device.old device.new
         (HasLines (file_lines D.disk device.old))) }
     ensures cause { HasCause D.disk device.old device.new result }
 {
     let mut at = end;
     while at < filled {
-        at = match clear_piece(device, zeros, end, at, filled) {
-            Ok(next) => next,
-            Err(fault) => return Err(fault),
-        };
+        at = clear_piece(device, zeros, end, at, filled)?;
     }
     Ok(())
 }
@@ -90,22 +88,20 @@ pub(crate) fn reopen<D: Device, R: JournalReader>(
     ensures room { IfOk result (λ ends. ends.lines < ends.file) }
     ensures cleared { IfOk result (λ ends. WhereTold D.disk device.old
         (IsCleared D.disk (file_lines D.disk device.old) ends.file device.new)) }
+    ensures lines { WhereTold D.disk device.old
+        (HasLines (file_lines D.disk device.old) (D.disk.seen device.new)) }
     ensures any_moment { WhereTold D.disk device.old
         (LeavesOnly D.disk device.old device.new (HasLinesOf D.disk device.old)) }
+    ensures filled { OnOk result (WhereTold D.disk device.old (HasZero (D.disk.seen device.old))) }
     ensures not_filled { IsErrOf result NotFilled → IsLeftUnfilled D.disk device.old device.new }
     ensures refused { IfErr result (λ fault. IfRefused fault (λ why.
         IsLeftRefused D.disk R.refuses device.old device.new reader.old why)) }
     ensures cause { IsErrOf result open_failed → D.disk.failed device.new ≡ true }
 {
-    let ends = match read_lines(alloc, device, reader) {
-        Ok(ends) => ends,
-        Err(why) => return Err(why),
-    };
-    if ends.lines == ends.file {
+    let ends = read_lines(alloc, device, reader)?;
+    if !ends.has_zero {
         return Err(OpenFault::NotFilled);
     }
-    if let Err(fault) = clear_after(device, zeros, ends.lines, ends.file) {
-        return Err(OpenFault::Device(fault));
-    }
+    clear_after(device, zeros, ends.lines, ends.file)?;
     Ok(ends)
 }

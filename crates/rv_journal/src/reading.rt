@@ -1,14 +1,15 @@
 //! Reads a file in pieces, and hands its lines on.
-ghost use Rattle.std.specs.Prelude.{◌≡◌, ◌+◌, ◌<◌, ◌≤◌, ◌^◌, length, take, vec_len, IfErr, IfOk, OnOk};
+ghost use Rattle.std.specs.Prelude.{◌≡◌, ◌↔◌, ◌+◌, ◌<◌, ◌≤◌, ◌^◌, length, take, IfErr, IfOk, OnOk};
 ghost use Rattle.std.specs.Prelude.{IsErrOf, true};
-ghost use Rattle.rv_journal.specs.Cutter.{HasTakenLines, RefusesFront};
+ghost use Rattle.rv_journal.specs.Cutter.{HasCut, HasTakenLines, RefusesFront};
 ghost use Rattle.rv_journal.specs.Device.{KeepsFile, Only, WhereTold};
 ghost use Rattle.rv_journal.specs.Faults.{IfRefused, open_failed};
 ghost use Rattle.rv_journal.specs.declared.fault.OpenFault.TheVariants.{NotFilled};
 ghost use Rattle.rv_journal.specs.Opened.{Looks, file_lines};
+ghost use Rattle.rv_journal.specs.Text.{HasZero};
 
 use crate::cutter::LineCutter;
-use crate::device::{Device, DeviceFault};
+use crate::device::Device;
 use crate::fault::OpenFault;
 use crate::filled::zeros;
 use crate::reader::JournalReader;
@@ -17,11 +18,12 @@ use std::alloc::Global;
 // How many bytes are read at once.
 const PIECE: usize = 1 << 16;
 
-// Where the lines of a file end, and where the file does.
+// Where the lines of a file end, where the file does, and whether a zero stands in it.
 #[derive(Clone, Copy)]
 pub(crate) struct FileEnds {
     pub(crate) lines: usize,
     pub(crate) file: usize,
+    pub(crate) has_zero: bool,
 }
 
 // Reads from this offset on, cuts what was read, and says how much it was: 0 at the file's end.
@@ -32,10 +34,11 @@ fn read_piece<D: Device, R: JournalReader>(
     cutter: &mut LineCutter,
     reader: &mut R,
 ) -> Result<usize, OpenFault<R::Fault>>
-    requires size { cutter.old.end + vec_len cutter.old.rest ≤ at }
+    requires cut { HasCut at cutter.old }
+    requires below { at < 2 ^ 63 }
     requires room { 0 < length room.old }
-    ensures size { IfOk result (λ count. cutter.new.end + vec_len cutter.new.rest ≤ at + count) }
-    ensures below { IfOk result (λ count. 0 < count → at + count < 2 ^ 63) }
+    ensures cut { IfOk result (λ count. HasCut (at + count) cutter.new) }
+    ensures below { IfOk result (λ count. at + count < 2 ^ 63) }
     ensures inside { IfOk result (λ count. WhereTold D.disk device.old
         (0 < count → at + count ≤ length (D.disk.seen device.old))) }
     ensures end { IfOk result (λ count. count ≡ 0 → WhereTold D.disk device.old
@@ -50,18 +53,12 @@ fn read_piece<D: Device, R: JournalReader>(
     ensures cause { IsErrOf result open_failed → D.disk.failed device.new ≡ true }
     ensures filled { IsErrOf result NotFilled → ⊥ }
 {
-    let count = match device.read_at(at, room) {
-        Ok(0) => return Ok(0),
-        Ok(count) => count,
-        Err(fault) => return Err(OpenFault::Device(fault)),
-    };
-    match cutter.take_piece(&room[..count], reader) {
-        Ok(()) => Ok(count),
-        Err(fault) => Err(fault),
-    }
+    let count = device.read_at(at, room)?;
+    cutter.take_piece(&room[..count], reader)?;
+    Ok(count)
 }
 
-// Reads a file whose bytes are stored, and says where its lines end, and where it does.
+// Reads a file whose bytes are stored, and says what of it are lines.
 fn read_pieces<D: Device, R: JournalReader>(
     alloc: Global,
     device: &mut D,
@@ -75,7 +72,9 @@ fn read_pieces<D: Device, R: JournalReader>(
         (ends.lines ≡ length (file_lines D.disk device.old))) }
     ensures file { IfOk result (λ ends. WhereTold D.disk device.old
         (ends.file ≡ length (D.disk.seen device.old))) }
-    ensures within { IfOk result (λ ends. ends.lines ≤ ends.file) }
+    ensures within { IfOk result (λ ends. ends.has_zero ≡ true → ends.lines < ends.file) }
+    ensures has_zero { IfOk result (λ ends. WhereTold D.disk device.old
+        (ends.has_zero ≡ true ↔ HasZero (D.disk.seen device.old))) }
     ensures refused { IfErr result (λ fault. IfRefused fault (λ why. WhereTold D.disk device.old
         (RefusesFront R.refuses reader.old (file_lines D.disk device.old) why))) }
     ensures looks { Looks D.disk device.old device.new }
@@ -85,21 +84,19 @@ fn read_pieces<D: Device, R: JournalReader>(
     let mut cutter = LineCutter::new(alloc);
     let mut at = 0;
     loop {
-        let count = match read_piece(device, at, room, &mut cutter, reader) {
-            Ok(count) => count,
-            Err(fault) => return Err(fault),
-        };
+        let count = read_piece(device, at, room, &mut cutter, reader)?;
         if count == 0 {
             return Ok(FileEnds {
                 lines: cutter.end,
                 file: at,
+                has_zero: cutter.ended,
             });
         }
         at += count;
     }
 }
 
-// Hands on the lines of a file, and says where they end, and where it does. What is read is stored, and stays
+// Hands on the lines of a file, and says what of it they are. What is read is stored, and stays
 // as it is.
 pub(crate) fn read_lines<D: Device, R: JournalReader>(
     alloc: Global,
@@ -112,7 +109,9 @@ pub(crate) fn read_lines<D: Device, R: JournalReader>(
         (ends.lines ≡ length (file_lines D.disk device.old))) }
     ensures file { IfOk result (λ ends. WhereTold D.disk device.old
         (ends.file ≡ length (D.disk.seen device.old))) }
-    ensures within { IfOk result (λ ends. ends.lines ≤ ends.file) }
+    ensures within { IfOk result (λ ends. ends.has_zero ≡ true → ends.lines < ends.file) }
+    ensures has_zero { IfOk result (λ ends. WhereTold D.disk device.old
+        (ends.has_zero ≡ true ↔ HasZero (D.disk.seen device.old))) }
     ensures durable { OnOk result (WhereTold D.disk device.old
         (Only (D.disk.seen device.old) (D.disk.may_leave device.new))) }
     ensures refused { IfErr result (λ fault. IfRefused fault (λ why. WhereTold D.disk device.old
@@ -121,12 +120,7 @@ pub(crate) fn read_lines<D: Device, R: JournalReader>(
     ensures cause { IsErrOf result open_failed → D.disk.failed device.new ≡ true }
     ensures filled { IsErrOf result NotFilled → ⊥ }
 {
-    if let Err(fault) = device.sync() {
-        return Err(OpenFault::Device(fault));
-    }
-    let mut room = match zeros(alloc, PIECE) {
-        Ok(room) => room,
-        Err(_) => return Err(OpenFault::Device(DeviceFault::NoMemory)),
-    };
+    device.sync()?;
+    let mut room = zeros(alloc, PIECE)?;
     read_pieces(alloc, device, &mut room, reader)
 }

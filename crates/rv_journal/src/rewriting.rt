@@ -12,11 +12,6 @@ pub(crate) fn rewrite<D: Device>(device: &mut D, at: usize, bytes: &[u8]) -> Res
     ensures rewrites { Rewrites D.disk at bytes.now device.old device.new }
     ensures cause { HasCause D.disk device.old device.new result }
 {
-    if let Err(fault) = device.write_at(at, bytes) {
-        return Err(fault);
-    }
-    if let Err(fault) = device.sync() {
-        return Err(fault);
-    }
-    Ok(())
+    device.write_at(at, bytes)?;
+    device.sync()
 }

@@ -1,12 +1,21 @@
-use Rattle.std.proofs.Common.{◌≡◌, Err, ℕ, length, refl, sym, ◌∙◌, ap, subst, arith}
+use Rattle.std.proofs.Common.{◌≡◌, ◌≤◌, Result, Ok, Err, ℕ, length, refl, sym, ◌∙◌, ap, subst, arith}
+use Rattle.std.specs.Prelude.{OnOk}
 use Rattle.std.proofs.lemmas.Result.{IfErr-weaker, IfOk-weaker}
 use Rattle.rv_journal.specs.Created.{IsLeftLong}
+use Rattle.rv_journal.specs.Device.{WhereTold}
 use Rattle.rv_journal.specs.Filled.{ahead}
 use Rattle.rv_journal.specs.declared.device.DeviceFault.TheVariants.{NoMemory, Failed}
 use Rattle.rv_journal.proofs.Beginning.{empty_ready, moved, none_zeroed, only_zeroed, then_begun}
 use Rattle.rv_journal.proofs.Causes.{create_why}
 use Rattle.rv_journal.proofs.Zeros.{zeros_same}
 use Rattle.rv_journal.proofs.creating.begin.Goals as goal
+
+short : (size zeros most : ℕ) → size ≤ zeros → zeros ≡ most → size ≤ most
+short size zeros most le is = omega (arith, le, is)
+
+on_ok : {T E : Type 0} (r : Result T E) (P : Type 0) → P → OnOk r P
+on_ok (Ok x) P so = so
+on_ok (Err e) P so = tt
 
 pub returns-in-Err-clause-any_moment_err : goal.returns-in-Err-clause-any_moment_err
 returns-in-Err-clause-any_moment_err g c told =
@@ -113,3 +122,10 @@ returns-in-Err-put_zeros-clause-any_moment_err g c told =
 pub returns-in-Err-put_zeros-clause-cause : goal.returns-in-Err-put_zeros-clause-cause
 returns-in-Err-put_zeros-clause-cause g c is = c.in-Err-put_zeros.ensures.cause.failed
     (ap Err (create_why c.in-Err-put_zeros.fault is))
+
+pub returns-in-Ok-true-clause-short : goal.returns-in-Ok-true-clause-short
+returns-in-Ok-true-clause-short g c =
+    let so : WhereTold g.D.Device.disk c.args.device (length (g.D.Device.disk.seen c.args.device) ≤ ahead) =
+    λ told. short _ _ _ (c.in-Ok-true.ensures.short c.in-Ok-true.field-0-test told)
+    (ap length c.deref.ensures.value ∙ c.in-Ok.ensures.size) in
+    on_ok c.store_first.result _ so

@@ -23,12 +23,9 @@ there_is file room at count read within some = omega (
   length-drop at file,
 )
 
-pub returns-in-Ok-clause-longer : goal.returns-in-Ok-clause-longer
-returns-in-Ok-clause-longer g c told = (
-  λ is. there_is (g.D.Device.disk.seen c.args.device.now) c.read_at.new.room c.args.size c.in-Ok.count
-      (c.in-Ok.ensures.bytes told) c.in-Ok.ensures.within (tested c.in-Ok.count is),
-  λ low. test c.in-Ok.count ((c.in-Ok.ensures.bytes told).some low (omega arith)),
+pub returns-clause-longer : goal.returns-clause-longer
+returns-clause-longer g c told = (
+  λ is. there_is (g.D.Device.disk.seen c.args.device.now) c.read_at.new.room c.args.size c.in_ok-count.count
+      (c.in_ok-count.ensures.bytes told) c.in_ok-count.ensures.within (tested c.in_ok-count.count is),
+  λ low. test c.in_ok-count.count ((c.in_ok-count.ensures.bytes told).some low (omega arith)),
 )
-
-pub returns-in-Ok-clause-cause : goal.returns-in-Ok-clause-cause
-returns-in-Ok-clause-cause g c = record { failed = λ is. absurd (cc); lasts = c.in-Ok.ensures.cause.lasts }

@@ -1,47 +1,41 @@
-use Rattle.std.proofs.Common.{Err, ◌≤◌, List, ℕ, length, sym, ◌∙◌, ap, subst, arith}
-use Rattle.std.proofs.lemmas.List.{take_all}
+use Rattle.std.proofs.Common.{◌≡◌, Bool, true, false, not, List, ℕ, ◌∙◌, subst}
+use Rattle.std.proofs.lemmas.Bool.{false≢true}
+use Rattle.std.proofs.lemmas.Result.{err_from_is_err_and}
 use Rattle.rv_journal.specs.Opened.{IsCleared}
 use Rattle.rv_journal.specs.Text.{stored_lines}
-use Rattle.rv_journal.proofs.Causes.{if_refused, reopen_why}
+use Rattle.rv_journal.proofs.Causes.{if_refused}
 use Rattle.rv_journal.proofs.Looking.{only_looked, then_cleared}
-use Rattle.rv_journal.proofs.Reopened.{lines_front}
 use Rattle.rv_journal.proofs.opening.reopen.Goals as goal
 
-pub returns-in-Err-clause-any_moment : goal.returns-in-Err-clause-any_moment
-returns-in-Err-clause-any_moment g c told = only_looked g.D.Device.disk c.args.device.now
+pub returns-in_err-ends-clause-any_moment : goal.returns-in_err-ends-clause-any_moment
+returns-in_err-ends-clause-any_moment g c told = only_looked g.D.Device.disk c.args.device.now
     c.read_lines.new.device c.read_lines.ensures.looks
 
-pub returns-in-Err-clause-refused : goal.returns-in-Err-clause-refused
-returns-in-Err-clause-refused g c = if_refused c.in-Err.why _ _
-    (λ why refused. record { looks = c.read_lines.ensures.looks; lines = refused }) c.in-Err.ensures.refused
+pub returns-in_err-ends-clause-refused : goal.returns-in_err-ends-clause-refused
+returns-in_err-ends-clause-refused g c =
+    let exit = err_from_is_err_and c.from_residual.result c.from_residual.ensures.1 in
+    rw (exit.1, exit.2) (if_refused c.in_err-ends.field-0.0 _ _
+    (λ why refused. record { looks = c.read_lines.ensures.looks; lines = refused }) c.in_err-ends.ensures.refused)
 
-pub returns-then-ends-clause-any_moment : goal.returns-then-ends-clause-any_moment
-returns-then-ends-clause-any_moment g c told = only_looked g.D.Device.disk c.args.device.now
+pub returns-then-not-ends-clause-any_moment : goal.returns-then-not-ends-clause-any_moment
+returns-then-not-ends-clause-any_moment g c told = only_looked g.D.Device.disk c.args.device.now
     c.read_lines.new.device c.read_lines.ensures.looks
 
-pub returns-then-ends-clause-not_filled : goal.returns-then-ends-clause-not_filled
-returns-then-ends-clause-not_filled g c _ = record {
+not_both : (b : Bool) → not b ≡ true → b ≡ true → ⊥
+not_both true is_not _ = false≢true is_not
+not_both false _ is = false≢true is
+
+pub returns-then-not-ends-clause-not_filled : goal.returns-then-not-ends-clause-not_filled
+returns-then-not-ends-clause-not_filled g c _ = record {
   looks = c.read_lines.ensures.looks;
-  lines = λ told.
-      let seen = g.D.Device.disk.seen c.args.device.now in
-      let all : length seen ≤ length (stored_lines seen) = omega (
-        arith,
-        c.if-ends.true,
-        c.in-Ok.ensures.lines told,
-        c.in-Ok.ensures.file told,
-      ) in
-      sym (lines_front seen) ∙ take_all (length (stored_lines seen)) seen all;
+  no_zero = λ told has. not_both c.in_ok-ends.ends.has_zero c.if-not-ends.true ((c.in_ok-ends.ensures.has_zero told).1 has);
 }
 
-pub returns-in-Err-clear_after-clause-any_moment : goal.returns-in-Err-clear_after-clause-any_moment
-returns-in-Err-clear_after-clause-any_moment g c told =
+pub returns-in_err-clear_after-clause-any_moment : goal.returns-in_err-clear_after-clause-any_moment
+returns-in_err-clear_after-clause-any_moment g c told =
     let looks = c.read_lines.ensures.looks in
     then_cleared g.D.Device.disk c.args.device.now c.read_lines.new.device c.clear_after.new.device looks
     (looks.seen told) (c.clear_after.ensures.any_moment (looks.tells ∙ told))
-
-pub returns-in-Err-clear_after-clause-cause : goal.returns-in-Err-clear_after-clause-cause
-returns-in-Err-clear_after-clause-cause g c is = c.in-Err-clear_after.ensures.cause.failed
-    (ap Err (reopen_why c.in-Err-clear_after.fault is))
 
 pub returns-clause-any_moment : goal.returns-clause-any_moment
 returns-clause-any_moment g c told =
@@ -52,6 +46,6 @@ returns-clause-any_moment g c told =
 pub returns-clause-cleared : goal.returns-clause-cleared
 returns-clause-cleared g c told =
     let looks = c.read_lines.ensures.looks in
-    subst (λ (l : List ℕ). IsCleared g.D.Device.disk (stored_lines l) c.in-Ok.ends.file
+    subst (λ (l : List ℕ). IsCleared g.D.Device.disk (stored_lines l) c.in_ok-ends.ends.file
     c.clear_after.new.device)
-    (looks.seen told) (c.in_default.ensures.cleared (looks.tells ∙ told))
+    (looks.seen told) (c.in_ok-clear_after.ensures.cleared (looks.tells ∙ told))

@@ -1,12 +1,12 @@
 use Rattle.rv_journal.proofs.Looking.{looked, looks_further}
 use Rattle.rv_journal.proofs.reading.read_lines.Goals as goal
 
-pub returns-in-Err-clause-looks : goal.returns-in-Err-clause-looks
-returns-in-Err-clause-looks g c = looked g.D.Device.disk c.args.device.now c.sync.new.self
+pub returns-in_err-sync-clause-looks : goal.returns-in_err-sync-clause-looks
+returns-in_err-sync-clause-looks g c = looked g.D.Device.disk c.args.device.now c.sync.new.self
     c.sync.ensures.kept
 
-pub returns-in-Err-zeros-clause-looks : goal.returns-in-Err-zeros-clause-looks
-returns-in-Err-zeros-clause-looks g c = looked g.D.Device.disk c.args.device.now c.sync.new.self
+pub returns-in_err-room-clause-looks : goal.returns-in_err-room-clause-looks
+returns-in_err-room-clause-looks g c = looked g.D.Device.disk c.args.device.now c.sync.new.self
     c.sync.ensures.kept
 
 pub returns-clause-looks : goal.returns-clause-looks

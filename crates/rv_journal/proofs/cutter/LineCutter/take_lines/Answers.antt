@@ -11,27 +11,27 @@ some n none is other = grind (arith, nat_tests)
 
 pub take-requires : goal.take-requires
 take-requires g c = subst (λ (l : List ℕ). IsLines l)
-    (sym (c.deref.ensures.value ∙ c.in_default.ensures.items))
+    (sym (c.deref.ensures.value ∙ c.in_ok-extend_from_slice.ensures.items))
     (lines_end c.args.self.now.rest.items c.args.lines.now c.requires.lines
     (some (length c.args.lines.now) c.is_empty.result c.is_empty.ensures c.if-is_empty.false))
 
-pub returns-in-Err-take-clause-refused : goal.returns-in-Err-take-clause-refused
-returns-in-Err-take-clause-refused g c first front had =
+pub returns-in-Err-clause-refused : goal.returns-in-Err-clause-refused
+returns-in-Err-clause-refused g c first front had =
     lines_refused g.R.JournalReader.takes first front c.args.self.now c.args.reader.now had c.requires.going
     c.args.lines.now c.requires.lines c.requires.text
     (some (length c.args.lines.now) c.is_empty.result c.is_empty.ensures c.if-is_empty.false)
-    g.R.JournalReader.refuses g.met.R.JournalReader.refused_on c.in-Err-take.why
-    (subst (λ (l : List ℕ). g.R.JournalReader.refuses c.args.reader.now l c.in-Err-take.why)
-    (c.deref.ensures.value ∙ c.in_default.ensures.items) c.in-Err-take.ensures.refused)
+    g.R.JournalReader.refuses g.met.R.JournalReader.refused_on c.in-Err.why
+    (subst (λ (l : List ℕ). g.R.JournalReader.refuses c.args.reader.now l c.in-Err.why)
+    (c.deref.ensures.value ∙ c.in_ok-extend_from_slice.ensures.items) c.in-Err.ensures.refused)
 
 pub returns-clause-taken : goal.returns-clause-taken
 returns-clause-taken g c first front had =
-    let is = c.deref.ensures.value ∙ c.in_default.ensures.items in
+    let is = c.deref.ensures.value ∙ c.in_ok-extend_from_slice.ensures.items in
     lines_taken g.R.JournalReader.takes first front c.args.self.now c.args.reader.now had c.requires.going
     c.args.lines.now c.requires.lines c.requires.text
     (some (length c.args.lines.now) c.is_empty.result c.is_empty.ensures c.if-is_empty.false)
     g.met.R.JournalReader.joined c.take.new.self
     (subst (λ (l : List ℕ). g.R.JournalReader.takes c.args.reader.now l c.take.new.self) is
-    c.in_default-take.ensures.taken)
+    c.in_default.ensures.taken)
     _ (ap (λ (n : ℕ). c.args.self.now.end + n) (c.len.ensures ∙ sym c.deref.ensures.len ∙ ap length is))
     c.clear.ensures.items refl

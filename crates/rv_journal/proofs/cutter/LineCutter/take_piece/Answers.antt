@@ -2,6 +2,7 @@ use Rattle.std.proofs.Common.{◌≡◌, ◌<◌, ◌≤◌, true, false, ℕ, l
 use Rattle.std.proofs.Common.{arith, take-append-drop}
 use Rattle.std.specs.Prelude.{nat_lt}
 use Rattle.std.proofs.lemmas.Bool.Decides.{nat_tests}
+use Rattle.std.proofs.lemmas.Result.{err_from_is_err_and}
 use Rattle.rv_journal.proofs.Cutting.{after_zero, piece_lines, piece_taken, piece_text, refused_sooner}
 use Rattle.rv_journal.proofs.cutter.LineCutter.take_piece.Goals as goal
 
@@ -21,12 +22,14 @@ take_lines-requires-clause-text g c =
     let is = c.ends_of-ends.ensures in
     piece_text c.args.piece.now ends.lines ends.text is.within is.lines is.text
 
-pub returns-in-Err-clause-refused : goal.returns-in-Err-clause-refused
-returns-in-Err-clause-refused g c = refused_sooner g.R.JournalReader.takes g.R.JournalReader.refuses
+pub returns-in_err-take_lines-clause-refused : goal.returns-in_err-take_lines-clause-refused
+returns-in_err-take_lines-clause-refused g c =
+    let exit = err_from_is_err_and c.from_residual.result c.from_residual.ensures.1 in
+    rw (exit.1, exit.2) (refused_sooner g.R.JournalReader.takes g.R.JournalReader.refuses
     (take c.ends_of-ends.result.lines c.args.piece.now) c.args.piece.now
     (drop c.ends_of-ends.result.lines c.args.piece.now)
     (take-append-drop c.ends_of-ends.result.lines c.args.piece.now)
-    c.args.self.now c.args.reader.now c.in-Err.fault c.in-Err.ensures.refused
+    c.args.self.now c.args.reader.now c.in_err-take_lines.field-0.0 c.in_err-take_lines.ensures.refused)
 
 not_below : (n m : ℕ) → nat_lt n m ≡ false → m ≤ n
 not_below n m is = grind (arith, nat_tests)
@@ -41,6 +44,6 @@ returns-clause-taken g c first front had =
     let size = length c.args.piece.now in
     piece_taken c.args.piece.now ends.lines ends.text is.within is.lines is.text g.R.JournalReader.takes first
     front
-    c.take_lines.new.self c.take_lines.new.reader (c.in_default.ensures.taken first front had)
-    c.take_lines.ensures.going _ refl c.in_default-extend_from_slice.ensures.items
+    c.take_lines.new.self c.take_lines.new.reader (c.in_ok-take_lines.ensures.taken first front had)
+    c.take_lines.ensures.going _ refl c.in_ok-extend_from_slice.ensures.items
     (not_below ends.text size) (below ends.text size) is.inside

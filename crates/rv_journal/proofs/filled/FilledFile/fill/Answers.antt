@@ -9,8 +9,8 @@ rewrite-requires g c = record {
   within = λ told. let is = c.requires.ready.filled told in omega (arith, is.filled);
 }
 
-pub returns-in-Err-clause-text : goal.returns-in-Err-clause-text
-returns-in-Err-clause-text g c =
+pub returns-in_err-rewrite-clause-text : goal.returns-in_err-rewrite-clause-text
+returns-in_err-rewrite-clause-text g c =
     let disk = g.D.Device.disk in
     let ready = c.requires.ready in
     let are = zeros_same c.deref.result.now _ c.deref.ensures.value ready.zeros in record {
@@ -60,5 +60,5 @@ returns-clause-ready g c = record {
       filled_after g.D.Device.disk c.args.self.now (c.requires.ready.filled told) c.requires.ready.behind
       c.deref.result.now (zeros_same c.deref.result.now _ c.deref.ensures.value c.requires.ready.zeros)
       c.rewrite.new.device _ refl refl (ap (λ (n : ℕ). c.args.self.now.filled + n) more)
-      (c.in_default.ensures.stored told);
+      (c.in_ok-rewrite.ensures.stored told);
 }

@@ -28,17 +28,17 @@ pub fill-requires-clause-fits : goal.fill-requires-clause-fits
 fill-requires-clause-fits g c = omega (arith, c.if-self-ge-MOST.false)
 
 pub loop-self-smaller : goal.loop-self-smaller
-loop-self-smaller g c = omega (arith, c.in_default.ensures.filled, c.if-self-ge-MOST.false)
+loop-self-smaller g c = omega (arith, c.in_ok-fill.ensures.filled, c.if-self-ge-MOST.false)
 
 pub loop-self-preserved : goal.loop-self-preserved
 loop-self-preserved g c = (
-  c.in_default.ensures.ready,
+  c.in_ok-fill.ensures.ready,
   goes_further g.D.Device.disk c.args.self.now c.loop-self.self c.fill.new.self
       c.loop-self.invariant.1 c.fill.ensures.text,
 )
 
-pub returns-in-Err-clause-text : goal.returns-in-Err-clause-text
-returns-in-Err-clause-text g c = goes_further g.D.Device.disk c.args.self.now c.loop-self.self
+pub returns-in_err-fill-clause-text : goal.returns-in_err-fill-clause-text
+returns-in_err-fill-clause-text g c = goes_further g.D.Device.disk c.args.self.now c.loop-self.self
     c.fill.new.self c.loop-self.invariant.1 c.fill.ensures.text
 
 pub returns-clause-ready : goal.returns-clause-ready
@@ -52,9 +52,6 @@ returns-clause-text g c = c.loop-self.invariant.1
 
 pub returns-then-self-ge-MOST-clause-goes_on : goal.returns-then-self-ge-MOST-clause-goes_on
 returns-then-self-ge-MOST-clause-goes_on g c _ = c.loop-self.invariant.0
-
-pub returns-in-Err-clause-cause : goal.returns-in-Err-clause-cause
-returns-in-Err-clause-cause g c is = c.in-Err.ensures.cause.failed (ap Err (store_why c.in-Err.fault is))
 
 pub returns-then-self-ge-MOST-clause-cause : goal.returns-then-self-ge-MOST-clause-cause
 returns-then-self-ge-MOST-clause-cause g c is = absurd (cc)

@@ -7,15 +7,15 @@ rewrite-requires g c = record {
   within = λ told. let is = c.requires.ready.filled told in omega (arith, is.filled, c.requires.room);
 }
 
-pub returns-in-Err-clause-adds : goal.returns-in-Err-clause-adds
-returns-in-Err-clause-adds g c = record {
+pub returns-in_err-rewrite-clause-adds : goal.returns-in_err-rewrite-clause-adds
+returns-in_err-rewrite-clause-adds g c = record {
   tells = c.rewrite.ensures.rewrites.tells;
   any_moment = λ told. any_moment g.D.Device.disk c.args.self.now c.args.piece.now (c.requires.ready.filled
       told) c.requires.text c.requires.room c.rewrite.new.device c.rewrite.ensures.rewrites;
 }
 
-pub returns-in-Err-clause-front : goal.returns-in-Err-clause-front
-returns-in-Err-clause-front g c told =
+pub returns-in_err-rewrite-clause-front : goal.returns-in_err-rewrite-clause-front
+returns-in_err-rewrite-clause-front g c told =
     kept g.D.Device.disk c.args.self.now c.args.piece.now (c.requires.ready.filled told) c.requires.text
     c.requires.room c.rewrite.new.device c.rewrite.ensures.rewrites told
 
@@ -34,7 +34,7 @@ returns-clause-front g c told =
 pub returns-clause-stored : goal.returns-clause-stored
 returns-clause-stored g c told =
     text_grows g.D.Device.disk c.args.self.now c.args.piece.now (c.requires.ready.filled told) c.requires.text
-    c.requires.room c.rewrite.new.device (c.in_default.ensures.stored told)
+    c.requires.room c.rewrite.new.device (c.in_ok-rewrite.ensures.stored told)
 
 pub returns-clause-ready : goal.returns-clause-ready
 returns-clause-ready g c = record {
@@ -44,6 +44,6 @@ returns-clause-ready g c = record {
   filled = λ told_last.
       let told = sym c.rewrite.ensures.rewrites.tells ∙ told_last in
       filled_after g.D.Device.disk c.args.self.now c.args.piece.now (c.requires.ready.filled told)
-      c.requires.text c.requires.room c.rewrite.new.device _ refl refl refl (c.in_default.ensures.stored
+      c.requires.text c.requires.room c.rewrite.new.device _ refl refl refl (c.in_ok-rewrite.ensures.stored
       told);
 }
