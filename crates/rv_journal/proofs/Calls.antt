@@ -1,112 +1,69 @@
 -- One more call joins those that a file has had.
 use Rattle.std.proofs.Common.{◌≡◌, inl, inr, ⊎_elim, ℕ, ◌<◌, ◌≤◌, List, [], ◌∷◌, ◌++◌, length, take}
-use Rattle.std.proofs.Common.{sym, ◌∙◌, ap, subst, arith, length-append}
+use Rattle.std.proofs.Common.{refl, sym, ◌∙◌, ap, subst, arith, length-append}
 use Rattle.std.proofs.lemmas.Bool.{cases_lt}
 use Rattle.std.proofs.lemmas.List.{take_all, take-append-le}
-use Rattle.std.specs.Prelude.{Vec}
-use Rattle.std.specs.declared.alloc.Global.{Global}
-use Rattle.rv_journal.specs.Device.{Disk, Elapses, Mixed, Follows}
-use Rattle.rv_journal.proofs.Mixing.{mixed_same}
-use Rattle.rv_journal.specs.Memory.{LeavesAfter, LeavesOf, LeftSince, memory_disk}
-use Rattle.rv_journal.specs.declared.memory.DeviceCall.{DeviceCall}
-use Rattle.rv_journal.specs.declared.memory.Memory.{Memory}
-use Rattle.rv_journal.specs.declared.memory.DeviceCall.TheVariants.{Write, Sync}
+use Rattle.rv_journal.specs.Device.{Elapses}
+use Rattle.rv_journal.specs.Memory.{HasSome, IsCalled, LeavesAfter, LeavesOf, MemoryState, after_call, after_calls}
+use Rattle.rv_journal.specs.Memory.{memory_disk}
+use Rattle.rv_journal.specs.declared.testing.memory.DeviceCall.{DeviceCall}
+use Rattle.rv_journal.specs.declared.testing.memory.DeviceCall.TheVariants.{Write, Sync}
 
--- what the last of the calls leaves
-pub last_call : (was : List ℕ → Type 0) (calls : List DeviceCall) (call : DeviceCall) (c : List ℕ)
-    → LeavesAfter was (calls ++ call ∷ []) c → LeavesAfter (λ d. LeavesAfter was calls d) (call ∷ []) c
-last_call was [] call c left = left
-last_call was (Write at bytes ∷ calls) call c left = last_call (λ new. (old : List ℕ) × was old
-    × Mixed at bytes.items old new) calls call c left
-last_call was (Sync file ∷ calls) call c left = last_call (λ new. was new × (new ≡ file.items)) calls call c
-    left
+-- what the last of the calls makes of it
+after_last : (file : List ℕ) (calls : List DeviceCall) (call : DeviceCall)
+    → after_calls file (calls ++ call ∷ []) ≡ after_call (after_calls file calls) call
+after_last file [] call = refl
+after_last file (first ∷ calls) call = after_last (after_call file first) calls call
 
-same_time : (disk : Disk Memory) (file : Memory) → Elapses disk file file
-same_time disk file = record {
-  later = omega arith;
-  nothing_else = λ t c le left. inl left;
-  keeps =
-      λ t c le left. left;
-}
+-- and what a crash leaves after it
+last_left : (was : List ℕ → Type 0) (file : List ℕ) (calls : List DeviceCall) (call : DeviceCall) (c : List ℕ)
+    → LeavesAfter was file (calls ++ call ∷ []) c
+    → LeavesAfter (λ d. LeavesAfter was file calls d) (after_calls file calls) (call ∷ []) c
+last_left was file [] call c left = left
+last_left was file (Write at bytes ∷ calls) call c left = last_left (λ new. (old : List ℕ) × was old
+    × HasSome at bytes.items old new) (after_call file (Write at bytes)) calls call c left
+last_left was file (Sync ∷ calls) call c left = last_left (λ new. new ≡ file) file calls call c left
 
-pub elapses_to : (old new : Memory) (call : DeviceCall) → new.first.items ≡ old.first.items
-    → new.calls.items ≡ old.calls.items ++ call ∷ [] → Elapses memory_disk old new
-elapses_to old new call same more = record {
-  later = omega (arith, ap length more, length-append old.calls.items (call ∷ []));
-  nothing_else = λ t c le left. ⊎_elim
-      (λ (after : length old.calls.items < left.0). inr
-      (subst (λ (l : List DeviceCall). LeavesOf new.first.items l
-      c) (take_all left.0 new.calls.items (omega (
-        arith,
-        after,
-        ap length more,
-        length-append
-            old.calls.items (call ∷ []),
-      ))) left.3))
-      (λ (was : left.0 ≤ length old.calls.items). inl (
-        left.0,
-        left.1,
-        was,
-        subst (λ (f : List ℕ). LeavesOf f
-            (take left.0 old.calls.items) c) same (subst (λ (l : List DeviceCall). LeavesOf new.first.items l
-            c)
-            (ap (λ (l : List DeviceCall). take left.0 l) more ∙ take-append-le left.0 old.calls.items
-            (call ∷ [])
-            was)
-            left.3),
-      ))
-      (cases_lt (length old.calls.items) left.0);
-  keeps = λ t c le left. (
-    left.0,
-    left.1,
-    omega (
-      arith,
-      left.2,
-      ap length more,
-      length-append old.calls.items
-          (call ∷ []),
-    ),
-    subst (λ (f : List ℕ). LeavesOf f (take left.0 new.calls.items) c) (sym same)
-        (subst (λ (l : List DeviceCall). LeavesOf old.first.items l c)
-        (sym (ap (λ (l : List DeviceCall). take left.0 l)
-        more ∙ take-append-le left.0 old.calls.items (call ∷ []) left.2)) left.3),
-  );
-}
+module _ (old new : MemoryState) (call : DeviceCall) (is : IsCalled call old new) where
+  both : {T : Type 0} (f : List ℕ → List DeviceCall → T) → f new.first new.calls
+      ≡ f old.first (old.calls ++ call ∷ [])
+  both f = ap (λ (first : List ℕ). f first new.calls) is.first
+      ∙ ap (λ (calls : List DeviceCall). f old.first calls) is.calls
 
--- nothing was recorded
-pub elapses_none : (old new : Memory) → new.first.items ≡ old.first.items → new.calls.items ≡ old.calls.items
-    → Elapses memory_disk old new
-elapses_none old new same none = record {
-  later = omega (arith, ap length none);
-  nothing_else = λ t c le left. inl (subst (λ (f : List ℕ). LeftSince f old.calls.items t c) same
-      (subst (λ (l : List DeviceCall). LeftSince new.first.items l t c) none left));
-  keeps = λ t c le left. subst (λ (l : List DeviceCall). LeftSince new.first.items l t c) (sym none)
-      (subst (λ (f : List ℕ). LeftSince f old.calls.items t c) (sym same) left);
-}
+  pub seen_after : memory_disk.seen new ≡ after_call (memory_disk.seen old) call
+  seen_after = both after_calls ∙ after_last old.first old.calls call
 
-pub synced : (first : List ℕ) (calls later : List DeviceCall) (file : Vec ℕ Global)
-    → later ≡ calls ++ Sync file ∷ [] → (c : List ℕ) → LeavesOf first later c
-    → LeavesOf first calls c × (c ≡ file.items)
-synced first calls later file is c left = last_call (λ d. d ≡ first) calls (Sync file) c
-    (subst (λ (l : List DeviceCall). LeavesOf first l c) is left)
+  pub left_after : (c : List ℕ) → memory_disk.may_leave new c
+      → LeavesAfter (memory_disk.may_leave old) (memory_disk.seen old) (call ∷ []) c
+  left_after c left = last_left (λ d. d ≡ old.first) old.first old.calls call c
+      (subst (λ (calls : List DeviceCall). LeavesOf old.first calls c) is.calls
+      (subst (λ (first : List ℕ). LeavesOf first new.calls c) is.first left))
 
-pub written : (first : List ℕ) (calls later : List DeviceCall) (at : ℕ) (v : Vec ℕ Global) (bytes : List ℕ)
-    → v.items ≡ bytes → later ≡ calls ++ Write at v ∷ []
-    → Follows (Mixed at bytes) (LeavesOf first calls) (LeavesOf first later)
-written first calls later at v bytes same is c left =
-    let from = last_call (λ d. d ≡ first) calls (Write at v) c (subst (λ (l : List DeviceCall). LeavesOf first
-    l c)
-    is left) in
-    (from.0, from.1, subst (λ (b : List ℕ). Mixed at b from.0 c) same from.2)
+  longer : length new.calls ≡ length (old.calls ++ call ∷ [])
+  longer = ap length is.calls
 
-pub unwritten : (first : List ℕ) (calls : List DeviceCall) (at : ℕ) (bytes : List ℕ)
-    → Follows (Mixed at bytes) (LeavesOf first calls) (LeavesOf first calls)
-unwritten first calls at bytes c left = (c, left, mixed_same at bytes c)
+  sooner : (k : ℕ) → k ≤ length old.calls → take k new.calls ≡ take k old.calls
+  sooner k le = ap (λ (l : List DeviceCall). take k l) is.calls ∙ take-append-le k old.calls (call ∷ []) le
 
-pub unrecorded : (first : List ℕ) (calls later : List DeviceCall) (at : ℕ) (bytes : List ℕ) → later ≡ calls
-    → Follows (Mixed at bytes) (LeavesOf first calls) (LeavesOf first later)
-unrecorded first calls later at bytes is c left = (
-  c,
-  subst (λ (l : List DeviceCall). LeavesOf first l c) is left,
-  mixed_same at bytes c,
-)
+  pub elapses_to : Elapses memory_disk old new
+  elapses_to = record {
+    later = omega (arith, longer, length-append old.calls (call ∷ []));
+    nothing_else = λ t c le left. ⊎_elim (λ (after : length old.calls < left.0). inr
+        (subst (λ (l : List DeviceCall). LeavesOf new.first l c) (take_all left.0 new.calls
+        (omega (arith, after, longer, length-append old.calls (call ∷ [])))) left.3))
+        (λ (was : left.0 ≤ length old.calls). inl (
+          left.0,
+          left.1,
+          was,
+          subst (λ (f : List ℕ). LeavesOf f (take left.0 old.calls) c) is.first
+              (subst (λ (l : List DeviceCall). LeavesOf new.first l c) (sooner left.0 was) left.3),
+        ))
+        (cases_lt (length old.calls) left.0);
+    keeps = λ t c le left. (
+      left.0,
+      left.1,
+      omega (arith, left.2, longer, length-append old.calls (call ∷ [])),
+      subst (λ (f : List ℕ). LeavesOf f (take left.0 new.calls) c) (sym is.first)
+          (subst (λ (l : List DeviceCall). LeavesOf old.first l c) (sym (sooner left.0 left.2)) left.3),
+    );
+  }

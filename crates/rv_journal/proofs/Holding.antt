@@ -1,9 +1,10 @@
 -- Bytes that are written whole are one of the ways to mix them.
 use Rattle.std.proofs.Common.{◌≡◌, inr, ℕ, ◌+◌, ◌-◌, ◌<◌, ◌≤◌, List, ◌++◌, length, get_or, take, drop, ◌∙◌}
-use Rattle.std.proofs.Common.{ap}
+use Rattle.std.proofs.Common.{ap, [], refl, ⊎_elim}
+use Rattle.std.proofs.lemmas.Bool.{cases_lt}
 use Rattle.std.proofs.Common.{arith, append_assoc, length-append, length-drop}
 use Rattle.std.proofs.lemmas.List.{get_or-take, get_or-drop, get_or_append_left, get_or-append_right}
-use Rattle.std.proofs.lemmas.List.{length-take-le}
+use Rattle.std.proofs.lemmas.List.{length-take-le, append-nil, drop_all, take_all}
 use Rattle.rv_journal.specs.Device.{Holds, Mixed}
 
 module _ (old bytes new : List ℕ) (at : ℕ) (within : at ≤ length old) (holds : Holds old at bytes new) where
@@ -53,3 +54,24 @@ module _ (old bytes new : List ℕ) (at : ℕ) (within : at ≤ length old) (hol
         back;
     each = λ i low _. inr (written_there i low);
   }
+
+-- and so past its end
+past_mixed : (at : ℕ) (bytes old new : List ℕ) → length old ≤ at → new ≡ old ++ bytes → Mixed at bytes old new
+past_mixed at bytes old new past is = record {
+  no_shorter = omega (arith, ap length is, length-append old bytes);
+  no_longer = omega (arith, ap length is, length-append old bytes, past);
+  below = λ i low _. ap (λ (l : List ℕ). get_or l i 0) is ∙ get_or_append_left old bytes 0 i low;
+  above = λ i low after. absurd (omega (arith, low, after, past));
+  each = λ i _ low. absurd (omega (arith, low, past));
+}
+
+pub overwritten_mixed : (at : ℕ) (bytes old : List ℕ)
+    → Mixed at bytes old (take at old ++ bytes ++ drop (at + length bytes) old)
+overwritten_mixed at bytes old =
+    let new = take at old ++ bytes ++ drop (at + length bytes) old in
+    ⊎_elim (λ (low : at < length old). holds_mixed old bytes new at (omega (arith, low)) refl)
+    (λ (past : length old ≤ at). past_mixed at bytes old new past
+    (ap (λ (l : List ℕ). l ++ bytes ++ drop (at + length bytes) old) (take_all at old past)
+    ∙ ap (λ (l : List ℕ). (old ++ bytes) ++ l) (drop_all (at + length bytes) old (omega (arith, past)))
+    ∙ append-nil (old ++ bytes)))
+    (cases_lt at (length old))

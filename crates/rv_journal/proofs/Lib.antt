@@ -18,4 +18,5 @@ mod Memories
 mod Cleared
 mod Cutting
 mod Beginning
-mod Fuses
+mod FailingDevices
+mod Unchanged

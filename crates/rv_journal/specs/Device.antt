@@ -19,6 +19,8 @@ pub record Disk (D : Type 0) : Type 1 where
   pub left_since : D → ℕ → List ℕ → Type 0
   -- whether it has failed
   pub failed : D → Bool
+  -- a crash may leave what a read returns
+  pub leaves_seen : (file : D) → IsTrue (tells file) → may_leave file (seen file)
   -- now is one of the moments since an earlier one
   pub counts_now : (file : D) (t : ℕ) (c : List ℕ) → t ≤ moment file → may_leave file c → left_since file t c
   -- since now there is no other moment

@@ -3,7 +3,7 @@ pub mod Cutter
 pub mod Device
 pub mod Faults
 pub mod Filled
-pub mod Fuse
+pub mod Failing
 pub mod Journal
 pub mod Memory
 pub mod Opened

@@ -167,6 +167,13 @@ impl<D: Device> DiskJournal<D> {
     {
         self.parts.add(piece)
     }
+
+    /// Its device, as the last call left it.
+    pub fn into_device(self) -> D
+        ensures { result ≡ self.device }
+    {
+        self.parts.file.into_device()
+    }
 }
 
 // Whether these bytes can be added: none of them is zero.

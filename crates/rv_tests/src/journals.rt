@@ -1,6 +1,10 @@
 //! Tests of a journal over a file in memory that a crash left or that froze, and of what it refuses.
+ghost use Rattle.std.specs.Prelude.{◌≡◌, [], ◌++◌, ⊤, List, ℕ};
+ghost use Rattle.std.proofs.Common.{◌∙◌, ap, refl};
+
 use crate::expect::{holds, same};
-use rv_journal::{DeviceFault, DiskJournal, Fuse, JournalFault, Memory, OpenFault};
+use rv_journal::testing::{FailingDevice, Memory};
+use rv_journal::{CreateFault, DeviceFault, DiskJournal, JournalFault, JournalReader, OpenFault};
 use std::alloc::Global;
 use std::process::Abort;
 
@@ -23,19 +27,60 @@ fn a_lost_piece_is_dropped_and_the_next_one_is_stored(rt: HostRuntime) {
             same(&rt, journal.append(b"E\n"), Ok(()));
             same(&rt, journal.append(b"\0"), Err(JournalFault::NotText));
             same(&rt, journal.append(b"F\n"), Ok(()));
+            same(&rt, journal.into_device().bytes(), b"A\nB\nE\nF\n\0\0");
         }
         Err((fault, _)) => holds(&rt, false, fault),
     }
 }
 
+// Tells that this file is no journal, and is left as it is.
+fn is_no_journal(rt: &impl Abort, alloc: Global, bytes: &[u8]) {
+    let mut lines = Vec::new(alloc);
+    match DiskJournal::open(alloc, file(rt, alloc, bytes), &mut lines) {
+        Ok(_) => holds(rt, false, "no zero"),
+        Err((fault, left)) => {
+            same(rt, fault, OpenFault::NotFilled);
+            same(rt, left.bytes(), bytes);
+        }
+    }
+}
+
 #[test]
 fn a_file_without_a_zero_is_no_journal(rt: HostRuntime) {
-    let mut lines = Vec::new(rt.alloc());
-    match DiskJournal::open(rt.alloc(), file(&rt, rt.alloc(), b"A\n"), &mut lines) {
-        Ok(_) => holds(&rt, false, "no zero"),
+    is_no_journal(&rt, rt.alloc(), b"");
+    is_no_journal(&rt, rt.alloc(), b"A\n");
+    is_no_journal(&rt, rt.alloc(), b"A\nB");
+}
+
+// A reader that refuses all lines.
+#[derive(Drop)]
+struct Nobody;
+
+impl JournalReader for Nobody {
+    type Fault = u8;
+
+    ghost takes = { λ _ lines _. lines ≡ [] };
+
+    ghost refuses = { λ _ _ _. ⊤ };
+
+    fn take(&mut self, _lines: &[u8]) -> Result<(), u8> {
+        Err(7)
+    }
+
+    ghost none = { λ _. refl };
+
+    ghost joined = { λ old mid new lines more _ first second. ap (λ (l : List ℕ). l ++ more) first ∙ second };
+
+    ghost refused_on = { λ _ _ _ _ _ _ _ _. tt };
+}
+
+#[test]
+fn a_file_whose_lines_are_refused_is_left(rt: HostRuntime) {
+    match DiskJournal::open(rt.alloc(), file(&rt, rt.alloc(), TORN), &mut Nobody) {
+        Ok(_) => holds(&rt, false, "refused"),
         Err((fault, left)) => {
-            same(&rt, fault, OpenFault::NotFilled);
-            same(&rt, left.bytes(), b"A\n");
+            same(&rt, fault, OpenFault::Refused(7));
+            same(&rt, left.bytes(), TORN);
         }
     }
 }
@@ -44,30 +89,55 @@ fn a_file_without_a_zero_is_no_journal(rt: HostRuntime) {
 fn a_new_journal_takes_a_second_piece(rt: HostRuntime) {
     let left = file(&rt, rt.alloc(), b"left");
     match DiskJournal::create(rt.alloc(), left, b"A\n") {
-        Ok(mut journal) => same(&rt, journal.append(b"B\n"), Ok(())),
+        Ok(mut journal) => {
+            same(&rt, journal.append(b"B\n"), Ok(()));
+            opens_with(&rt, rt.alloc(), journal.into_device(), b"A\nB\n");
+        }
         Err((fault, _)) => holds(&rt, false, fault),
     }
 }
 
-// Opens a file that froze while it was opened.
-fn opens(rt: &impl Abort, alloc: Global, left: Memory) {
+// Tells that this file is not made a journal, and why not.
+fn is_not_made(rt: &impl Abort, alloc: Global, bytes: &[u8], first: &[u8], why: CreateFault) {
+    match DiskJournal::create(alloc, file(rt, alloc, bytes), first) {
+        Ok(_) => holds(rt, false, why),
+        Err((fault, left)) => {
+            same(rt, fault, why);
+            same(rt, left.bytes(), bytes);
+        }
+    }
+}
+
+fn ones(rt: &impl Abort, alloc: Global, count: usize) -> Vec<u8> {
+    vec![in alloc; 1u8; count].expect(rt, "no memory")
+}
+
+#[test]
+fn a_long_file_and_a_zero_byte_make_no_journal(rt: HostRuntime) {
+    let long = ones(&rt, rt.alloc(), (1 << 20) + 1);
+    is_not_made(&rt, rt.alloc(), &long, b"A\n", CreateFault::TooLong);
+    is_not_made(&rt, rt.alloc(), b"left", b"A\0\n", CreateFault::NotText);
+}
+
+// Tells that this file is a journal of these lines.
+fn opens_with(rt: &impl Abort, alloc: Global, left: Memory, want: &[u8]) {
     let mut lines = Vec::new(alloc);
     match DiskJournal::open(alloc, left, &mut lines) {
-        Ok(_) => same(rt, lines.as_slice(), b"A\nB\n"),
+        Ok(_) => same(rt, lines.as_slice(), want),
         Err((fault, _)) => holds(rt, false, fault),
     }
 }
 
 // Opens a file that freezes at a call of that, and then what it left.
 fn freezes(rt: &impl Abort, alloc: Global, calls: usize) {
-    let torn = Fuse::new(file(rt, alloc, TORN), calls);
+    let torn = FailingDevice::new(file(rt, alloc, TORN), calls);
     let mut lines = Vec::new(alloc);
     match DiskJournal::open(alloc, torn, &mut lines) {
         Ok(_) => holds(rt, false, calls),
         Err((fault, left)) => {
             same(rt, fault, OpenFault::Device(DeviceFault::Failed));
             let (left, _) = left.into_inner();
-            opens(rt, alloc, left);
+            opens_with(rt, alloc, left, b"A\nB\n");
         }
     }
 }
@@ -76,5 +146,28 @@ fn freezes(rt: &impl Abort, alloc: Global, calls: usize) {
 fn a_file_that_froze_at_a_call_has_its_lines(rt: HostRuntime) {
     for calls in 0..5 {
         freezes(&rt, rt.alloc(), calls);
+    }
+}
+
+// Makes a journal of a file that freezes at a call of that, and then of what it left.
+fn freezes_new(rt: &impl Abort, alloc: Global, calls: usize) {
+    let left = FailingDevice::new(file(rt, alloc, b"left"), calls);
+    match DiskJournal::create(alloc, left, b"A\n") {
+        Ok(_) => holds(rt, false, calls),
+        Err((fault, left)) => {
+            same(rt, fault, CreateFault::Device(DeviceFault::Failed));
+            let (left, _) = left.into_inner();
+            match DiskJournal::create(alloc, left, b"B\n") {
+                Ok(journal) => opens_with(rt, alloc, journal.into_device(), b"B\n"),
+                Err((fault, _)) => holds(rt, false, fault),
+            }
+        }
+    }
+}
+
+#[test]
+fn a_file_that_froze_while_it_was_made_is_made_again(rt: HostRuntime) {
+    for calls in 0..5 {
+        freezes_new(&rt, rt.alloc(), calls);
     }
 }

@@ -1,0 +1,148 @@
+//! A file in memory that keeps its calls: a crash leaves each byte old or written, until a sync.
+ghost use Rattle.std.specs.Prelude.{◌≡◌, [], ◌∷◌, ◌++◌, ◌+◌, ◌<◌, ◌≤◌, length, IfOk, OnErr, OnOk};
+ghost use Rattle.rv_journal.specs.Device.{Holds, Only, ReadsAt};
+ghost use Rattle.rv_journal.specs.Memory.{IsCalled, IsWritten, has_bytes, memory_disk, memory_state};
+ghost use Rattle.rv_journal.specs.declared.testing.memory.DeviceCall.TheVariants.{Sync};
+
+use crate::device::{Device, DeviceFault};
+use std::alloc::{AllocError, Global};
+use std::marker::Model;
+
+#[derive(Drop)]
+enum DeviceCall {
+    Write(usize, Vec<u8>),
+    Sync,
+}
+
+/// A file in memory, for tests. It never fails but for want of memory.
+///
+/// It keeps what it had at first and each call, so that contracts can say what a crash at any of its moments
+/// might have left.
+#[derive(Drop)]
+pub struct Memory {
+    kept: KeptCalls,
+}
+
+// What a file had at first, its calls, and what they made of it.
+#[derive(Drop)]
+struct KeptCalls {
+    alloc: Global,
+    first: Vec<u8>,
+    bytes: Vec<u8>,
+    calls: Vec<DeviceCall>,
+}
+
+impl Model for Memory {
+    ghost use Rattle.rv_journal.specs.Memory.{MemoryState, has_bytes, memory_state};
+
+    ghost Value = { MemoryState };
+
+    ghost view = { λ m. memory_state m.kept };
+
+    ghost invariant = { λ m. has_bytes m.kept };
+}
+
+impl Memory {
+    /// A file with these bytes, all of them stored.
+    pub fn new(alloc: Global, bytes: Vec<u8>) -> Result<Memory, AllocError>
+        ensures bytes { IfOk result (λ file. memory_disk.seen file ≡ bytes.items) }
+        ensures stored { IfOk result (λ file. Only bytes.items (memory_disk.may_leave file)) }
+    {
+        let first = bytes.to_vec(alloc)?;
+        let calls = Vec::new(alloc);
+        let kept = KeptCalls {
+            alloc,
+            first,
+            bytes,
+            calls,
+        };
+        Ok(Memory { kept })
+    }
+
+    /// What a read returns.
+    pub fn bytes(&self) -> &[u8]
+        ensures { result.now ≡ memory_disk.seen self.now }
+    {
+        &self.kept.bytes
+    }
+}
+
+// These bytes with others over them from this offset on.
+fn overwritten(alloc: Global, old: &[u8], at: usize, bytes: &[u8]) -> Result<Vec<u8>, AllocError>
+    requires { at ≤ length old.now }
+    ensures { IfOk result (λ next. Holds old.now at bytes.now next.items) }
+{
+    let mut next = old[..at].to_vec(alloc)?;
+    next.extend_from_slice(bytes)?;
+    if bytes.len() < old.len() - at {
+        next.extend_from_slice(&old[at + bytes.len()..])?;
+    }
+    Ok(next)
+}
+
+// How many bytes from this offset on were copied to the front of the room: as many as there are, and fit.
+fn copied_from(bytes: &[u8], at: usize, room: &mut [u8]) -> usize
+    ensures reads { ReadsAt bytes.now at result room.new }
+    ensures within { result ≤ length room.new }
+    ensures below { 0 < result → at + result ≤ length bytes.now }
+{
+    if bytes.len() <= at {
+        return 0;
+    }
+    let count = room.len().min(bytes.len() - at);
+    room[..count].copy_from_slice(&bytes[at..at + count]);
+    count
+}
+
+// Keeps a call. If memory is refused nothing changes.
+fn record(calls: &mut Vec<DeviceCall>, call: DeviceCall) -> Result<(), AllocError>
+    ensures kept { OnOk result (calls.new.items ≡ calls.old.items ++ call ∷ []) }
+    ensures refused { OnErr result (calls.new.items ≡ calls.old.items) }
+{
+    calls.push(call)?;
+    Ok(())
+}
+
+impl KeptCalls {
+    // Writes over what it has. If memory is refused nothing changes.
+    fn write(&mut self, at: usize, bytes: &[u8]) -> Result<(), AllocError>
+        requires bytes { has_bytes self.old }
+        requires within { at ≤ length self.old.bytes.items }
+        ensures bytes { has_bytes self.new }
+        ensures written { OnOk result
+            (IsWritten at bytes.now (memory_state self.old) (memory_state self.new)) }
+        ensures refused { OnErr result (memory_state self.new ≡ memory_state self.old) }
+    {
+        let next = overwritten(self.alloc, &self.bytes, at, bytes)?;
+        let written = bytes.to_vec(self.alloc)?;
+        record(&mut self.calls, DeviceCall::Write(at, written))?;
+        self.bytes = next;
+        Ok(())
+    }
+
+    // Stores what it has. If memory is refused nothing changes.
+    fn sync(&mut self) -> Result<(), AllocError>
+        requires bytes { has_bytes self.old }
+        ensures bytes { has_bytes self.new }
+        ensures synced { OnOk result (IsCalled Sync (memory_state self.old) (memory_state self.new)) }
+        ensures refused { OnErr result (memory_state self.new ≡ memory_state self.old) }
+    {
+        record(&mut self.calls, DeviceCall::Sync)
+    }
+}
+
+impl Device for Memory {
+    ghost disk = { memory_disk };
+
+    fn read_at(&mut self, at: usize, room: &mut [u8]) -> Result<usize, DeviceFault> {
+        Ok(copied_from(&self.kept.bytes, at, room))
+    }
+
+    fn write_at(&mut self, at: usize, bytes: &[u8]) -> Result<(), DeviceFault> {
+        Ok(self.kept.write(at, bytes)?)
+    }
+
+    fn sync(&mut self) -> Result<(), DeviceFault> {
+        Ok(self.kept.sync()?)
+    }
+}
