@@ -1,4 +1,4 @@
-//! Tests of what no contract and no program says of the libraries that the program uses.
+//! Tests of what no contract and no program says of the libraries.
 //!
 //! They test a list of events, the copy of an account, room on both sides of a queue, and that a deadline
 //! that is there takes no memory; the fault that a request or a worker meets at its link, how often devices

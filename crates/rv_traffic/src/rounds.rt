@@ -164,7 +164,8 @@ fn write_if_ready<S: Write + Drop>(
     Some(write_one(traffic, now, number))
 }
 
-// A connection of which more can be done at once, or nothing was written, is to be looked at again.
+// A connection is to be looked at again if more of it can be done at once, or if its write had to wait for
+// memory for the account's lines.
 fn look_for_more<S: Drop>(
     traffic: &mut Switchboard<S>,
     number: ConnectionNumber,
