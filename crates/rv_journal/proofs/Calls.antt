@@ -4,7 +4,8 @@ use Rattle.std.proofs.Common.{refl, sym, ◌∙◌, ap, subst, arith, length-app
 use Rattle.std.proofs.lemmas.Bool.{cases_lt}
 use Rattle.std.proofs.lemmas.List.{take_all, take-append-le}
 use Rattle.rv_journal.specs.Device.{Elapses}
-use Rattle.rv_journal.specs.Memory.{HasSome, IsCalled, LeavesAfter, LeavesOf, MemoryState, after_call, after_calls}
+use Rattle.rv_journal.specs.Memory.{HasSome, IsCalled, LeavesAfter, LeavesOf, MemoryState, after_call}
+use Rattle.rv_journal.specs.Memory.{after_calls}
 use Rattle.rv_journal.specs.Memory.{memory_disk}
 use Rattle.rv_journal.specs.declared.testing.memory.DeviceCall.{DeviceCall}
 use Rattle.rv_journal.specs.declared.testing.memory.DeviceCall.TheVariants.{Write, Sync}

@@ -119,7 +119,9 @@ module _ {R : Type 0} (takes : R → List ℕ → R → Type 0) (first : R) (fro
           → RefusesFront refuses first (stored_lines (front ++ lines)) why
       lines_refused refuses joined why refused = record {
         front = stored_lines front ++ (cutter.rest.items ++ lines);
-        whole_lines = subst (λ (l : List ℕ). IsLines l) (sym handed) (ap (λ (l : List ℕ). whole_lines l) (sym stored) ∙ lines_only (before_zero (front ++ lines)) ∙ stored);
+        whole_lines = subst (λ (l : List ℕ). IsLines l) (sym handed)
+            (ap (λ (l : List ℕ). whole_lines l) (sym stored) ∙ lines_only (before_zero (front ++ lines))
+            ∙ stored);
         more = [];
         whole = append-nil (stored_lines front ++ (cutter.rest.items ++ lines)) ∙ handed ∙ sym stored;
         refused = joined first was (stored_lines front) (cutter.rest.items ++ lines) why

@@ -1,5 +1,5 @@
 -- What calls leave of a device that may be frozen.
-use Rattle.std.proofs.Common.{◌≡◌, inl, ℕ, Bool, true, false, Result, List, refl, subst, arith}
+use Rattle.std.proofs.Common.{◌≡◌, ℕ, Bool, true, false, Result, List, refl, subst}
 use Rattle.std.specs.Prelude.{◌||◌}
 use Rattle.rv_journal.specs.Device.{Disk, Elapses, HasCause, KeepsFile, WritesFile}
 use Rattle.rv_journal.specs.Failing.{failing_disk}
@@ -19,8 +19,8 @@ either_on : (p q r s : Bool) → (p ≡ true → r ≡ true) → (q ≡ true →
 either_on true q r s first last is = either_first r s (first refl)
 either_on false q r s first last is = either_last r s (last is)
 
-module _ {D : Type 0} (disk : Disk D) (old new : FailingDevice D) (was now : D) (before : was ≡ old.device) (after :
-    now ≡ new.device) where
+module _ {D : Type 0} (disk : Disk D) (old new : FailingDevice D) (was now : D)
+    (before : was ≡ old.device) (after : now ≡ new.device) where
   elapsed : Elapses disk old.device new.device → Elapses (failing_disk disk) old new
   elapsed time = record { later = time.later; nothing_else = time.nothing_else; keeps = time.keeps }
 

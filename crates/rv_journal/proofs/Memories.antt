@@ -48,8 +48,11 @@ module _ (at : ℕ) (piece : List ℕ) (old new : MemoryState) (is : IsWritten a
     others = λ told. subst (λ (f : List ℕ). Mixed at piece (memory_disk.seen old) f) (sym holds_written)
         (overwritten_mixed at piece (memory_disk.seen old));
     crash = λ c left.
-        let from = left_after old new (Write at is.0) is.2 c left in
-        (from.0, from.1, subst (λ (bytes : List ℕ). Mixed at bytes from.0 c) is.1
-        (some_mixed at is.0.items from.0 c from.2));
+        let from = left_after old new (Write at is.0) is.2 c left in (
+          from.0,
+          from.1,
+          subst (λ (bytes : List ℕ). Mixed at bytes from.0 c) is.1
+              (some_mixed at is.0.items from.0 c from.2),
+        );
     time = elapses_to old new (Write at is.0) is.2;
   }

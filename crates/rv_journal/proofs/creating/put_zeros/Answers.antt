@@ -1,6 +1,4 @@
-use Rattle.std.proofs.Common.{◌≡◌, ◌≤◌, List, ℕ, IsTrue, length, refl, ◌∙◌, ap, arith}
-use Rattle.rv_journal.specs.Created.{MayZero}
-use Rattle.rv_journal.specs.Device.{LeavesOnly}
+use Rattle.std.proofs.Common.{◌≤◌, length, refl, ◌∙◌, ap, arith}
 use Rattle.rv_journal.proofs.Beginning.{looked_zeroed, not_longer, then_zeroed, zeroed}
 use Rattle.rv_journal.proofs.Looking.{looked}
 use Rattle.rv_journal.proofs.creating.put_zeros.Goals as goal

@@ -19,13 +19,15 @@ pub returns-in_err-rewrite-clause-lines : goal.returns-in_err-rewrite-clause-lin
 returns-in_err-rewrite-clause-lines g c told =
     lines_stay g.D.Device.disk c.args.end c.args.at c.args.filled c.args.device.now (c.requires.cleared told)
     c.requires.after c.args.zeros.now c.requires.zeros c.min-count.result (omega (arith, c.min-count.ensures))
-    (omega (arith, c.min-count.ensures, c.requires.before)) c.rewrite.new.device c.rewrite.ensures.rewrites told
+    (omega (arith, c.min-count.ensures, c.requires.before)) c.rewrite.new.device c.rewrite.ensures.rewrites
+    told
 
 pub returns-clause-lines : goal.returns-clause-lines
 returns-clause-lines g c told =
     lines_stay g.D.Device.disk c.args.end c.args.at c.args.filled c.args.device.now (c.requires.cleared told)
     c.requires.after c.args.zeros.now c.requires.zeros c.min-count.result (omega (arith, c.min-count.ensures))
-    (omega (arith, c.min-count.ensures, c.requires.before)) c.rewrite.new.device c.rewrite.ensures.rewrites told
+    (omega (arith, c.min-count.ensures, c.requires.before)) c.rewrite.new.device c.rewrite.ensures.rewrites
+    told
 
 pub returns-clause-any_moment : goal.returns-clause-any_moment
 returns-clause-any_moment g c told =

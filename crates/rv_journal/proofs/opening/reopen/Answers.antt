@@ -15,7 +15,8 @@ pub returns-in_err-ends-clause-refused : goal.returns-in_err-ends-clause-refused
 returns-in_err-ends-clause-refused g c =
     let exit = err_from_is_err_and c.from_residual.result c.from_residual.ensures.1 in
     rw (exit.1, exit.2) (if_refused c.in_err-ends.field-0.0 _ _
-    (λ why refused. record { looks = c.read_lines.ensures.looks; lines = refused }) c.in_err-ends.ensures.refused)
+    (λ why refused. record { looks = c.read_lines.ensures.looks; lines = refused })
+    c.in_err-ends.ensures.refused)
 
 pub returns-then-not-ends-clause-any_moment : goal.returns-then-not-ends-clause-any_moment
 returns-then-not-ends-clause-any_moment g c told = only_looked g.D.Device.disk c.args.device.now
@@ -28,7 +29,8 @@ not_both false _ is = false≢true is
 pub returns-then-not-ends-clause-not_filled : goal.returns-then-not-ends-clause-not_filled
 returns-then-not-ends-clause-not_filled g c _ = record {
   looks = c.read_lines.ensures.looks;
-  no_zero = λ told has. not_both c.in_ok-ends.ends.has_zero c.if-not-ends.true ((c.in_ok-ends.ensures.has_zero told).1 has);
+  no_zero = λ told has. not_both c.in_ok-ends.ends.has_zero c.if-not-ends.true
+      ((c.in_ok-ends.ensures.has_zero told).1 has);
 }
 
 pub returns-in_err-clear_after-clause-any_moment : goal.returns-in_err-clear_after-clause-any_moment

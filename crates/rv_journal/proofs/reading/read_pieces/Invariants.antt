@@ -1,4 +1,4 @@
-use Rattle.std.proofs.Common.{◌+◌, ◌-◌, ◌<◌, ◌^◌, ◌≤◌, length, take}
+use Rattle.std.proofs.Common.{◌-◌, ◌<◌, ◌^◌, ◌≤◌, length, take}
 use Rattle.rv_journal.specs.Cutter.{HasCut, HasTakenLines}
 use Rattle.rv_journal.specs.Device.{WhereTold}
 use Rattle.rv_journal.specs.Opened.{Looks}

@@ -1,6 +1,4 @@
-use Rattle.std.proofs.Common.{◌∙◌}
-use Rattle.rv_journal.proofs.Mixing.{rewrites_written, rewrites_synced, is_rewritten}
-use Rattle.rv_journal.proofs.Causes.{cause_on}
+use Rattle.rv_journal.proofs.Mixing.{rewrites_written, rewrites_synced}
 use Rattle.rv_journal.proofs.rewriting.rewrite.Goals as goal
 
 pub returns-in_err-write_at-clause-rewrites : goal.returns-in_err-write_at-clause-rewrites

@@ -1,5 +1,4 @@
-use Rattle.std.proofs.Common.{arith, ap, Err}
-use Rattle.rv_journal.proofs.Causes.{store_why}
+use Rattle.std.proofs.Common.{arith}
 use Rattle.rv_journal.proofs.Rooming.{begun, goes_further}
 use Rattle.rv_journal.proofs.filled.FilledFile.make_room.Goals as goal
 

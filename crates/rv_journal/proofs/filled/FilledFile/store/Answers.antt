@@ -1,6 +1,4 @@
-use Rattle.std.proofs.Common.{ap, Err, ◌∙◌}
 use Rattle.rv_journal.proofs.Moments.{weaker}
-use Rattle.rv_journal.proofs.Causes.{store_why}
 use Rattle.rv_journal.proofs.Rooming.{adds_on, any_piece, front_on, stored_on}
 use Rattle.rv_journal.proofs.filled.FilledFile.store.Goals as goal
 

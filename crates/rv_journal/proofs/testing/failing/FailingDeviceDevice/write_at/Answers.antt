@@ -7,15 +7,15 @@ use Rattle.rv_journal.proofs.Unchanged.{nothing_written}
 use Rattle.rv_journal.proofs.testing.failing.FailingDeviceDevice.write_at.Goals as goal
 
 pub returns-then-not-is_made-clause-writes : goal.returns-then-not-is_made-clause-writes
-returns-then-not-is_made-clause-writes g c = failing_written g.D.Device.disk c.args.self.now c.is_made.new.self
-    c.args.self.now.device c.args.self.now.device refl (sym c.is_made.ensures.device) c.args.at
+returns-then-not-is_made-clause-writes g c = failing_written g.D.Device.disk c.args.self.now
+    c.is_made.new.self c.args.self.now.device c.args.self.now.device refl (sym c.is_made.ensures.device) c.args.at
     c.args.bytes.now
     (nothing_written g.D.Device.disk c.args.self.now.device c.args.self.now.device refl c.args.at
     c.args.bytes.now)
 
 pub returns-then-not-is_made-clause-cause : goal.returns-then-not-is_made-clause-cause
-returns-then-not-is_made-clause-cause g c = frozen_cause g.D.Device.disk c.args.self.now c.is_made.new.self
-    c.args.self.now.device c.is_made.new.self.device refl refl _ (c.is_made.ensures.frozen
+returns-then-not-is_made-clause-cause g c = frozen_cause g.D.Device.disk c.args.self.now
+    c.is_made.new.self c.args.self.now.device c.is_made.new.self.device refl refl _ (c.is_made.ensures.frozen
     c.if-not-is_made.true)
 
 within : {D : Type 0} (disk : Disk D) (was old : D) (at : ℕ) → was ≡ old

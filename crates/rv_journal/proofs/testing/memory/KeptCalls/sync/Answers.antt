@@ -1,4 +1,4 @@
-use Rattle.std.proofs.Common.{◌≡◌, Result, Ok, Err, List, [], ◌∷◌, ◌++◌, refl, sym, ◌∙◌, ap}
+use Rattle.std.proofs.Common.{Result, Ok, Err, List, refl, sym, ◌∙◌, ap}
 use Rattle.std.specs.Prelude.{OnErr, OnOk}
 use Rattle.rv_journal.specs.Memory.{after_calls, memory_state}
 use Rattle.rv_journal.specs.declared.testing.memory.DeviceCall.{DeviceCall}

@@ -1,4 +1,4 @@
-use Rattle.std.proofs.Common.{sym, subst}
+use Rattle.std.proofs.Common.{subst}
 use Rattle.rv_journal.specs.Device.{KeepsFile, Only}
 use Rattle.rv_journal.specs.Memory.{MemoryState, memory_disk, memory_state}
 use Rattle.rv_journal.proofs.Memories.{durable_synced, keeps_synced}

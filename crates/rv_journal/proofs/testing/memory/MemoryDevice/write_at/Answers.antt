@@ -7,7 +7,8 @@ use Rattle.rv_journal.proofs.testing.memory.MemoryDevice.write_at.Goals as goal
 pub returns-clause-written : goal.returns-clause-written
 returns-clause-written c told =
     let new = memory_state c.write.new.self in
-    subst (λ (old : MemoryState). Holds (memory_disk.seen old) c.args.at c.args.bytes.now (memory_disk.seen new))
+    subst (λ (old : MemoryState). Holds (memory_disk.seen old) c.args.at c.args.bytes.now
+    (memory_disk.seen new))
     c.self.view_is (holds_written c.args.at c.args.bytes.now (memory_state c.self.inside.kept) new
     c.in_ok-write.ensures.written)
 
