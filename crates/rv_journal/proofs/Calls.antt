@@ -25,6 +25,39 @@ last_left was file (Write at bytes ∷ calls) call c left = last_left (λ new. (
     × HasSome at bytes.items old new) (after_call file (Write at bytes)) calls call c left
 last_left was file (Sync ∷ calls) call c left = last_left (λ new. new ≡ file) file calls call c left
 
+last_leaves : (was : List ℕ → Type 0) (file : List ℕ) (calls : List DeviceCall) (call : DeviceCall)
+    (c : List ℕ) → LeavesAfter (λ d. LeavesAfter was file calls d) (after_calls file calls) (call ∷ []) c
+    → LeavesAfter was file (calls ++ call ∷ []) c
+last_leaves was file [] call c left = left
+last_leaves was file (Write at bytes ∷ calls) call c left = last_leaves (λ new. (old : List ℕ) × was old
+    × HasSome at bytes.items old new) (after_call file (Write at bytes)) calls call c left
+last_leaves was file (Sync ∷ calls) call c left = last_leaves (λ new. new ≡ file) file calls call c left
+
+-- what may be left of one file may be left of all that has it
+one_of : (was : List ℕ → Type 0) (one seen : List ℕ) → was one → (call : DeviceCall) (c : List ℕ)
+    → LeavesAfter (λ d. d ≡ one) seen (call ∷ []) c → LeavesAfter was seen (call ∷ []) c
+one_of was one seen so (Write at bytes) c left = (left.0, subst (λ (d : List ℕ). was d) (sym left.1) so, left.2)
+one_of was one seen so Sync c left = left
+
+-- a file is written anew call by call
+pub record HasReplayed (first : List ℕ) (calls : List DeviceCall) (seen left : List ℕ) : Type 0 where
+  pub seen_is : seen ≡ after_calls first calls
+  pub left_is : LeavesOf first calls left
+
+pub none_replayed : (first seen left : List ℕ) → seen ≡ first → left ≡ first → HasReplayed first [] seen left
+none_replayed first seen left seen_is left_is = record { seen_is = seen_is; left_is = left_is }
+
+pub one_replayed : (first : List ℕ) (calls : List DeviceCall) (seen left : List ℕ)
+    → HasReplayed first calls seen left → (call : DeviceCall) (then_seen then_left : List ℕ)
+    → then_seen ≡ after_call seen call → LeavesAfter (λ d. d ≡ left) seen (call ∷ []) then_left
+    → HasReplayed first (calls ++ call ∷ []) then_seen then_left
+one_replayed first calls seen left had call then_seen then_left seen_is left_is = record {
+  seen_is = seen_is ∙ ap (λ (l : List ℕ). after_call l call) had.seen_is ∙ sym (after_last first calls call);
+  left_is = last_leaves (λ d. d ≡ first) first calls call then_left (one_of (LeavesOf first calls) left
+      (after_calls first calls) had.left_is call then_left (subst (λ (l : List ℕ). LeavesAfter (λ d. d ≡ left) l
+      (call ∷ []) then_left) had.seen_is left_is));
+}
+
 module _ (old new : MemoryState) (call : DeviceCall) (is : IsCalled call old new) where
   both : {T : Type 0} (f : List ℕ → List DeviceCall → T) → f new.first new.calls
       ≡ f old.first (old.calls ++ call ∷ [])

@@ -128,24 +128,90 @@ fn opens_with(rt: &impl Abort, alloc: Global, left: Memory, want: &[u8]) {
     }
 }
 
+// Two lines and three bytes, and how many ways there are to store or lose each of these.
+const SHORT: &[u8] = b"A\nB\nC\0D";
+const WAYS: u64 = 8;
+
+// Opens what a crash leaves of a file, in each way.
+fn opens_after_crashes(rt: &impl Abort, alloc: Global, left: &Memory) {
+    for number in 0..WAYS {
+        let crashed = left.after_crash(alloc, number).expect(rt, "no memory");
+        opens_with(rt, alloc, crashed, b"A\nB\n");
+    }
+}
+
 // Opens a file that freezes at a call of that, and then what it left.
 fn freezes(rt: &impl Abort, alloc: Global, calls: usize) {
-    let torn = FailingDevice::new(file(rt, alloc, TORN), calls);
+    let torn = FailingDevice::new(file(rt, alloc, SHORT), calls);
     let mut lines = Vec::new(alloc);
     match DiskJournal::open(alloc, torn, &mut lines) {
         Ok(_) => holds(rt, false, calls),
         Err((fault, left)) => {
             same(rt, fault, OpenFault::Device(DeviceFault::Failed));
             let (left, _) = left.into_inner();
+            opens_after_crashes(rt, alloc, &left);
             opens_with(rt, alloc, left, b"A\nB\n");
         }
     }
 }
 
+// How many calls open that file.
+const OPENING: usize = 5;
+
 #[test]
 fn a_file_that_froze_at_a_call_has_its_lines(rt: HostRuntime) {
-    for calls in 0..5 {
+    for calls in 0..OPENING {
         freezes(&rt, rt.alloc(), calls);
+    }
+}
+
+// Tells that this file is a journal of the lines, or of the lines and the piece.
+fn opens_with_or_without(rt: &impl Abort, alloc: Global, left: Memory) {
+    let mut lines = Vec::new(alloc);
+    match DiskJournal::open(alloc, left, &mut lines) {
+        Ok(_) => {
+            let is_whole = lines.as_slice() == b"A\nB\nE\n".as_slice();
+            holds(rt, is_whole || lines.as_slice() == b"A\nB\n".as_slice(), "a torn line");
+        }
+        Err((fault, _)) => holds(rt, false, fault),
+    }
+}
+
+// Adds a piece to a journal that freezes at a call of that, and opens what a crash leaves, in each way.
+fn freezes_adding(rt: &impl Abort, alloc: Global, calls: usize) {
+    let torn = FailingDevice::new(file(rt, alloc, SHORT), OPENING + calls);
+    let mut lines = Vec::new(alloc);
+    match DiskJournal::open(alloc, torn, &mut lines) {
+        Ok(mut journal) => {
+            let failed = Err(JournalFault::Device(DeviceFault::Failed));
+            same(rt, journal.append(b"E\n"), failed);
+            let (left, _) = journal.into_device().into_inner();
+            for number in 0..WAYS {
+                let crashed = left.after_crash(alloc, number).expect(rt, "no memory");
+                opens_with_or_without(rt, alloc, crashed);
+            }
+        }
+        Err((fault, _)) => holds(rt, false, fault),
+    }
+}
+
+#[test]
+fn a_crash_while_a_piece_is_added_leaves_no_torn_line(rt: HostRuntime) {
+    for calls in 0..2 {
+        freezes_adding(&rt, rt.alloc(), calls);
+    }
+}
+
+#[test]
+fn a_crash_after_a_piece_leaves_it(rt: HostRuntime) {
+    let mut lines = Vec::new(rt.alloc());
+    match DiskJournal::open(rt.alloc(), file(&rt, rt.alloc(), TORN), &mut lines) {
+        Ok(mut journal) => {
+            same(&rt, journal.append(b"E\n"), Ok(()));
+            let crashed = journal.into_device().after_crash(rt.alloc(), 0);
+            opens_with(&rt, rt.alloc(), crashed.expect(&rt, "no memory"), b"A\nB\nE\n");
+        }
+        Err((fault, _)) => holds(&rt, false, fault),
     }
 }
 

@@ -1,7 +1,9 @@
 //! A file in memory that keeps its calls: a crash leaves each byte old or written, until a sync.
-ghost use Rattle.std.specs.Prelude.{◌≡◌, [], ◌∷◌, ◌++◌, ◌+◌, ◌<◌, ◌≤◌, length, IfOk, OnErr, OnOk};
-ghost use Rattle.rv_journal.specs.Device.{Holds, Only, ReadsAt};
-ghost use Rattle.rv_journal.specs.Memory.{IsCalled, IsWritten, has_bytes, memory_disk, memory_state};
+ghost use Rattle.std.specs.Prelude.{◌≡◌, [], ◌∷◌, ◌++◌, ◌+◌, ◌<◌, ◌≤◌, length, slice_index, IfOk};
+ghost use Rattle.std.specs.Prelude.{OnErr, OnOk};
+ghost use Rattle.rv_journal.specs.Device.{Holds, Mixed, Only, ReadsAt};
+ghost use Rattle.rv_journal.specs.Memory.{IsCalled, IsWritten, LeavesAfter, LeavesOf, after_call};
+ghost use Rattle.rv_journal.specs.Memory.{has_bytes, memory_disk, memory_state};
 ghost use Rattle.rv_journal.specs.declared.testing.memory.DeviceCall.TheVariants.{Sync};
 
 use crate::device::{Device, DeviceFault};
@@ -65,19 +67,91 @@ impl Memory {
     {
         &self.kept.bytes
     }
+
+    /// The file that a crash now leaves, all of it stored: one of those that it may. The bits of `number`,
+    /// the lowest first, say of each byte that was written since the last sync whether it is stored; where
+    /// they end none is. A byte past the file's end that isn't stored is zero.
+    ///
+    /// It copies the file twice for each call that was made.
+    pub fn after_crash(&self, alloc: Global, number: u64) -> Result<Memory, AllocError>
+        ensures left { IfOk result (λ file. memory_disk.may_leave self.now (memory_disk.seen file)) }
+        ensures stored { IfOk result (λ file. Only (memory_disk.seen file) (memory_disk.may_leave file)) }
+    {
+        let bytes = self.kept.left(alloc, number)?;
+        Memory::new(alloc, bytes)
+    }
 }
 
 // These bytes with others over them from this offset on.
 fn overwritten(alloc: Global, old: &[u8], at: usize, bytes: &[u8]) -> Result<Vec<u8>, AllocError>
-    requires { at ≤ length old.now }
     ensures { IfOk result (λ next. Holds old.now at bytes.now next.items) }
 {
-    let mut next = old[..at].to_vec(alloc)?;
+    let mut next = old[..old.len().min(at)].to_vec(alloc)?;
     next.extend_from_slice(bytes)?;
-    if bytes.len() < old.len() - at {
-        next.extend_from_slice(&old[at + bytes.len()..])?;
+    let end = at.saturating_add(bytes.len());
+    if end < old.len() {
+        next.extend_from_slice(&old[end..])?;
     }
     Ok(next)
+}
+
+// A bit of this number, and the number without it.
+fn next_bit(number: &mut u64) -> bool {
+    let is_set = *number % 2 == 1;
+    *number /= 2;
+    is_set
+}
+
+// What the bytes at this place are where the new one wasn't stored.
+fn unstored(old: &[u8], place: usize) -> u8
+    ensures { result ≡ slice_index old.now place }
+{
+    old.get(place).copied().unwrap_or(0)
+}
+
+// These bytes with others over them, but for those that the bits say aren't stored.
+fn mixed(
+    alloc: Global,
+    old: &[u8],
+    at: usize,
+    bytes: &[u8],
+    bits: &mut u64,
+) -> Result<Vec<u8>, AllocError>
+    ensures { IfOk result (λ new. Mixed at bytes.now old.now new.items) }
+{
+    let mut new = overwritten(alloc, old, at, bytes)?;
+    for place in at.min(new.len())..at.saturating_add(bytes.len()).min(new.len()) {
+        if !next_bit(bits) {
+            new[place] = unstored(old, place);
+        }
+    }
+    Ok(new)
+}
+
+// A file that is written anew call by call: what is seen of it, and what a crash leaves by these bits.
+#[derive(Drop)]
+struct Replay {
+    seen: Vec<u8>,
+    left: Vec<u8>,
+    bits: u64,
+}
+
+impl Replay {
+    // Makes a call. If memory is refused, it is of no further use.
+    fn call(&mut self, alloc: Global, call: &DeviceCall) -> Result<(), AllocError>
+        ensures seen { OnOk result (self.new.seen.items ≡ after_call self.old.seen.items call.now) }
+        ensures left { OnOk result (LeavesAfter (λ c. c ≡ self.old.left.items) self.old.seen.items
+            (call.now ∷ []) self.new.left.items) }
+    {
+        match call {
+            DeviceCall::Write(at, bytes) => {
+                self.left = mixed(alloc, &self.left, *at, bytes, &mut self.bits)?;
+                self.seen = overwritten(alloc, &self.seen, *at, bytes)?;
+            }
+            DeviceCall::Sync => self.left = self.seen.to_vec(alloc)?,
+        }
+        Ok(())
+    }
 }
 
 // How many bytes from this offset on were copied to the front of the room: as many as there are, and fit.
@@ -104,6 +178,21 @@ fn record(calls: &mut Vec<DeviceCall>, call: DeviceCall) -> Result<(), AllocErro
 }
 
 impl KeptCalls {
+    // What a crash leaves of it by these bits.
+    fn left(&self, alloc: Global, bits: u64) -> Result<Vec<u8>, AllocError>
+        ensures { IfOk result (λ left. LeavesOf self.now.first.items self.now.calls.items left.items) }
+    {
+        let mut replay = Replay {
+            seen: self.first.to_vec(alloc)?,
+            left: self.first.to_vec(alloc)?,
+            bits,
+        };
+        for call in self.calls.iter() {
+            replay.call(alloc, call)?;
+        }
+        Ok(replay.left)
+    }
+
     // Writes over what it has. If memory is refused nothing changes.
     fn write(&mut self, at: usize, bytes: &[u8]) -> Result<(), AllocError>
         requires bytes { has_bytes self.old }
