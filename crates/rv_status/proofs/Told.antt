@@ -1,5 +1,8 @@
 -- Tokens and texts that are written one after another.
-use Rattle.std.proofs.Common.{◌≡◌, ℕ, codes, List, [], ◌∷◌, ◌++◌, map, refl, sym, ap, ◌∙◌, append_assoc}
+use Rattle.std.proofs.Common.{◌≡◌, ℕ, ◌+◌, codes, List, [], ◌∷◌, ◌++◌, map, take, drop, refl, sym, ap, ◌∙◌}
+use Rattle.std.proofs.Common.{append_assoc}
+use Rattle.std.proofs.Math.Seq.{take-add}
+use Rattle.std.proofs.lemmas.Grind.{flat_map-append}
 use Rattle.std.specs.Prelude.{flat_map}
 use Rattle.json.specs.Print.{print}
 use Rattle.json.specs.Token as token
@@ -33,6 +36,22 @@ pub mapped : {A B C : Type 0} (f : B → List C) (g : A → B) (xs : List A)
     → flat_map (λ x. f (g x)) xs ≡ flat_map f (map g xs)
 mapped f g [] = refl
 mapped f g (x ∷ xs) = ap (λ rest. f (g x) ++ rest) (mapped f g xs)
+
+-- the rows from a place on come after those before it
+pub part_told : {A B C : Type 0} (f : B → List C) (g : A → B) (rows : List B) (from count : ℕ) (part : List A)
+    → map g part ≡ take count (drop from rows)
+    → (old before after : List C)
+    → before ≡ old ++ flat_map f (take from rows)
+    → after ≡ before ++ flat_map (λ x. f (g x)) part
+    → after ≡ old ++ flat_map f (take (from + count) rows)
+part_told f g rows from count part is old before after is_before is_after =
+    let front = take from rows in
+    let next = take count (drop from rows) in
+    is_after
+    ∙ ap (λ l. l ++ flat_map (λ x. f (g x)) part) is_before
+    ∙ append_assoc old (flat_map f front) (flat_map (λ x. f (g x)) part)
+    ∙ ap (λ l. old ++ (flat_map f front ++ l)) (mapped f g part ∙ ap (flat_map f) is)
+    ∙ ap (λ l. old ++ l) (sym (flat_map-append f front next) ∙ ap (flat_map f) (sym (take-add from count rows)))
 
 items_told : {A : Type 0} (f : A → Data) (rows : List A)
     → items_tokens (items_outline (items_of (map f rows))) ≡ flat_map (λ row. tokens_of (f row)) rows ++
@@ -68,19 +87,17 @@ list_told f rows name old named begun each ended is_named is_begun is_each is_en
     ∙ ap (λ rest. old ++ key name ∷ begin_array ∷ rest) (sym (items_told f rows))
 
 -- so are the numbers
-pub members_told : {A : Type 0} (g : A → MetricRow) (xs : List A) (name : List ℕ)
-    (old named begun each ended : List Token)
+pub members_told : (rows : List MetricRow) (name : List ℕ) (old named begun each ended : List Token)
     → named ≡ old ++ key name ∷ []
     → begun ≡ named ++ begin_object ∷ []
-    → each ≡ begun ++ flat_map (λ x. number_tokens (g x)) xs
+    → each ≡ begun ++ flat_map number_tokens rows
     → ended ≡ each ++ end_object ∷ []
-    → ended ≡ old ++ key name ∷ tokens_of (numbers_value (map g xs))
-members_told g xs name old named begun each ended is_named is_begun is_each is_ended =
-    let mid = flat_map number_tokens (map g xs) in
-    let is_mid : each ≡ begun ++ mid = is_each ∙ ap (λ ts. begun ++ ts) (mapped number_tokens g xs) in
+    → ended ≡ old ++ key name ∷ tokens_of (numbers_value rows)
+members_told rows name old named begun each ended is_named is_begun is_each is_ended =
+    let mid = flat_map number_tokens rows in
     let all : ended ≡ (((old ++ key name ∷ []) ++ begin_object ∷ []) ++ mid) ++ end_object ∷ [] = cc in
     all ∙ bracketed old (key name) begin_object end_object mid
-    ∙ ap (λ rest. old ++ key name ∷ begin_object ∷ rest) (sym (numbers_told (map g xs)))
+    ∙ ap (λ rest. old ++ key name ∷ begin_object ∷ rest) (sym (numbers_told rows))
 
 regrouped : {A : Type 0} (old mid : List A) (begin end : A)
     → ((old ++ begin ∷ []) ++ mid) ++ end ∷ [] ≡ old ++ begin ∷ (mid ++ end ∷ [])
@@ -150,21 +167,20 @@ stacked old begun ta tb tc td te tf ended a b c d e f begin end is_begun is_a is
 
 -- a status, from the lists that its parts were read off
 pub status_told : (s : HostStatus) (history : List StatusSample) → history ≡ s.history.items
-    → (rows : List MetricRow) → rows ≡ number_rows s.numbers
     → (queues : List QueueRow) → queues ≡ s.queues.items
     → (unheard : List WaitingRow) → unheard ≡ s.unheard.items
     → (waiting : List WaitingRow) → waiting ≡ s.waiting.items
     → (old begun ta tb tc td te tf ended : List Token)
     → begun ≡ old ++ begin_object ∷ []
     → ta ≡ begun ++ list_tokens (codes "history") (map sample_value history)
-    → tb ≡ ta ++ key (codes "numbers") ∷ tokens_of (numbers_value rows)
+    → tb ≡ ta ++ key (codes "numbers") ∷ tokens_of (numbers_value (number_rows s.numbers))
     → tc ≡ tb ++ list_tokens (codes "queues") (map queue_value queues)
     → td ≡ tc ++ list_tokens (codes "unheard") (map waiting_value unheard)
     → te ≡ td ++ version_tokens s.version.now
     → tf ≡ te ++ list_tokens (codes "waiting") (map waiting_value waiting)
     → ended ≡ tf ++ end_object ∷ []
     → ended ≡ old ++ tokens_of (status_value s)
-status_told s history h rows r queues q unheard u waiting w old begun ta tb tc td te tf ended
+status_told s history h queues q unheard u waiting w old begun ta tb tc td te tf ended
     is_begun is_a is_b is_c is_d is_e is_f is_ended =
     let a = list_tokens (codes "history") (map sample_value s.history.items) in
     let b = key (codes "numbers") ∷ tokens_of (numbers_value (number_rows s.numbers)) in
@@ -174,12 +190,11 @@ status_told s history h rows r queues q unheard u waiting w old begun ta tb tc t
     let f = list_tokens (codes "waiting") (map waiting_value s.waiting.items) in
     let to_a : ta ≡ begun ++ a = is_a ∙ ap (λ l. begun ++ list_tokens (codes "history") (map sample_value l))
     h in
-    let to_b : tb ≡ ta ++ b = is_b ∙ ap (λ l. ta ++ key (codes "numbers") ∷ tokens_of (numbers_value l)) r in
     let to_c : tc ≡ tb ++ c = is_c ∙ ap (λ l. tb ++ list_tokens (codes "queues") (map queue_value l)) q in
     let to_d : td ≡ tc ++ d = is_d ∙ ap (λ l. tc ++ list_tokens (codes "unheard") (map waiting_value l)) u in
     let to_f : tf ≡ te ++ f = is_f ∙ ap (λ l. te ++ list_tokens (codes "waiting") (map waiting_value l)) w in
     stacked old begun ta tb tc td te tf ended a b c d e f begin_object end_object
-    is_begun to_a to_b to_c to_d is_e to_f is_ended
+    is_begun to_a is_b to_c to_d is_e to_f is_ended
 
 -- what is printed of a value's tokens, after nothing
 pub value_told : (d : Data) (before text : List ℕ) (tokens : List Token)
@@ -207,24 +222,21 @@ family_told side rows name help is_name is_help old first text is_first is_text 
     ∙ append_assoc old head (flat_map (labelled_text side) rows)
 
 -- all numbers and both sides, from the lists that they were read off
-pub metrics_told : {A : Type 0} (g : A → MetricRow) (xs : List A) (s : HostStatus)
-    → map g xs ≡ number_rows s.numbers
+pub metrics_told : (s : HostStatus)
     → (items : List QueueRow) → items ≡ s.queues.items
     → (consumers : List QueueRow) → consumers ≡ s.queues.items
     → (old first second text : List ℕ)
-    → first ≡ old ++ flat_map (λ x. row_text (g x)) xs
+    → first ≡ old ++ flat_map row_text (number_rows s.numbers)
     → second ≡ first ++ family_text Items items
     → text ≡ second ++ family_text Consumers consumers
     → text ≡ old ++ families_text s
-metrics_told g xs s same items i consumers k old first second text is_first is_second is_text =
+metrics_told s items i consumers k old first second text is_first is_second is_text =
     let a = flat_map row_text (number_rows s.numbers) in
     let b = family_text Items s.queues.items in
     let c = family_text Consumers s.queues.items in
-    let to_a : first ≡ old ++ a =
-    is_first ∙ ap (λ t. old ++ t) (mapped row_text g xs ∙ ap (λ rs. flat_map row_text rs) same) in
     let to_b : second ≡ first ++ b = is_second ∙ ap (λ l. first ++ family_text Items l) i in
     let to_c : text ≡ second ++ c = is_text ∙ ap (λ l. second ++ family_text Consumers l) k in
-    to_c ∙ ap (λ t. t ++ c) to_b ∙ ap (λ t. (t ++ b) ++ c) to_a
+    to_c ∙ ap (λ t. t ++ c) to_b ∙ ap (λ t. (t ++ b) ++ c) is_first
     ∙ append_assoc (old ++ a) b c ∙ append_assoc old a (b ++ c)
 
 -- what comes after a head

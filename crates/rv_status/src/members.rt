@@ -2,7 +2,7 @@
 ghost use Rattle.std.specs.Prelude.{◌≡◌, [], ◌∷◌, ◌++◌, codes, flat_map, IfOk, map, OnOk};
 ghost use Rattle.json.specs.Token.{key};
 ghost use Rattle.serde_json.specs.Written.{compact_text};
-ghost use Rattle.rv_status.specs.Rows.{reading_row};
+ghost use Rattle.rv_status.specs.Rows.{number_rows, reading_row};
 ghost use Rattle.rv_status.specs.Values.{
   cell_token,
   list_tokens,
@@ -17,7 +17,10 @@ ghost use Rattle.rv_status.specs.Values.{
   waiting_value,
 };
 
-use crate::numbers::{StatusReading, readings};
+use crate::numbers::{
+    StatusNumbers, StatusReading, answer_readings, fault_readings, refusal_readings,
+    service_readings,
+};
 use crate::status::{HostStatus, QueueRow, StatusSample, WaitingRow};
 use json::Writer;
 use std::alloc::{AllocError, Global};
@@ -42,7 +45,7 @@ fn put_status(writer: &mut Writer, status: &HostStatus) -> Result<(), AllocError
 {
     writer.begin_object()?;
     put_history(writer, status.history.as_slice())?;
-    put_numbers(writer, &readings(&status.numbers))?;
+    put_numbers(writer, &status.numbers)?;
     put_queues(writer, status.queues.as_slice())?;
     put_requests(writer, "unheard", status.unheard.as_slice())?;
     put_version(writer, status.version)?;
@@ -93,15 +96,26 @@ fn put_sample(writer: &mut Writer, row: &StatusSample) -> Result<(), AllocError>
 }
 
 // The member of the numbers.
-fn put_numbers(writer: &mut Writer, readings: &[StatusReading]) -> Result<(), AllocError>
+fn put_numbers(writer: &mut Writer, numbers: &StatusNumbers) -> Result<(), AllocError>
     ensures tokens { OnOk result (writer.new.tokens ≡ writer.old.tokens
-        ++ key (codes "numbers") ∷ tokens_of (numbers_value (map reading_row readings.now))) }
+        ++ key (codes "numbers") ∷ tokens_of (numbers_value (number_rows numbers.now))) }
     ensures before { writer.new.before ≡ writer.old.before }
 {
     writer.key("numbers")?;
     writer.begin_object()?;
-    put_readings(writer, readings)?;
+    put_each_number(writer, numbers)?;
     writer.end_object()
+}
+
+fn put_each_number(writer: &mut Writer, numbers: &StatusNumbers) -> Result<(), AllocError>
+    ensures tokens { OnOk result (writer.new.tokens
+        ≡ writer.old.tokens ++ flat_map number_tokens (number_rows numbers.now)) }
+    ensures before { writer.new.before ≡ writer.old.before }
+{
+    put_readings(writer, &service_readings(numbers))?;
+    put_readings(writer, &fault_readings(numbers))?;
+    put_readings(writer, &refusal_readings(numbers))?;
+    put_readings(writer, &answer_readings(numbers))
 }
 
 fn put_readings(writer: &mut Writer, readings: &[StatusReading]) -> Result<(), AllocError>

@@ -2,7 +2,7 @@
 ghost use Rattle.std.specs.Prelude.{◌≡◌, ◌++◌, flat_map, IfOk, OnOk, string_bytes};
 ghost use Rattle.rv_status.specs.Histograms.{bucket_text, digits_text, part_text, seconds_text, totals_text};
 ghost use Rattle.rv_status.specs.Histograms.{values_text};
-ghost use Rattle.rv_status.specs.Rows.{reading_row};
+ghost use Rattle.rv_status.specs.Rows.{number_rows, reading_row};
 ghost use Rattle.rv_status.specs.Texts.{
   build_text,
   families_text,
@@ -21,7 +21,10 @@ ghost use Rattle.rv_status.specs.Texts.{
 };
 
 use crate::histogram::{Bucket, Histogram};
-use crate::numbers::{MetricKind, StatusReading, readings};
+use crate::numbers::{
+    MetricKind, StatusNumbers, StatusReading, answer_readings, fault_readings, refusal_readings,
+    service_readings,
+};
 use crate::status::{HostStatus, QueueRow, StatusTimes};
 use std::alloc::{AllocError, Global};
 
@@ -108,9 +111,20 @@ fn put_version(text: &mut String, version: &str) -> Result<(), AllocError>
 fn put_all(text: &mut String, status: &HostStatus) -> Result<(), AllocError>
     ensures { OnOk result (string_bytes text.new ≡ string_bytes text.old ++ families_text status.now) }
 {
-    put_readings(text, &readings(&status.numbers))?;
+    put_numbers(text, &status.numbers)?;
     put_family(text, QueueSide::Items, status.queues.as_slice())?;
     put_family(text, QueueSide::Consumers, status.queues.as_slice())
+}
+
+// The lines of all numbers.
+fn put_numbers(text: &mut String, numbers: &StatusNumbers) -> Result<(), AllocError>
+    ensures { OnOk result (string_bytes text.new
+        ≡ string_bytes text.old ++ flat_map row_text (number_rows numbers.now)) }
+{
+    put_readings(text, &service_readings(numbers))?;
+    put_readings(text, &fault_readings(numbers))?;
+    put_readings(text, &refusal_readings(numbers))?;
+    put_readings(text, &answer_readings(numbers))
 }
 
 // The lines of each reading.

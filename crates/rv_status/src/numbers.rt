@@ -1,5 +1,5 @@
 //! The numbers of a server, each with the name, the kind and the meaning that are shown with it.
-ghost use Rattle.std.specs.Prelude.{◌≡◌, map};
+ghost use Rattle.std.specs.Prelude.{◌≡◌, drop, map, take};
 ghost use Rattle.rv_status.specs.Pages.{is_full};
 ghost use Rattle.rv_status.specs.Rows.{first_numbers, kind_word, number_rows, reading_row};
 
@@ -163,11 +163,11 @@ macro_rules! table {
     };
 }
 
-/// All numbers, in the byte order of their names.
-pub(crate) fn readings(numbers: &StatusNumbers) -> [StatusReading; 59]
-    ensures { map reading_row result ≡ number_rows numbers.now }
+/// The first numbers, in the byte order of their names: from the account's to the epoch.
+pub(crate) fn service_readings(numbers: &StatusNumbers) -> [StatusReading; 17]
+    ensures { map reading_row result ≡ take 17 (number_rows numbers.now) }
 {
-    let (faults, answers, calls) = (numbers.faults, numbers.answers, numbers.calls);
+    let calls = numbers.calls;
     table! {
         Counter "rv_account_bytes_total" = numbers.account_bytes,
             "Bytes written to the account file, none without one.";
@@ -189,6 +189,15 @@ pub(crate) fn readings(numbers: &StatusNumbers) -> [StatusReading; 59]
         Counter "rv_entries_total" = numbers.entries,
             "Entries of the account: hellos, requests, cancels, and moments at which waits ended.";
         Gauge "rv_epoch" = numbers.epoch, "The epoch, which is one start of the server.";
+    }
+}
+
+/// The next ones: faults.
+pub(crate) fn fault_readings(numbers: &StatusNumbers) -> [StatusReading; 12]
+    ensures { map reading_row result ≡ take 12 (drop 17 (number_rows numbers.now)) }
+{
+    let faults = numbers.faults;
+    table! {
         Counter "rv_fault_accept_total" = faults.accept, "Accepts that failed.";
         Counter "rv_fault_account_total" = faults.account,
             "Looks, one a second, that found the account file removed, renamed or cut.";
@@ -208,6 +217,15 @@ pub(crate) fn readings(numbers: &StatusNumbers) -> [StatusReading; 59]
             "Connections closed in the middle of a frame, or since their peer took no answer.";
         Counter "rv_fault_unwritten_total" = faults.unwritten,
             "Turns in which lines of the account found no memory.";
+    }
+}
+
+/// The next ones: open places, and refusals that left.
+pub(crate) fn refusal_readings(numbers: &StatusNumbers) -> [StatusReading; 14]
+    ensures { map reading_row result ≡ take 14 (drop 29 (number_rows numbers.now)) }
+{
+    let answers = numbers.answers;
+    table! {
         Gauge "rv_open_places" = numbers.open_places, "Items and requests that are open.";
         Gauge "rv_open_places_limit" = numbers.open_places_limit, "How many items and requests may be open.";
         Counter "rv_refused_bad_text_total" = answers[0], "Refusals 1 that left: bodies that are no message.";
@@ -233,6 +251,15 @@ pub(crate) fn readings(numbers: &StatusNumbers) -> [StatusReading; 59]
             "Refusals 2 that left: messages of another epoch.";
         Counter "rv_refused_other_version_total" = answers[11],
             "Refusals 12 that left: hellos of another version than the session's.";
+    }
+}
+
+/// The last ones: requests that wait, other answers that left, and the time since the start.
+pub(crate) fn answer_readings(numbers: &StatusNumbers) -> [StatusReading; 16]
+    ensures { map reading_row result ≡ take 16 (drop 43 (number_rows numbers.now)) }
+{
+    let answers = numbers.answers;
+    table! {
         Gauge "rv_requests_unheard" = numbers.requests_unheard,
             "Requests that wait with no connection of their client.";
         Gauge "rv_requests_waiting" = numbers.requests_waiting, "Requests that wait.";

@@ -207,8 +207,8 @@ impl StatusPage {
     {
         match self {
             StatusPage::Front => Ok(Bytes::from_static(PAGE)),
-            StatusPage::Status => Ok(Bytes::from_vec(status_json(alloc, status)?)?),
-            StatusPage::Metrics => Ok(Bytes::from_vec(metrics_of(alloc, status)?)?),
+            StatusPage::Status => bytes_of(status_json(alloc, status)?),
+            StatusPage::Metrics => bytes_of(metrics_of(alloc, status)?),
             StatusPage::Health => Ok(Bytes::from_static(b"turning\n")),
             StatusPage::Ready => Ok(Bytes::from_static(ready_word(status.numbers.is_full()))),
             StatusPage::Elsewhere => Ok(Bytes::from_static(b"no such host: --status-name\n")),
@@ -216,6 +216,13 @@ impl StatusPage {
             StatusPage::NotAllowed => Ok(Bytes::from_static(b"GET or HEAD\n")),
         }
     }
+}
+
+// A text as a body. Fails only if memory was refused.
+fn bytes_of(text: Vec<u8>) -> Result<Bytes, AllocError>
+    ensures { IfOk result (λ body. body ≡ text.items) }
+{
+    Ok(Bytes::from_vec(text)?)
 }
 
 // The HTTP status that says whether a server is full.

@@ -1,0 +1,6 @@
+-- Each reading says its row.
+use Rattle.std.proofs.Common.{refl}
+use Rattle.rv_status.proofs.numbers.answer_readings.Goals as goal
+
+pub returns : goal.returns
+returns c = refl
