@@ -73,7 +73,7 @@ bench: build
 	@tools/bench/verified.py $(PROGRAM)
 	@tools/bench/instructions.py $(PROGRAM) $(STEPS)
 	@tools/bench/bench.py $(PROGRAM) $(STEPS) $(if $(OLD),--old $(OLD))
-	@tools/bench/host.py $(PROGRAM)
+	@tools/bench/host.py $(PROGRAM) $(if $(OLD),--old $(OLD))
 	@tools/bench/status.py $(PROGRAM)
 
 # the proved program: as it is where its mark fits the sources, else proved and built

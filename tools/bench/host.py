@@ -1,12 +1,14 @@
 #!/usr/bin/env python3
 """Measures `rv host` by a compiled driver, beside `redis-server` where it is installed: LPUSH and BRPOP, with nothing on disk,
 and `--account` beside an append-only file that is never synced. Each number is the middle one of some runs, in turn, so that both
-servers meet the same machine. Then what idle clients cost, and what connections hold.
+servers meet the same machine. Where another program is given, its host is measured in turn with them. Then what idle clients cost,
+and what connections hold.
 
-usage: tools/bench/host.py PROGRAM
+usage: tools/bench/host.py PROGRAM [--old PROGRAM]
 """
 from __future__ import annotations
 
+import argparse
 import contextlib
 import pathlib
 import shutil
@@ -103,13 +105,13 @@ def middle(taken: list[tuple[float, ...]]) -> list[float]:
 
 
 def tell(servers: dict[str, list[float]], names: tuple[str, ...]) -> None:
-    """The numbers of each server in microseconds, and how many times those of Redis the first ones are."""
+    """The numbers of each server in microseconds, and how many times those of each other one the first ones are."""
     for name, numbers in servers.items():
         print(f"  {name:8}" + ", ".join(f"{1e6 * number:8.2f} µs {what}" for number, what in zip(numbers, names)), flush=True)
-    if len(servers) == 2:
-        ours, theirs = servers.values()
-        print("  ratio   " + ", ".join(f"{our / max(their, 1e-9):8.2f}    {what}" for our, their, what in zip(ours, theirs, names)),
-              flush=True)
+    ours, *others = servers.items()
+    for name, theirs in others:
+        ratios = (our / max(their, 1e-9) for our, their in zip(ours[1], theirs))
+        print(f"  / {name:6}" + ", ".join(f"{ratio:8.2f}    {what}" for ratio, what in zip(ratios, names)), flush=True)
 
 
 def beside(starts: dict[str, Start]) -> None:
@@ -161,19 +163,23 @@ def held(start: Start) -> None:
 
 
 def main() -> None:
-    if len(sys.argv) != 2:
-        sys.exit((__doc__ or "").strip().split("\n")[-1])
+    parser = argparse.ArgumentParser(description=(__doc__ or "").split("\n\n")[0])
+    parser.add_argument("program", metavar="PROGRAM")
+    parser.add_argument("--old", metavar="PROGRAM", help="another program, whose host is measured beside it")
+    arguments = parser.parse_args()
     if driver.missing():
         print(f"rv host was not measured: {driver.missing()}")
         return
     driver.built()
     many.room()
-    program, other = sys.argv[1], shutil.which("redis-server")
+    program, old, other = arguments.program, arguments.old, shutil.which("redis-server")
     starts: dict[str, Start] = {"rv host": lambda keeps: host(program, keeps)}
+    if old:
+        starts["old"] = lambda keeps: host(old, keeps)
     if other:
         starts["redis"] = lambda keeps: redis(str(other), keeps)
     else:
-        print("redis-server is missing: rv host is measured alone")
+        print("redis-server is missing: rv host is not compared with it")
     beside(starts)
     idle(starts)
     held(starts["rv host"])

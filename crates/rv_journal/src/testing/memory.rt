@@ -128,11 +128,13 @@ fn mixed(
     Ok(new)
 }
 
-// A file that is written anew call by call: what is seen of it, and what a crash leaves by these bits.
+// A file that is written anew call by call: what is seen of it, and what a crash leaves by a number's bits.
 #[derive(Drop)]
 struct Replay {
     seen: Vec<u8>,
     left: Vec<u8>,
+    number: u64,
+    // those that are left for the bytes since the last sync
     bits: u64,
 }
 
@@ -148,7 +150,10 @@ impl Replay {
                 self.left = mixed(alloc, &self.left, *at, bytes, &mut self.bits)?;
                 self.seen = overwritten(alloc, &self.seen, *at, bytes)?;
             }
-            DeviceCall::Sync => self.left = self.seen.to_vec(alloc)?,
+            DeviceCall::Sync => {
+                self.left = self.seen.to_vec(alloc)?;
+                self.bits = self.number;
+            }
         }
         Ok(())
     }
@@ -178,14 +183,15 @@ fn record(calls: &mut Vec<DeviceCall>, call: DeviceCall) -> Result<(), AllocErro
 }
 
 impl KeptCalls {
-    // What a crash leaves of it by these bits.
-    fn left(&self, alloc: Global, bits: u64) -> Result<Vec<u8>, AllocError>
+    // What a crash leaves of it by the bits of this number.
+    fn left(&self, alloc: Global, number: u64) -> Result<Vec<u8>, AllocError>
         ensures { IfOk result (λ left. LeavesOf self.now.first.items self.now.calls.items left.items) }
     {
         let mut replay = Replay {
             seen: self.first.to_vec(alloc)?,
             left: self.first.to_vec(alloc)?,
-            bits,
+            number,
+            bits: number,
         };
         for call in self.calls.iter() {
             replay.call(alloc, call)?;

@@ -10,8 +10,8 @@ use Rattle.rv_journal.proofs.Causes.{create_why}
 use Rattle.rv_journal.proofs.Zeros.{zeros_same}
 use Rattle.rv_journal.proofs.creating.begin.Goals as goal
 
-short : (size zeros most : ℕ) → size ≤ zeros → zeros ≡ most → size ≤ most
-short size zeros most le is = omega (arith, le, is)
+short : (size count most : ℕ) → size ≤ count → count ≡ most → size ≤ most
+short size count most le is = omega (arith, le, is)
 
 on_ok : {T E : Type 0} (r : Result T E) (P : Type 0) → P → OnOk r P
 on_ok (Ok x) P so = so

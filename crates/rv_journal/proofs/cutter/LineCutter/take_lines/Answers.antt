@@ -1,4 +1,4 @@
-use Rattle.std.proofs.Common.{◌≡◌, ◌<◌, ◌+◌, Bool, false, List, ℕ, length, refl, sym, ◌∙◌, ap, subst, arith}
+use Rattle.std.proofs.Common.{◌≡◌, ◌<◌, ◌+◌, ◌++◌, Bool, false, List, ℕ, length, refl, sym, ◌∙◌, ap, subst, arith}
 use Rattle.std.specs.Prelude.{◌==◌}
 use Rattle.std.proofs.lemmas.Bool.Decides.{nat_tests}
 use Rattle.rv_journal.specs.Text.{IsLines}
@@ -22,7 +22,7 @@ returns-in-Err-clause-refused g c first front had =
     (some (length c.args.lines.now) c.is_empty.result c.is_empty.ensures c.if-is_empty.false)
     g.R.JournalReader.refuses g.met.R.JournalReader.refused_on c.in-Err.why
     (subst (λ (l : List ℕ). g.R.JournalReader.refuses c.args.reader.now l c.in-Err.why)
-    (c.deref.ensures.value ∙ c.in_ok-extend_from_slice.ensures.items) c.in-Err.ensures.refused)
+    {y = c.args.self.now.rest.items ++ c.args.lines.now} (c.deref.ensures.value ∙ c.in_ok-extend_from_slice.ensures.items) c.in-Err.ensures.refused)
 
 pub returns-clause-taken : goal.returns-clause-taken
 returns-clause-taken g c first front had =
@@ -31,7 +31,8 @@ returns-clause-taken g c first front had =
     c.args.lines.now c.requires.lines c.requires.text
     (some (length c.args.lines.now) c.is_empty.result c.is_empty.ensures c.if-is_empty.false)
     g.met.R.JournalReader.joined c.take.new.self
-    (subst (λ (l : List ℕ). g.R.JournalReader.takes c.args.reader.now l c.take.new.self) is
+    (subst (λ (l : List ℕ). g.R.JournalReader.takes c.args.reader.now l c.take.new.self)
+    {y = c.args.self.now.rest.items ++ c.args.lines.now} is
     c.in_default.ensures.taken)
     _ (ap (λ (n : ℕ). c.args.self.now.end + n) (c.len.ensures ∙ sym c.deref.ensures.len ∙ ap length is))
     c.clear.ensures.items refl
