@@ -63,7 +63,7 @@ package-test: deb
 # what a machine and rv verify take as entries grow, and what a machine holds; what a hub's connection holds and its events cost; the
 # instructions of a line, if valgrind is there;
 # lines a second and memory a line, beside a plain loop that reads and writes the same JSON; what a line costs in full tables,
-# with OLD=PROGRAM beside that of another build; and rv host beside redis-server, and what its status page costs
+# with OLD=PROGRAM beside that of another build; and rv host beside redis-server and that build, and what its status page costs
 bench: build
 	@command -v python3 > /dev/null || { echo "python3 is missing: the measurement is written in it" >&2; exit 1; }
 	@tools/build.py rv_steps
