@@ -36,7 +36,11 @@ last_leaves was file (Sync ∷ calls) call c left = last_leaves (λ new. new ≡
 -- what may be left of one file may be left of all that has it
 one_of : (was : List ℕ → Type 0) (one seen : List ℕ) → was one → (call : DeviceCall) (c : List ℕ)
     → LeavesAfter (λ d. d ≡ one) seen (call ∷ []) c → LeavesAfter was seen (call ∷ []) c
-one_of was one seen so (Write at bytes) c left = (left.0, subst (λ (d : List ℕ). was d) (sym left.1) so, left.2)
+one_of was one seen so (Write at bytes) c left = (
+  left.0,
+  subst (λ (d : List ℕ). was d) (sym left.1) so,
+  left.2,
+)
 one_of was one seen so Sync c left = left
 
 -- a file is written anew call by call
@@ -54,8 +58,8 @@ pub one_replayed : (first : List ℕ) (calls : List DeviceCall) (seen left : Lis
 one_replayed first calls seen left had call then_seen then_left seen_is left_is = record {
   seen_is = seen_is ∙ ap (λ (l : List ℕ). after_call l call) had.seen_is ∙ sym (after_last first calls call);
   left_is = last_leaves (λ d. d ≡ first) first calls call then_left (one_of (LeavesOf first calls) left
-      (after_calls first calls) had.left_is call then_left (subst (λ (l : List ℕ). LeavesAfter (λ d. d ≡ left) l
-      (call ∷ []) then_left) had.seen_is left_is));
+      (after_calls first calls) had.left_is call then_left
+      (subst (λ (l : List ℕ). LeavesAfter (λ d. d ≡ left) l (call ∷ []) then_left) had.seen_is left_is));
 }
 
 module _ (old new : MemoryState) (call : DeviceCall) (is : IsCalled call old new) where

@@ -51,7 +51,8 @@ part_told f g rows from count part is old before after is_before is_after =
     ∙ ap (λ l. l ++ flat_map (λ x. f (g x)) part) is_before
     ∙ append_assoc old (flat_map f front) (flat_map (λ x. f (g x)) part)
     ∙ ap (λ l. old ++ (flat_map f front ++ l)) (mapped f g part ∙ ap (flat_map f) is)
-    ∙ ap (λ l. old ++ l) (sym (flat_map-append f front next) ∙ ap (flat_map f) (sym (take-add from count rows)))
+    ∙ ap (λ l. old ++ l) (sym (flat_map-append f front next)
+    ∙ ap (flat_map f) (sym (take-add from count rows)))
 
 items_told : {A : Type 0} (f : A → Data) (rows : List A)
     → items_tokens (items_outline (items_of (map f rows))) ≡ flat_map (λ row. tokens_of (f row)) rows ++

@@ -1,4 +1,5 @@
-use Rattle.std.proofs.Common.{◌≡◌, ◌<◌, ◌+◌, ◌++◌, Bool, false, List, ℕ, length, refl, sym, ◌∙◌, ap, subst, arith}
+use Rattle.std.proofs.Common.{◌≡◌, ◌<◌, ◌+◌, ◌++◌, Bool, false, List, ℕ, length, refl, sym, ◌∙◌, ap, subst}
+use Rattle.std.proofs.Common.{arith}
 use Rattle.std.specs.Prelude.{◌==◌}
 use Rattle.std.proofs.lemmas.Bool.Decides.{nat_tests}
 use Rattle.rv_journal.specs.Text.{IsLines}
@@ -22,7 +23,8 @@ returns-in-Err-clause-refused g c first front had =
     (some (length c.args.lines.now) c.is_empty.result c.is_empty.ensures c.if-is_empty.false)
     g.R.JournalReader.refuses g.met.R.JournalReader.refused_on c.in-Err.why
     (subst (λ (l : List ℕ). g.R.JournalReader.refuses c.args.reader.now l c.in-Err.why)
-    {y = c.args.self.now.rest.items ++ c.args.lines.now} (c.deref.ensures.value ∙ c.in_ok-extend_from_slice.ensures.items) c.in-Err.ensures.refused)
+    {y = c.args.self.now.rest.items ++ c.args.lines.now} (c.deref.ensures.value
+    ∙ c.in_ok-extend_from_slice.ensures.items) c.in-Err.ensures.refused)
 
 pub returns-clause-taken : goal.returns-clause-taken
 returns-clause-taken g c first front had =

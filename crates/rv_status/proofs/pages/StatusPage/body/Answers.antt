@@ -45,7 +45,8 @@ returns-in-Unknown c =
 
 pub returns-in-NotAllowed : goal.returns-in-NotAllowed
 returns-in-NotAllowed c =
-    of_page c.args.status.now c.args.self pages.NotAllowed c.from_static-in-NotAllowed.result c.in-NotAllowed.is
+    of_page c.args.status.now c.args.self pages.NotAllowed c.from_static-in-NotAllowed.result
+    c.in-NotAllowed.is
     c.from_static-in-NotAllowed.ensures
 
 pub returns-in-Ready : goal.returns-in-Ready

@@ -8,8 +8,8 @@ use Rattle.rv_journal.proofs.testing.failing.FailingDeviceDevice.write_at.Goals 
 
 pub returns-then-not-is_made-clause-writes : goal.returns-then-not-is_made-clause-writes
 returns-then-not-is_made-clause-writes g c = failing_written g.D.Device.disk c.args.self.now
-    c.is_made.new.self c.args.self.now.device c.args.self.now.device refl (sym c.is_made.ensures.device) c.args.at
-    c.args.bytes.now
+    c.is_made.new.self c.args.self.now.device c.args.self.now.device refl (sym c.is_made.ensures.device)
+    c.args.at c.args.bytes.now
     (nothing_written g.D.Device.disk c.args.self.now.device c.args.self.now.device refl c.args.at
     c.args.bytes.now)
 
