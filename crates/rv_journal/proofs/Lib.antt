@@ -20,3 +20,4 @@ mod Cutting
 mod Beginning
 mod FailingDevices
 mod Unchanged
+mod Systems

@@ -1,6 +1,8 @@
 -- What is told where the device failed, and what ends a journal.
 use Rattle.std.specs.Prelude.{Bool, false, true}
-use Rattle.rv_journal.specs.declared.device.DeviceFault.TheVariants.{Failed}
+use Rattle.std.specs.declared.io.ErrorKind.{ErrorKind}
+use Rattle.std.specs.declared.io.ErrorKind.TheVariants as kind
+use Rattle.rv_journal.specs.declared.device.DeviceFault.TheVariants.{Failed, NoMemory}
 use Rattle.rv_journal.specs.declared.fault.CreateFault.{CreateFault}
 use Rattle.rv_journal.specs.declared.fault.CreateFault.TheVariants as OfCreate
 use Rattle.rv_journal.specs.declared.fault.JournalFault.{JournalFault}
@@ -20,6 +22,14 @@ ends_journal OfJournal.NotText = false
 ends_journal OfJournal.Full = false
 ends_journal (OfJournal.Device why) = true
 ends_journal OfJournal.Failed = true
+
+-- its kind as a writer's error
+abbrev pub fault_kind : JournalFault → ErrorKind
+fault_kind OfJournal.NotText = kind.InvalidInput
+fault_kind OfJournal.Full = kind.FileTooLarge
+fault_kind (OfJournal.Device NoMemory) = kind.OutOfMemory
+fault_kind (OfJournal.Device Failed) = kind.Other
+fault_kind OfJournal.Failed = kind.Other
 
 -- by one that makes a journal
 abbrev pub create_failed : CreateFault

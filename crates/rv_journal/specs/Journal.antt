@@ -1,5 +1,5 @@
 -- A journal as contracts see it.
-use Rattle.std.specs.Prelude.{◌≡◌, ◌++◌, ℕ, Bool, false, List, take}
+use Rattle.std.specs.Prelude.{◌≡◌, ◌++◌, ℕ, Bool, false, List, None, Option, Some, if◌then◌else◌, take}
 use Rattle.rv_journal.specs.Device.{Disk, WhereTold}
 use Rattle.rv_journal.specs.Filled.{TakesPieces}
 use Rattle.rv_journal.specs.Text.{before_zero}
@@ -17,6 +17,10 @@ journal_state parts = record { device = parts.file.device; end = parts.file.end;
 -- its text
 abbrev pub journal_text : {D : Type 0} → Disk D → JournalState D → List ℕ
 journal_text disk journal = take journal.end (disk.seen journal.device)
+
+-- the same as a writer's contents, where its device tells what it holds
+abbrev pub journal_contents : {D : Type 0} → Disk D → JournalState D → Option (List ℕ)
+journal_contents disk journal = if disk.tells journal.device then Some (journal_text disk journal) else None
 
 -- a crash leaves a file of its text
 abbrev pub IsDurable : {D : Type 0} → Disk D → JournalState D → Type 0

@@ -7,4 +7,5 @@ pub mod Failing
 pub mod Journal
 pub mod Memory
 pub mod Opened
+pub mod System
 pub mod Text

@@ -18,9 +18,12 @@ mod opening;
 mod reader;
 mod reading;
 mod rewriting;
+mod system;
 pub mod testing;
+mod writer;
 
 pub use device::{Device, DeviceFault};
 pub use fault::{CreateFault, JournalFault, OpenFault};
 pub use journal::DiskJournal;
 pub use reader::JournalReader;
+pub use system::SystemFile;
