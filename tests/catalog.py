@@ -23,6 +23,7 @@ MODULES = [
     "commands.waits",
     "commands.steps",
     "commands.decoding",
+    "journal.killed",
     "model.compare",
     "model.states",
     "model.hubs",

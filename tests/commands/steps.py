@@ -18,11 +18,12 @@ usage: rv_steps machine ENTRIES CLIENTS OPEN|none [anew | turns COUNT]
        rv_steps hub ENTRIES CLIENTS OPEN|none PATIENCE journal|none
        rv_steps json
        rv_steps bodies
+       rv_steps journal FILE
 with limits that a step may have
 """
 # Words that name no task, or limits that no step may have.
 OTHERS = ["", "machine 4 1", "machine 4 1 1 again", "machine 9007199254740992 1 1", "hub 8 4 4 500", "hub 8 4 4 500 yes", "json 1",
-          "bodies 1"]
+          "bodies 1", "journal", "journal 1 2"]
 
 
 def framed(body: str) -> str:

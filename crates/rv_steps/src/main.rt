@@ -1,4 +1,5 @@
-//! A program for tests, which runs steps of a machine or events of a hub, and reads JSON and bodies.
+//! A program for tests, which runs steps of a machine or events of a hub, reads JSON and bodies, and adds to
+//! a journal.
 //!
 //! ```sh
 //! $ printf '0 {"a":1, "b":[]}\n' | rv_steps json
@@ -20,6 +21,9 @@
 //! `bodies`: for each line's body, in hexadecimal digits, or a lone `-` for none, it prints what the body is
 //! read as: the message, the answer and the call, with a tab between them, each written again, or the number
 //! of its fault. A call is written as the request whose key has 1 for each number.
+//!
+//! `journal FILE`: the file is opened as a journal, or made where there is none, and its lines are printed, and
+//! an empty one. Then each line of standard input is added, and printed once it is stored.
 #![tactic(auto)]
 
 ghost use Rattle.rv_rules.specs.StepLimits.{AreStepLimits};
@@ -30,6 +34,7 @@ mod bodies;
 mod driver;
 mod events;
 mod hexes;
+mod journals;
 mod json;
 mod steps;
 mod telling;
@@ -38,6 +43,7 @@ mod words;
 
 use bodies::read_bodies;
 use driver::{Driver, answer, begin};
+use journals::add_lines;
 use json::rewrite_lines;
 use rv_frame::Source;
 use rv_lines::first_line;
@@ -49,7 +55,7 @@ use std::env;
 use std::io::{BufWriter, Write};
 use std::process::ExitCode;
 use turns::take_turns;
-use words::{Beginning, Task, Work, is_bodies, is_json, work_of};
+use words::{Beginning, Task, Work, is_bodies, is_json, journal_of, work_of};
 
 // The epoch of the machine.
 const EPOCH: u64 = 1;
@@ -58,6 +64,7 @@ const USAGE: &str = "usage: rv_steps machine ENTRIES CLIENTS OPEN|none [anew | t
        rv_steps hub ENTRIES CLIENTS OPEN|none PATIENCE journal|none
        rv_steps json
        rv_steps bodies
+       rv_steps journal FILE
 with limits that a step may have";
 
 // Words that name no task, or limits that no step may have, get the usage on standard error.
@@ -68,6 +75,9 @@ fn main(rt: HostRuntime) -> anyhow::Result<ExitCode> {
     }
     if is_bodies(&words) {
         return read_bodies(&rt);
+    }
+    if let Some(path) = journal_of(&words) {
+        return add_lines(&rt, path);
     }
     match work_of(&words) {
         Some(work) => run(&rt, work),

@@ -50,6 +50,11 @@ pub(crate) fn is_bodies(words: &[String]) -> bool {
     words.len() == 2 && is_word(&words[1], "bodies")
 }
 
+/// The file that the words after the program's name name as a journal, if they do.
+pub(crate) fn journal_of(words: &[String]) -> Option<&str> {
+    (words.len() == 3 && is_word(&words[1], "journal")).then(|| words[2].as_str())
+}
+
 /// What the words after the program's name ask to be done under limits, if they do.
 pub(crate) fn work_of(words: &[String]) -> Option<Work>
     ensures { IfSome result (λ work. AreStepLimits work.limits) }

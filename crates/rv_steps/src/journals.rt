@@ -1,0 +1,80 @@
+//! A journal on a file of the system, to which lines are added until the program is killed.
+use anyhow::bail;
+use rv_journal::{DiskJournal, SystemFile};
+use std::alloc::Global;
+use std::fs::{self, File, OpenOptions};
+use std::io::{self, BufRead, BufReader, ErrorKind, Write};
+use std::process::ExitCode;
+
+/// Opens the journal of a file, or makes one where there is no file, and prints its lines and an empty one.
+/// Then each line of standard input is added, and printed once it is stored.
+pub(crate) fn add_lines(rt: &HostRuntime, path: &str) -> anyhow::Result<ExitCode> {
+    let mut lines = Vec::new(rt.alloc());
+    let mut journal = open_or_make(rt, path, &mut lines)?;
+    let mut output = rt.stdout();
+    output.write_all(&lines)?;
+    output.write_all(b"\n")?;
+    output.flush()?;
+    add_each(rt, &mut journal, &mut output)
+}
+
+// Adds each line of standard input, and prints it.
+fn add_each<J: Write, W: Write>(
+    rt: &HostRuntime,
+    journal: &mut J,
+    output: &mut W,
+) -> anyhow::Result<ExitCode> {
+    let mut input = BufReader::new(rt.alloc(), rt.stdin())?;
+    let mut line = Vec::new(rt.alloc());
+    for _line in 0..u64::MAX {
+        if input.read_until(b'\n', &mut line)? == 0 {
+            break;
+        }
+        journal.write_all(&line)?;
+        output.write_all(&line)?;
+        output.flush()?;
+        line.clear();
+    }
+    Ok(ExitCode::SUCCESS)
+}
+
+// Opens the journal of a file, and takes its lines; or makes one where there is no file.
+fn open_or_make(
+    rt: &HostRuntime,
+    path: &str,
+    lines: &mut Vec<u8>,
+) -> anyhow::Result<DiskJournal<SystemFile>> {
+    match OpenOptions::new().read(true).write(true).open(rt, path) {
+        Ok(file) => open(rt.alloc(), file, lines),
+        Err(error) if error.kind() == ErrorKind::NotFound => make(rt, path),
+        Err(error) => Err(error.into()),
+    }
+}
+
+fn open(
+    alloc: Global,
+    file: File,
+    lines: &mut Vec<u8>,
+) -> anyhow::Result<DiskJournal<SystemFile>> {
+    match DiskJournal::open(alloc, SystemFile::new(file), lines) {
+        Ok(journal) => Ok(journal),
+        Err((fault, _file)) => bail!("{fault}"),
+    }
+}
+
+// Makes a journal without a line under another name, and renames it.
+fn make(rt: &HostRuntime, path: &str) -> anyhow::Result<DiskJournal<SystemFile>> {
+    let name = format!(in rt.alloc(); "{path}.new")?;
+    let file = OpenOptions::new()
+        .read(true)
+        .write(true)
+        .create(true)
+        .open(rt, name.as_str())?;
+    match DiskJournal::create(rt.alloc(), SystemFile::new(file), b"") {
+        Ok(journal) => {
+            fs::rename(rt, name.as_str(), path)?;
+            Ok(journal)
+        }
+        Err((fault, _file)) => bail!("{fault}"),
+    }
+}

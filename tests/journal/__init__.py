@@ -1,0 +1,1 @@
+"""Tries journals on files of the system."""
