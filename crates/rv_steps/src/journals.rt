@@ -51,11 +51,7 @@ fn open_or_make(
     }
 }
 
-fn open(
-    alloc: Global,
-    file: File,
-    lines: &mut Vec<u8>,
-) -> anyhow::Result<DiskJournal<SystemFile>> {
+fn open(alloc: Global, file: File, lines: &mut Vec<u8>) -> anyhow::Result<DiskJournal<SystemFile>> {
     match DiskJournal::open(alloc, SystemFile::new(file), lines) {
         Ok(journal) => Ok(journal),
         Err((fault, _file)) => bail!("{fault}"),

@@ -130,6 +130,7 @@ fn opens_with(rt: &impl Abort, alloc: Global, left: Memory, want: &[u8]) {
 
 // Two lines and three bytes, and how many ways there are to store or lose each of these.
 const SHORT: &[u8] = b"A\nB\nC\0D";
+
 const WAYS: u64 = 8;
 
 // Opens what a crash leaves of a file, in each way.
@@ -171,7 +172,11 @@ fn opens_with_or_without(rt: &impl Abort, alloc: Global, left: Memory) {
     match DiskJournal::open(alloc, left, &mut lines) {
         Ok(_) => {
             let is_whole = lines.as_slice() == b"A\nB\nE\n".as_slice();
-            holds(rt, is_whole || lines.as_slice() == b"A\nB\n".as_slice(), "a torn line");
+            holds(
+                rt,
+                is_whole || lines.as_slice() == b"A\nB\n".as_slice(),
+                "a torn line",
+            );
         }
         Err((fault, _)) => holds(rt, false, fault),
     }
@@ -209,7 +214,12 @@ fn a_crash_after_a_piece_leaves_it(rt: HostRuntime) {
         Ok(mut journal) => {
             same(&rt, journal.append(b"E\n"), Ok(()));
             let crashed = journal.into_device().after_crash(rt.alloc(), 0);
-            opens_with(&rt, rt.alloc(), crashed.expect(&rt, "no memory"), b"A\nB\nE\n");
+            opens_with(
+                &rt,
+                rt.alloc(),
+                crashed.expect(&rt, "no memory"),
+                b"A\nB\nE\n",
+            );
         }
         Err((fault, _)) => holds(&rt, false, fault),
     }

@@ -32,6 +32,9 @@ pub returns : goal.returns
 returns c =
     let calls = c.args.self.now.calls.items in
     subst (λ (l : List DeviceCall). LeavesOf c.args.self.now.first.items l c.loop-call.replay.left.items)
-    (take_all c.loop-call.call-index calls (omega (arith, c.loop-call-test.false,
-    ap length c.deref-call-items.ensures.value)))
+    (take_all c.loop-call.call-index calls (omega (
+      arith,
+      c.loop-call-test.false,
+      ap length c.deref-call-items.ensures.value,
+    )))
     c.loop-call.invariant.left_is
