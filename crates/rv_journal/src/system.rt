@@ -1,5 +1,5 @@
 //! A file of the system as a device, which tells nothing of what it holds.
-ghost use Rattle.std.specs.Prelude.{◌≡◌, false, true};
+ghost use Rattle.std.specs.Prelude.{◌≡◌, false, option_map, true};
 ghost use Rattle.rv_journal.specs.System.{has_fault, system_disk};
 ghost use Rattle.rv_journal.specs.declared.device.DeviceFault.TheVariants.{Failed};
 
@@ -15,8 +15,8 @@ const MOST: usize = 1 << 63;
 /// A file of the system, opened to be read and written, and not to be appended to: there each write would go
 /// to its end.
 ///
-/// Contracts see whether it failed, and nothing of its bytes: that the system does as [`Device`] says is taken
-/// on trust, as of a socket.
+/// Contracts see whether it failed, and nothing of its bytes: that the system does as [`Device`] says is
+/// taken on trust, as of a socket.
 #[derive(Drop)]
 pub struct SystemFile {
     file: File,
@@ -32,10 +32,10 @@ impl SystemFile {
     }
 
     /// Why its first call failed that did.
-    pub fn fault(&self) -> Option<io::Error>
-        ensures { result ≡ self.now.fault }
+    pub fn fault(&self) -> Option<&io::Error>
+        ensures { option_map (λ why. why.now) result ≡ self.now.fault }
     {
-        self.fault
+        self.fault.as_ref()
     }
 
     // Keeps why a call failed, if none did before.

@@ -22,8 +22,8 @@
 //! read as: the message, the answer and the call, with a tab between them, each written again, or the number
 //! of its fault. A call is written as the request whose key has 1 for each number.
 //!
-//! `journal FILE`: the file is opened as a journal, or made where there is none, and its lines are printed, and
-//! an empty one. Then each line of standard input is added, and printed once it is stored.
+//! `journal FILE`: the file is opened as a journal, or made where there is none, and its lines are printed,
+//! and an empty one. Then each line of standard input is added, and printed once it is stored.
 #![tactic(auto)]
 
 ghost use Rattle.rv_rules.specs.StepLimits.{AreStepLimits};
