@@ -23,7 +23,7 @@ MODULES = [
     "commands.waits",
     "commands.steps",
     "commands.decoding",
-    "journal.killed",
+    "journal.run",
     "model.compare",
     "model.states",
     "model.hubs",
