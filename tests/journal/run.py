@@ -1,5 +1,5 @@
 """Kills a writer on a journal's file at random moments: each line that it printed as stored is found, in order, and no other line
-than those that were sent. Files of any bytes are opened or refused. What a crash of the system would leave is proved (crates/rv_journal), not tried here.
+than those that were sent. Files of any bytes are opened or refused. What a crash of the system would leave is proved, not tried.
 """
 from __future__ import annotations
 
