@@ -4,7 +4,7 @@ use Rattle.rv_traffic.specs.declared.traffic.Switchboard.{Switchboard}
 use Rattle.rv_traffic.specs.CallRuns.{OnlyCalls, RunsOnDevice, RunsWith}
 use Rattle.rv_traffic.proofs.CallsRun.{calls_none}
 use Rattle.rv_traffic.proofs.OneDevice.{calls_with, with_join}
-use Rattle.rv_host.specs.declared.journal.Journal.{Journal}
+use Rattle.rv_host.specs.declared.account_file.AccountFile.{AccountFile}
 use Rattle.rv_host.specs.Turns.{device_in}
 
 -- nothing was called
@@ -19,21 +19,21 @@ calls_to {S = S} one other same is calls = subst (λ (t : Switchboard S). OnlyCa
 -- ---- over the file of an account, if there is one
 
 module _ {S W : Type 0} (contents : W → Option (List ℕ)) where
-  pub calls_turn : (old new : Switchboard S) (before after : Option (Journal W)) → after ≡ before
+  pub calls_turn : (old new : Switchboard S) (before after : Option (AccountFile W)) → after ≡ before
       → OnlyCalls old new → RunsWith contents old (device_in before) new (device_in after)
   calls_turn old new before after same calls =
-      subst (λ (o : Option (Journal W)). RunsWith contents old (device_in before) new (device_in o))
+      subst (λ (o : Option (AccountFile W)). RunsWith contents old (device_in before) new (device_in o))
       (sym same)
       (calls_with contents old new (device_in before) calls)
 
-  pub wrote_turn : (old new : Switchboard S) (account : Option (Journal W)) (journal after : Journal W)
-      → account ≡ Some journal → RunsOnDevice contents old journal.file new after.file
+  pub wrote_turn : (old new : Switchboard S) (account : Option (AccountFile W)) (file after : AccountFile W)
+      → account ≡ Some file → RunsOnDevice contents old file.file new after.file
       → RunsWith contents old (device_in account) new (Some after.file)
-  wrote_turn old new account journal after is over =
-      subst (λ (o : Option (Journal W)). RunsWith contents old (device_in o) new (Some after.file)) (sym is)
+  wrote_turn old new account file after is over =
+      subst (λ (o : Option (AccountFile W)). RunsWith contents old (device_in o) new (Some after.file)) (sym is)
       over
 
-  pub turns_join : (one between other : Switchboard S) (x y z : Option (Journal W))
+  pub turns_join : (one between other : Switchboard S) (x y z : Option (AccountFile W))
       → RunsWith contents one (device_in x) between (device_in y)
       → RunsWith contents between (device_in y) other (device_in z)
       → RunsWith contents one (device_in x) other (device_in z)

@@ -3,18 +3,18 @@ use Rattle.std.specs.Prelude.{◌↔◌, ◌≡◌, false, IsSome, IsTrue, List,
 use Rattle.rv_frame.specs.declared.sink.Sink.{Sink}
 use Rattle.rv_frame.specs.Sink.{sink_failed}
 use Rattle.rv_traffic.specs.CallRuns.{RunsWith}
-use Rattle.rv_host.specs.declared.journal.Journal.{Journal}
+use Rattle.rv_host.specs.declared.account_file.AccountFile.{AccountFile}
 use Rattle.rv_host.specs.declared.shell.Shell.{Shell}
 
 -- the device of an account, if one is kept
-abbrev pub device_in : {W : Type 0} → Option (Journal W) → Option (Sink W)
+abbrev pub device_in : {W : Type 0} → Option (AccountFile W) → Option (Sink W)
 device_in None = None
-device_in (Some journal) = Some journal.file
+device_in (Some account) = Some account.file
 
 -- the account's file takes what is written, if one is kept: no write to it failed
-abbrev pub TakesAllLines : {W : Type 0} → Option (Journal W) → Type 0
+abbrev pub TakesAllLines : {W : Type 0} → Option (AccountFile W) → Type 0
 TakesAllLines None = Unit {0}
-TakesAllLines (Some journal) = sink_failed journal.file ≡ false
+TakesAllLines (Some account) = sink_failed account.file ≡ false
 
 -- the calls of a turn, joined, over the one device of the account: the lines that the hub was told were
 -- written went there

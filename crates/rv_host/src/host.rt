@@ -68,7 +68,7 @@ fn go_on(rt: &HostRuntime, options: &HostOptions<'_>, shell: &mut Shell<File>) -
     match shell.serve(rt) {
         Ok(()) => 0,
         Err(end) => {
-            tell_end(rt, options, &shell.report, &end);
+            tell_end(rt, options, &shell.tally.report, &end);
             1
         }
     }

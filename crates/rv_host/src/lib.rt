@@ -7,19 +7,23 @@
 //! ```
 #![tactic(auto)]
 
+mod account_file;
 mod door;
 mod fault;
 mod frames;
 mod host;
-mod journal;
+mod look_over;
+mod memory_watch;
 mod origins;
 mod overdue;
 mod place;
+mod reception;
 mod report;
 mod reserve;
 mod shell;
 mod start;
 mod status;
-mod watch;
+mod tally;
+mod turn_clock;
 
 pub use host::run_host;

@@ -4,7 +4,6 @@ use libc::net::{POLLERR, POLLHUP, POLLNVAL, POLLOUT, poll};
 use libc::types::pollfd;
 pub(crate) use rv_log::FaultKind;
 use rv_log::{FaultTally, fault_text, line};
-use rv_status::AnswerTally;
 use std::env;
 use std::env::VarError;
 use std::io::Write;
@@ -14,13 +13,6 @@ const STANDARD_ERROR: i32 = 2;
 
 // What the poll reports for a descriptor that takes no lines.
 const GONE: i16 = POLLERR | POLLHUP | POLLNVAL;
-
-// Refusals, by their numbers less one, and the kind of fault as which each is reported.
-const REFUSALS: [(usize, FaultKind); 3] = [
-    (8, FaultKind::ClientsFull),
-    (9, FaultKind::BookFull),
-    (10, FaultKind::NoMemory),
-];
 
 /// How often each kind of fault came, and how lines are written.
 #[derive(Drop)]
@@ -167,13 +159,5 @@ impl HostReport {
     // How often a kind came, if it is to be reported.
     fn take(&mut self, now: u64, kind: FaultKind) -> Option<u64> {
         self.tallies.get_mut(kind as usize)?.take(now)
-    }
-}
-
-/// Refusals for lack of room are reported as faults are.
-pub(crate) fn note_refusals(answers: &mut AnswerTally, report: &mut HostReport) {
-    for (place, kind) in REFUSALS {
-        let count = answers.fresh(place);
-        report.note_all(kind, usize::try_from(count).unwrap_or(usize::MAX));
     }
 }

@@ -7,12 +7,13 @@ ghost use Rattle.rv_words.specs.options.Numbers.{Fits};
 ghost use Rattle.rv_words.specs.options.Options.{FitOptions};
 ghost use Rattle.rv_words.specs.declared.options.number.HostNumber.TheVariants as number;
 
+use crate::account_file::{AccountFile, BegunAccount, begin_account};
 use crate::door::Door;
 use crate::fault::HostEnd;
-use crate::journal::{BegunAccount, Journal, begin_account};
 use crate::place::{AccountPlace, OpenAccount};
+use crate::reception::Doors;
 use crate::report::HostReport;
-use crate::shell::{Shell, ShellDoors, ShellParts};
+use crate::shell::{Shell, ShellParts};
 use crate::status::StatusDesk;
 use libc::types::rlimit;
 use libc::{RLIMIT_NOFILE, getrlimit};
@@ -58,7 +59,7 @@ pub(crate) fn begin(
     let ground = ground_of(rt, options)?;
     let account = account_of(rt, options, epoch)?;
     match open_doors(rt, options, &mut report, ground, epoch, descriptors) {
-        Ok(parts) => Ok(Shell::new(parts, account, engine, report, options)),
+        Ok(parts) => Ok(Shell::new(parts, account, engine, report)),
         Err(end) => {
             leave(rt, &account);
             drop(engine);
@@ -68,9 +69,9 @@ pub(crate) fn begin(
 }
 
 // A start failed: the account's file is as it was before.
-fn leave(rt: &HostRuntime, account: &Option<Journal<File>>) {
-    if let Some(journal) = account {
-        journal.place.leave(rt);
+fn leave(rt: &HostRuntime, account: &Option<AccountFile<File>>) {
+    if let Some(account) = account {
+        account.place.leave(rt);
     }
 }
 
@@ -118,16 +119,11 @@ fn open_doors(
     descriptors: Descriptors,
 ) -> Result<ShellParts, HostEnd> {
     tell_start(rt, options, report, &ground.listener, epoch, descriptors)?;
-    let doors = ShellDoors {
+    let doors = Doors {
         status: status_desk(rt, options, report, ground.status)?,
         door: Door::new(ground.listener),
     };
-    ShellParts::new(
-        rt,
-        doors,
-        descriptors.connections as usize,
-        options.connections_from as usize,
-    )
+    ShellParts::new(rt, options, doors, descriptors.connections as usize)
 }
 
 // The wall clock's milliseconds.
@@ -193,7 +189,7 @@ fn account_of(
     rt: &HostRuntime,
     options: &HostOptions<'_>,
     epoch: u64,
-) -> Result<Option<Journal<File>>, HostEnd>
+) -> Result<Option<AccountFile<File>>, HostEnd>
     ensures account { IfOk result (λ account. IsSome account ↔ IsSome options.now.account) }
 {
     let Some(path) = options.account else {
@@ -213,14 +209,14 @@ fn begun(
     path: &str,
     account: OpenAccount,
     epoch: u64,
-) -> Result<Option<Journal<File>>, HostEnd>
+) -> Result<Option<AccountFile<File>>, HostEnd>
     ensures some { IfOk result IsSome }
 {
     let OpenAccount { file, place } = account;
     let most = limit_of(RLIMIT_FSIZE, u64::MAX);
     let end = match begin_account(rt.alloc(), file, epoch, most) {
         Ok(BegunAccount { file, bytes }) => {
-            return Ok(Some(Journal {
+            return Ok(Some(AccountFile {
                 file,
                 bytes,
                 most,

@@ -3,7 +3,8 @@ ghost use Rattle.std.specs.Prelude.{◌≡◌};
 
 use crate::door::{Accepted, Door};
 use crate::fault::HostEnd;
-use crate::report::{FaultKind, HostReport, note_refusals};
+use crate::memory_watch::total;
+use crate::report::{FaultKind, HostReport};
 use crate::reserve::Reserve;
 use crate::shell::Shell;
 use mio::net::{TcpListener, TcpStream};
@@ -246,9 +247,9 @@ impl<W: Drop> Shell<W> {
         ensures traffic { self.new.traffic ≡ self.old.traffic }
         ensures account { self.new.account ≡ self.old.account }
     {
-        note_refusals(&mut self.answers, &mut self.report);
+        self.tally.note_refusals();
         self.learn(now);
-        let Some(desk) = &mut self.status else {
+        let Some(desk) = &mut self.reception.doors.status else {
             return;
         };
         let _ = desk.look_at_clients(now, self.traffic.engine().hub());
@@ -260,14 +261,14 @@ impl<W: Drop> Shell<W> {
         ensures traffic { self.new.traffic ≡ self.old.traffic }
         ensures account { self.new.account ≡ self.old.account }
     {
-        let numbers = match &self.status {
+        let numbers = match &self.reception.doors.status {
             Some(desk) if desk.next_second <= now => self.numbers(now),
             _ => return,
         };
-        if let Some(desk) = &mut self.status {
+        if let Some(desk) = &mut self.reception.doors.status {
             let times = StatusTimes {
-                turns: self.turns,
-                answers: self.answers.times(),
+                turns: self.clock.turns,
+                answers: self.tally.answers.times(),
             };
             let _ = desk.learn(now, numbers, times, self.traffic.engine().hub());
         }
@@ -276,7 +277,7 @@ impl<W: Drop> Shell<W> {
     // How many bytes were written of the account.
     fn account_bytes(&self) -> u64 {
         match &self.account {
-            Some(journal) => journal.bytes,
+            Some(account) => account.bytes,
             None => 0,
         }
     }
@@ -287,18 +288,18 @@ impl<W: Drop> Shell<W> {
         let machine = hub.machine();
         StatusNumbers {
             account_bytes: self.account_bytes(),
-            answers: self.answers.counts(),
-            buffer_bytes: u64::try_from(self.total()).unwrap_or(u64::MAX),
-            buffer_limit: u64::try_from(self.memory).unwrap_or(u64::MAX),
+            answers: self.tally.answers.counts(),
+            buffer_bytes: u64::try_from(total(&self.traffic)).unwrap_or(u64::MAX),
+            buffer_limit: u64::try_from(self.memory.most).unwrap_or(u64::MAX),
             calls: self.traffic.engine().calls(),
             clients: machine.clients() as u64,
             clients_limit: 0,
             connections: self.traffic.links().len() as u64,
-            connections_limit: self.connections as u64,
-            connections_opened: self.opened,
+            connections_limit: self.traffic.links().room() as u64,
+            connections_opened: self.tally.opened,
             entries: machine.length() as u64,
             epoch: machine.epoch(),
-            faults: fault_counts(&self.report, self.clock_faults),
+            faults: fault_counts(&self.tally.report, self.clock.faults),
             open_places: machine.open_places() as u64,
             open_places_limit: 0,
             requests_unheard: hub.unheard() as u64,

@@ -1,9 +1,6 @@
 -- One call after the other.
 use Rattle.rv_traffic.proofs.CallsRun.{calls_join}
-use Rattle.rv_host.proofs.Turning.{calls_to}
 use Rattle.rv_host.proofs.shell.Shell.look_over.Goals as goal
 
 pub returns-clause-runs : goal.returns-clause-runs
-returns-clause-runs g c =
-    calls_to _ _ _ c.look_at_account.ensures.traffic
-    (calls_join _ _ _ c.watch_room.ensures.runs c.look_over_all.ensures.runs)
+returns-clause-runs g c = calls_join _ _ _ c.watch.ensures c.look.ensures

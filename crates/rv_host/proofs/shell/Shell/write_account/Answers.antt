@@ -7,8 +7,8 @@ use Rattle.rv_host.proofs.shell.Shell.write_account.Goals as goal
 
 pub returns-in-Some-clause-turns : goal.returns-in-Some-clause-turns
 returns-in-Some-clause-turns g c =
-    wrote_turn g.W.Write.contents c.args.self.now.traffic c.write_to.new.traffic
-    c.args.self.now.account _ c.write_to.new.journal c.in-Some.is c.write_to.ensures.over
+    wrote_turn g.W.Write.contents c.args.self.now.traffic c.write_lines.new.traffic
+    c.args.self.now.account _ c.write_lines.new.self c.in-Some.is c.write_lines.ensures.over
 
 pub returns-in-None-clause-turns : goal.returns-in-None-clause-turns
 returns-in-None-clause-turns g c =

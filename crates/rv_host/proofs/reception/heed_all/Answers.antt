@@ -1,6 +1,6 @@
 -- One event after another.
 use Rattle.rv_traffic.proofs.CallsRun.{calls_join, calls_none}
-use Rattle.rv_host.proofs.shell.heed_all.Goals as goal
+use Rattle.rv_host.proofs.reception.heed_all.Goals as goal
 
 pub loop-event-init : goal.loop-event-init
 loop-event-init c = calls_none c.args.traffic.now

@@ -4,13 +4,15 @@ ghost use Rattle.rv_frame.specs.Sink.{sink_failed};
 
 use crate::fault::HostEnd;
 use crate::place::AccountPlace;
+use rv_engine::EngineFault;
 use rv_frame::Sink;
 use rv_lines::head_line;
+use rv_traffic::Switchboard;
 use std::alloc::Global;
 use std::io::Write;
 
 /// The account's file, how many bytes were written to it, how many it may have, and its place.
-pub(crate) struct Journal<W> {
+pub(crate) struct AccountFile<W> {
     pub(crate) file: Sink<W>,
     pub(crate) bytes: u64,
     pub(crate) most: u64,
@@ -18,9 +20,9 @@ pub(crate) struct Journal<W> {
 }
 
 // Whoever owns one drops it in one step.
-impl<W: Drop> Drop for Journal<W> {
+impl<W: Drop> Drop for AccountFile<W> {
     fn drop(self) {
-        let Journal {
+        let AccountFile {
             file: _,
             bytes: _,
             most: _,
@@ -29,12 +31,46 @@ impl<W: Drop> Drop for Journal<W> {
     }
 }
 
-impl<W> Journal<W> {
+impl<W> AccountFile<W> {
     /// Whether this many more bytes may be written to it.
     pub(crate) fn takes(&self, count: u64) -> bool
         ensures { IsTrue result ↔ (count ≤ self.now.most - self.now.bytes) }
     {
         count <= self.most.saturating_sub(self.bytes)
+    }
+
+    /// Whether it is in its place, and as long as what was written to it.
+    pub(crate) fn is_kept(&self, rt: &HostRuntime) -> bool {
+        self.place.is_kept(rt, self.bytes)
+    }
+}
+
+impl<W: Write> AccountFile<W> {
+    ghost use Rattle.std.specs.Prelude.{OnOk};
+    ghost use Rattle.rv_traffic.specs.CallRuns.{RunsOnDevice};
+
+    /// Writes what was gathered of the account, and tells the hub.
+    pub(crate) fn write_lines<S: Drop>(
+        &mut self,
+        traffic: &mut Switchboard<S>,
+        now: u64,
+    ) -> Result<(), HostEnd>
+        ensures over { RunsOnDevice W.contents traffic.old self.old.file traffic.new self.new.file }
+        ensures works { OnOk result (sink_failed self.new.file ≡ false) }
+    {
+        let count = traffic.engine().lines().len() as u64;
+        match traffic.write_lines(now, &mut self.file) {
+            Ok(_) => {
+                self.bytes = self.bytes.saturating_add(count);
+                Ok(())
+            }
+            Err(EngineFault::NoMemory) => {
+                self.bytes = self.bytes.saturating_add(count);
+                Ok(())
+            }
+            Err(EngineFault::NotWritten(fault)) => Err(HostEnd::Account(fault)),
+            Err(EngineFault::Refused(_)) => Ok(()),
+        }
     }
 }
 

@@ -1,6 +1,0 @@
--- One call after the other.
-use Rattle.rv_traffic.proofs.CallsRun.{calls_join}
-use Rattle.rv_host.proofs.shell.Shell.close_largest.Goals as goal
-
-pub returns-clause-runs : goal.returns-clause-runs
-returns-clause-runs g c = calls_join _ _ _ c.catch_up.ensures.runs c.give_up.ensures.runs
