@@ -30,8 +30,8 @@ module _ {S W : Type 0} (contents : W → Option (List ℕ)) where
       → account ≡ Some file → RunsOnDevice contents old file.file new after.file
       → RunsWith contents old (device_in account) new (Some after.file)
   wrote_turn old new account file after is over =
-      subst (λ (o : Option (AccountFile W)). RunsWith contents old (device_in o) new (Some after.file)) (sym is)
-      over
+      subst (λ (o : Option (AccountFile W)). RunsWith contents old (device_in o) new (Some after.file))
+      (sym is) over
 
   pub turns_join : (one between other : Switchboard S) (x y z : Option (AccountFile W))
       → RunsWith contents one (device_in x) between (device_in y)

@@ -5,6 +5,7 @@ use crate::door::{Accepted, Door};
 use crate::fault::HostEnd;
 use crate::origins::Origins;
 use crate::report::FaultKind;
+use crate::shell::HostTraffic;
 use crate::status::StatusDesk;
 use crate::tally::HostTally;
 use libc::net::{IPPROTO_TCP, SO_KEEPALIVE, SOL_SOCKET, TCP_USER_TIMEOUT, setsockopt};
@@ -12,8 +13,6 @@ use mio::event::Event;
 use mio::net::TcpStream;
 use mio::{Events, Interest, Poll, Token};
 use rv_server_connections::subscribers::ConnectionNumber;
-use rv_status::CountedStream;
-use rv_traffic::Switchboard;
 use std::io;
 use std::os::fd::AsRawFd;
 use std::time::Duration;
@@ -90,7 +89,7 @@ fn register(poll: &Poll, number: ConnectionNumber, stream: &mut TcpStream) -> bo
 }
 
 // The poll reported a connection's socket.
-fn heed_one(traffic: &mut Switchboard<CountedStream<TcpStream>>, event: &Event)
+fn heed_one(traffic: &mut HostTraffic, event: &Event)
     ensures { OnlyCalls traffic.old traffic.new }
 {
     let is_over = event.is_error();
@@ -101,7 +100,7 @@ fn heed_one(traffic: &mut Switchboard<CountedStream<TcpStream>>, event: &Event)
 
 // The poll reported that something may be done.
 #[tactic(auto, using(crate::proofs::Turning::none_called))]
-fn heed_event(doors: &mut Doors, traffic: &mut Switchboard<CountedStream<TcpStream>>, event: &Event)
+fn heed_event(doors: &mut Doors, traffic: &mut HostTraffic, event: &Event)
     ensures { OnlyCalls traffic.old traffic.new }
 {
     if event.token() == LISTENER {
@@ -116,7 +115,7 @@ fn heed_event(doors: &mut Doors, traffic: &mut Switchboard<CountedStream<TcpStre
 }
 
 // Takes in all that the poll reported.
-fn heed_all(events: &Events, doors: &mut Doors, traffic: &mut Switchboard<CountedStream<TcpStream>>)
+fn heed_all(events: &Events, doors: &mut Doors, traffic: &mut HostTraffic)
     ensures { OnlyCalls traffic.old traffic.new }
 {
     for event in events.iter() {
@@ -126,7 +125,7 @@ fn heed_all(events: &Events, doors: &mut Doors, traffic: &mut Switchboard<Counte
 
 // Whether one more connection may be asked for.
 #[tactic(auto, using(crate::proofs::Turning::none_called))]
-fn may_accept(door: &Door, traffic: &mut Switchboard<CountedStream<TcpStream>>, now: u64) -> bool
+fn may_accept(door: &Door, traffic: &mut HostTraffic, now: u64) -> bool
     ensures { OnlyCalls traffic.old traffic.new }
 {
     if traffic.links().len() >= traffic.links().room() || !door.is_asked(now) {
@@ -159,19 +158,14 @@ impl Reception {
     }
 
     /// Takes in what the poll reported.
-    pub(crate) fn heed(&mut self, traffic: &mut Switchboard<CountedStream<TcpStream>>)
+    pub(crate) fn heed(&mut self, traffic: &mut HostTraffic)
         ensures { OnlyCalls traffic.old traffic.new }
     {
         heed_all(&self.events, &mut self.doors, traffic);
     }
 
     /// Accepts those that wait, up to a number.
-    pub(crate) fn accept(
-        &mut self,
-        traffic: &mut Switchboard<CountedStream<TcpStream>>,
-        tally: &mut HostTally,
-        now: u64,
-    )
+    pub(crate) fn accept(&mut self, traffic: &mut HostTraffic, tally: &mut HostTally, now: u64)
         ensures { OnlyCalls traffic.old traffic.new }
     {
         for _turn in 0..ACCEPTS {
@@ -182,12 +176,7 @@ impl Reception {
     }
 
     // Asks for one connection, if there may be one more. Returns whether one was asked for.
-    fn accept_one(
-        &mut self,
-        traffic: &mut Switchboard<CountedStream<TcpStream>>,
-        tally: &mut HostTally,
-        now: u64,
-    ) -> bool
+    fn accept_one(&mut self, traffic: &mut HostTraffic, tally: &mut HostTally, now: u64) -> bool
         ensures { OnlyCalls traffic.old traffic.new }
     {
         if !may_accept(&self.doors.door, traffic, now) {
@@ -202,7 +191,7 @@ impl Reception {
     #[tactic(auto, using(crate::proofs::Turning::none_called))]
     fn take_in(
         &mut self,
-        traffic: &mut Switchboard<CountedStream<TcpStream>>,
+        traffic: &mut HostTraffic,
         tally: &mut HostTally,
         now: u64,
         accepted: Accepted,
@@ -221,7 +210,7 @@ impl Reception {
     #[tactic(auto, using(crate::proofs::Turning::none_called))]
     fn admit(
         &mut self,
-        traffic: &mut Switchboard<CountedStream<TcpStream>>,
+        traffic: &mut HostTraffic,
         tally: &mut HostTally,
         now: u64,
         stream: TcpStream,
@@ -229,7 +218,7 @@ impl Reception {
     )
         ensures { OnlyCalls traffic.old traffic.new }
     {
-        tally.note_opened();
+        tally.opened = tally.opened.saturating_add(1);
         if !self.origins.takes(traffic.links(), from) {
             tally.report.note(FaultKind::TooManyFrom);
             return;
@@ -240,7 +229,7 @@ impl Reception {
     // Opens a connection that was accepted.
     fn open(
         &mut self,
-        traffic: &mut Switchboard<CountedStream<TcpStream>>,
+        traffic: &mut HostTraffic,
         tally: &mut HostTally,
         now: u64,
         mut stream: TcpStream,

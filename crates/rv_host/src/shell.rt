@@ -26,10 +26,13 @@ const LONGEST_WAIT: u64 = 60_000;
 // room.
 const MEMORY_AGAIN: u64 = 10;
 
+/// The traffic of a server's sockets.
+pub(crate) type HostTraffic = Switchboard<CountedStream<TcpStream>>;
+
 /// A server: its account, over the traffic of its sockets, and what watches over them.
 pub(crate) struct Shell<W> {
     pub(crate) account: Option<AccountFile<W>>,
-    pub(crate) traffic: Switchboard<CountedStream<TcpStream>>,
+    pub(crate) traffic: HostTraffic,
     pub(crate) clock: TurnClock,
     pub(crate) reception: Reception,
     pub(crate) memory: MemoryWatch,
@@ -108,7 +111,11 @@ impl<W: Drop> Shell<W> {
             reception: parts.reception,
             memory: parts.memory,
             look_over: parts.look_over,
-            tally: HostTally::new(parts.answers, report),
+            tally: HostTally {
+                answers: parts.answers,
+                opened: 0,
+                report,
+            },
         }
     }
 

@@ -19,20 +19,6 @@ pub(crate) struct HostTally {
 }
 
 impl HostTally {
-    /// None was accepted.
-    pub(crate) fn new(answers: AnswerTally, report: HostReport) -> HostTally {
-        HostTally {
-            answers,
-            opened: 0,
-            report,
-        }
-    }
-
-    /// A connection was accepted.
-    pub(crate) fn note_opened(&mut self) {
-        self.opened = self.opened.saturating_add(1);
-    }
-
     /// Connections were given up while all were read.
     pub(crate) fn note_read(&mut self, faults: &ReadFaults) {
         self.report.note_all(FaultKind::Link, faults.broken);
