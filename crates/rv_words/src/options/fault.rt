@@ -68,17 +68,24 @@ impl fmt::Display for HostFault<'_> {
     fn fmt<W: fmt::Write>(&self, f: &mut fmt::Formatter<W>) -> fmt::Result {
         match self {
             HostFault::Refused(error) => write!(f, "{error}"),
-            HostFault::Outside { number, given } => {
-                write!(f, "--{} {given}: ", number.word())?;
-                write_grouped(f, number.least())?;
-                f.write_str(" to ")?;
-                write_grouped(f, number.most())
-            }
+            HostFault::Outside { number, given } => write_outside(f, *number, given),
             HostFault::Missing(word) => write!(f, "--{word}: no value"),
             HostFault::TwoEpochs => f.write_str("--epoch and --epoch-above: not both"),
             HostFault::NoMemory => f.write_str("no memory"),
         }
     }
+}
+
+// Writes an option with its value, and the limits that the value isn't within.
+fn write_outside<W: fmt::Write>(
+    f: &mut fmt::Formatter<W>,
+    number: HostNumber,
+    given: &str,
+) -> fmt::Result {
+    write!(f, "--{} {given}: ", number.word())?;
+    write_grouped(f, number.least())?;
+    f.write_str(" to ")?;
+    write_grouped(f, number.most())
 }
 
 // Writes a number with a comma before each three digits.
