@@ -18,7 +18,7 @@ use Rattle.rv_world.specs.declared.parts.event.Event.TheVariants as event
 use Rattle.rv_world.specs.parts.Limits.{FitsEvent}
 use Rattle.rv_lines.proofs.Cutting.{Lacks, cut_once, digits_lack_space, not_lacking}
 use Rattle.rv_lines.proofs.OneLine.{greater_lack}
-use Rattle.rv_run.specs.play.Parts.{SaysAtMostBegin, SaysParts}
+use Rattle.rv_run.specs.play.Parts.{SaysAtMostBegin, SaysNoneOfOne, SaysParts}
 use Rattle.rv_run.specs.play.Reading.{SayRest, SayTwo, SaysEvent, SaysNoEvent, SaysSession, word_of}
 
 -- what is said keeps its limits
@@ -125,20 +125,32 @@ only_begin word fields is none _ says =
     let other : true ≡ false = ap (λ (l : List ℕ). nat_eq 98 (first_byte l)) (sym is ∙ says.0) in
     absurd (false≢true (sym other))
 
-pub other_word : (word fields : List ℕ) → ¬ (word ≡ codes "start") → ¬ (word ≡ codes "resend")
-    → ¬ (word ≡ codes "cancel") → ¬ (word ≡ codes "crash") → ¬ (word ≡ codes "server")
-    → ¬ (word ≡ codes "client") → ¬ (word ≡ codes "epoch") → SaysAtMostBegin word fields
-other_word word fields start resend cancel crash server client epoch (event.Begin x y) begin says = begin refl
-other_word word fields start resend cancel crash server client epoch (event.Start x y z) begin says =
-    start says.0
-other_word word fields start resend cancel crash server client epoch (event.Resend x) begin says =
-    resend says.0
-other_word word fields start resend cancel crash server client epoch (event.CancelSent x) begin says =
-    cancel says.0
-other_word word fields start resend cancel crash server client epoch (event.Crash x) begin says = crash says.0
-other_word word fields start resend cancel crash server client epoch (event.ToServer x y) begin says =
-    server says.0
-other_word word fields start resend cancel crash server client epoch (event.ToClient x) begin says =
-    client says.0
-other_word word fields start resend cancel crash server client epoch (event.NewEpoch x) begin says =
-    epoch says.0
+pub other_word : (word fields : List ℕ) → ¬ (word ≡ codes "start") → ¬ (word ≡ codes "server")
+    → ¬ (word ≡ codes "client") → SaysNoneOfOne word fields → SaysAtMostBegin word fields
+other_word word fields start server client none (event.Begin x y) begin says = begin refl
+other_word word fields start server client none (event.Start x y z) begin says = start says.0
+other_word word fields start server client none (event.Resend x) begin says = none.no_resend x says
+other_word word fields start server client none (event.CancelSent x) begin says = none.no_cancel x says
+other_word word fields start server client none (event.Crash x) begin says = none.no_crash x says
+other_word word fields start server client none (event.ToServer x y) begin says = server says.0
+other_word word fields start server client none (event.ToClient x) begin says = client says.0
+other_word word fields start server client none (event.NewEpoch x) begin says = none.no_epoch x says
+
+-- fields that are no identifier say no event of one
+pub no_identifier : (word fields : List ℕ) → ((n : ℕ) → ¬ WritesIdentifier fields n)
+    → SaysNoneOfOne word fields
+no_identifier word fields none = record {
+  no_resend = λ client says. none client says.1;
+  no_cancel = λ client says. none client says.1;
+  no_crash = λ client says. none client says.1;
+  no_epoch = λ epoch says. none epoch says.1;
+}
+
+pub other_word_of_one : (word fields : List ℕ) → ¬ (word ≡ codes "resend") → ¬ (word ≡ codes "cancel")
+    → ¬ (word ≡ codes "crash") → ¬ (word ≡ codes "epoch") → SaysNoneOfOne word fields
+other_word_of_one word fields resend cancel crash epoch = record {
+  no_resend = λ client says. resend says.0;
+  no_cancel = λ client says. cancel says.0;
+  no_crash = λ client says. crash says.0;
+  no_epoch = λ number says. epoch says.0;
+}

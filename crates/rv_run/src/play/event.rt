@@ -3,7 +3,7 @@ ghost use Rattle.std.specs.Prelude.{◌≡◌, ◌↔◌, ℕ, Err, None, IfOk, 
 ghost use Rattle.rv_lines.specs.Number.{WritesNumber};
 ghost use Rattle.rv_text.specs.declared.call.Call as calls;
 ghost use Rattle.rv_world.specs.declared.parts.event.Event.TheVariants as event;
-ghost use Rattle.rv_run.specs.play.Parts.{SaysAtMostBegin, SaysParts};
+ghost use Rattle.rv_run.specs.play.Parts.{SaysAtMostBegin, SaysNoneOfOne, SaysParts};
 ghost use Rattle.rv_run.specs.play.Reading.{SayRest, SaysEvent, SaysNoEvent, SaysSession};
 ghost use Rattle.rv_text.specs.declared.version.Version.{Version};
 
@@ -32,23 +32,32 @@ fn event_of(word: &[u8], fields: &[u8]) -> Option<Event>
     if is_word(word, b"start") {
         return start(fields);
     }
-    if is_word(word, b"resend") {
-        return Some(Event::Resend(read_identifier(fields)?));
-    }
-    if is_word(word, b"cancel") {
-        return Some(Event::CancelSent(read_identifier(fields)?));
-    }
-    if is_word(word, b"crash") {
-        return Some(Event::Crash(read_identifier(fields)?));
-    }
     if is_word(word, b"server") {
         return to_server(fields);
     }
     if is_word(word, b"client") {
         return Some(Event::ToClient(read_packet(fields)?));
     }
+    of_identifier(word, fields)
+}
+
+// The event of a word after which an identifier comes alone, that of a client or of an epoch.
+fn of_identifier(word: &[u8], identifier: &[u8]) -> Option<Event>
+    ensures says { IfSome result (SaysParts word.now identifier.now) }
+    ensures none { result ≡ None → SaysNoneOfOne word.now identifier.now }
+{
+    let number = read_identifier(identifier)?;
+    if is_word(word, b"resend") {
+        return Some(Event::Resend(number));
+    }
+    if is_word(word, b"cancel") {
+        return Some(Event::CancelSent(number));
+    }
+    if is_word(word, b"crash") {
+        return Some(Event::Crash(number));
+    }
     if is_word(word, b"epoch") {
-        return Some(Event::NewEpoch(read_identifier(fields)?));
+        return Some(Event::NewEpoch(number));
     }
     None
 }

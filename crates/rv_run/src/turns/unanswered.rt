@@ -6,11 +6,20 @@ const LEAST: usize = 65_536;
 
 /// The bytes of an input, the first of which are answered. At most half of what it keeps is answered, or at
 /// most 65,535 bytes. No more bytes are moved in all than the input has.
-#[derive(Drop)]
 pub(crate) struct Unanswered {
     bytes: Vec<u8>,
     answered: usize,
     ghost within: { answered ≤ length bytes.items },
+}
+
+// Whoever owns one drops it in one step.
+impl Drop for Unanswered {
+    fn drop(self) {
+        let Unanswered {
+            bytes: _,
+            answered: _,
+        } = self;
+    }
 }
 
 impl Unanswered {

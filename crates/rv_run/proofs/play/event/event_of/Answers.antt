@@ -9,7 +9,4 @@ returns-clause-none c none = other_word c.args.word.now c.args.fields.now
     (λ same. false≢true (sym c.if-is_word.false ∙ c.is_word.ensures.1 same))
     (λ same. false≢true (sym c.if-is_word-2.false ∙ c.is_word-2.ensures.1 same))
     (λ same. false≢true (sym c.if-is_word-3.false ∙ c.is_word-3.ensures.1 same))
-    (λ same. false≢true (sym c.if-is_word-4.false ∙ c.is_word-4.ensures.1 same))
-    (λ same. false≢true (sym c.if-is_word-5.false ∙ c.is_word-5.ensures.1 same))
-    (λ same. false≢true (sym c.if-is_word-6.false ∙ c.is_word-6.ensures.1 same))
-    (λ same. false≢true (sym c.if-is_word-7.false ∙ c.is_word-7.ensures.1 same))
+    (c.of_identifier.ensures.none none)
