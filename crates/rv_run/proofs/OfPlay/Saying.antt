@@ -136,16 +136,7 @@ other_word word fields start server client none (event.ToServer x y) begin says 
 other_word word fields start server client none (event.ToClient x) begin says = client says.0
 other_word word fields start server client none (event.NewEpoch x) begin says = none.no_epoch x says
 
--- fields that are no identifier say no event of one
-pub no_identifier : (word fields : List ℕ) → ((n : ℕ) → ¬ WritesIdentifier fields n)
-    → SaysNoneOfOne word fields
-no_identifier word fields none = record {
-  no_resend = λ client says. none client says.1;
-  no_cancel = λ client says. none client says.1;
-  no_crash = λ client says. none client says.1;
-  no_epoch = λ epoch says. none epoch says.1;
-}
-
+-- a word that is none of these four says no event whose fields are one identifier
 pub other_word_of_one : (word fields : List ℕ) → ¬ (word ≡ codes "resend") → ¬ (word ≡ codes "cancel")
     → ¬ (word ≡ codes "crash") → ¬ (word ≡ codes "epoch") → SaysNoneOfOne word fields
 other_word_of_one word fields resend cancel crash epoch = record {

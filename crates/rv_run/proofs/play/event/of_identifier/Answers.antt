@@ -1,7 +1,7 @@
 -- Another word says no event.
 use Rattle.std.proofs.Common.{sym, ◌∙◌}
 use Rattle.std.proofs.lemmas.Bool.{false≢true}
-use Rattle.rv_run.proofs.OfPlay.Saying.{no_identifier, other_word_of_one}
+use Rattle.rv_run.proofs.OfPlay.Saying.{other_word_of_one}
 use Rattle.rv_run.proofs.play.event.of_identifier.Goals as goal
 
 pub returns-clause-none : goal.returns-clause-none
