@@ -51,13 +51,6 @@ impl Doors {
             None => Ok(()),
         }
     }
-
-    // The poll reported that someone waits at the status address.
-    fn knock_at_status(&mut self) {
-        if let Some(desk) = &mut self.status {
-            desk.door.knock();
-        }
-    }
 }
 
 // A poll that watches the doors.
@@ -108,7 +101,9 @@ fn heed_event(doors: &mut Doors, traffic: &mut HostTraffic, event: &Event)
         return;
     }
     if event.token() == STATUS_LISTENER {
-        doors.knock_at_status();
+        if let Some(desk) = &mut doors.status {
+            desk.door.knock();
+        }
         return;
     }
     heed_one(traffic, event);

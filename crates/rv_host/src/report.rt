@@ -93,10 +93,7 @@ impl HostReport {
 
     /// How often a kind came since the start.
     pub(crate) fn count(&self, kind: FaultKind) -> u64 {
-        match self.counts.get(kind as usize) {
-            Some(count) => *count,
-            None => 0,
-        }
+        self.counts.get(kind as usize).copied().unwrap_or(0)
     }
 
     /// This many faults of this kind came.

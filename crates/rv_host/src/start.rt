@@ -128,10 +128,8 @@ fn open_doors(
 
 // The wall clock's milliseconds.
 fn wall_clock(rt: &HostRuntime) -> u64 {
-    match rt.since_1970() {
-        Ok(since) => u64::try_from(since.as_millis()).unwrap_or(1),
-        Err(_) => 1,
-    }
+    rt.since_1970()
+        .map_or(1, |since| u64::try_from(since.as_millis()).unwrap_or(1))
 }
 
 // A listener at the first address of a name that allows one.
@@ -152,10 +150,7 @@ fn listening(rt: &HostRuntime, name: &str) -> Result<TcpListener, HostEnd> {
 
 // A listener at the status address, if one is named.
 fn status_of(rt: &HostRuntime, options: &HostOptions<'_>) -> Result<Option<TcpListener>, HostEnd> {
-    match options.status {
-        Some(name) => Ok(Some(listening(rt, name)?)),
-        None => Ok(None),
-    }
+    options.status.map(|name| listening(rt, name)).transpose()
 }
 
 // How many descriptors aren't for connections.

@@ -171,10 +171,7 @@ impl StatusDesk {
 
     // Accepts those who come and visits those who ask, if it is time to.
     fn serve(&mut self, rt: &HostRuntime, now: u64) {
-        if now < self.next_visit {
-            return;
-        }
-        if self.visitors.is_empty() && !self.door.is_asked(now) {
+        if now < self.next_visit || (self.visitors.is_empty() && !self.door.is_asked(now)) {
             return;
         }
         self.next_visit = now.saturating_add(PAUSE);
@@ -218,16 +215,12 @@ impl StatusDesk {
 
     // Accepts one more, and returns whether one came. A descriptor that nobody took is held back again.
     fn accept(&mut self, rt: &HostRuntime, now: u64) -> bool {
-        match self.ask_door(now) {
-            Accepted::Stream(stream, _) => {
-                self.visitors.admit(now, stream);
-                true
-            }
-            _ => {
-                self.reserve.hold(rt);
-                false
-            }
+        if let Accepted::Stream(stream, _) = self.ask_door(now) {
+            self.visitors.admit(now, stream);
+            return true;
         }
+        self.reserve.hold(rt);
+        false
     }
 
     // Asks for one connection. If no other descriptor is left, it uses the one that is held back.
@@ -274,20 +267,12 @@ impl<W: Drop> Shell<W> {
         }
     }
 
-    // How many bytes were written of the account.
-    fn account_bytes(&self) -> u64 {
-        match &self.account {
-            Some(account) => account.bytes,
-            None => 0,
-        }
-    }
-
     // What is known of the server at a moment, each in constant time.
     fn numbers(&self, now: u64) -> StatusNumbers {
         let hub = self.traffic.engine().hub();
         let machine = hub.machine();
         StatusNumbers {
-            account_bytes: self.account_bytes(),
+            account_bytes: self.account.as_ref().map_or(0, |account| account.bytes),
             answers: self.tally.answers.counts(),
             buffer_bytes: u64::try_from(total(&self.traffic)).unwrap_or(u64::MAX),
             buffer_limit: u64::try_from(self.memory.most).unwrap_or(u64::MAX),
