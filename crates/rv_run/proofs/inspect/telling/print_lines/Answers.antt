@@ -69,7 +69,8 @@ returns-in_err-flush-clause-part g c lines counts piece ends =
     let exit = err_from_is_err_and c.from_residual-in_err-flush.result c.from_residual-in_err-flush.ensures.1
     in
     rw (exit.1, exit.2) (stops_some g.W.Write.contents c.args.sink.now c.loop-index.sink
-    c.loop-index.invariant.so_far lines counts piece (omega (arith, c.loop-index-test.true, c.requires.of_each))
+    c.loop-index.invariant.so_far lines counts piece
+    (omega (arith, c.loop-index-test.true, c.requires.of_each))
     _ _ c.in_err-flush.ensures.fault c.in_err-flush.ensures.told)
 
 pub returns-in_err-flush-2-clause-part : goal.returns-in_err-flush-2-clause-part
@@ -80,7 +81,8 @@ returns-in_err-flush-2-clause-part g c lines counts piece ends =
     c.loop-index.invariant.so_far lines counts piece c.as_bytes-2.result.now
     (subst (IsOneText counts) (sym c.as_bytes-2.ensures.value) ends)
     (omega (arith, c.loop-index-test.false, c.loop-index.auto.index-end, c.requires.of_each))
-    c.line-2.new.sink _ _ c.in_ok-line-3.ensures.ok c.in_ok-line-3.ensures.count _ _ c.in_err-flush-2.ensures.fault
+    c.line-2.new.sink _ _ c.in_ok-line-3.ensures.ok c.in_ok-line-3.ensures.count _ _
+    c.in_err-flush-2.ensures.fault
     c.in_err-flush-2.ensures.told)
 
 pub returns-in_default-clause-part : goal.returns-in_default-clause-part
