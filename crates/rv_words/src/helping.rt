@@ -1,11 +1,9 @@
 //! Reads the words of `rv help`.
 ghost use Rattle.std.specs.Prelude.{◌≡◌, [], codes, false, IfOk, IfSome, IsErrOf, None, true};
-ghost use Rattle.clap.specs.Words.{HasKind, app_of, fault_of, is_simple_and_free, kind_of, with_subcommand};
+ghost use Rattle.clap.specs.Words.{HasKind, app_of, fault_of, is_simple_and_free, kind_of};
 ghost use Rattle.clap.specs.Walk.{texts};
 ghost use Rattle.rv_words.specs.Beginning.{BeginWithout};
 ghost use Rattle.rv_words.specs.Helping.{IsHelpFor, help_app, help_status};
-ghost use Rattle.rv_words.specs.Verifying.{verify_app};
-ghost use Rattle.rv_words.specs.options.Words.{host_app};
 
 use crate::fault::CommandFault;
 use crate::options::host_words;
@@ -88,17 +86,6 @@ fn whole_program<'a>(alloc: Global) -> Result<clap::Command<'a>, AllocError>
 {
     let program = program(alloc)?.bin_name("rv")?;
     let recording = with_commands(alloc, program, &[("record", &["to"]), ("version", &[])])?;
-    with_readers(alloc, recording)
-}
-
-// The program with `verify` and `host` too.
-fn with_readers<'a>(
-    alloc: Global,
-    program: clap::Command<'a>,
-) -> Result<clap::Command<'a>, AllocError>
-    ensures { IfOk result (λ c. app_of c
-        ≡ with_subcommand (with_subcommand (app_of program.entry) verify_app.top) host_app.top) }
-{
-    let verifying = with_command(program, verifying::command(alloc))?;
+    let verifying = with_command(recording, verifying::command(alloc))?;
     with_command(verifying, host_words(alloc))
 }

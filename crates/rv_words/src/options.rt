@@ -6,7 +6,6 @@ ghost use Rattle.rv_words.specs.options.Epochs.{FitsRule, SaysRule};
 ghost use Rattle.rv_words.specs.options.Faults.{IsFault, IsFaultOf};
 ghost use Rattle.rv_words.specs.options.Numbers.{Fits, GivesNumber, given_for};
 ghost use Rattle.rv_words.specs.options.Options.{FitOptions, NamesOptions, SaysOptions};
-ghost use Rattle.rv_words.specs.declared.options.number.HostNumber.TheVariants as number;
 ghost use Rattle.rv_words.specs.options.Words.{host_app};
 
 mod epoch;
@@ -87,64 +86,21 @@ fn options_of<'a>(given: &ArgMatches<'a>) -> Result<HostOptions<'a>, HostFault<'
     let Some(listen) = text_of(given, "listen") else {
         return Err(HostFault::Missing("listen"));
     };
-    let epoch = epoch_of(given)?;
-    let (clients, open_places) = book_limits(given)?;
-    let (connections, connections_from, memory) = connection_limits(given)?;
-    let (idle, stall) = time_limits(given)?;
     Ok(HostOptions {
         listen,
-        epoch,
+        epoch: epoch_of(given)?,
         account: text_of(given, "account"),
         status: text_of(given, "status"),
         status_names: text_of(given, "status-name"),
-        clients,
-        open_places,
-        connections,
-        connections_from,
-        memory,
-        idle,
-        stall,
+        clients: number_of(given, HostNumber::Clients)?,
+        open_places: number_of(given, HostNumber::Open)?,
+        connections: number_of(given, HostNumber::Connections)?,
+        connections_from: number_of(given, HostNumber::ConnectionsFrom)?,
+        memory: number_of(given, HostNumber::Memory)?,
+        idle: number_of(given, HostNumber::Idle)?,
+        stall: number_of(given, HostNumber::Stall)?,
         quiet: is_given(given, "quiet"),
     })
-}
-
-// How many clients its book takes, and how many items and requests are open in it.
-fn book_limits<'a>(given: &ArgMatches<'a>) -> Result<(u64, u64), HostFault<'a>>
-    ensures ok { IfOk result (λ limits. GivesNumber number.Clients (rows_of (found_of given.now)) limits.0
-        × GivesNumber number.Open (rows_of (found_of given.now)) limits.1) }
-    ensures fits { IfOk result (λ limits. Fits number.Clients limits.0 × Fits number.Open limits.1) }
-    ensures fault { IfErr result (IsFaultOf (rows_of (found_of given.now))) }
-{
-    let clients = number_of(given, HostNumber::Clients)?;
-    let open_places = number_of(given, HostNumber::Open)?;
-    Ok((clients, open_places))
-}
-
-// How many connections are open, how many of them come from one address, and how many MiB they take.
-fn connection_limits<'a>(given: &ArgMatches<'a>) -> Result<(u64, u64, u64), HostFault<'a>>
-    ensures ok { IfOk result (λ limits. GivesNumber number.Connections (rows_of (found_of given.now)) limits.0
-        × GivesNumber number.ConnectionsFrom (rows_of (found_of given.now)) limits.1
-        × GivesNumber number.Memory (rows_of (found_of given.now)) limits.2) }
-    ensures fits { IfOk result (λ limits. Fits number.Connections limits.0
-        × Fits number.ConnectionsFrom limits.1 × Fits number.Memory limits.2) }
-    ensures fault { IfErr result (IsFaultOf (rows_of (found_of given.now))) }
-{
-    let connections = number_of(given, HostNumber::Connections)?;
-    let connections_from = number_of(given, HostNumber::ConnectionsFrom)?;
-    let memory = number_of(given, HostNumber::Memory)?;
-    Ok((connections, connections_from, memory))
-}
-
-// After how many seconds an idle connection is closed, and one that stalls.
-fn time_limits<'a>(given: &ArgMatches<'a>) -> Result<(u64, u64), HostFault<'a>>
-    ensures ok { IfOk result (λ limits. GivesNumber number.Idle (rows_of (found_of given.now)) limits.0
-        × GivesNumber number.Stall (rows_of (found_of given.now)) limits.1) }
-    ensures fits { IfOk result (λ limits. Fits number.Idle limits.0 × Fits number.Stall limits.1) }
-    ensures fault { IfErr result (IsFaultOf (rows_of (found_of given.now))) }
-{
-    let idle = number_of(given, HostNumber::Idle)?;
-    let stall = number_of(given, HostNumber::Stall)?;
-    Ok((idle, stall))
 }
 
 // The rule of the epoch that they say.

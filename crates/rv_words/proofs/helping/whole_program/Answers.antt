@@ -11,9 +11,10 @@ pub returns : goal.returns
 returns c =
     let named : app_of c.in_ok-program-2.program ≡ rv_app =
     ap app_of_fields c.in_ok-program-2.ensures.0 ∙ c.in_ok-program.ensures in
-    let recording = c.in_ok-recording.ensures
-    ∙ ap (λ (a : App). with_commands a ((codes "record", codes "to" ∷ []) ∷ (codes "version", []) ∷ []))
-    named in
-    subst (λ (a : App). IfOk c.with_readers.result (λ p.
-    app_of p ≡ with_subcommand (with_subcommand a verify_app.top) host_app.top)) recording
-    c.with_readers.ensures
+    let verifying = c.in_ok-verifying.ensures _ c.command.ensures.shape
+    ∙ ap (λ (a : App). with_subcommand a verify_app.top) c.in_ok-recording.ensures
+    ∙ ap (λ (a : App). with_subcommand (with_commands a
+    ((codes "record", codes "to" ∷ []) ∷ (codes "version", []) ∷ []))
+    verify_app.top) named in
+    subst (λ (a : App). IfOk c.with_command-2.result (λ p. app_of p ≡ with_subcommand a host_app.top))
+    verifying (c.with_command-2.ensures _ c.host_words.ensures.shape)

@@ -8,25 +8,25 @@ returns-clause-ok c = record {
   keeps = sym c.text_of-2.ensures;
   tells = sym c.text_of-3.ensures;
   tells_as = sym c.text_of-4.ensures;
-  in_epoch = c.in_ok-epoch.ensures.ok;
-  clients = c.in_ok-clients.ensures.ok.0;
-  opens = c.in_ok-clients.ensures.ok.1;
-  connects = c.in_ok-connections.ensures.ok.0;
-  connects_from = c.in_ok-connections.ensures.ok.1;
-  holds = c.in_ok-connections.ensures.ok.2;
-  idles = c.in_ok-idle.ensures.ok.0;
-  stalls = c.in_ok-idle.ensures.ok.1;
+  in_epoch = c.in_ok-epoch_of.ensures.ok;
+  clients = c.in_ok-number_of.ensures.ok;
+  opens = c.in_ok-number_of-2.ensures.ok;
+  connects = c.in_ok-number_of-3.ensures.ok;
+  connects_from = c.in_ok-number_of-4.ensures.ok;
+  holds = c.in_ok-number_of-5.ensures.ok;
+  idles = c.in_ok-number_of-6.ensures.ok;
+  stalls = c.in_ok-number_of-7.ensures.ok;
   is_quiet = c.is_given.ensures;
 }
 
 pub returns-clause-fits : goal.returns-clause-fits
 returns-clause-fits c = record {
-  in_epoch = c.in_ok-epoch.ensures.fits;
-  clients = c.in_ok-clients.ensures.fits.0;
-  opens = c.in_ok-clients.ensures.fits.1;
-  connects = c.in_ok-connections.ensures.fits.0;
-  connects_from = c.in_ok-connections.ensures.fits.1;
-  holds = c.in_ok-connections.ensures.fits.2;
-  idles = c.in_ok-idle.ensures.fits.0;
-  stalls = c.in_ok-idle.ensures.fits.1;
+  in_epoch = c.in_ok-epoch_of.ensures.fits;
+  clients = c.in_ok-number_of.ensures.fits;
+  opens = c.in_ok-number_of-2.ensures.fits;
+  connects = c.in_ok-number_of-3.ensures.fits;
+  connects_from = c.in_ok-number_of-4.ensures.fits;
+  holds = c.in_ok-number_of-5.ensures.fits;
+  idles = c.in_ok-number_of-6.ensures.fits;
+  stalls = c.in_ok-number_of-7.ensures.fits;
 }
