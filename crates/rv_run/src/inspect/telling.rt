@@ -3,7 +3,6 @@ ghost use Rattle.std.specs.Prelude.{◌≡◌, ◌<◌, ◌≤◌, ◌+◌, ◌�
 ghost use Rattle.std.specs.Prelude.{List, OnOk, length, option_map, ℕ};
 ghost use Rattle.rv_account.specs.Account.{Account};
 ghost use Rattle.rv_replies.specs.Standing.{HasNoted};
-ghost use Rattle.rv_run.specs.Output.{gathered_bytes, taken_in};
 ghost use Rattle.rv_run.specs.inspect.Report.{BeginsBehind, BeginsReport, CountsBeside, FindsFirst, IsReport};
 ghost use Rattle.rv_run.specs.inspect.Report.{ReportsAll, ReportsBehind, ReportsSome, SaysAll, SaysSome};
 ghost use Rattle.rv_run.specs.inspect.Report.{StandsSo, StopsTaking, TookLines};
@@ -131,29 +130,6 @@ fn tell_lines<W: Write>(
         (SaysSome lines records.now findings.now) sink.old sink.new) }
 {
     let mut output = Output::new(alloc)?;
-    print_lines(alloc, first, records, findings, last, &mut output, sink)
-}
-
-// The same, by an output that has taken nothing in.
-fn print_lines<W: Write>(
-    alloc: Global,
-    first: &str,
-    records: &Records,
-    findings: &[Finding],
-    last: &str,
-    output: &mut Output,
-    sink: &mut Sink<W>,
-) -> Result<(), RunFault>
-    requires of_each { length findings.now ≡ length records.now.lines.items }
-    requires nothing_gathered { gathered_bytes output.old ≡ [] }
-    requires nothing_sent { taken_in output.old ≡ 0 }
-    ensures all { (lines counts : List (List ℕ)) → IsOneText lines first.now → IsOneText counts last.now
-        → OnOk result (TookLines W.contents (SaysAll lines records.now findings.now counts)
-        sink.old sink.new) }
-    ensures part { (lines counts : List (List ℕ)) → IsOneText lines first.now → IsOneText counts last.now
-        → IfErr result (StopsTaking W.contents (SaysAll lines records.now findings.now counts)
-        (SaysSome lines records.now findings.now) sink.old sink.new) }
-{
     output.line(sink, first.as_bytes())?;
     for index in 0..findings.len() {
         let Ok(text) = record_lines(alloc, records, index, findings[index]) else {

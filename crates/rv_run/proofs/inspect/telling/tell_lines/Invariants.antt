@@ -3,7 +3,7 @@ use Rattle.std.proofs.Common.{◌≡◌}
 use Rattle.rv_frame.specs.Sink.{sink_contents, sink_failed}
 use Rattle.rv_run.specs.Output.{gathered_bytes, sent_before}
 use Rattle.rv_run.proofs.OfInspect.Reported.{SoFar}
-use Rattle.rv_run.proofs.inspect.telling.print_lines.Given as goal
+use Rattle.rv_run.proofs.inspect.telling.tell_lines.Given as goal
 
 abbrev pub invariant-loop-index : goal.invariant-loop-index
 invariant-loop-index g l = record {
