@@ -223,14 +223,14 @@ final class FuturesTest {
     void whatsoeverCompletesATakeCancelsIt() throws Exception {
         try (Answering server = silentUntilCancel(message -> item(message, "late"));
                 RvClients clients = server.clients(1, 8).build()) {
-            RvTransferQueue queue = new RvTransferQueue(clients, 3);
-            CompletableFuture<String> late = queue.takeAsync().orTimeout(1, TimeUnit.MILLISECONDS);
+            // a queue for each: one whose take was cancelled gives that one's item to the next
+            CompletableFuture<String> late = new RvTransferQueue(clients, 3).takeAsync().orTimeout(1, TimeUnit.MILLISECONDS);
             assertInstanceOf(TimeoutException.class, fault(late));
-            CompletableFuture<String> given = queue.takeAsync();
+            CompletableFuture<String> given = new RvTransferQueue(clients, 3).takeAsync();
             assertTrue(given.complete("mine"));
             assertEquals("mine", given.join());
-            CompletableFuture<String> failed = queue.takeAsync();
-            failed.completeExceptionally(new IllegalArgumentException());
+            CompletableFuture<String> failed = new RvTransferQueue(clients, 3).takeAsync();
+            assertTrue(failed.completeExceptionally(new IllegalArgumentException()));
             assertInstanceOf(IllegalArgumentException.class, fault(failed));
         }
     }
