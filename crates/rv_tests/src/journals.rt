@@ -182,9 +182,9 @@ fn opens_with_or_without(rt: &impl Abort, alloc: Global, left: Memory) {
     }
 }
 
-// Adds a piece to a journal that freezes at a call of that, and opens what a crash leaves, in each way.
+// Adds a piece to a journal that freezes after so many calls, and opens what a crash leaves, in each way.
 fn freezes_adding(rt: &impl Abort, alloc: Global, calls: usize) {
-    let torn = FailingDevice::new(file(rt, alloc, SHORT), OPENING + calls);
+    let torn = FailingDevice::new(file(rt, alloc, SHORT), calls);
     let mut lines = Vec::new(alloc);
     match DiskJournal::open(alloc, torn, &mut lines) {
         Ok(mut journal) => {
@@ -202,7 +202,7 @@ fn freezes_adding(rt: &impl Abort, alloc: Global, calls: usize) {
 
 #[test]
 fn a_crash_while_a_piece_is_added_leaves_no_torn_line(rt: HostRuntime) {
-    for calls in 0..2 {
+    for calls in OPENING..OPENING + 2 {
         freezes_adding(&rt, rt.alloc(), calls);
     }
 }
