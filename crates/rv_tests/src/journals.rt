@@ -4,7 +4,9 @@ ghost use Rattle.std.proofs.Common.{◌∙◌, ap, refl};
 
 use crate::expect::{holds, same};
 use rv_journal::testing::{FailingDevice, Memory};
-use rv_journal::{CreateFault, DeviceFault, DiskJournal, JournalFault, JournalReader, OpenFault};
+use rv_journal::{
+    CreateFault, Device, DeviceFault, DiskJournal, JournalFault, JournalReader, OpenFault,
+};
 use std::alloc::Global;
 use std::process::Abort;
 
@@ -126,6 +128,24 @@ fn opens_with(rt: &impl Abort, alloc: Global, left: Memory, want: &[u8]) {
         Ok(_) => same(rt, lines.as_slice(), want),
         Err((fault, _)) => holds(rt, false, fault),
     }
+}
+
+// Tells what a crash leaves of a file by this number.
+fn leaves(rt: &impl Abort, alloc: Global, written: &Memory, number: u64, want: &[u8]) {
+    let crashed = written.after_crash(alloc, number).expect(rt, "no memory");
+    same(rt, crashed.bytes(), want);
+}
+
+#[test]
+fn a_number_says_which_bytes_a_crash_stores(rt: HostRuntime) {
+    let mut written = file(&rt, rt.alloc(), b"ab");
+    same(&rt, written.write_at(0, b"XY"), Ok(()));
+    leaves(&rt, rt.alloc(), &written, 0, b"ab");
+    leaves(&rt, rt.alloc(), &written, 1, b"Xb");
+    leaves(&rt, rt.alloc(), &written, 2, b"aY");
+    leaves(&rt, rt.alloc(), &written, 3, b"XY");
+    same(&rt, written.sync(), Ok(()));
+    leaves(&rt, rt.alloc(), &written, 0, b"XY");
 }
 
 // Two lines and three bytes, and how many ways there are to store or lose each of these.
