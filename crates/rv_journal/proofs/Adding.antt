@@ -4,9 +4,9 @@ use Rattle.std.proofs.Common.{length-append}
 use Rattle.std.specs.List.{All}
 use Rattle.std.specs.Prelude.{IsTrue}
 use Rattle.std.proofs.lemmas.List.{append-nil}
-use Rattle.rv_journal.specs.Device.{Disk, IsRewritten, LeavesOnly, MayMix, Mixed, Only, Rewrites}
+use Rattle.rv_journal.specs.Device.{Disk, IsRewritten, LeavesOnly, MayMix, Mixed, Only, Rewrites, WhereTold}
 use Rattle.rv_journal.specs.Text.{before_zero, HasFront, IsBlankFrom}
-use Rattle.rv_journal.specs.Filled.{IsFilled, file_text}
+use Rattle.rv_journal.specs.Filled.{AddsPiece, IsFilled, TakesPieces, file_text}
 use Rattle.rv_journal.specs.declared.filled.FilledFile.{FilledFile}
 use Rattle.rv_journal.proofs.Texts.{front}
 use Rattle.rv_journal.proofs.Moments.{started, weaker}
@@ -39,12 +39,12 @@ module _ {D : Type 0} (disk : Disk D) (old : FilledFile D) (piece : List ℕ) (i
       (subst (λ (f : List ℕ). Mixed old.end piece f c) (is.durable d left) mixed) in
       (has.0, has.1 ∙ ap (λ (l : List ℕ). l ++ take has.0 piece) (text_is disk old is))
 
-  pub any_moment : Rewrites disk old.end piece old.device device
+  any_moment : Rewrites disk old.end piece old.device device
       → LeavesOnly disk old.device device (HasFront (file_text disk old) piece)
   any_moment writes = weaker disk old.device device (MayMix disk old.end piece old.device)
       (HasFront (file_text disk old) piece) writes.any_moment has_front
 
-  pub kept : Rewrites disk old.end piece old.device device → IsTrue (disk.tells old.device)
+  kept : Rewrites disk old.end piece old.device device → IsTrue (disk.tells old.device)
       → take old.end (disk.seen device) ≡ file_text disk old
   kept writes told = kept_before (disk.seen old.device) (disk.seen device) piece old.end old.end (omega arith)
       (omega (arith, fits)) (writes.others told)
@@ -81,3 +81,20 @@ module _ {D : Type 0} (disk : Disk D) (old : FilledFile D) (piece : List ℕ) (i
             is.blank text fits (disk.seen device) done.holds));
         durable = subst (λ (d : D). Only (disk.seen d) (disk.may_leave d)) (sym at) done.durable;
       }
+
+-- whether or not the writing ended well
+pub adds_piece : {D : Type 0} (disk : Disk D) (old new : FilledFile D) (piece : List ℕ) → TakesPieces disk old
+    → All (λ byte. 0 < byte) piece → old.end + length piece < old.filled
+    → Rewrites disk old.end piece old.device new.device → AddsPiece disk piece old new
+adds_piece disk old new piece ready text room writes = record {
+  tells = writes.tells;
+  any_moment = λ told. any_moment disk old piece (ready.filled told) text room new.device writes;
+}
+
+pub keeps_front : {D : Type 0} (disk : Disk D) (old : FilledFile D) (device : D) (piece : List ℕ)
+    → TakesPieces disk old
+    → All (λ byte. 0 < byte) piece → old.end + length piece < old.filled
+    → Rewrites disk old.end piece old.device device
+    → WhereTold disk old.device (take old.end (disk.seen device) ≡ file_text disk old)
+keeps_front disk old device piece ready text room writes told =
+    kept disk old piece (ready.filled told) text room device writes told

@@ -48,7 +48,7 @@ pub open_why : {F : Type 0} (why : DeviceFault) → ◌≡◌ {A = OpenFault F} 
     → why ≡ Failed
 open_why {F = F} why is = ap (opened_by {F = F}) is
 
-abbrev opened_as : {T F : Type 0} → Result T (OpenFault F) → OpenFault F
+abbrev pub opened_as : {T F : Type 0} → Result T (OpenFault F) → OpenFault F
 opened_as (Err fault) = fault
 opened_as (Ok value) = OfOpen.NotFilled
 
@@ -64,6 +64,25 @@ created_by OfCreate.Full = NoMemory
 
 pub create_why : (why : DeviceFault) → OfCreate.Device why ≡ create_failed → why ≡ Failed
 create_why why is = ap created_by is
+
+-- faults of which none is another: told apart here, where little else is known, which is cheap
+pub full_not_text : OfCreate.Full ≡ OfCreate.NotText → ⊥
+full_not_text same = cc
+
+pub full_not_long : OfCreate.Full ≡ OfCreate.TooLong → ⊥
+full_not_long same = cc
+
+pub full_not_failed : OfCreate.Full ≡ create_failed → ⊥
+full_not_failed same = cc
+
+pub device_not_text : (why : DeviceFault) → OfCreate.Device why ≡ OfCreate.NotText → ⊥
+device_not_text why same = cc
+
+pub device_not_long : (why : DeviceFault) → OfCreate.Device why ≡ OfCreate.TooLong → ⊥
+device_not_long why same = cc
+
+pub device_not_full : (why : DeviceFault) → OfCreate.Device why ≡ OfCreate.Full → ⊥
+device_not_full why same = cc
 
 -- of a refusal something else is told
 pub if_refused : {F : Type 0} (fault : OpenFault F) (P Q : F → Type 0) → ((why : F) → P why → Q why)

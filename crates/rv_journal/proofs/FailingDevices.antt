@@ -1,5 +1,5 @@
 -- What calls leave of a device that may be frozen.
-use Rattle.std.proofs.Common.{◌≡◌, ℕ, Bool, true, false, Result, List, refl, subst}
+use Rattle.std.proofs.Common.{◌≡◌, ℕ, Bool, true, false, Result, List, refl}
 use Rattle.std.specs.Prelude.{◌||◌}
 use Rattle.rv_journal.specs.Device.{Disk, Elapses, HasCause, KeepsFile, WritesFile}
 use Rattle.rv_journal.specs.Failing.{failing_disk}
@@ -19,46 +19,40 @@ either_on : (p q r s : Bool) → (p ≡ true → r ≡ true) → (q ≡ true →
 either_on true q r s first last is = either_first r s (first refl)
 either_on false q r s first last is = either_last r s (last is)
 
-module _ {D : Type 0} (disk : Disk D) (old new : FailingDevice D) (was now : D)
-    (before : was ≡ old.device) (after : now ≡ new.device) where
+module _ {D : Type 0} (disk : Disk D) (old new : FailingDevice D) where
   elapsed : Elapses disk old.device new.device → Elapses (failing_disk disk) old new
   elapsed time = record { later = time.later; nothing_else = time.nothing_else; keeps = time.keeps }
 
-  pub failing_kept : KeepsFile disk was now → KeepsFile (failing_disk disk) old new
-  failing_kept keeps =
-      let is = subst (λ (d : D). KeepsFile disk old.device d) after (subst (λ (d : D). KeepsFile disk d now)
-      before keeps) in record {
-        tells = is.tells;
-        seen = is.seen;
-        crash = is.crash;
-        time = elapsed is.time;
-      }
+  pub failing_kept : KeepsFile disk old.device new.device → KeepsFile (failing_disk disk) old new
+  failing_kept keeps = record {
+    tells = keeps.tells;
+    seen = keeps.seen;
+    crash = keeps.crash;
+    time = elapsed keeps.time;
+  }
 
-  pub failing_written : (at : ℕ) (bytes : List ℕ) → WritesFile disk at bytes was now
+  pub failing_written : (at : ℕ) (bytes : List ℕ) → WritesFile disk at bytes old.device new.device
       → WritesFile (failing_disk disk) at bytes old new
-  failing_written at bytes writes =
-      let is = subst (λ (d : D). WritesFile disk at bytes old.device d) after
-      (subst (λ (d : D). WritesFile disk at bytes d now) before writes) in record {
-        tells = is.tells;
-        others = is.others;
-        crash = is.crash;
-        time = elapsed is.time;
-      }
+  failing_written at bytes writes = record {
+    tells = writes.tells;
+    others = writes.others;
+    crash = writes.crash;
+    time = elapsed writes.time;
+  }
 
-  pub failing_cause : {T : Type 0} (result : Result T DeviceFault) → (old.frozen ≡ true → new.frozen ≡ true)
-      → HasCause disk was now result → HasCause (failing_disk disk) old new result
-  failing_cause {T = T} result lasts cause =
-      let is = subst (λ (d : D). HasCause disk old.device d result) after
-      (subst (λ (d : D). HasCause disk d now result) before cause) in record {
-        failed = λ told. either_last new.frozen (disk.failed new.device) (is.failed told);
-        lasts = either_on old.frozen (disk.failed old.device) new.frozen (disk.failed new.device) lasts
-            is.lasts;
-      }
+  pub failing_cause : {T : Type 0} (result : Result T DeviceFault)
+      → (old.fuse.frozen ≡ true → new.fuse.frozen ≡ true) → HasCause disk old.device new.device result
+      → HasCause (failing_disk disk) old new result
+  failing_cause result lasts cause = record {
+    failed = λ told. either_last new.fuse.frozen (disk.failed new.device) (cause.failed told);
+    lasts = either_on old.fuse.frozen (disk.failed old.device) new.fuse.frozen (disk.failed new.device) lasts
+        cause.lasts;
+  }
 
   -- a call that is not made
-  pub frozen_cause : {T : Type 0} (result : Result T DeviceFault) → new.frozen ≡ true
+  pub frozen_cause : {T : Type 0} (result : Result T DeviceFault) → new.fuse.frozen ≡ true
       → HasCause (failing_disk disk) old new result
   frozen_cause result frozen = record {
-    failed = λ _. either_first new.frozen (disk.failed new.device) frozen;
-    lasts = λ _. either_first new.frozen (disk.failed new.device) frozen;
+    failed = λ _. either_first new.fuse.frozen (disk.failed new.device) frozen;
+    lasts = λ _. either_first new.fuse.frozen (disk.failed new.device) frozen;
   }

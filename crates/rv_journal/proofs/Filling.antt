@@ -4,7 +4,7 @@ use Rattle.std.specs.Prelude.{IsTrue}
 use Rattle.std.proofs.lemmas.List.{append-nil}
 use Rattle.rv_journal.specs.Device.{Disk, Holds, IsRewritten, LeavesOnly, MayMix, Mixed, Only, Rewrites}
 use Rattle.rv_journal.specs.Text.{before_zero, HasFront, IsBlankFrom}
-use Rattle.rv_journal.specs.Filled.{IsFilled, file_text}
+use Rattle.rv_journal.specs.Filled.{IsFilled, OnlyFills, TakesPieces, file_text}
 use Rattle.rv_journal.specs.declared.filled.FilledFile.{FilledFile}
 use Rattle.rv_journal.proofs.Moments.{weaker}
 use Rattle.rv_journal.proofs.Adding.{text_is}
@@ -25,12 +25,12 @@ module _ {D : Type 0} (disk : Disk D) (old : FilledFile D) (is : IsFilled disk o
             ∙ text_is disk old is ∙ sym (append-nil (file_text disk old)),
       )
 
-  pub any_moment : Rewrites disk old.filled zeros old.device device
+  any_moment : Rewrites disk old.filled zeros old.device device
       → LeavesOnly disk old.device device (HasFront (file_text disk old) [])
   any_moment writes = weaker disk old.device device (MayMix disk old.filled zeros old.device)
       (HasFront (file_text disk old) []) writes.any_moment has_text
 
-  pub kept : Rewrites disk old.filled zeros old.device device → IsTrue (disk.tells old.device)
+  kept : Rewrites disk old.filled zeros old.device device → IsTrue (disk.tells old.device)
       → take old.end (disk.seen device) ≡ file_text disk old
   kept writes told = kept_before (disk.seen old.device) (disk.seen device) zeros old.end old.filled
       (omega (arith, behind)) (omega (arith, inside)) (writes.others told)
@@ -59,3 +59,16 @@ module _ {D : Type 0} (disk : Disk D) (old : FilledFile D) (is : IsFilled disk o
             (disk.seen device) at_end));
         durable = subst (λ (d : D). Only (disk.seen d) (disk.may_leave d)) (sym at) done.durable;
       }
+
+-- whether or not the writing ended well
+pub only_filled : {D : Type 0} (disk : Disk D) (old new : FilledFile D) → TakesPieces disk old
+    → (zeros : List ℕ) → zeros ≡ replicate (length zeros) 0 → new.end ≡ old.end
+    → Rewrites disk old.filled zeros old.device new.device → OnlyFills disk old new
+only_filled disk old new ready zeros are end writes = record {
+  end = end;
+  front = λ told. kept disk old (ready.filled told) ready.behind zeros are new.device writes told;
+  adds = record {
+    tells = writes.tells;
+    any_moment = λ told. any_moment disk old (ready.filled told) ready.behind zeros are new.device writes;
+  };
+}

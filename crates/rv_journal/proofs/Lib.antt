@@ -12,6 +12,7 @@ mod Adding
 mod Filling
 mod Rooming
 mod Looking
+mod Handed
 mod Clearing
 mod Calls
 mod Memories

@@ -1,11 +1,11 @@
 -- A call of which nothing came leaves its device as it was.
-use Rattle.std.proofs.Common.{◌≡◌, inl, ℕ, List, refl, sym, subst, arith}
+use Rattle.std.proofs.Common.{inl, ℕ, List, refl, arith}
 use Rattle.rv_journal.specs.Device.{Disk, KeepsFile, WritesFile}
 use Rattle.rv_journal.proofs.Mixing.{mixed_same}
 
-module _ {D : Type 0} (disk : Disk D) (old new : D) (same : new ≡ old) where
-  unchanged : KeepsFile disk old old
-  unchanged = record {
+module _ {D : Type 0} (disk : Disk D) (file : D) where
+  pub nothing_kept : KeepsFile disk file file
+  nothing_kept = record {
     tells = refl;
     seen = λ told. refl;
     crash = λ c left. left;
@@ -16,13 +16,10 @@ module _ {D : Type 0} (disk : Disk D) (old new : D) (same : new ≡ old) where
     };
   }
 
-  pub nothing_kept : KeepsFile disk old new
-  nothing_kept = subst (λ (d : D). KeepsFile disk old d) (sym same) unchanged
-
-  pub nothing_written : (at : ℕ) (bytes : List ℕ) → WritesFile disk at bytes old new
-  nothing_written at bytes = subst (λ (d : D). WritesFile disk at bytes old d) (sym same) (record {
+  pub nothing_written : (at : ℕ) (bytes : List ℕ) → WritesFile disk at bytes file file
+  nothing_written at bytes = record {
     tells = refl;
-    others = λ told. mixed_same at bytes (disk.seen old);
+    others = λ told. mixed_same at bytes (disk.seen file);
     crash = λ c left. (c, left, mixed_same at bytes c);
-    time = unchanged.time;
-  })
+    time = nothing_kept.time;
+  }

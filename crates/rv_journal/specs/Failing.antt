@@ -9,11 +9,11 @@ device_beneath file = file.device
 
 -- how many calls it still makes
 abbrev pub calls_left : {D : Type 0} → FailingDevice D → ℕ
-calls_left file = file.calls
+calls_left file = file.fuse.calls
 
 -- whether it makes none any more
 abbrev pub is_frozen : {D : Type 0} → FailingDevice D → Bool
-is_frozen file = file.frozen
+is_frozen file = file.fuse.frozen
 
 -- it has failed once it is frozen, or the device beneath has
 abbrev pub failing_disk : {D : Type 0} → Disk D → Disk (FailingDevice D)
@@ -23,7 +23,7 @@ failing_disk disk = record {
   may_leave = λ f. disk.may_leave f.device;
   moment = λ f. disk.moment f.device;
   left_since = λ f. disk.left_since f.device;
-  failed = λ f. f.frozen || disk.failed f.device;
+  failed = λ f. f.fuse.frozen || disk.failed f.device;
   leaves_seen = λ f. disk.leaves_seen f.device;
   counts_now = λ f. disk.counts_now f.device;
   only_now = λ f. disk.only_now f.device;

@@ -7,5 +7,6 @@ pub mod Failing
 pub mod Journal
 pub mod Memory
 pub mod Opened
+pub mod Read
 pub mod System
 pub mod Text

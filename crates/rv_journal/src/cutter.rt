@@ -1,11 +1,10 @@
 //! Cuts the bytes of a file into lines, up to its first zero, and hands the lines on.
-ghost use Rattle.std.specs.Prelude.{◌≡◌, ◌+◌, ◌<◌, ◌≤◌, ◌^◌, ◌++◌, [], List, ℕ, false, length, take, vec_len};
-ghost use Rattle.std.specs.Prelude.{IfErr, OnOk, IsErrOf};
+ghost use Rattle.std.specs.Prelude.{◌≡◌, ◌+◌, ◌<◌, ◌≤◌, ◌^◌, [], false, length, take, vec_len, IfErr};
+ghost use Rattle.std.specs.Prelude.{OnOk};
 ghost use Rattle.std.specs.List.{All};
-ghost use Rattle.rv_journal.specs.Text.{before_zero, stored_lines, whole_lines, IsLines};
-ghost use Rattle.rv_journal.specs.Cutter.{HasCut, RefusesOn, TakesOn};
-ghost use Rattle.rv_journal.specs.Faults.{IfRefused, open_failed};
-ghost use Rattle.rv_journal.specs.declared.fault.OpenFault.TheVariants.{NotFilled};
+ghost use Rattle.rv_journal.specs.Text.{before_zero, stored_lines, IsLines};
+ghost use Rattle.rv_journal.specs.Cutter.{CutsOn, FailsWithoutDevice, RefusesOn, TakesOn};
+ghost use Rattle.rv_journal.specs.Faults.{IfRefused};
 
 use crate::fault::OpenFault;
 use crate::reader::JournalReader;
@@ -77,13 +76,11 @@ impl LineCutter {
         requires going { self.old.ended ≡ false }
         requires fits { self.old.end + vec_len self.old.rest + length lines.now < 2 ^ 63 }
         ensures going { self.new.ended ≡ false }
-        ensures cut { OnOk result ((count : ℕ) → HasCut count self.old
-            → HasCut (count + length lines.now) self.new) }
+        ensures cut { OnOk result (CutsOn (length lines.now) self.old self.new) }
         ensures taken { OnOk result (TakesOn R.takes lines.now self.old reader.old self.new reader.new) }
         ensures refused { IfErr result (λ fault.
             IfRefused fault (RefusesOn R.takes R.refuses lines.now self.old reader.old)) }
-        ensures cause { IsErrOf result open_failed → ⊥ }
-        ensures filled { IsErrOf result NotFilled → ⊥ }
+        ensures fault { FailsWithoutDevice result }
     {
         if lines.is_empty() {
             return Ok(());
@@ -104,13 +101,11 @@ impl LineCutter {
         reader: &mut R,
     ) -> Result<(), OpenFault<R::Fault>>
         requires fits { self.old.end + vec_len self.old.rest + length piece.now < 2 ^ 63 }
-        ensures cut { OnOk result ((count : ℕ) → HasCut count self.old
-            → HasCut (count + length piece.now) self.new) }
+        ensures cut { OnOk result (CutsOn (length piece.now) self.old self.new) }
         ensures taken { OnOk result (TakesOn R.takes piece.now self.old reader.old self.new reader.new) }
         ensures refused { IfErr result (λ fault.
             IfRefused fault (RefusesOn R.takes R.refuses piece.now self.old reader.old)) }
-        ensures cause { IsErrOf result open_failed → ⊥ }
-        ensures filled { IsErrOf result NotFilled → ⊥ }
+        ensures fault { FailsWithoutDevice result }
     {
         if self.ended {
             return Ok(());

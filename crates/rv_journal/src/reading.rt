@@ -1,12 +1,11 @@
 //! Reads a file in pieces, and hands its lines on.
-ghost use Rattle.std.specs.Prelude.{◌≡◌, ◌↔◌, ◌+◌, ◌<◌, ◌≤◌, ◌^◌, length, take, IfErr, IfOk, OnOk};
-ghost use Rattle.std.specs.Prelude.{IsErrOf, true};
+ghost use Rattle.std.specs.Prelude.{◌≡◌, ◌+◌, ◌<◌, ◌≤◌, ◌^◌, length, take, IfErr, IfOk, OnOk, IsErrOf, true};
 ghost use Rattle.rv_journal.specs.Cutter.{HasCut, HasTakenLines, RefusesFront};
 ghost use Rattle.rv_journal.specs.Device.{KeepsFile, Only, WhereTold};
 ghost use Rattle.rv_journal.specs.Faults.{IfRefused, open_failed};
 ghost use Rattle.rv_journal.specs.declared.fault.OpenFault.TheVariants.{NotFilled};
-ghost use Rattle.rv_journal.specs.Opened.{Looks, file_lines};
-ghost use Rattle.rv_journal.specs.Text.{HasZero};
+ghost use Rattle.rv_journal.specs.Opened.{file_lines};
+ghost use Rattle.rv_journal.specs.Read.{ReadsLines};
 
 use crate::cutter::LineCutter;
 use crate::device::Device;
@@ -66,20 +65,7 @@ fn read_pieces<D: Device, R: JournalReader>(
     reader: &mut R,
 ) -> Result<FileEnds, OpenFault<R::Fault>>
     requires { 0 < length room.old }
-    ensures taken { OnOk result (WhereTold D.disk device.old
-        (R.takes reader.old (file_lines D.disk device.old) reader.new)) }
-    ensures lines { IfOk result (λ ends. WhereTold D.disk device.old
-        (ends.lines ≡ length (file_lines D.disk device.old))) }
-    ensures file { IfOk result (λ ends. WhereTold D.disk device.old
-        (ends.file ≡ length (D.disk.seen device.old))) }
-    ensures within { IfOk result (λ ends. ends.has_zero ≡ true → ends.lines < ends.file) }
-    ensures has_zero { IfOk result (λ ends. WhereTold D.disk device.old
-        (ends.has_zero ≡ true ↔ HasZero (D.disk.seen device.old))) }
-    ensures refused { IfErr result (λ fault. IfRefused fault (λ why. WhereTold D.disk device.old
-        (RefusesFront R.refuses reader.old (file_lines D.disk device.old) why))) }
-    ensures looks { Looks D.disk device.old device.new }
-    ensures cause { IsErrOf result open_failed → D.disk.failed device.new ≡ true }
-    ensures filled { IsErrOf result NotFilled → ⊥ }
+    ensures { ReadsLines D.disk R.takes R.refuses device.old device.new reader.old reader.new result }
 {
     let mut cutter = LineCutter::new(alloc);
     let mut at = 0;
@@ -103,22 +89,9 @@ pub(crate) fn read_lines<D: Device, R: JournalReader>(
     device: &mut D,
     reader: &mut R,
 ) -> Result<FileEnds, OpenFault<R::Fault>>
-    ensures taken { OnOk result (WhereTold D.disk device.old
-        (R.takes reader.old (file_lines D.disk device.old) reader.new)) }
-    ensures lines { IfOk result (λ ends. WhereTold D.disk device.old
-        (ends.lines ≡ length (file_lines D.disk device.old))) }
-    ensures file { IfOk result (λ ends. WhereTold D.disk device.old
-        (ends.file ≡ length (D.disk.seen device.old))) }
-    ensures within { IfOk result (λ ends. ends.has_zero ≡ true → ends.lines < ends.file) }
-    ensures has_zero { IfOk result (λ ends. WhereTold D.disk device.old
-        (ends.has_zero ≡ true ↔ HasZero (D.disk.seen device.old))) }
+    ensures reads { ReadsLines D.disk R.takes R.refuses device.old device.new reader.old reader.new result }
     ensures durable { OnOk result (WhereTold D.disk device.old
         (Only (D.disk.seen device.old) (D.disk.may_leave device.new))) }
-    ensures refused { IfErr result (λ fault. IfRefused fault (λ why. WhereTold D.disk device.old
-        (RefusesFront R.refuses reader.old (file_lines D.disk device.old) why))) }
-    ensures looks { Looks D.disk device.old device.new }
-    ensures cause { IsErrOf result open_failed → D.disk.failed device.new ≡ true }
-    ensures filled { IsErrOf result NotFilled → ⊥ }
 {
     device.sync()?;
     let mut room = zeros(alloc, PIECE)?;

@@ -8,6 +8,12 @@ use crate::device::{Device, DeviceFault};
 #[derive(Drop)]
 pub struct FailingDevice<D> {
     device: D,
+    fuse: Fuse,
+}
+
+// How many calls are still made, and whether none is any more.
+#[derive(Drop)]
+struct Fuse {
     calls: usize,
     frozen: bool,
 }
@@ -19,11 +25,11 @@ impl<D> FailingDevice<D> {
         ensures calls { calls_left result ≡ calls }
         ensures works { is_frozen result ≡ false }
     {
-        FailingDevice {
-            device,
+        let fuse = Fuse {
             calls,
             frozen: false,
-        }
+        };
+        FailingDevice { device, fuse }
     }
 
     /// The device beneath, as the last call left it, and how many calls were not made yet.
@@ -31,18 +37,15 @@ impl<D> FailingDevice<D> {
         ensures device { result.0 ≡ device_beneath self }
         ensures calls { result.1 ≡ calls_left self }
     {
-        let FailingDevice {
-            device,
-            calls,
-            frozen: _,
-        } = self;
-        (device, calls)
+        let FailingDevice { device, fuse } = self;
+        (device, fuse.calls)
     }
+}
 
+impl Fuse {
     // Counts a call, and says whether it is made.
     fn is_made(&mut self) -> bool
         ensures made { IsTrue result ↔ ((self.old.frozen ≡ false) × (0 < self.old.calls)) }
-        ensures device { self.new.device ≡ self.old.device }
         ensures calls { self.new.calls ≡ self.old.calls - 1 }
         ensures frozen { result ≡ false → self.new.frozen ≡ true }
         ensures lasts { self.old.frozen ≡ true → self.new.frozen ≡ true }
@@ -60,21 +63,21 @@ impl<D: Device> Device for FailingDevice<D> {
     ghost disk = { failing_disk D.disk };
 
     fn read_at(&mut self, at: usize, room: &mut [u8]) -> Result<usize, DeviceFault> {
-        if !self.is_made() {
+        if !self.fuse.is_made() {
             return Err(DeviceFault::Failed);
         }
         self.device.read_at(at, room)
     }
 
     fn write_at(&mut self, at: usize, bytes: &[u8]) -> Result<(), DeviceFault> {
-        if !self.is_made() {
+        if !self.fuse.is_made() {
             return Err(DeviceFault::Failed);
         }
         self.device.write_at(at, bytes)
     }
 
     fn sync(&mut self) -> Result<(), DeviceFault> {
-        if !self.is_made() {
+        if !self.fuse.is_made() {
             return Err(DeviceFault::Failed);
         }
         self.device.sync()

@@ -9,18 +9,18 @@ use Rattle.rv_journal.proofs.opening.reopen.Goals as goal
 
 pub returns-in_err-ends-clause-any_moment : goal.returns-in_err-ends-clause-any_moment
 returns-in_err-ends-clause-any_moment g c told = only_looked g.D.Device.disk c.args.device.now
-    c.read_lines.new.device c.read_lines.ensures.looks
+    c.read_lines.new.device c.read_lines.ensures.reads.looks
 
 pub returns-in_err-ends-clause-refused : goal.returns-in_err-ends-clause-refused
 returns-in_err-ends-clause-refused g c =
     let exit = err_from_is_err_and c.from_residual.result c.from_residual.ensures.1 in
     rw (exit.1, exit.2) (if_refused c.in_err-ends.field-0.0 _ _
-    (λ why refused. record { looks = c.read_lines.ensures.looks; lines = refused })
-    c.in_err-ends.ensures.refused)
+    (λ why refused. record { looks = c.read_lines.ensures.reads.looks; lines = refused })
+    c.in_err-ends.ensures.reads.refused)
 
 pub returns-then-not-ends-clause-any_moment : goal.returns-then-not-ends-clause-any_moment
 returns-then-not-ends-clause-any_moment g c told = only_looked g.D.Device.disk c.args.device.now
-    c.read_lines.new.device c.read_lines.ensures.looks
+    c.read_lines.new.device c.read_lines.ensures.reads.looks
 
 not_both : (b : Bool) → not b ≡ true → b ≡ true → ⊥
 not_both true is_not _ = false≢true is_not
@@ -28,26 +28,26 @@ not_both false _ is = false≢true is
 
 pub returns-then-not-ends-clause-not_filled : goal.returns-then-not-ends-clause-not_filled
 returns-then-not-ends-clause-not_filled g c _ = record {
-  looks = c.read_lines.ensures.looks;
+  looks = c.read_lines.ensures.reads.looks;
   no_zero = λ told has. not_both c.in_ok-ends.ends.has_zero c.if-not-ends.true
-      ((c.in_ok-ends.ensures.has_zero told).1 has);
+      ((c.in_ok-ends.ensures.reads.has_zero told).1 has);
 }
 
 pub returns-in_err-clear_after-clause-any_moment : goal.returns-in_err-clear_after-clause-any_moment
 returns-in_err-clear_after-clause-any_moment g c told =
-    let looks = c.read_lines.ensures.looks in
+    let looks = c.read_lines.ensures.reads.looks in
     then_cleared g.D.Device.disk c.args.device.now c.read_lines.new.device c.clear_after.new.device looks
     (looks.seen told) (c.clear_after.ensures.any_moment (looks.tells ∙ told))
 
 pub returns-clause-any_moment : goal.returns-clause-any_moment
 returns-clause-any_moment g c told =
-    let looks = c.read_lines.ensures.looks in
+    let looks = c.read_lines.ensures.reads.looks in
     then_cleared g.D.Device.disk c.args.device.now c.read_lines.new.device c.clear_after.new.device looks
     (looks.seen told) (c.clear_after.ensures.any_moment (looks.tells ∙ told))
 
 pub returns-clause-cleared : goal.returns-clause-cleared
 returns-clause-cleared g c told =
-    let looks = c.read_lines.ensures.looks in
+    let looks = c.read_lines.ensures.reads.looks in
     subst (λ (l : List ℕ). IsCleared g.D.Device.disk (stored_lines l) c.in_ok-ends.ends.file
     c.clear_after.new.device)
     (looks.seen told) (c.in_ok-clear_after.ensures.cleared (looks.tells ∙ told))

@@ -1,16 +1,8 @@
-use Rattle.rv_journal.proofs.Looking.{looked, looks_further}
+use Rattle.rv_journal.proofs.Handed.{read_on}
 use Rattle.rv_journal.proofs.reading.read_lines.Goals as goal
 
-pub returns-in_err-sync-clause-looks : goal.returns-in_err-sync-clause-looks
-returns-in_err-sync-clause-looks g c = looked g.D.Device.disk c.args.device.now c.sync.new.self
-    c.sync.ensures.kept
-
-pub returns-in_err-room-clause-looks : goal.returns-in_err-room-clause-looks
-returns-in_err-room-clause-looks g c = looked g.D.Device.disk c.args.device.now c.sync.new.self
-    c.sync.ensures.kept
-
-pub returns-clause-looks : goal.returns-clause-looks
-returns-clause-looks g c =
-    looks_further g.D.Device.disk c.args.device.now c.sync.new.self c.read_pieces.new.device
-    (looked g.D.Device.disk c.args.device.now c.sync.new.self c.sync.ensures.kept)
-    c.read_pieces.ensures.looks
+pub returns-clause-reads : goal.returns-clause-reads
+returns-clause-reads g c =
+    read_on g.D.Device.disk g.R.JournalReader.takes g.R.JournalReader.refuses c.sync.new.self
+    c.read_pieces.new.device c.args.reader.now c.read_pieces.new.reader c.args.device.now c.sync.ensures.kept
+    c.read_pieces.result c.read_pieces.ensures

@@ -36,5 +36,7 @@ returns-clause-taken g c first front had =
     (subst (λ (l : List ℕ). g.R.JournalReader.takes c.args.reader.now l c.take.new.self)
     {y = c.args.self.now.rest.items ++ c.args.lines.now} is
     c.in_default.ensures.taken)
-    _ (ap (λ (n : ℕ). c.args.self.now.end + n) (c.len.ensures ∙ sym c.deref.ensures.len ∙ ap length is))
+    _ (ap (λ (n : ℕ). c.args.self.now.end + n) {y = length (c.args.self.now.rest.items ++ c.args.lines.now)}
+    (c.len.ensures ∙ sym c.deref.ensures.len ∙ ap length {y = c.args.self.now.rest.items ++ c.args.lines.now}
+    is))
     c.clear.ensures.items refl

@@ -1,6 +1,6 @@
 use Rattle.std.proofs.Common.{List, ℕ, ◌≡◌, ◌+◌, length, refl, sym, ◌∙◌, ap, arith}
 use Rattle.rv_journal.specs.Filled.{ahead}
-use Rattle.rv_journal.proofs.Filling.{any_moment, kept, filled_after}
+use Rattle.rv_journal.proofs.Filling.{filled_after, only_filled}
 use Rattle.rv_journal.proofs.Zeros.{zeros_same}
 use Rattle.rv_journal.proofs.filled.FilledFile.fill.Goals as goal
 
@@ -10,34 +10,14 @@ rewrite-requires g c = record {
 }
 
 pub returns-in_err-rewrite-clause-text : goal.returns-in_err-rewrite-clause-text
-returns-in_err-rewrite-clause-text g c =
-    let disk = g.D.Device.disk in
-    let ready = c.requires.ready in
-    let are = zeros_same c.deref.result.now _ c.deref.ensures.value ready.zeros in record {
-      end = refl;
-      front = λ told. kept disk c.args.self.now (ready.filled told) ready.behind c.deref.result.now are
-          c.rewrite.new.device c.rewrite.ensures.rewrites told;
-      adds = record {
-        tells = c.rewrite.ensures.rewrites.tells;
-        any_moment = λ told. any_moment disk c.args.self.now (ready.filled told) ready.behind
-            c.deref.result.now are c.rewrite.new.device c.rewrite.ensures.rewrites;
-      };
-    }
+returns-in_err-rewrite-clause-text g c = only_filled g.D.Device.disk c.args.self.now _ c.requires.ready
+    c.deref.result.now (zeros_same c.deref.result.now _ c.deref.ensures.value c.requires.ready.zeros) refl
+    c.rewrite.ensures.rewrites
 
 pub returns-clause-text : goal.returns-clause-text
-returns-clause-text g c =
-    let disk = g.D.Device.disk in
-    let ready = c.requires.ready in
-    let are = zeros_same c.deref.result.now _ c.deref.ensures.value ready.zeros in record {
-      end = refl;
-      front = λ told. kept disk c.args.self.now (ready.filled told) ready.behind c.deref.result.now are
-          c.rewrite.new.device c.rewrite.ensures.rewrites told;
-      adds = record {
-        tells = c.rewrite.ensures.rewrites.tells;
-        any_moment = λ told. any_moment disk c.args.self.now (ready.filled told) ready.behind
-            c.deref.result.now are c.rewrite.new.device c.rewrite.ensures.rewrites;
-      };
-    }
+returns-clause-text g c = only_filled g.D.Device.disk c.args.self.now _ c.requires.ready
+    c.deref.result.now (zeros_same c.deref.result.now _ c.deref.ensures.value c.requires.ready.zeros) refl
+    c.rewrite.ensures.rewrites
 
 length_is : (zeros vec : List ℕ) (added count size : ℕ) → zeros ≡ vec → length zeros ≡ count → added ≡ count
     → length vec ≡ size → added ≡ size

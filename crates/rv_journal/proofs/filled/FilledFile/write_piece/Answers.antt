@@ -1,5 +1,5 @@
 use Rattle.std.proofs.Common.{refl, sym, ◌∙◌, arith}
-use Rattle.rv_journal.proofs.Adding.{any_moment, kept, text_grows, filled_after}
+use Rattle.rv_journal.proofs.Adding.{adds_piece, keeps_front, text_grows, filled_after}
 use Rattle.rv_journal.proofs.filled.FilledFile.write_piece.Goals as goal
 
 pub rewrite-requires : goal.rewrite-requires
@@ -8,28 +8,20 @@ rewrite-requires g c = record {
 }
 
 pub returns-in_err-rewrite-clause-adds : goal.returns-in_err-rewrite-clause-adds
-returns-in_err-rewrite-clause-adds g c = record {
-  tells = c.rewrite.ensures.rewrites.tells;
-  any_moment = λ told. any_moment g.D.Device.disk c.args.self.now c.args.piece.now (c.requires.ready.filled
-      told) c.requires.text c.requires.room c.rewrite.new.device c.rewrite.ensures.rewrites;
-}
+returns-in_err-rewrite-clause-adds g c = adds_piece g.D.Device.disk c.args.self.now _ c.args.piece.now
+    c.requires.ready c.requires.text c.requires.room c.rewrite.ensures.rewrites
 
 pub returns-in_err-rewrite-clause-front : goal.returns-in_err-rewrite-clause-front
-returns-in_err-rewrite-clause-front g c told =
-    kept g.D.Device.disk c.args.self.now c.args.piece.now (c.requires.ready.filled told) c.requires.text
-    c.requires.room c.rewrite.new.device c.rewrite.ensures.rewrites told
+returns-in_err-rewrite-clause-front g c = keeps_front g.D.Device.disk c.args.self.now _ c.args.piece.now
+    c.requires.ready c.requires.text c.requires.room c.rewrite.ensures.rewrites
 
 pub returns-clause-adds : goal.returns-clause-adds
-returns-clause-adds g c = record {
-  tells = c.rewrite.ensures.rewrites.tells;
-  any_moment = λ told. any_moment g.D.Device.disk c.args.self.now c.args.piece.now (c.requires.ready.filled
-      told) c.requires.text c.requires.room c.rewrite.new.device c.rewrite.ensures.rewrites;
-}
+returns-clause-adds g c = adds_piece g.D.Device.disk c.args.self.now _ c.args.piece.now
+    c.requires.ready c.requires.text c.requires.room c.rewrite.ensures.rewrites
 
 pub returns-clause-front : goal.returns-clause-front
-returns-clause-front g c told =
-    kept g.D.Device.disk c.args.self.now c.args.piece.now (c.requires.ready.filled told) c.requires.text
-    c.requires.room c.rewrite.new.device c.rewrite.ensures.rewrites told
+returns-clause-front g c = keeps_front g.D.Device.disk c.args.self.now _ c.args.piece.now
+    c.requires.ready c.requires.text c.requires.room c.rewrite.ensures.rewrites
 
 pub returns-clause-stored : goal.returns-clause-stored
 returns-clause-stored g c told =
