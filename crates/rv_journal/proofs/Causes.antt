@@ -1,5 +1,6 @@
 -- A device that has failed has a cause for what is told after another call, and by a call above it.
-use Rattle.std.proofs.Common.{◌≡◌, true, Result, Ok, Err, IsErrOf, ap}
+use Rattle.std.proofs.Common.{◌≡◌, true, ℕ, Result, Ok, Err, IsErrOf, ap, arith}
+use Rattle.rv_journal.specs.Cutter.{FailsWithoutDevice}
 use Rattle.rv_journal.specs.Device.{Disk, HasCause}
 use Rattle.rv_journal.specs.Faults.{IfRefused, append_failed, create_failed, open_failed, store_failed}
 use Rattle.rv_journal.specs.declared.device.DeviceFault.{DeviceFault}
@@ -65,24 +66,59 @@ created_by OfCreate.Full = NoMemory
 pub create_why : (why : DeviceFault) → OfCreate.Device why ≡ create_failed → why ≡ Failed
 create_why why is = ap created_by is
 
--- faults of which none is another: told apart here, where little else is known, which is cheap
-pub full_not_text : OfCreate.Full ≡ OfCreate.NotText → ⊥
-full_not_text same = cc
+pub memory_not_failed : NoMemory ≡ Failed → ⊥
+memory_not_failed same = cc
 
-pub full_not_long : OfCreate.Full ≡ OfCreate.TooLong → ⊥
-full_not_long same = cc
+-- A number for each fault tells two of them apart by omega, where cc would look through all that is known.
+abbrev pub create_number : CreateFault → ℕ
+create_number OfCreate.NotText = 0
+create_number OfCreate.TooLong = 1
+create_number OfCreate.Full = 2
+create_number (OfCreate.Device why) = 3
 
-pub full_not_failed : OfCreate.Full ≡ create_failed → ⊥
-full_not_failed same = cc
+abbrev pub open_number : {T F : Type 0} → Result T (OpenFault F) → ℕ
+open_number (Err OfOpen.NotFilled) = 0
+open_number (Err (OfOpen.Device why)) = 1
+open_number (Err (OfOpen.Refused why)) = 2
+open_number (Ok value) = 3
 
-pub device_not_text : (why : DeviceFault) → OfCreate.Device why ≡ OfCreate.NotText → ⊥
-device_not_text why same = cc
+abbrev pub add_number : {T : Type 0} → Result T JournalFault → ℕ
+add_number (Err OfJournal.NotText) = 0
+add_number (Err OfJournal.Full) = 1
+add_number (Err (OfJournal.Device why)) = 2
+add_number (Err OfJournal.Failed) = 3
+add_number (Ok value) = 4
 
-pub device_not_long : (why : DeviceFault) → OfCreate.Device why ≡ OfCreate.TooLong → ⊥
-device_not_long why same = cc
+abbrev pub store_number : {T : Type 0} → Result T StoreFault → ℕ
+store_number (Err OfStore.Full) = 0
+store_number (Err (OfStore.Device why)) = 1
+store_number (Ok value) = 2
 
-pub device_not_full : (why : DeviceFault) → OfCreate.Device why ≡ OfCreate.Full → ⊥
-device_not_full why same = cc
+-- what a cutter tells
+pub cut_well : {T F : Type 0} (value : T) → FailsWithoutDevice {F = F} (Ok value)
+cut_well value = record {
+  cause = λ is. omega (arith, ap open_number is);
+  filled = λ is. omega (arith, ap open_number is);
+}
+
+pub lines_were_refused : {T F : Type 0} (why : F) → FailsWithoutDevice {T = T} (Err (OfOpen.Refused why))
+lines_were_refused why = record {
+  cause = λ is. omega (arith, ap open_number is);
+  filled = λ is. omega (arith, ap open_number is);
+}
+
+pub memory_was_refused : {T F : Type 0} → FailsWithoutDevice {T = T} {F = F} (Err (OfOpen.Device NoMemory))
+memory_was_refused = record {
+  cause = λ is. memory_not_failed (reopen_why NoMemory is);
+  filled = λ is. omega (arith, ap open_number is);
+}
+
+pub told_on : {T U F : Type 0} {fault : OpenFault F} → FailsWithoutDevice {T = T} (Err fault)
+    → FailsWithoutDevice {T = U} (Err fault)
+told_on {U = U} {F = F} without = record {
+  cause = λ is. without.cause (ap Err (ap (opened_as {T = U} {F = F}) is));
+  filled = λ is. without.filled (ap Err (ap (opened_as {T = U} {F = F}) is));
+}
 
 -- of a refusal something else is told
 pub if_refused : {F : Type 0} (fault : OpenFault F) (P Q : F → Type 0) → ((why : F) → P why → Q why)

@@ -4,9 +4,9 @@ use Rattle.std.proofs.lemmas.Result.{IfErr-weaker, IfOk-weaker}
 use Rattle.rv_journal.specs.Created.{IsLeftLong}
 use Rattle.rv_journal.specs.Device.{WhereTold}
 use Rattle.rv_journal.specs.Filled.{ahead}
-use Rattle.rv_journal.specs.declared.device.DeviceFault.TheVariants.{NoMemory, Failed}
+use Rattle.rv_journal.specs.declared.device.DeviceFault.TheVariants.{NoMemory}
 use Rattle.rv_journal.proofs.Beginning.{empty_ready, moved, none_zeroed, only_zeroed, then_begun}
-use Rattle.rv_journal.proofs.Causes.{create_why}
+use Rattle.rv_journal.proofs.Causes.{create_number, create_why, memory_not_failed}
 use Rattle.rv_journal.proofs.Zeros.{zeros_same}
 use Rattle.rv_journal.proofs.creating.begin.Goals as goal
 
@@ -23,10 +23,7 @@ returns-in-Err-clause-any_moment_err g c told =
     (none_zeroed g.D.Device.disk c.args.device ahead)
 
 pub returns-in-Err-clause-cause : goal.returns-in-Err-clause-cause
-returns-in-Err-clause-cause g c is = absurd (none (create_why NoMemory is))
-  where
-    none : NoMemory ≡ Failed → ⊥
-    none same = cc
+returns-in-Err-clause-cause g c is = absurd (memory_not_failed (create_why NoMemory is))
 
 pub put_zeros-requires : goal.put_zeros-requires
 put_zeros-requires g c = zeros_same c.deref.result.now c.in-Ok.zeros.items c.deref.ensures.value
@@ -129,3 +126,30 @@ returns-in-Ok-true-clause-short g c =
     λ told. short _ _ _ (c.in-Ok-true.ensures.short c.in-Ok-true.field-0-test told)
     (ap length c.deref.ensures.value ∙ c.in-Ok.ensures.size) in
     on_ok c.store_first.result _ so
+
+pub returns-in-Err-clause-text_err : goal.returns-in-Err-clause-text_err
+returns-in-Err-clause-text_err g c is = absurd (omega (arith, ap create_number is))
+
+pub returns-in-Err-clause-long : goal.returns-in-Err-clause-long
+returns-in-Err-clause-long g c is = absurd (omega (arith, ap create_number is))
+
+pub returns-in-Err-clause-full : goal.returns-in-Err-clause-full
+returns-in-Err-clause-full g c is = absurd (omega (arith, ap create_number is))
+
+pub returns-in-Ok-false-clause-text_err : goal.returns-in-Ok-false-clause-text_err
+returns-in-Ok-false-clause-text_err g c is = absurd (omega (arith, ap create_number is))
+
+pub returns-in-Ok-false-clause-full : goal.returns-in-Ok-false-clause-full
+returns-in-Ok-false-clause-full g c is = absurd (omega (arith, ap create_number is))
+
+pub returns-in-Ok-false-clause-cause : goal.returns-in-Ok-false-clause-cause
+returns-in-Ok-false-clause-cause g c is = absurd (omega (arith, ap create_number is))
+
+pub returns-in-Err-put_zeros-clause-text_err : goal.returns-in-Err-put_zeros-clause-text_err
+returns-in-Err-put_zeros-clause-text_err g c is = absurd (omega (arith, ap create_number is))
+
+pub returns-in-Err-put_zeros-clause-long : goal.returns-in-Err-put_zeros-clause-long
+returns-in-Err-put_zeros-clause-long g c is = absurd (omega (arith, ap create_number is))
+
+pub returns-in-Err-put_zeros-clause-full : goal.returns-in-Err-put_zeros-clause-full
+returns-in-Err-put_zeros-clause-full g c is = absurd (omega (arith, ap create_number is))

@@ -4,9 +4,7 @@ use Rattle.rv_journal.specs.Filled.{file_text}
 use Rattle.rv_journal.specs.Text.{HasFront}
 use Rattle.rv_journal.specs.declared.filled.FilledFile.{FilledFile}
 use Rattle.rv_journal.specs.declared.filled.StoreFault.TheVariants as OfStore
-use Rattle.rv_journal.proofs.Causes.{create_why, device_not_full, device_not_long, device_not_text}
-use Rattle.rv_journal.proofs.Causes.{full_not_failed}
-use Rattle.rv_journal.proofs.Causes.{full_not_long, full_not_text}
+use Rattle.rv_journal.proofs.Causes.{create_number, create_why}
 use Rattle.rv_journal.proofs.creating.store_first.Goals as goal
 
 no_text : {D : Type 0} (disk : Disk D) (file : FilledFile D) → file.end ≡ 0 → file_text disk file ≡ []
@@ -60,19 +58,19 @@ returns-in-Err-Device-clause-cause g c is =
     ∙ ap OfStore.Device (create_why c.in-Err-Device.fault is)))
 
 pub returns-in-Err-Full-clause-text_err : goal.returns-in-Err-Full-clause-text_err
-returns-in-Err-Full-clause-text_err g c is = absurd (full_not_text is)
+returns-in-Err-Full-clause-text_err g c is = absurd (omega (arith, ap create_number is))
 
 pub returns-in-Err-Full-clause-long : goal.returns-in-Err-Full-clause-long
-returns-in-Err-Full-clause-long g c is = absurd (full_not_long is)
+returns-in-Err-Full-clause-long g c is = absurd (omega (arith, ap create_number is))
 
 pub returns-in-Err-Full-clause-cause : goal.returns-in-Err-Full-clause-cause
-returns-in-Err-Full-clause-cause g c is = absurd (full_not_failed is)
+returns-in-Err-Full-clause-cause g c is = absurd (omega (arith, ap create_number is))
 
 pub returns-in-Err-Device-clause-text_err : goal.returns-in-Err-Device-clause-text_err
-returns-in-Err-Device-clause-text_err g c is = absurd (device_not_text c.in-Err-Device.fault is)
+returns-in-Err-Device-clause-text_err g c is = absurd (omega (arith, ap create_number is))
 
 pub returns-in-Err-Device-clause-long : goal.returns-in-Err-Device-clause-long
-returns-in-Err-Device-clause-long g c is = absurd (device_not_long c.in-Err-Device.fault is)
+returns-in-Err-Device-clause-long g c is = absurd (omega (arith, ap create_number is))
 
 pub returns-in-Err-Device-clause-full : goal.returns-in-Err-Device-clause-full
-returns-in-Err-Device-clause-full g c is = absurd (device_not_full c.in-Err-Device.fault is)
+returns-in-Err-Device-clause-full g c is = absurd (omega (arith, ap create_number is))

@@ -1,9 +1,9 @@
-use Rattle.std.proofs.Common.{◌≡◌, Bool, true, false, not, List, ℕ, ◌∙◌, subst}
+use Rattle.std.proofs.Common.{◌≡◌, Bool, true, false, not, List, ℕ, ◌∙◌, ap, arith, subst}
 use Rattle.std.proofs.lemmas.Bool.{false≢true}
 use Rattle.std.proofs.lemmas.Result.{err_from_is_err_and}
 use Rattle.rv_journal.specs.Opened.{IsCleared}
 use Rattle.rv_journal.specs.Text.{stored_lines}
-use Rattle.rv_journal.proofs.Causes.{if_refused}
+use Rattle.rv_journal.proofs.Causes.{if_refused, open_number}
 use Rattle.rv_journal.proofs.Looking.{only_looked, then_cleared}
 use Rattle.rv_journal.proofs.opening.reopen.Goals as goal
 
@@ -51,3 +51,12 @@ returns-clause-cleared g c told =
     subst (λ (l : List ℕ). IsCleared g.D.Device.disk (stored_lines l) c.in_ok-ends.ends.file
     c.clear_after.new.device)
     (looks.seen told) (c.in_ok-clear_after.ensures.cleared (looks.tells ∙ told))
+
+pub returns-then-not-ends-clause-cause : goal.returns-then-not-ends-clause-cause
+returns-then-not-ends-clause-cause g c is = absurd (omega (arith, ap open_number is))
+
+pub returns-in_err-clear_after-clause-not_filled : goal.returns-in_err-clear_after-clause-not_filled
+returns-in_err-clear_after-clause-not_filled g c =
+    let exit = err_from_is_err_and c.from_residual-in_err-clear_after.result
+    c.from_residual-in_err-clear_after.ensures.1 in
+    rw (exit.1, exit.2) (λ is. absurd (omega (arith, ap open_number is)))

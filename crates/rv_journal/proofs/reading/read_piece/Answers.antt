@@ -1,11 +1,11 @@
-use Rattle.std.proofs.Common.{◌≡◌, ◌+◌, ◌++◌, List, ℕ, take, drop, sym, ◌∙◌, ap, subst}
+use Rattle.std.proofs.Common.{◌≡◌, ◌+◌, ◌++◌, List, ℕ, take, drop, sym, ◌∙◌, ap, arith, subst}
 use Rattle.std.proofs.Common.{take-append-drop}
 use Rattle.std.proofs.lemmas.List.{length-take-le}
 use Rattle.std.proofs.Math.Seq.{take-add}
 use Rattle.std.proofs.lemmas.Result.{err_from_is_err_and}
 use Rattle.rv_journal.specs.Cutter.{HasCut, HasTakenLines, RefusesFront}
 use Rattle.rv_journal.specs.Text.{stored_lines}
-use Rattle.rv_journal.proofs.Causes.{if_refused}
+use Rattle.rv_journal.proofs.Causes.{if_refused, open_number, told_on}
 use Rattle.rv_journal.proofs.Cutting.{refuses_sooner}
 use Rattle.rv_journal.proofs.reading.read_piece.Goals as goal
 
@@ -42,3 +42,26 @@ pub returns-clause-cut : goal.returns-clause-cut
 returns-clause-cut g c = subst (λ (n : ℕ). HasCut (c.args.at + n) c.take_piece.new.self)
     (length-take-le c.in_ok-count.count c.read_at.new.room c.in_ok-count.ensures.within)
     (c.in_ok-take_piece.ensures.cut c.args.at c.requires.cut)
+
+pub returns-in_err-count-clause-filled : goal.returns-in_err-count-clause-filled
+returns-in_err-count-clause-filled g c =
+    let exit = err_from_is_err_and c.from_residual.result c.from_residual.ensures.1 in
+    rw (exit.1, exit.2) (λ is. omega (arith, ap open_number is))
+
+pub returns-in_err-take_piece-clause-filled : goal.returns-in_err-take_piece-clause-filled
+returns-in_err-take_piece-clause-filled g c =
+    let exit = err_from_is_err_and c.from_residual-in_err-take_piece.result
+    c.from_residual-in_err-take_piece.ensures.1 in
+    rw (exit.1, exit.2) ((told_on c.in_err-take_piece.ensures.fault).filled)
+
+pub returns-in_err-take_piece-clause-cause : goal.returns-in_err-take_piece-clause-cause
+returns-in_err-take_piece-clause-cause g c =
+    let exit = err_from_is_err_and c.from_residual-in_err-take_piece.result
+    c.from_residual-in_err-take_piece.ensures.1 in
+    rw (exit.1, exit.2) (λ is. absurd ((told_on c.in_err-take_piece.ensures.fault).cause is))
+
+pub returns-clause-cause : goal.returns-clause-cause
+returns-clause-cause g c is = absurd (omega (arith, ap open_number is))
+
+pub returns-clause-filled : goal.returns-clause-filled
+returns-clause-filled g c is = omega (arith, ap open_number is)

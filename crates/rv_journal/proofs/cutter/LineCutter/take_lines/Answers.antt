@@ -2,8 +2,10 @@ use Rattle.std.proofs.Common.{◌≡◌, ◌<◌, ◌+◌, ◌++◌, Bool, false
 use Rattle.std.proofs.Common.{arith}
 use Rattle.std.specs.Prelude.{◌==◌}
 use Rattle.std.proofs.lemmas.Bool.Decides.{nat_tests}
+use Rattle.std.proofs.lemmas.Result.{err_from_is_err_and}
 use Rattle.rv_journal.specs.Text.{IsLines}
 use Rattle.rv_journal.proofs.Lines.{lines_end}
+use Rattle.rv_journal.proofs.Causes.{cut_well, lines_were_refused, memory_was_refused}
 use Rattle.rv_journal.proofs.Cutting.{lines_refused, lines_taken}
 use Rattle.rv_journal.proofs.cutter.LineCutter.take_lines.Goals as goal
 
@@ -40,3 +42,17 @@ returns-clause-taken g c first front had =
     (c.len.ensures ∙ sym c.deref.ensures.len ∙ ap length {y = c.args.self.now.rest.items ++ c.args.lines.now}
     is))
     c.clear.ensures.items refl
+
+pub returns-then-is_empty-clause-fault : goal.returns-then-is_empty-clause-fault
+returns-then-is_empty-clause-fault g c = cut_well _
+
+pub returns-in_err-extend_from_slice-clause-fault : goal.returns-in_err-extend_from_slice-clause-fault
+returns-in_err-extend_from_slice-clause-fault g c =
+    let exit = err_from_is_err_and c.from_residual.result c.from_residual.ensures.1 in
+    rw (exit.1, exit.2) (memory_was_refused)
+
+pub returns-in-Err-clause-fault : goal.returns-in-Err-clause-fault
+returns-in-Err-clause-fault g c = lines_were_refused _
+
+pub returns-clause-fault : goal.returns-clause-fault
+returns-clause-fault g c = cut_well _

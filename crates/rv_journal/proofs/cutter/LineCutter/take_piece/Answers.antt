@@ -3,6 +3,7 @@ use Rattle.std.proofs.Common.{arith, take-append-drop}
 use Rattle.std.specs.Prelude.{nat_lt}
 use Rattle.std.proofs.lemmas.Bool.Decides.{nat_tests}
 use Rattle.std.proofs.lemmas.Result.{err_from_is_err_and}
+use Rattle.rv_journal.proofs.Causes.{cut_well, memory_was_refused, told_on}
 use Rattle.rv_journal.proofs.Cutting.{after_zero, piece_lines, piece_taken, piece_text, refused_sooner}
 use Rattle.rv_journal.proofs.cutter.LineCutter.take_piece.Goals as goal
 
@@ -47,3 +48,20 @@ returns-clause-taken g c first front had =
     c.take_lines.new.self c.take_lines.new.reader (c.in_ok-take_lines.ensures.taken first front had)
     c.take_lines.ensures.going _ refl c.in_ok-extend_from_slice.ensures.items
     (not_below ends.text size) (below ends.text size) is.inside
+
+pub returns-then-self-clause-fault : goal.returns-then-self-clause-fault
+returns-then-self-clause-fault g c = cut_well _
+
+pub returns-in_err-take_lines-clause-fault : goal.returns-in_err-take_lines-clause-fault
+returns-in_err-take_lines-clause-fault g c =
+    let exit = err_from_is_err_and c.from_residual.result c.from_residual.ensures.1 in
+    rw (exit.1, exit.2) (told_on c.in_err-take_lines.ensures.fault)
+
+pub returns-in_err-extend_from_slice-clause-fault : goal.returns-in_err-extend_from_slice-clause-fault
+returns-in_err-extend_from_slice-clause-fault g c =
+    let exit = err_from_is_err_and c.from_residual-in_err-extend_from_slice.result
+    c.from_residual-in_err-extend_from_slice.ensures.1 in
+    rw (exit.1, exit.2) (memory_was_refused)
+
+pub returns-clause-fault : goal.returns-clause-fault
+returns-clause-fault g c = cut_well _

@@ -1,4 +1,5 @@
-use Rattle.std.proofs.Common.{arith}
+use Rattle.std.proofs.Common.{ap, arith}
+use Rattle.rv_journal.proofs.Causes.{store_number}
 use Rattle.rv_journal.proofs.Rooming.{begun, goes_further}
 use Rattle.rv_journal.proofs.filled.FilledFile.make_room.Goals as goal
 
@@ -53,4 +54,4 @@ pub returns-then-self-ge-MOST-clause-goes_on : goal.returns-then-self-ge-MOST-cl
 returns-then-self-ge-MOST-clause-goes_on g c _ = c.loop-self.invariant.0
 
 pub returns-then-self-ge-MOST-clause-cause : goal.returns-then-self-ge-MOST-clause-cause
-returns-then-self-ge-MOST-clause-cause g c is = absurd (cc)
+returns-then-self-ge-MOST-clause-cause g c is = absurd (omega (arith, ap store_number is))

@@ -1,9 +1,10 @@
-use Rattle.std.proofs.Common.{sym, ◌∙◌, ap}
+use Rattle.std.proofs.Common.{sym, ◌∙◌, ap, arith}
 use Rattle.std.proofs.lemmas.Bool.{false≢true}
 use Rattle.rv_journal.specs.Filled.{ahead}
 use Rattle.rv_journal.specs.Text.{before_zero}
 use Rattle.rv_journal.proofs.Adding.{text_is}
 use Rattle.rv_journal.proofs.Beginning.{none_zeroed, only_zeroed}
+use Rattle.rv_journal.proofs.Causes.{create_number}
 use Rattle.rv_journal.proofs.journal.DiskJournal.create.Goals as goal
 
 pub returns-then-not-is_text-clause-any_moment_err : goal.returns-then-not-is_text-clause-any_moment_err
@@ -52,3 +53,12 @@ returns-in-Err-clause-full g c = c.in-Err.ensures.full
 
 pub returns-in-Err-clause-cause : goal.returns-in-Err-clause-cause
 returns-in-Err-clause-cause g c = c.in-Err.ensures.cause
+
+pub returns-then-not-is_text-clause-long : goal.returns-then-not-is_text-clause-long
+returns-then-not-is_text-clause-long g c is = absurd (omega (arith, ap create_number is))
+
+pub returns-then-not-is_text-clause-full : goal.returns-then-not-is_text-clause-full
+returns-then-not-is_text-clause-full g c is = absurd (omega (arith, ap create_number is))
+
+pub returns-then-not-is_text-clause-cause : goal.returns-then-not-is_text-clause-cause
+returns-then-not-is_text-clause-cause g c is = absurd (omega (arith, ap create_number is))

@@ -1,9 +1,9 @@
-use Rattle.std.proofs.Common.{◌≡◌, Err, inl, length, sym, ◌∙◌, ap, subst, arith}
+use Rattle.std.proofs.Common.{ℕ, Err, inl, length, sym, ◌∙◌, ap, subst, arith}
 use Rattle.rv_journal.specs.Device.{LeavesOnly}
 use Rattle.rv_journal.specs.Opened.{HasLinesOf, file_lines}
 use Rattle.rv_journal.specs.Text.{before_zero}
-use Rattle.rv_journal.specs.declared.device.DeviceFault.TheVariants.{NoMemory, Failed}
-use Rattle.rv_journal.proofs.Causes.{open_why}
+use Rattle.rv_journal.specs.declared.device.DeviceFault.TheVariants.{NoMemory}
+use Rattle.rv_journal.proofs.Causes.{memory_not_failed, open_number, open_why}
 use Rattle.rv_journal.proofs.Moments.{started}
 use Rattle.rv_journal.proofs.Cleared.{is_whole, is_ready, text_lines}
 use Rattle.rv_journal.proofs.Adding.{text_is}
@@ -15,16 +15,13 @@ returns-in-Err-clause-any_moment_err g c told = started g.D.Device.disk c.args.d
     (HasLinesOf g.D.Device.disk c.args.device) (λ f left. inl left)
 
 pub returns-in-Err-clause-not_filled : goal.returns-in-Err-clause-not_filled
-returns-in-Err-clause-not_filled g c is = absurd (cc)
+returns-in-Err-clause-not_filled g c is = absurd (omega (arith, ap (open_number {T = ℕ}) (ap Err is)))
 
 pub returns-in-Err-clause-refused : goal.returns-in-Err-clause-refused
 returns-in-Err-clause-refused g c = tt
 
 pub returns-in-Err-clause-cause : goal.returns-in-Err-clause-cause
-returns-in-Err-clause-cause g c is = absurd (none (open_why NoMemory is))
-  where
-    none : NoMemory ≡ Failed → ⊥
-    none same = cc
+returns-in-Err-clause-cause g c is = absurd (memory_not_failed (open_why NoMemory is))
 
 pub reopen-requires-clause-zeros : goal.reopen-requires-clause-zeros
 reopen-requires-clause-zeros g c = zeros_same c.deref.result.now c.in-Ok.zeros.items c.deref.ensures.value

@@ -1,9 +1,9 @@
-use Rattle.std.proofs.Common.{ℕ, take, Err, sym, ◌∙◌, ap}
+use Rattle.std.proofs.Common.{ℕ, take, Err, refl, sym, ◌∙◌, ap, arith}
 use Rattle.std.proofs.lemmas.Bool.{false≢true}
 use Rattle.rv_journal.specs.Text.{before_zero}
 use Rattle.rv_journal.proofs.Adding.{at_rest, text_is}
 use Rattle.rv_journal.specs.declared.filled.StoreFault.TheVariants as OfStore
-use Rattle.rv_journal.proofs.Causes.{add_why}
+use Rattle.rv_journal.proofs.Causes.{add_number, add_why}
 use Rattle.rv_journal.proofs.journal.Parts.add.Goals as goal
 
 pub returns-then-self-clause-any_moment : goal.returns-then-self-clause-any_moment
@@ -72,3 +72,69 @@ returns-in-Err-Device-clause-cause g c is = c.in-Err-Device.ensures.cause (ap Er
 pub returns-then-not-is_text-clause-not_text : goal.returns-then-not-is_text-clause-not_text
 returns-then-not-is_text-clause-not_text g c is all = false≢true (sym c.if-not-is_text.true
     ∙ c.is_text.ensures.1 all)
+
+pub returns-then-self-clause-full : goal.returns-then-self-clause-full
+returns-then-self-clause-full g c is = absurd (omega (arith, ap add_number is))
+
+pub returns-then-self-clause-not_text : goal.returns-then-self-clause-not_text
+returns-then-self-clause-not_text g c is = absurd (omega (arith, ap add_number is))
+
+pub returns-then-self-clause-cause : goal.returns-then-self-clause-cause
+returns-then-self-clause-cause g c is = absurd (omega (arith, ap add_number is))
+
+pub returns-then-not-is_text-clause-full : goal.returns-then-not-is_text-clause-full
+returns-then-not-is_text-clause-full g c is = absurd (omega (arith, ap add_number is))
+
+pub returns-then-not-is_text-clause-cause : goal.returns-then-not-is_text-clause-cause
+returns-then-not-is_text-clause-cause g c is = absurd (omega (arith, ap add_number is))
+
+pub returns-in-Err-Full-clause-not_text : goal.returns-in-Err-Full-clause-not_text
+returns-in-Err-Full-clause-not_text g c is = absurd (omega (arith, ap add_number is))
+
+pub returns-in-Err-Full-clause-cause : goal.returns-in-Err-Full-clause-cause
+returns-in-Err-Full-clause-cause g c is = absurd (omega (arith, ap add_number is))
+
+pub returns-in-Err-Device-clause-full : goal.returns-in-Err-Device-clause-full
+returns-in-Err-Device-clause-full g c is = absurd (omega (arith, ap add_number is))
+
+pub returns-in-Err-Device-clause-not_text : goal.returns-in-Err-Device-clause-not_text
+returns-in-Err-Device-clause-not_text g c is = absurd (omega (arith, ap add_number is))
+
+pub returns-then-self-clause-refused : goal.returns-then-self-clause-refused
+returns-then-self-clause-refused g c = (λ _. c.if-self.true, λ _. refl)
+
+pub returns-then-not-is_text-clause-refused : goal.returns-then-not-is_text-clause-refused
+returns-then-not-is_text-clause-refused g c = (
+  λ is. absurd (omega (arith, ap add_number is)),
+  λ failed. absurd (false≢true (sym c.if-self.false ∙ failed)),
+)
+
+pub returns-in-Ok-clause-refused : goal.returns-in-Ok-clause-refused
+returns-in-Ok-clause-refused g c = (
+  λ is. absurd (omega (arith, ap add_number is)),
+  λ failed. absurd (false≢true (sym c.if-self.false ∙ failed)),
+)
+
+pub returns-in-Err-Full-clause-refused : goal.returns-in-Err-Full-clause-refused
+returns-in-Err-Full-clause-refused g c = (
+  λ is. absurd (omega (arith, ap add_number is)),
+  λ failed. absurd (false≢true (sym c.if-self.false ∙ failed)),
+)
+
+pub returns-in-Err-Device-clause-refused : goal.returns-in-Err-Device-clause-refused
+returns-in-Err-Device-clause-refused g c = (
+  λ is. absurd (omega (arith, ap add_number is)),
+  λ failed. absurd (false≢true (sym c.if-self.false ∙ failed)),
+)
+
+pub returns-then-not-is_text-clause-same : goal.returns-then-not-is_text-clause-same
+returns-then-not-is_text-clause-same g c failed = absurd (false≢true (sym c.if-self.false ∙ failed))
+
+pub returns-in-Ok-clause-same : goal.returns-in-Ok-clause-same
+returns-in-Ok-clause-same g c failed = absurd (false≢true (sym c.if-self.false ∙ failed))
+
+pub returns-in-Err-Full-clause-same : goal.returns-in-Err-Full-clause-same
+returns-in-Err-Full-clause-same g c failed = absurd (false≢true (sym c.if-self.false ∙ failed))
+
+pub returns-in-Err-Device-clause-same : goal.returns-in-Err-Device-clause-same
+returns-in-Err-Device-clause-same g c failed = absurd (false≢true (sym c.if-self.false ∙ failed))
