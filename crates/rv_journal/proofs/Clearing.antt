@@ -6,10 +6,10 @@ use Rattle.std.specs.Prelude.{IsTrue}
 use Rattle.std.proofs.lemmas.Bool.{cases_lt}
 use Rattle.std.proofs.lemmas.List.{get_or-take, get_or_past}
 use Rattle.std.proofs.lemmas.List.{length-take-le}
-use Rattle.rv_journal.specs.Device.{Disk, IsRewritten, LeavesOnly, MayMix, Mixed, Rewrites}
-use Rattle.rv_journal.specs.Opened.{HasLines, IsCleared, IsClearedTo, file_lines}
+use Rattle.rv_journal.specs.Device.{Disk, IsRewritten, LeavesOnly, MayMix, Mixed, Rewrites, WhereTold}
+use Rattle.rv_journal.specs.Opened.{HasLines, IsCleared, IsClearedTo, KeepsLines, file_lines}
 use Rattle.rv_journal.proofs.Holding.{holds_mixed, same_size}
-use Rattle.rv_journal.proofs.Moments.{weaker}
+use Rattle.rv_journal.proofs.Moments.{joined, weaker}
 use Rattle.rv_journal.proofs.Zeros.{all_blank}
 use Rattle.rv_journal.proofs.Reopened.{mixed_lines, only_lines, zeros_on}
 
@@ -49,14 +49,14 @@ module _ {D : Type 0} (disk : Disk D) (end at size : ℕ) (old : D) (is : IsClea
       same c mixed = mixed_lines (disk.seen old) end is.lines at after (take count zeros)
           (λ i. zeros_blank zeros count i are) inside c mixed
 
-      pub any_moment : Rewrites disk at (take count zeros) old new
+      any_moment : Rewrites disk at (take count zeros) old new
           → LeavesOnly disk old new (HasLines (file_lines disk old))
       any_moment writes =
           weaker disk old new (MayMix disk at (take count zeros) old) (HasLines (file_lines disk old))
           writes.any_moment (λ c has. same c (subst (λ (f : List ℕ). Mixed at (take count zeros) f c)
           (is.durable has.0 has.1) has.2))
 
-      pub lines_stay : Rewrites disk at (take count zeros) old new → IsTrue (disk.tells old)
+      lines_stay : Rewrites disk at (take count zeros) old new → IsTrue (disk.tells old)
           → HasLines (file_lines disk old) (disk.seen new)
       lines_stay writes told = same (disk.seen new) (writes.others told)
 
@@ -75,3 +75,26 @@ module _ {D : Type 0} (disk : Disk D) (end at size : ℕ) (old : D) (is : IsClea
               (omega (arith, low, piece_size));
           durable = done.durable;
         }
+
+-- whether or not the zeros were written and stored
+pub keeps_lines : {D : Type 0} (disk : Disk D) (end at size : ℕ) (old new : D)
+    → WhereTold disk old (IsClearedTo disk end at size old) → end ≤ at → (zeros : List ℕ)
+    → zeros ≡ replicate (length zeros) 0 → (count : ℕ) → count ≤ length zeros → at + count ≤ size
+    → Rewrites disk at (take count zeros) old new → KeepsLines disk old new
+keeps_lines disk end at size old new cleared after zeros are count short fit writes = record {
+  tells = writes.tells;
+  lines = λ told. lines_stay disk end at size old (cleared told) after zeros are count short fit new writes
+      told;
+  any_moment = λ told. any_moment disk end at size old (cleared told) after zeros are count short fit new
+      writes;
+}
+
+pub keeps_further : {D : Type 0} (disk : Disk D) (old mid new : D) → KeepsLines disk old mid
+    → KeepsLines disk mid new → KeepsLines disk old new
+keeps_further disk old mid new first later = record {
+  tells = later.tells ∙ first.tells;
+  lines = λ told. later.lines (first.tells ∙ told) ∙ first.lines told;
+  any_moment = λ told. joined disk old mid new (HasLines (file_lines disk old)) (first.any_moment told)
+      (subst (λ (l : List ℕ). LeavesOnly disk mid new (HasLines l)) (first.lines told)
+      (later.any_moment (first.tells ∙ told)));
+}

@@ -19,7 +19,7 @@ module _ {D R F : Type 0} (disk : Disk D) (takes : R → List ℕ → R → Type
     → Type 0)
     (old new : D) (was now : R) where
   -- a fault that another call told
-  not_read : {T : Type 0} (fault : OpenFault F) → Looks disk old new
+  pub not_read : {T : Type 0} (fault : OpenFault F) → Looks disk old new
       → (IsErrOf {T = T} (Err fault) open_failed → disk.failed new ≡ true)
       → (IsErrOf {T = T} (Err fault) NotFilled → ⊥)
       → IfRefused fault (λ why. WhereTold disk old (RefusesFront refuses was (file_lines disk old) why))

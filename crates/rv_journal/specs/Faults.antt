@@ -1,5 +1,5 @@
 -- What is told where the device failed, and what ends a journal.
-use Rattle.std.specs.Prelude.{Bool, false, true}
+use Rattle.std.specs.Prelude.{◌≡◌, Bool, false, true}
 use Rattle.std.specs.declared.io.ErrorKind.{ErrorKind}
 use Rattle.std.specs.declared.io.ErrorKind.TheVariants as kind
 use Rattle.rv_journal.specs.declared.device.DeviceFault.TheVariants.{Failed, NoMemory}
@@ -30,6 +30,12 @@ fault_kind OfJournal.Full = kind.FileTooLarge
 fault_kind (OfJournal.Device NoMemory) = kind.OutOfMemory
 fault_kind (OfJournal.Device Failed) = kind.Other
 fault_kind OfJournal.Failed = kind.Other
+
+-- A writer's error of this kind tells a fault, and whether the journal takes nothing more is as that says.
+pub record HasKindOfFault (told : ErrorKind) (failed : Bool) : Type 0 where
+  pub fault : JournalFault
+  pub kind : told ≡ fault_kind fault
+  pub ends : failed ≡ ends_journal fault
 
 -- by one that makes a journal
 abbrev pub create_failed : CreateFault

@@ -19,6 +19,12 @@ pub record Looks {D : Type 0} (disk : Disk D) (old new : D) : Type 0 where
   pub crash : (c : List ℕ) → disk.may_leave new c → disk.may_leave old c
   pub any_moment : LeavesOnly disk old new (disk.may_leave old)
 
+-- What calls leave that write after the lines of a file, whether or not they end well.
+pub record KeepsLines {D : Type 0} (disk : Disk D) (old new : D) : Type 0 where
+  pub tells : disk.tells new ≡ disk.tells old
+  pub lines : WhereTold disk old (HasLines (file_lines disk old) (disk.seen new))
+  pub any_moment : WhereTold disk old (LeavesOnly disk old new (HasLines (file_lines disk old)))
+
 -- Its lines end here, and zeros stand after them up to this offset, all of it stored.
 pub record IsClearedTo {D : Type 0} (disk : Disk D) (end at size : ℕ) (file : D) : Type 0 where
   pub lines : end ≡ length (file_lines disk file)

@@ -3,7 +3,7 @@ ghost use Rattle.std.specs.Prelude.{◌≡◌, ◌<◌, ◌≤◌, length, repli
 ghost use Rattle.rv_journal.specs.Device.{HasCause, LeavesOnly, WhereTold};
 ghost use Rattle.rv_journal.specs.Faults.{IfRefused, open_failed};
 ghost use Rattle.rv_journal.specs.Opened.{HasLines, HasLinesOf, IsCleared, IsClearedTo, IsLeftRefused};
-ghost use Rattle.rv_journal.specs.Opened.{IsLeftUnfilled, file_lines};
+ghost use Rattle.rv_journal.specs.Opened.{IsLeftUnfilled, KeepsLines, file_lines};
 ghost use Rattle.rv_journal.specs.Text.{HasZero};
 ghost use Rattle.rv_journal.specs.declared.fault.OpenFault.TheVariants.{NotFilled};
 
@@ -28,15 +28,11 @@ fn clear_piece<D: Device>(
     requires after { end ≤ at }
     requires before { at < filled }
     requires cleared { WhereTold D.disk device.old (IsClearedTo D.disk end at filled device.old) }
-    ensures tells { D.disk.tells device.new ≡ D.disk.tells device.old }
+    ensures kept { KeepsLines D.disk device.old device.new }
     ensures cleared { IfOk result (λ next. WhereTold D.disk device.old
         (IsClearedTo D.disk end next filled device.new)) }
-    ensures lines { WhereTold D.disk device.old
-        (HasLines (file_lines D.disk device.old) (D.disk.seen device.new)) }
     ensures further { IfOk result (λ next. at < next) }
     ensures within { IfOk result (λ next. next ≤ filled) }
-    ensures any_moment { WhereTold D.disk device.old (LeavesOnly D.disk device.old device.new
-        (HasLines (file_lines D.disk device.old))) }
     ensures cause { HasCause D.disk device.old device.new result }
 {
     let count = zeros.len().min(filled - at);
@@ -55,13 +51,9 @@ fn clear_after<D: Device>(
     requires some { 0 < length zeros.now }
     requires before { end < filled }
     requires cleared { WhereTold D.disk device.old (IsClearedTo D.disk end end filled device.old) }
-    ensures tells { D.disk.tells device.new ≡ D.disk.tells device.old }
+    ensures kept { KeepsLines D.disk device.old device.new }
     ensures cleared { OnOk result (WhereTold D.disk device.old
         (IsCleared D.disk (file_lines D.disk device.old) filled device.new)) }
-    ensures lines { WhereTold D.disk device.old
-        (HasLines (file_lines D.disk device.old) (D.disk.seen device.new)) }
-    ensures any_moment { WhereTold D.disk device.old (LeavesOnly D.disk device.old device.new
-        (HasLines (file_lines D.disk device.old))) }
     ensures cause { HasCause D.disk device.old device.new result }
 {
     let mut at = end;

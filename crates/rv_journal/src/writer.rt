@@ -2,9 +2,9 @@
 ghost use Rattle.std.specs.Io.{WritesAtMost};
 ghost use Rattle.std.specs.Io.KnownBytes.{WriteAppends};
 ghost use Rattle.std.specs.IoError.{error_kind};
-ghost use Rattle.std.specs.Prelude.{◌≡◌, false, length, IfOk, OnOk};
+ghost use Rattle.std.specs.Prelude.{◌≡◌, false, length, IfErr, IfOk, OnOk};
 ghost use Rattle.rv_journal.specs.Device.{LeavesOnly, WhereTold};
-ghost use Rattle.rv_journal.specs.Faults.{fault_kind};
+ghost use Rattle.rv_journal.specs.Faults.{HasKindOfFault, fault_kind};
 ghost use Rattle.rv_journal.specs.Journal.{Stores, journal_contents, journal_text};
 ghost use Rattle.rv_journal.specs.Text.{HasFront};
 
@@ -39,6 +39,7 @@ impl<D: Device> Write for DiskJournal<D> {
             result bytes.now }
         ensures whole { IfOk result (λ count. count ≡ length bytes.now) }
         ensures stored { OnOk result (Stores D.disk bytes.now self.old self.new) }
+        ensures kind { IfErr result (λ error. HasKindOfFault (error_kind error) self.new.failed) }
         ensures any_moment { self.old.failed ≡ false → WhereTold D.disk self.old.device
             (LeavesOnly D.disk self.old.device self.new.device
             (HasFront (journal_text D.disk self.old) bytes.now)) }

@@ -7,4 +7,4 @@ pub returns-clause-cleared : goal.returns-clause-cleared
 returns-clause-cleared g c told =
     is_cleared g.D.Device.disk c.args.end c.loop-at.at c.args.filled c.loop-at.device
     (c.loop-at.invariant.cleared told) c.requires.before (omega (arith, c.loop-at-test.false))
-    (file_lines g.D.Device.disk c.args.device.now) (c.loop-at.invariant.lines told)
+    (file_lines g.D.Device.disk c.args.device.now) (c.loop-at.invariant.kept.lines told)

@@ -1,9 +1,9 @@
-use Rattle.std.proofs.Common.{◌≡◌, Bool, true, false, not, List, ℕ, ◌∙◌, ap, arith, subst}
+use Rattle.std.proofs.Common.{◌≡◌, Err, Bool, true, false, not, List, ℕ, ◌∙◌, ap, arith, subst}
 use Rattle.std.proofs.lemmas.Bool.{false≢true}
 use Rattle.std.proofs.lemmas.Result.{err_from_is_err_and}
 use Rattle.rv_journal.specs.Opened.{IsCleared}
 use Rattle.rv_journal.specs.Text.{stored_lines}
-use Rattle.rv_journal.proofs.Causes.{if_refused, open_number}
+use Rattle.rv_journal.proofs.Causes.{if_refused, open_number, reopen_why}
 use Rattle.rv_journal.proofs.Looking.{only_looked, then_cleared}
 use Rattle.rv_journal.proofs.opening.reopen.Goals as goal
 
@@ -37,13 +37,13 @@ pub returns-in_err-clear_after-clause-any_moment : goal.returns-in_err-clear_aft
 returns-in_err-clear_after-clause-any_moment g c told =
     let looks = c.read_lines.ensures.reads.looks in
     then_cleared g.D.Device.disk c.args.device.now c.read_lines.new.device c.clear_after.new.device looks
-    (looks.seen told) (c.clear_after.ensures.any_moment (looks.tells ∙ told))
+    (looks.seen told) (c.clear_after.ensures.kept.any_moment (looks.tells ∙ told))
 
 pub returns-clause-any_moment : goal.returns-clause-any_moment
 returns-clause-any_moment g c told =
     let looks = c.read_lines.ensures.reads.looks in
     then_cleared g.D.Device.disk c.args.device.now c.read_lines.new.device c.clear_after.new.device looks
-    (looks.seen told) (c.clear_after.ensures.any_moment (looks.tells ∙ told))
+    (looks.seen told) (c.clear_after.ensures.kept.any_moment (looks.tells ∙ told))
 
 pub returns-clause-cleared : goal.returns-clause-cleared
 returns-clause-cleared g c told =
@@ -60,3 +60,66 @@ returns-in_err-clear_after-clause-not_filled g c =
     let exit = err_from_is_err_and c.from_residual-in_err-clear_after.result
     c.from_residual-in_err-clear_after.ensures.1 in
     rw (exit.1, exit.2) (λ is. absurd (omega (arith, ap open_number is)))
+
+pub returns-in_err-ends-clause-tells : goal.returns-in_err-ends-clause-tells
+returns-in_err-ends-clause-tells g c = c.read_lines.ensures.reads.looks.tells
+
+pub returns-in_err-ends-clause-lines : goal.returns-in_err-ends-clause-lines
+returns-in_err-ends-clause-lines g c told = ap stored_lines (c.read_lines.ensures.reads.looks.seen told)
+
+pub returns-in_err-ends-clause-not_filled : goal.returns-in_err-ends-clause-not_filled
+returns-in_err-ends-clause-not_filled g c =
+    let exit = err_from_is_err_and c.from_residual.result c.from_residual.ensures.1 in
+    rw (exit.1, exit.2) (λ is. absurd (c.in_err-ends.ensures.reads.filled is))
+
+pub returns-in_err-ends-clause-cause : goal.returns-in_err-ends-clause-cause
+returns-in_err-ends-clause-cause g c =
+    let exit = err_from_is_err_and c.from_residual.result c.from_residual.ensures.1 in
+    rw (exit.1, exit.2) (c.in_err-ends.ensures.reads.cause)
+
+pub returns-then-not-ends-clause-tells : goal.returns-then-not-ends-clause-tells
+returns-then-not-ends-clause-tells g c = c.read_lines.ensures.reads.looks.tells
+
+pub returns-then-not-ends-clause-lines : goal.returns-then-not-ends-clause-lines
+returns-then-not-ends-clause-lines g c told = ap stored_lines (c.read_lines.ensures.reads.looks.seen told)
+
+pub returns-in_err-clear_after-clause-tells : goal.returns-in_err-clear_after-clause-tells
+returns-in_err-clear_after-clause-tells g c = c.clear_after.ensures.kept.tells
+    ∙ c.read_lines.ensures.reads.looks.tells
+
+pub returns-in_err-clear_after-clause-lines : goal.returns-in_err-clear_after-clause-lines
+returns-in_err-clear_after-clause-lines g c told =
+    let looks = c.read_lines.ensures.reads.looks in
+    c.clear_after.ensures.kept.lines (looks.tells ∙ told) ∙ ap stored_lines (looks.seen told)
+
+pub returns-in_err-clear_after-clause-refused : goal.returns-in_err-clear_after-clause-refused
+returns-in_err-clear_after-clause-refused g c =
+    let exit = err_from_is_err_and c.from_residual-in_err-clear_after.result
+    c.from_residual-in_err-clear_after.ensures.1 in
+    rw (exit.1, exit.2) (tt)
+
+pub returns-in_err-clear_after-clause-cause : goal.returns-in_err-clear_after-clause-cause
+returns-in_err-clear_after-clause-cause g c =
+    let exit = err_from_is_err_and c.from_residual-in_err-clear_after.result
+    c.from_residual-in_err-clear_after.ensures.1 in
+    rw (exit.1, exit.2) (λ is. c.in_err-clear_after.ensures.cause.failed (ap Err (reopen_why _ is)))
+
+pub returns-clause-tells : goal.returns-clause-tells
+returns-clause-tells g c = c.clear_after.ensures.kept.tells ∙ c.read_lines.ensures.reads.looks.tells
+
+pub returns-clause-lines : goal.returns-clause-lines
+returns-clause-lines g c told =
+    let looks = c.read_lines.ensures.reads.looks in
+    c.clear_after.ensures.kept.lines (looks.tells ∙ told) ∙ ap stored_lines (looks.seen told)
+
+pub returns-clause-taken : goal.returns-clause-taken
+returns-clause-taken g c = c.in_ok-ends.ensures.reads.taken
+
+pub returns-clause-end : goal.returns-clause-end
+returns-clause-end g c = c.in_ok-ends.ensures.reads.lines
+
+pub returns-clause-not_filled : goal.returns-clause-not_filled
+returns-clause-not_filled g c is = absurd (omega (arith, ap open_number is))
+
+pub returns-clause-cause : goal.returns-clause-cause
+returns-clause-cause g c is = absurd (omega (arith, ap open_number is))
