@@ -3,7 +3,7 @@ use Rattle.std.proofs.Common.{take-append-drop}
 use Rattle.std.proofs.lemmas.List.{length-take-le}
 use Rattle.std.proofs.Math.Seq.{take-add}
 use Rattle.std.proofs.lemmas.Result.{err_from_is_err_and}
-use Rattle.rv_journal.specs.Cutter.{HasCut, HasTakenLines, RefusesFront}
+use Rattle.rv_journal.specs.Cutter.{HasCut, HasTakenLines, RefusesFront, RefusesOn}
 use Rattle.rv_journal.specs.Text.{stored_lines}
 use Rattle.rv_journal.proofs.Causes.{if_refused, open_number, reopen_why, told_on}
 use Rattle.rv_journal.proofs.Cutting.{refuses_sooner}
@@ -26,7 +26,9 @@ pub returns-in_err-take_piece-clause-refused : goal.returns-in_err-take_piece-cl
 returns-in_err-take_piece-clause-refused g c =
     let exit = err_from_is_err_and c.from_residual-in_err-take_piece.result
     c.from_residual-in_err-take_piece.ensures.1 in
-    rw (exit.1, exit.2) (if_refused c.in_err-take_piece.field-0.0 _ _
+    rw (exit.1, exit.2) (if_refused c.in_err-take_piece.field-0.0 (RefusesOn g.R.JournalReader.takes
+    g.R.JournalReader.refuses (take c.in_ok-count.count c.read_at.new.room) c.args.cutter.now
+    c.args.reader.now) _
     (λ why refused told first had.
     let seen = g.D.Device.disk.seen c.args.device.now in
     let end = c.args.at + c.in_ok-count.count in
@@ -66,67 +68,7 @@ returns-clause-cause g c is = absurd (omega (arith, ap open_number is))
 pub returns-clause-filled : goal.returns-clause-filled
 returns-clause-filled g c is = omega (arith, ap open_number is)
 
-pub returns-in_err-count-clause-cut : goal.returns-in_err-count-clause-cut
-returns-in_err-count-clause-cut g c =
-    let exit = err_from_is_err_and c.from_residual.result c.from_residual.ensures.1 in
-    rw exit.1 tt
-
-pub returns-in_err-count-clause-below : goal.returns-in_err-count-clause-below
-returns-in_err-count-clause-below g c =
-    let exit = err_from_is_err_and c.from_residual.result c.from_residual.ensures.1 in
-    rw exit.1 tt
-
-pub returns-in_err-count-clause-inside : goal.returns-in_err-count-clause-inside
-returns-in_err-count-clause-inside g c =
-    let exit = err_from_is_err_and c.from_residual.result c.from_residual.ensures.1 in
-    rw exit.1 tt
-
-pub returns-in_err-count-clause-end : goal.returns-in_err-count-clause-end
-returns-in_err-count-clause-end g c =
-    let exit = err_from_is_err_and c.from_residual.result c.from_residual.ensures.1 in
-    rw exit.1 tt
-
-pub returns-in_err-count-clause-taken : goal.returns-in_err-count-clause-taken
-returns-in_err-count-clause-taken g c =
-    let exit = err_from_is_err_and c.from_residual.result c.from_residual.ensures.1 in
-    rw exit.1 tt
-
-pub returns-in_err-take_piece-clause-cut : goal.returns-in_err-take_piece-clause-cut
-returns-in_err-take_piece-clause-cut g c =
-    let exit = err_from_is_err_and c.from_residual-in_err-take_piece.result
-    c.from_residual-in_err-take_piece.ensures.1 in
-    rw exit.1 tt
-
-pub returns-in_err-take_piece-clause-below : goal.returns-in_err-take_piece-clause-below
-returns-in_err-take_piece-clause-below g c =
-    let exit = err_from_is_err_and c.from_residual-in_err-take_piece.result
-    c.from_residual-in_err-take_piece.ensures.1 in
-    rw exit.1 tt
-
-pub returns-in_err-take_piece-clause-inside : goal.returns-in_err-take_piece-clause-inside
-returns-in_err-take_piece-clause-inside g c =
-    let exit = err_from_is_err_and c.from_residual-in_err-take_piece.result
-    c.from_residual-in_err-take_piece.ensures.1 in
-    rw exit.1 tt
-
-pub returns-in_err-take_piece-clause-end : goal.returns-in_err-take_piece-clause-end
-returns-in_err-take_piece-clause-end g c =
-    let exit = err_from_is_err_and c.from_residual-in_err-take_piece.result
-    c.from_residual-in_err-take_piece.ensures.1 in
-    rw exit.1 tt
-
-pub returns-in_err-take_piece-clause-taken : goal.returns-in_err-take_piece-clause-taken
-returns-in_err-take_piece-clause-taken g c =
-    let exit = err_from_is_err_and c.from_residual-in_err-take_piece.result
-    c.from_residual-in_err-take_piece.ensures.1 in
-    rw exit.1 tt
-
 pub returns-in_err-count-clause-cause : goal.returns-in_err-count-clause-cause
 returns-in_err-count-clause-cause g c =
     let exit = err_from_is_err_and c.from_residual.result c.from_residual.ensures.1 in
     rw (exit.1, exit.2) (λ is. c.in_err-count.ensures.cause.failed (ap Err (reopen_why _ is)))
-
-pub returns-in_err-count-clause-refused : goal.returns-in_err-count-clause-refused
-returns-in_err-count-clause-refused g c =
-    let exit = err_from_is_err_and c.from_residual.result c.from_residual.ensures.1 in
-    rw (exit.1, exit.2) (tt)
