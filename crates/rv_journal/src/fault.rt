@@ -5,59 +5,39 @@ ghost use Rattle.rv_journal.specs.declared.fault.OpenFault.TheVariants as OfOpen
 
 use crate::device::DeviceFault;
 use std::alloc::AllocError;
-use std::error::Error;
-use std::fmt;
-use std::fmt::Debug;
+use thiserror::Error;
 
 /// Why a journal did not take a piece.
-#[derive(Clone, Copy, Debug, PartialEq, Eq)]
+#[derive(Clone, Copy, Debug, PartialEq, Eq, Error)]
 pub enum JournalFault {
     /// The piece has a zero byte, which no text has. Nothing changed.
+    #[error("a piece with a zero byte is no text")]
     NotText,
     /// The file would have more than 2^50 bytes. The text is as it was, and shorter pieces may still be
     /// added.
+    #[error("the journal has no room for the piece")]
     Full,
     /// The device failed, or was refused memory. The journal takes nothing more.
+    #[error("the journal's device failed")]
     Device(DeviceFault),
     /// An earlier call found that the device had failed. Nothing was done.
+    #[error("the journal's device failed before")]
     Failed,
 }
 
-impl fmt::Display for JournalFault {
-    fn fmt<W: fmt::Write>(&self, f: &mut fmt::Formatter<W>) -> fmt::Result {
-        f.write_str(match self {
-            JournalFault::NotText => "a piece with a zero byte is no text",
-            JournalFault::Full => "the journal has no room for the piece",
-            JournalFault::Device(_) => "the journal's device failed",
-            JournalFault::Failed => "the journal's device failed before",
-        })
-    }
-}
-
-impl Error for JournalFault {}
-
 /// Why a file was not opened as a journal.
-#[derive(Clone, Copy, Debug, PartialEq, Eq)]
+#[derive(Clone, Copy, Debug, PartialEq, Eq, Error)]
 pub enum OpenFault<F> {
     /// No zero stands in the file: it is empty, or no journal. Nothing changed.
+    #[error("no zero stands in the file: it is no journal")]
     NotFilled,
     /// The device failed, or memory was refused. The file has the lines that it had.
+    #[error("the journal's device failed")]
     Device(DeviceFault),
     /// Its lines were refused, for this reason. Nothing changed.
+    #[error("the journal's lines were refused")]
     Refused(F),
 }
-
-impl<F> fmt::Display for OpenFault<F> {
-    fn fmt<W: fmt::Write>(&self, f: &mut fmt::Formatter<W>) -> fmt::Result {
-        f.write_str(match self {
-            OpenFault::NotFilled => "no zero stands in the file: it is no journal",
-            OpenFault::Device(_) => "the journal's device failed",
-            OpenFault::Refused(_) => "the journal's lines were refused",
-        })
-    }
-}
-
-impl<F: Debug + Drop> Error for OpenFault<F> {}
 
 impl<F> From<DeviceFault> for OpenFault<F> {
     ghost from_gives = { λ fault told. told ≡ OfOpen.Device fault };
@@ -76,27 +56,18 @@ impl<F> From<AllocError> for OpenFault<F> {
 }
 
 /// Why a device was not made a journal.
-#[derive(Clone, Copy, Debug, PartialEq, Eq)]
+#[derive(Clone, Copy, Debug, PartialEq, Eq, Error)]
 pub enum CreateFault {
     /// The first piece has a zero byte, which no text has. Nothing changed.
+    #[error("a piece with a zero byte is no text")]
     NotText,
     /// The file has more than 1 MiB, so it is no leftover. Nothing changed.
+    #[error("the file is too long to be made a journal")]
     TooLong,
     /// The file would have more than 2^50 bytes. It stands for a front of the first piece.
+    #[error("the journal has no room for the piece")]
     Full,
     /// The device failed, or memory was refused. What the file had may be lost.
+    #[error("the journal's device failed")]
     Device(DeviceFault),
 }
-
-impl fmt::Display for CreateFault {
-    fn fmt<W: fmt::Write>(&self, f: &mut fmt::Formatter<W>) -> fmt::Result {
-        f.write_str(match self {
-            CreateFault::NotText => "a piece with a zero byte is no text",
-            CreateFault::TooLong => "the file is too long to be made a journal",
-            CreateFault::Full => "the journal has no room for the piece",
-            CreateFault::Device(_) => "the journal's device failed",
-        })
-    }
-}
-
-impl Error for CreateFault {}
