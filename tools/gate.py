@@ -114,10 +114,13 @@ class Provers(threading.Thread):
 
 
 def side_by_side():
-    """How many provers run side by side: one a processor, as far as memory goes. rt would give idle processors to a single
-    proof, which takes a third more of their time."""
+    """How many provers run side by side, as far as memory goes: two, or one for two processors where there are more than four,
+    since a machine's processors are often the threads of half as many cores. On four of those, three provers side by side took
+    1.17 times the processor time of two, and proved hardly more in an hour; rt would give idle ones to a single proof, which
+    takes a third more."""
     memory = os.sysconf("SC_PAGE_SIZE") * os.sysconf("SC_PHYS_PAGES") / 2**30
-    return max(1, min(os.cpu_count() or 1, int(memory / ROOM)))
+    processors = os.cpu_count() or 1
+    return max(1, min(processors, max(2, processors // 2), int(memory / ROOM)))
 
 
 def processor_minutes():
