@@ -231,7 +231,8 @@ impl<W: Drop> Shell<W> {
     }
 
     // Once a second, closes connections that are idle or stall, looks at the account's file, and reports
-    // faults; and closes the one that holds most, if all have held too much for as long as a peer may stall.
+    // faults. If all have held too much for as long as a peer may stall, closes those that hold most, until
+    // the rest fits.
     fn look_over(&mut self, rt: &HostRuntime, now: u64)
         ensures runs { OnlyCalls self.old.traffic self.new.traffic }
         ensures account { self.new.account ≡ self.old.account }
