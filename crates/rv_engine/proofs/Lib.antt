@@ -6,6 +6,7 @@ pub mod Looking
 pub mod Through
 pub mod Sure
 pub mod Written
+pub mod Left
 pub mod Running
 pub mod Telling
 pub mod Stored

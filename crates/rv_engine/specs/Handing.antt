@@ -3,8 +3,7 @@ use Rattle.std.specs.Prelude.{ℕ, ◌≡◌, ◌<◌, ◌≤◌, ◌-◌, ◌�
 use Rattle.std.specs.Prelude.{length}
 use Rattle.std.specs.Prelude.{None, Option, Some, map, take}
 use Rattle.rv_account.specs.declared.entry.Entry.{Entry}
-use Rattle.rv_frame.specs.declared.sink.Sink.{Sink}
-use Rattle.rv_frame.specs.Sink.{SinkTakes, sink_failed}
+use Rattle.rv_frame.specs.Lasting.{LastingDevice, TakesBytes}
 use Rattle.rv_lines.specs.Lines.{printed_lines}
 use Rattle.rv_lines.specs.Written.{entry_text}
 use Rattle.rv_hub.specs.dispatcher.View.{DispatcherTerms, begun}
@@ -176,34 +175,34 @@ TellsWritten journal terms old now made (Some given) new =
     × HandsOn journal terms old now (written_event old) made given new
 
 -- no write to the device failed, now or before
-pub record HasWorked {W : Type 0} (before after : Sink W) : Type 0 where
-  pub worked : sink_failed before ≡ false
-  pub works : sink_failed after ≡ false
+pub record HasWorked {L : Type 0} (lasts : LastingDevice L) (before after : L) : Type 0 where
+  pub worked : lasts.failed before ≡ false
+  pub works : lasts.failed after ≡ false
 
 -- the device took only a part of the lines that are gathered and has failed, or had failed before and took
 -- none. They stay gathered, and no further entry is stored
-pub record WritesInPart {W : Type 0} (contents : W → Option (List ℕ)) (old : EngineState) (before : Sink W)
-    (sent : ℕ) (new : EngineState) (after : Sink W) : Type 0
+pub record WritesInPart {L : Type 0} (lasts : LastingDevice L) (old : EngineState) (before : L) (sent : ℕ)
+    (new : EngineState) (after : L) : Type 0
   where
     pub gathers : Gathers old new
-    pub takes : SinkTakes contents before after (take sent new.lines)
-    pub failed : sink_failed after ≡ true
-    pub refused : sink_failed before ≡ true → sent ≡ 0
+    pub takes : TakesBytes lasts before after (take sent new.lines)
+    pub failed : lasts.failed after ≡ true
+    pub refused : lasts.failed before ≡ true → sent ≡ 0
 
 -- the device took all lines that were gathered, but memory for others was refused
-pub record StoresSome {W : Type 0} (contents : W → Option (List ℕ)) (old : EngineState) (before : Sink W)
-    (new : EngineState) (after : Sink W) : Type 0
+pub record StoresSome {L : Type 0} (lasts : LastingDevice L) (old : EngineState) (before : L)
+    (new : EngineState) (after : L) : Type 0
   where
     pub some : 0 < length new.left
     pub bytes : List ℕ
-    pub takes : SinkTakes contents before after bytes
+    pub takes : TakesBytes lasts before after bytes
     pub stores : StoresLines old bytes (gathered_count new) new
-    pub works : HasWorked before after
+    pub works : HasWorked lasts before after
 
 -- why the hub isn't told
-abbrev pub IsNotTold : {W : Type 0} → (W → Option (List ℕ)) → EngineState → Sink W → EngineFault → EngineState
-    → Sink W → Type 0
-IsNotTold contents old before (fault.NotWritten why) new after =
-    WritesInPart contents old before why.sent new after
-IsNotTold contents old before fault.NoMemory new after = StoresSome contents old before new after
-IsNotTold contents old before (fault.Refused why) new after = ⊥
+abbrev pub IsNotTold : {L : Type 0} → LastingDevice L → EngineState → L → EngineFault → EngineState → L
+    → Type 0
+IsNotTold lasts old before (fault.NotWritten why) new after =
+    WritesInPart lasts old before why.sent new after
+IsNotTold lasts old before fault.NoMemory new after = StoresSome lasts old before new after
+IsNotTold lasts old before (fault.Refused why) new after = ⊥

@@ -6,14 +6,13 @@ use crate::events::{EngineFault, LinkEvent, hub_event};
 use crate::looks::LookList;
 use crate::parts::EngineParts;
 use crate::{handing, writing};
-use rv_frame::Sink;
+use rv_frame::Lasting;
 use rv_hub::Hub;
 use rv_machine::Machine;
 use rv_rules::Limits;
 use rv_server_connections::subscribers::ConnectionNumber;
 use rv_text::NoMemory;
 use std::alloc::Global;
-use std::io::Write;
 use std::marker::Model;
 
 /// A hub with the lines of its account that are to be written, if one is kept, and the connections that are
@@ -48,7 +47,7 @@ impl Engine {
     ghost use Rattle.std.specs.Prelude.{◌↔◌, ◌<◌, ◌∷◌, ◌++◌, [], IfErr, IfNone, IfOk, IfSome, IsTrue, OnOk};
     ghost use Rattle.std.specs.Prelude.{AllPairs, ◌≢◌, OnErr, length, max};
     ghost use Rattle.std.specs.Bool.{OnFalse, OnTrue};
-    ghost use Rattle.rv_frame.specs.Sink.{SinkTakes};
+    ghost use Rattle.rv_frame.specs.Lasting.{LeavesHeld, LeavesFront, TakesBytes};
     ghost use Rattle.rv_machine.specs.Machines.{state_in};
     ghost use Rattle.rv_state.specs.resume.Resuming.{CanResume};
     ghost use Rattle.rv_rules.specs.StepLimits.{AreStepLimits};
@@ -149,19 +148,21 @@ impl Engine {
     /// Writes all lines that aren't written. If the hub knows of fewer entries as written, tells it that all
     /// are, and gives what the hub gives. If the device doesn't take all lines that are gathered, they stay
     /// gathered; if memory for some is refused, those before them are written. In both cases the hub isn't
-    /// told.
-    pub fn write_lines<W: Write>(
+    /// told. A crash at any moment of the call leaves what the device held, and a front of these lines.
+    pub fn write_lines<L: Lasting>(
         &mut self,
         now: u64,
-        file: &mut Sink<W>,
+        file: &mut L,
     ) -> Result<Option<usize>, EngineFault>
-        ensures written { OnOk result (SinkTakes W.contents file.old file.new
+        ensures written { OnOk result (TakesBytes L.lasts file.old file.new
             (unwritten (engine_state self.old))) }
-        ensures works { OnOk result (HasWorked file.old file.new) }
+        ensures works { OnOk result (HasWorked L.lasts file.old file.new) }
+        ensures any_moment { LeavesFront L.lasts file.old (unwritten (engine_state self.old)) file.new }
+        ensures durable { OnOk result (LeavesHeld L.lasts file.new) }
         ensures tells { IfOk result (λ told. TellsWritten self.old.hub.has_journal (hub_terms self.old.hub)
             (all_gone (engine_state self.old)) now self.new.hub.dispatcher.entries.items told
             (engine_state self.new)) }
-        ensures not_told { IfErr result (λ why. IsNotTold W.contents (engine_state self.old) file.old why
+        ensures not_told { IfErr result (λ why. IsNotTold L.lasts (engine_state self.old) file.old why
             (engine_state self.new) file.new) }
         ensures terms { hub_terms self.new.hub ≡ hub_terms self.old.hub }
         ensures journal { self.new.hub.has_journal ≡ self.old.hub.has_journal }

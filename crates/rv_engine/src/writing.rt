@@ -1,6 +1,6 @@
 //! Writes the lines of an account.
 ghost use Rattle.std.specs.Prelude.{◌≡◌, [], IfErr, IfOk, OnErr, OnOk, take, true};
-ghost use Rattle.rv_frame.specs.Sink.{SinkTakes, sink_failed};
+ghost use Rattle.rv_frame.specs.Lasting.{LeavesHeld, LeavesFront, TakesBytes};
 ghost use Rattle.rv_hub.specs.Hubs.{hub_terms};
 ghost use Rattle.rv_engine.specs.Calls.{CountsTold};
 ghost use Rattle.rv_engine.specs.Engines.{IsEngine, engine_state};
@@ -10,9 +10,8 @@ ghost use Rattle.rv_engine.specs.Handing.{lines_gone, unwritten};
 use crate::events::EngineFault;
 use crate::handing::{catch_up, hand_sure, is_caught_up};
 use crate::parts::EngineParts;
-use rv_frame::{Sink, WriteFault};
+use rv_frame::{Lasting, WriteFault};
 use rv_hub::HubEvent;
-use std::io::Write;
 
 // How many entries the hub has made.
 fn entry_count(parts: &EngineParts) -> usize
@@ -32,21 +31,23 @@ fn count_gathered(parts: &EngineParts) -> usize
 }
 
 // Writes the lines that are gathered, which then are stored, and gathered no longer.
-fn write_gathered<W: Write>(parts: &mut EngineParts, file: &mut Sink<W>) -> Result<(), WriteFault>
+fn write_gathered<L: Lasting>(parts: &mut EngineParts, file: &mut L) -> Result<(), WriteFault>
     requires { IsEngine parts.old }
     ensures sound { IsEngine parts.new }
-    ensures written { OnOk result (SinkTakes W.contents file.old file.new (engine_state parts.old).lines) }
-    ensures works { OnOk result (HasWorked file.old file.new) }
+    ensures written { OnOk result (TakesBytes L.lasts file.old file.new (engine_state parts.old).lines) }
+    ensures works { OnOk result (HasWorked L.lasts file.old file.new) }
+    ensures any_moment { LeavesFront L.lasts file.old (engine_state parts.old).lines file.new }
+    ensures durable { OnOk result (LeavesHeld L.lasts file.new) }
     ensures gone { OnOk result (engine_state parts.new ≡ lines_gone (engine_state parts.old)) }
-    ensures part { IfErr result (λ why. SinkTakes W.contents file.old file.new
+    ensures part { IfErr result (λ why. TakesBytes L.lasts file.old file.new
         (take why.sent (engine_state parts.old).lines)) }
-    ensures failed { OnErr result (sink_failed file.new ≡ true) }
-    ensures refused { IfErr result (λ why. sink_failed file.old ≡ true → why.sent ≡ 0) }
+    ensures failed { OnErr result (L.lasts.failed file.new ≡ true) }
+    ensures refused { IfErr result (λ why. L.lasts.failed file.old ≡ true → why.sent ≡ 0) }
     ensures same { OnErr result (parts.new ≡ parts.old) }
     ensures hub { parts.new.hub ≡ parts.old.hub }
     ensures calls { parts.new.calls ≡ parts.old.calls }
 {
-    match file.write_all(parts.lines.as_bytes()) {
+    match file.store(parts.lines.as_bytes()) {
         Ok(()) => {
             parts.stored = count_gathered(parts);
             parts.lines.clear();
@@ -76,20 +77,22 @@ fn tell_written(parts: &mut EngineParts, now: u64) -> Option<usize>
 }
 
 // Writes all lines that aren't written, and tells the hub so.
-pub(crate) fn write_lines<W: Write>(
+pub(crate) fn write_lines<L: Lasting>(
     parts: &mut EngineParts,
     now: u64,
-    file: &mut Sink<W>,
+    file: &mut L,
 ) -> Result<Option<usize>, EngineFault>
     requires { IsEngine parts.old }
     ensures sound { IsEngine parts.new }
-    ensures written { OnOk result (SinkTakes W.contents file.old file.new
+    ensures written { OnOk result (TakesBytes L.lasts file.old file.new
         (unwritten (engine_state parts.old))) }
-    ensures works { OnOk result (HasWorked file.old file.new) }
+    ensures works { OnOk result (HasWorked L.lasts file.old file.new) }
+    ensures any_moment { LeavesFront L.lasts file.old (unwritten (engine_state parts.old)) file.new }
+    ensures durable { OnOk result (LeavesHeld L.lasts file.new) }
     ensures tells { IfOk result (λ told. TellsWritten parts.old.hub.has_journal (hub_terms parts.old.hub)
         (all_gone (engine_state parts.old)) now parts.new.hub.dispatcher.entries.items told
         (engine_state parts.new)) }
-    ensures not_told { IfErr result (λ why. IsNotTold W.contents (engine_state parts.old) file.old why
+    ensures not_told { IfErr result (λ why. IsNotTold L.lasts (engine_state parts.old) file.old why
         (engine_state parts.new) file.new) }
     ensures terms { hub_terms parts.new.hub ≡ hub_terms parts.old.hub }
     ensures journal { parts.new.hub.has_journal ≡ parts.old.hub.has_journal }

@@ -2,6 +2,7 @@
 pub mod Cut
 pub mod Stream
 pub mod Sink
+pub mod Lasting
 pub mod Source
 pub mod Laws
 -- What the tests' devices promise.

@@ -15,6 +15,7 @@
 
 mod frames;
 mod held;
+mod lasting;
 pub mod laws;
 mod sink;
 mod source;
@@ -22,6 +23,7 @@ pub mod testing;
 mod write;
 
 pub use frames::{FrameFault, Frames, NoMemory};
+pub use lasting::Lasting;
 pub use sink::{Sink, WriteFault};
 pub use source::{ReadFault, Source};
 pub use write::write_frame;

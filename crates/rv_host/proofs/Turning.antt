@@ -1,5 +1,6 @@
 -- Calls of a server's traffic, one after another.
 use Rattle.std.proofs.Common.{◌≡◌, Option, Some, List, subst, sym, ℕ}
+use Rattle.rv_frame.specs.Lasting.{sink_lasts}
 use Rattle.rv_traffic.specs.declared.traffic.Switchboard.{Switchboard}
 use Rattle.rv_traffic.specs.CallRuns.{OnlyCalls, RunsOnDevice, RunsWith}
 use Rattle.rv_traffic.proofs.CallsRun.{calls_none}
@@ -20,22 +21,24 @@ calls_to {S = S} one other same is calls = subst (λ (t : Switchboard S). OnlyCa
 
 module _ {S W : Type 0} (contents : W → Option (List ℕ)) where
   pub calls_turn : (old new : Switchboard S) (before after : Option (AccountFile W)) → after ≡ before
-      → OnlyCalls old new → RunsWith contents old (device_in before) new (device_in after)
+      → OnlyCalls old new → RunsWith (sink_lasts contents) old (device_in before) new (device_in after)
   calls_turn old new before after same calls =
-      subst (λ (o : Option (AccountFile W)). RunsWith contents old (device_in before) new (device_in o))
+      subst (λ (o : Option (AccountFile W)).
+      RunsWith (sink_lasts contents) old (device_in before) new (device_in o))
       (sym same)
-      (calls_with contents old new (device_in before) calls)
+      (calls_with (sink_lasts contents) old new (device_in before) calls)
 
   pub wrote_turn : (old new : Switchboard S) (account : Option (AccountFile W)) (file after : AccountFile W)
-      → account ≡ Some file → RunsOnDevice contents old file.file new after.file
-      → RunsWith contents old (device_in account) new (Some after.file)
+      → account ≡ Some file → RunsOnDevice (sink_lasts contents) old file.file new after.file
+      → RunsWith (sink_lasts contents) old (device_in account) new (Some after.file)
   wrote_turn old new account file after is over =
-      subst (λ (o : Option (AccountFile W)). RunsWith contents old (device_in o) new (Some after.file))
+      subst (λ (o : Option (AccountFile W)).
+      RunsWith (sink_lasts contents) old (device_in o) new (Some after.file))
       (sym is) over
 
   pub turns_join : (one between other : Switchboard S) (x y z : Option (AccountFile W))
-      → RunsWith contents one (device_in x) between (device_in y)
-      → RunsWith contents between (device_in y) other (device_in z)
-      → RunsWith contents one (device_in x) other (device_in z)
+      → RunsWith (sink_lasts contents) one (device_in x) between (device_in y)
+      → RunsWith (sink_lasts contents) between (device_in y) other (device_in z)
+      → RunsWith (sink_lasts contents) one (device_in x) other (device_in z)
   turns_join one between other x y z first second =
-      with_join contents one between other (device_in x) (device_in y) (device_in z) first second
+      with_join (sink_lasts contents) one between other (device_in x) (device_in y) (device_in z) first second

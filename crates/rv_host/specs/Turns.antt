@@ -1,6 +1,7 @@
 -- What a server's turn does to the engine behind its sockets, and to the file of its account.
 use Rattle.std.specs.Prelude.{◌↔◌, ◌≡◌, false, IsSome, IsTrue, List, None, Option, Some, ℕ}
 use Rattle.rv_frame.specs.declared.sink.Sink.{Sink}
+use Rattle.rv_frame.specs.Lasting.{sink_lasts}
 use Rattle.rv_frame.specs.Sink.{sink_failed}
 use Rattle.rv_traffic.specs.CallRuns.{RunsWith}
 use Rattle.rv_host.specs.declared.account_file.AccountFile.{AccountFile}
@@ -20,7 +21,7 @@ TakesAllLines (Some account) = sink_failed account.file ≡ false
 -- written went there
 abbrev pub TurnsOver : {W : Type 0} → (W → Option (List ℕ)) → Shell W → Shell W → Type 0
 TurnsOver contents old new =
-    RunsWith contents old.traffic (device_in old.account) new.traffic (device_in new.account)
+    RunsWith (sink_lasts contents) old.traffic (device_in old.account) new.traffic (device_in new.account)
 
 -- a file is kept exactly if the hub waits until lines are written
 abbrev pub HasItsAccount : {W : Type 0} → Shell W → Type 0

@@ -1,5 +1,6 @@
 //! The file of an account.
 ghost use Rattle.std.specs.Prelude.{◌≡◌, ◌-◌, ◌≤◌, ◌↔◌, false, IfOk, IsTrue};
+ghost use Rattle.rv_frame.specs.Lasting.{sink_lasts};
 ghost use Rattle.rv_frame.specs.Sink.{sink_failed};
 
 use crate::fault::HostEnd;
@@ -55,7 +56,8 @@ impl<W: Write> AccountFile<W> {
         traffic: &mut Switchboard<S>,
         now: u64,
     ) -> Result<(), HostEnd>
-        ensures over { RunsOnDevice W.contents traffic.old self.old.file traffic.new self.new.file }
+        ensures over { RunsOnDevice (sink_lasts W.contents) traffic.old self.old.file traffic.new
+            self.new.file }
         ensures works { OnOk result (sink_failed self.new.file ≡ false) }
     {
         let count = traffic.engine().lines().len() as u64;

@@ -18,6 +18,7 @@ use Rattle.rv_book.specs.Steps.{max_entries}
 use Rattle.rv_rules.proofs.Deciding.{find_waiting}
 use Rattle.rv_rules.proofs.Places.{within}
 use Rattle.rv_lines.specs.Laws.{BookFitsLines, WrittenAccount}
+use Rattle.rv_lines.specs.Reading.{account_limits}
 use Rattle.rv_lines.specs.Written.{FitPartners, max_partners}
 use Rattle.rv_lines.proofs.ReadBack.{lines_again}
 
@@ -73,4 +74,4 @@ book_fits_lines a legal fits =
     )
 
 pub account_again : WrittenAccount
-account_again a legal fits = lines_again a (book_fits_lines a legal fits).0
+account_again a legal fits = lines_again account_limits a (omega arith) (book_fits_lines a legal fits).0

@@ -28,7 +28,8 @@ use Rattle.rv_text.proofs.Sound.{answer_sound, answer_within, message_sound, mes
 use Rattle.rv_account.specs.declared.entry.Entry.{Entry}
 use Rattle.rv_book.specs.Limits.{FitsEntry}
 use Rattle.rv_lines.proofs.Texts.{AllUpTo, message_fits, up_to_behind}
-use Rattle.rv_lines.specs.Written.{FitPlaces, entry_text, head_text, max_partner, message_in, partners_text}
+use Rattle.rv_lines.specs.EntryText.{FitPlacesUpTo}
+use Rattle.rv_lines.specs.Written.{entry_text, head_text, message_in, partners_text}
 use Rattle.rv_lines.specs.Written.{places_text, said_text}
 use Rattle.rv_lines.proofs.Cutting.{Lacks}
 use Rattle.rv_lines.proofs.Numbers.{all_in_range}
@@ -172,7 +173,7 @@ answer_in_one_line a fits =
 -- ---- lines of an account
 
 -- digits, commas and a minus are above these bytes
-module _ (byte : ℕ) (low : byte < 44) where
+module _ (byte most : ℕ) (low : byte < 44) (most_fits : most < 2 ^ 64) where
   decimal_lacks : (n : ℕ) → n < 2 ^ 64 → Lacks byte (decimal n)
   decimal_lacks n small k d inside same = omega (
     arith,
@@ -180,16 +181,16 @@ module _ (byte : ℕ) (low : byte < 44) where
         small).0.1 k d inside,
   )
 
-  places_lack : (place : ℕ) (more : List ℕ) → AllUpTo max_partner (place ∷ more)
+  places_lack : (place : ℕ) (more : List ℕ) → AllUpTo most (place ∷ more)
       → Lacks byte (places_text place more)
-  places_lack place [] small = decimal_lacks place (omega (arith, small place (0, refl)))
+  places_lack place [] small = decimal_lacks place (omega (arith, most_fits, small place (0, refl)))
   places_lack place (next ∷ more) small =
-      let later = places_lack next more (up_to_behind max_partner place (next ∷ more) small) in
+      let later = places_lack next more (up_to_behind most place (next ∷ more) small) in
       All-append (λ b. b ≢ byte) (decimal place) (44 ∷ places_text next more)
-      (decimal_lacks place (omega (arith, small place (0, refl))))
+      (decimal_lacks place (omega (arith, most_fits, small place (0, refl))))
       (All-cons (λ b. b ≢ byte) 44 (places_text next more) (λ same. omega (arith, same)) later)
 
-  pub partners_lack : (partners : List ℕ) → AllUpTo max_partner partners → Lacks byte (partners_text partners)
+  pub partners_lack : (partners : List ℕ) → AllUpTo most partners → Lacks byte (partners_text partners)
   partners_lack [] small = All-cons (λ b. b ≢ byte) 45 [] (λ same. omega (arith, same))
       (All-nil (λ b. b ≢ byte))
   partners_lack (place ∷ more) small = places_lack place more small
@@ -198,13 +199,14 @@ said_in_line : (said : Option Message) → IfSome said FitsMessage → Lacks 10 
 said_in_line None fits = word_in_line (codes "tick") refl
 said_in_line (Some m) fits = message_in_one_line m fits
 
-pub entry_in_one_line : (e : Entry) → FitsEntry e → FitPlaces e → Lacks 10 (entry_text e)
-entry_in_one_line e fits small =
+pub entry_in_one_line : (most : ℕ) → most < 2 ^ 64 → (e : Entry) → FitsEntry e → FitPlacesUpTo most e
+    → Lacks 10 (entry_text e)
+entry_in_one_line most most_fits e fits small =
     line_append (decimal e.moment ++ 32 ∷ partners_text e.partners) (32 ∷ said_text (message_in e.act))
     (line_append (decimal e.moment) (32 ∷ partners_text e.partners) (decimal_in_line e.moment
     (omega (arith, fits.0)))
-    (line_cons 32 (partners_text e.partners) (λ same. omega arith) (partners_lack 10 (omega arith) e.partners
-    small)))
+    (line_cons 32 (partners_text e.partners) (λ same. omega arith)
+    (partners_lack 10 most (omega arith) most_fits e.partners small)))
     (line_cons 32 (said_text (message_in e.act)) (λ same. omega arith) (said_in_line (message_in e.act)
     (message_fits e.act fits.1)))
 

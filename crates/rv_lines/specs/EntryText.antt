@@ -50,9 +50,13 @@ max_partner = 99999
 abbrev pub max_partners : ℕ
 max_partners = 16
 
--- the places of the entry's partners are within their limit
+-- the places of the entry's partners are at most this
+abbrev pub FitPlacesUpTo : ℕ → Entry → Type 0
+FitPlacesUpTo most e = (p : ℕ) → Names e p → p ≤ most
+
+-- they are within their limit
 abbrev pub FitPlaces : Entry → Type 0
-FitPlaces e = (p : ℕ) → Names e p → p ≤ max_partner
+FitPlaces = FitPlacesUpTo max_partner
 
 -- the entry's partners are within both limits, which bound its line
 pub record FitPartners (e : Entry) : Type 0 where

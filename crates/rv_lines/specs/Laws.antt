@@ -1,24 +1,29 @@
 -- What holds of the lines of accounts as such.
-use Rattle.std.specs.Prelude.{◌≡◌, ℕ, List, Some, slice_get}
+use Rattle.std.specs.Prelude.{◌≡◌, ◌≤◌, ℕ, List, Some, slice_get}
+use Rattle.rv_text.specs.Members.{max_identifier}
 use Rattle.rv_account.specs.declared.entry.Entry.{Entry}
 use Rattle.rv_account.specs.Account.{Account}
 use Rattle.rv_book.specs.Legal.{Legal}
 use Rattle.rv_book.specs.Limits.{FitsAccount}
 use Rattle.rv_lines.specs.Lines.{lines, printed_lines}
-use Rattle.rv_lines.specs.Reading.{FirstBadLine, ReadsAccount}
-use Rattle.rv_lines.specs.Written.{FitPartners, FitsLines, account_lines}
+use Rattle.rv_lines.specs.Reading.{FirstBadLine, LineLimits, ReadsAccount, ReadsAccountUnder, account_limits}
+use Rattle.rv_lines.specs.Written.{FitPartners, FitsLines, FitsLinesUnder, account_lines}
 
 -- what is written for the account is read as that account
+abbrev pub IsReadBackUnder : LineLimits → Account → Type 0
+IsReadBackUnder limits a = ReadsAccountUnder limits (lines (printed_lines (account_lines a))) a
+
 abbrev pub IsReadBack : Account → Type 0
-IsReadBack a = ReadsAccount (lines (printed_lines (account_lines a))) a
+IsReadBack = IsReadBackUnder account_limits
 
 -- a legal account within its limits, as each book's is, is read back
 abbrev pub WrittenAccount : Type 0
 WrittenAccount = (a : Account) → Legal a → FitsAccount a → IsReadBack a
 
--- any account within the limits of lines is read back, legal or not
+-- any account within some limits of lines, of places up to 2^53 - 1, is read back under them, legal or not
 abbrev pub WrittenLines : Type 0
-WrittenLines = (a : Account) → FitsLines a → IsReadBack a
+WrittenLines = (limits : LineLimits) (a : Account) → limits.greatest_place ≤ max_identifier
+    → FitsLinesUnder limits a → IsReadBackUnder limits a
 
 -- a legal account within its limits is within those of lines, and so are the partners of each entry, so its
 -- line is short

@@ -10,7 +10,7 @@ use Rattle.rv_account.specs.declared.entry.Entry.{Entry}
 use Rattle.rv_account.specs.Account.{Account}
 use Rattle.rv_book.specs.Steps.{max_entries, max_moment}
 use Rattle.rv_lines.specs.Number.{WritesPlainly, WritesUpTo}
-use Rattle.rv_lines.specs.Written.{max_partner, message_in}
+use Rattle.rv_lines.specs.EntryText.{max_partner, message_in}
 
 -- ---- one line
 

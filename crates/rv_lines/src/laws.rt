@@ -7,7 +7,7 @@ pub fn written_account()
     ensures { WrittenAccount }
 {}
 
-/// The same of any account within the limits of lines, which needn't be legal.
+/// The same of any account within some limits of lines, which needn't be legal: so of places up to 2^53 - 1.
 pub fn written_lines()
     ensures { WrittenLines }
 {}

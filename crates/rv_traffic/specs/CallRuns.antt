@@ -3,8 +3,7 @@
 use Rattle.std.specs.Prelude.{ℕ, ◌≡◌, ◌++◌, Bool, List, [], None, Option, Some, false, true}
 use Rattle.rv_account.specs.declared.entry.Entry.{Entry}
 use Rattle.rv_hub.specs.dispatcher.View.{DispatcherTerms}
-use Rattle.rv_frame.specs.declared.sink.Sink.{Sink}
-use Rattle.rv_frame.specs.Sink.{SinkTakes, sink_failed}
+use Rattle.rv_frame.specs.Lasting.{LastingDevice, TakesBytes}
 use Rattle.rv_hub.specs.declared.events.HubEvent.{HubEvent}
 use Rattle.rv_engine.specs.declared.events.EngineFault.{EngineFault}
 use Rattle.rv_hub.specs.Hubs.{hub_terms}
@@ -87,57 +86,56 @@ WrittenLinesAreRuns = (journal : Bool) (terms : DispatcherTerms) (s t : EngineSt
 
 -- a run in which the device took these lines, and then, if it failed, some first bytes of the lines that
 -- aren't written. A device that hasn't failed took each line whole, and one that had failed before takes none
-pub record RunsOver {W : Type 0} (contents : W → Option (List ℕ)) (journal : Bool) (terms : DispatcherTerms)
-    (s : EngineState) (before : Sink W) (t : EngineState) (after : Sink W) : Type 0
+pub record RunsOver {L : Type 0} (lasts : LastingDevice L) (journal : Bool) (terms : DispatcherTerms)
+    (s : EngineState) (before : L) (t : EngineState) (after : L) : Type 0
   where
     pub bytes : List ℕ
     pub runs : RunsBehind journal terms s bytes t
     pub torn : List ℕ
     pub more : List ℕ
     pub torn_is : unwritten t ≡ torn ++ more
-    pub takes : SinkTakes contents before after (bytes ++ torn)
-    pub whole : sink_failed after ≡ false → torn ≡ []
-    pub stays : sink_failed before ≡ true → (bytes ≡ []) × (torn ≡ []) × (sink_failed after ≡ true)
+    pub takes : TakesBytes lasts before after (bytes ++ torn)
+    pub whole : lasts.failed after ≡ false → torn ≡ []
+    pub stays : lasts.failed before ≡ true → (bytes ≡ []) × (torn ≡ []) × (lasts.failed after ≡ true)
 
 -- a run in which the device took nothing leaves it as it was
-abbrev pub OthersAreOver : {W : Type 0} → (W → Option (List ℕ)) → Type 0
-OthersAreOver {W} contents = (journal : Bool) (terms : DispatcherTerms) (s t : EngineState) (sink : Sink W)
-    → RunsBehind journal terms s [] t → RunsOver contents journal terms s sink t sink
+abbrev pub OthersAreOver : {L : Type 0} → LastingDevice L → Type 0
+OthersAreOver {L} lasts = (journal : Bool) (terms : DispatcherTerms) (s t : EngineState) (device : L)
+    → RunsBehind journal terms s [] t → RunsOver lasts journal terms s device t device
 
 -- runs over one device, one after another, are one
-abbrev pub OversAreJoined : {W : Type 0} → (W → Option (List ℕ)) → Type 0
-OversAreJoined {W} contents = (journal : Bool) (terms : DispatcherTerms) (s t u : EngineState)
-    (before between after : Sink W)
-    → RunsOver contents journal terms s before t between → RunsOver contents journal terms t between u after
-    → RunsOver contents journal terms s before u after
+abbrev pub OversAreJoined : {L : Type 0} → LastingDevice L → Type 0
+OversAreJoined {L} lasts = (journal : Bool) (terms : DispatcherTerms) (s t u : EngineState)
+    (before between after : L)
+    → RunsOver lasts journal terms s before t between → RunsOver lasts journal terms t between u after
+    → RunsOver lasts journal terms s before u after
 
 -- the lines of the account are written to it
-abbrev pub WrittenLinesAreOver : {W : Type 0} → (W → Option (List ℕ)) → Type 0
-WrittenLinesAreOver {W} contents = (journal : Bool) (terms : DispatcherTerms) (s t : EngineState)
-    (before after : Sink W) (now : ℕ) (made : List Entry) (told : Option ℕ)
-    → SinkTakes contents before after (unwritten s) → HasWorked before after
+abbrev pub WrittenLinesAreOver : {L : Type 0} → LastingDevice L → Type 0
+WrittenLinesAreOver {L} lasts = (journal : Bool) (terms : DispatcherTerms) (s t : EngineState)
+    (before after : L) (now : ℕ) (made : List Entry) (told : Option ℕ)
+    → TakesBytes lasts before after (unwritten s) → HasWorked lasts before after
     → TellsWritten journal terms (all_gone s) now made told t
-    → RunsOver contents journal terms s before t after
+    → RunsOver lasts journal terms s before t after
 
 -- or they aren't all written
-abbrev pub UnwrittenLinesAreOver : {W : Type 0} → (W → Option (List ℕ)) → Type 0
-UnwrittenLinesAreOver {W} contents = (journal : Bool) (terms : DispatcherTerms) (s t : EngineState)
-    (before after : Sink W) (why : EngineFault) → IsNotTold contents s before why t after
-    → RunsOver contents journal terms s before t after
+abbrev pub UnwrittenLinesAreOver : {L : Type 0} → LastingDevice L → Type 0
+UnwrittenLinesAreOver {L} lasts = (journal : Bool) (terms : DispatcherTerms) (s t : EngineState)
+    (before after : L) (why : EngineFault) → IsNotTold lasts s before why t after
+    → RunsOver lasts journal terms s before t after
 
 -- an engine behind sockets, over a device
-pub record RunsOnDevice {S W : Type 0} (contents : W → Option (List ℕ)) (old : Switchboard S) (before :
-    Sink W)
-    (new : Switchboard S) (after : Sink W) : Type 0
+pub record RunsOnDevice {S L : Type 0} (lasts : LastingDevice L) (old : Switchboard S) (before : L)
+    (new : Switchboard S) (after : L) : Type 0
   where
     pub terms : SameTerms old new
-    pub over : RunsOver contents old.engine.hub.has_journal (hub_terms old.engine.hub)
+    pub over : RunsOver lasts old.engine.hub.has_journal (hub_terms old.engine.hub)
         (engine_state old.engine) before (engine_state new.engine) after
 
 -- over the device of its account, if one is kept; if not, no line is written
-abbrev pub RunsWith : {S W : Type 0} → (W → Option (List ℕ)) → Switchboard S → Option (Sink W)
-    → Switchboard S → Option (Sink W) → Type 0
-RunsWith contents old None new None = OnlyCalls old new
-RunsWith contents old None new (Some after) = ⊥
-RunsWith contents old (Some before) new None = ⊥
-RunsWith contents old (Some before) new (Some after) = RunsOnDevice contents old before new after
+abbrev pub RunsWith : {S L : Type 0} → LastingDevice L → Switchboard S → Option L → Switchboard S → Option L
+    → Type 0
+RunsWith lasts old None new None = OnlyCalls old new
+RunsWith lasts old None new (Some after) = ⊥
+RunsWith lasts old (Some before) new None = ⊥
+RunsWith lasts old (Some before) new (Some after) = RunsOnDevice lasts old before new after

@@ -5,6 +5,7 @@ ghost use Rattle.rv_traffic.specs.CallRuns.{RefusalsAreRuns, RunsAreJoined, Shar
 ghost use Rattle.rv_traffic.specs.CallRuns.{UnwrittenLinesAreOver};
 ghost use Rattle.rv_traffic.specs.CallRuns.{WriteRoundsAreRuns, WrittenLinesAreOver, WrittenLinesAreRuns};
 
+use rv_frame::Lasting;
 use std::io::{Read, Write};
 
 /// What each call does to the engine is a run of it, and calls one after another are one run: so a server's
@@ -24,9 +25,9 @@ pub fn calls_are_runs<S: Read + Write>()
 
 /// So is a whole turn over one device. The device takes the lines of the account in order, each whole, except
 /// for the last if it fails there.
-pub fn turns_are_runs<W: Write>()
-    ensures joined { OversAreJoined W.contents }
-    ensures others { OthersAreOver W.contents }
-    ensures written_lines { WrittenLinesAreOver W.contents }
-    ensures unwritten_lines { UnwrittenLinesAreOver W.contents }
+pub fn turns_are_runs<L: Lasting>()
+    ensures joined { OversAreJoined L.lasts }
+    ensures others { OthersAreOver L.lasts }
+    ensures written_lines { WrittenLinesAreOver L.lasts }
+    ensures unwritten_lines { UnwrittenLinesAreOver L.lasts }
 {}

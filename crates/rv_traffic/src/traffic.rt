@@ -1,6 +1,6 @@
 //! An engine with the sockets of its connections.
 ghost use Rattle.std.specs.Prelude.{◌≡◌, [], length, IfErr, IfOk, OnOk};
-ghost use Rattle.rv_frame.specs.Sink.{SinkTakes};
+ghost use Rattle.rv_frame.specs.Lasting.{LeavesHeld, LeavesFront, TakesBytes};
 ghost use Rattle.rv_hub.specs.Hubs.{hub_terms};
 ghost use Rattle.rv_hub.specs.declared.events.HubEvent.TheVariants as event;
 ghost use Rattle.rv_engine.specs.Engines.{engine_state};
@@ -13,7 +13,7 @@ use crate::outcomes::ReadFaults;
 use crate::waiting::WaitingLists;
 use crate::{accepting, asking, giving_up, rounds, sharing};
 use rv_engine::{Engine, EngineFault, LinkEvent};
-use rv_frame::Sink;
+use rv_frame::Lasting;
 use rv_server_connections::subscribers::ConnectionNumber;
 use std::io::{Read, Write};
 
@@ -198,23 +198,26 @@ impl<S: Drop> Switchboard<S> {
     }
 
     /// Writes all lines of the account that aren't written, as the engine does.
-    pub fn write_lines<W: Write>(
+    pub fn write_lines<L: Lasting>(
         &mut self,
         now: u64,
-        file: &mut Sink<W>,
+        file: &mut L,
     ) -> Result<Option<usize>, EngineFault>
-        ensures written { OnOk result (SinkTakes W.contents file.old file.new
+        ensures written { OnOk result (TakesBytes L.lasts file.old file.new
             (unwritten (engine_state self.old.engine))) }
-        ensures works { OnOk result (HasWorked file.old file.new) }
+        ensures works { OnOk result (HasWorked L.lasts file.old file.new) }
         ensures tells { IfOk result (λ told. TellsWritten self.old.engine.hub.has_journal
             (hub_terms self.old.engine.hub) (all_gone (engine_state self.old.engine)) now
             self.new.engine.hub.dispatcher.entries.items told (engine_state self.new.engine)) }
-        ensures not_told { IfErr result (λ why. IsNotTold W.contents (engine_state self.old.engine) file.old
+        ensures not_told { IfErr result (λ why. IsNotTold L.lasts (engine_state self.old.engine) file.old
             why (engine_state self.new.engine) file.new) }
         ensures links { self.new.links ≡ self.old.links }
         ensures terms { SameTerms self.old self.new }
         ensures waits { self.new.waits ≡ self.old.waits }
-        ensures runs { RunsOver W.contents self.old.engine.hub.has_journal
+        ensures any_moment { LeavesFront L.lasts file.old (unwritten (engine_state self.old.engine))
+            file.new }
+        ensures durable { OnOk result (LeavesHeld L.lasts file.new) }
+        ensures runs { RunsOver L.lasts self.old.engine.hub.has_journal
             (hub_terms self.old.engine.hub) (engine_state self.old.engine) file.old
             (engine_state self.new.engine) file.new }
     {

@@ -13,7 +13,7 @@ use Rattle.rv_machine.specs.Machines.{state_in}
 use Rattle.rv_audit.specs.declared.rule.Rule.{Rule}
 use Rattle.rv_follow.specs.state_rules.Ruling.{IsFirstBroken, IsOnNamed, NamesClosed}
 use Rattle.rv_follow.proofs.OfAsked.RuleLaws.{closed_breaks, follows_legally, rules_break}
-use Rattle.rv_verify.specs.Standing.{HasRead, StandsAt, StopsBehind}
+use Rattle.rv_verify.specs.Standing.{HasRead, StandsAt, StopsBehind, verdict_by}
 use Rattle.rv_verify.specs.Verdicts.{AuditTells, IsVerdictOn, ReadsLong, TellsFaultOf}
 use Rattle.rv_replies.specs.declared.findings.verdict.AccountVerdict.{AccountVerdict}
 use Rattle.rv_replies.specs.declared.findings.verdict.AccountVerdict.TheVariants as verdict
@@ -71,15 +71,13 @@ module _ (lines : List (List ℕ)) (p a : Account) (reads : ReadsLong lines a) (
   there = ap (λ es. slice_get es (length p.entries)) behind.entries
       ∙ get_at_end p.entries behind.entry behind.more
 
--- the verdict that a reason to stop at a place is
-abbrev pub verdict_by : Option StopReason → ℕ → AccountVerdict
-verdict_by None place = verdict.Legal
-verdict_by (Some (stop.Breaks rule)) place = verdict.Fault place rule
-verdict_by (Some (stop.NotOpen entry)) place = verdict.NotOpen place entry
-verdict_by (Some stop.BeyondLimits) place = verdict.BeyondLimits place
+-- the verdict of a verifier that stopped for this reason, or didn't, at a place
+abbrev pub verdict_after : Option StopReason → ℕ → AccountVerdict
+verdict_after None place = verdict.Legal
+verdict_after (Some reason) place = verdict_by reason place
 
 told_by : (lines : List (List ℕ)) (p a : Account) (reason : Option StopReason) → ReadsLong lines a → Legal p
-    → HadRoom p → StandsAt p a reason → IsVerdictOn lines (verdict_by reason (length p.entries))
+    → HadRoom p → StandsAt p a reason → IsVerdictOn lines (verdict_after reason (length p.entries))
 unfolding fault_of
 told_by lines p a None reads legal had_room stands = record {
   account = p;
@@ -117,10 +115,10 @@ told_by lines p a (Some stop.BeyondLimits) reads legal had_room stands =
 -- a verifier's verdict is that of the lines that it read
 pub verdict_told : (old : Verifier) (place : ℕ) (result : AccountVerdict)
     → place ≡ (state_in old.machine).length
-    → result ≡ verdict_by old.stop place → (lines : List (List ℕ)) → HasRead lines old
+    → result ≡ verdict_after old.stop place → (lines : List (List ℕ)) → HasRead lines old
     → IsVerdictOn lines result
 verdict_told old place result at is lines has =
     let counted : place ≡ length has.passed.entries =
     at ∙ ap (λ s. s.length) has.holds.state ∙ (agreed has.passed has.holds.legal).length in
-    subst (IsVerdictOn lines) (sym (is ∙ ap (verdict_by old.stop) counted))
+    subst (IsVerdictOn lines) (sym (is ∙ ap (verdict_after old.stop) counted))
     (told_by lines has.passed has.account old.stop has.read has.holds.legal has.holds.had_room has.stands)

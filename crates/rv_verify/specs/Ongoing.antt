@@ -19,6 +19,10 @@ use Rattle.rv_replies.specs.declared.findings.verdict.AccountFinding.{AccountFin
 abbrev pub CanGoOn : OngoingAudit → Type 0
 CanGoOn o = CanTakeLine o.stage
 
+-- the bytes that it keeps: a last piece, which lacks its LF
+abbrev pub kept_bytes : OngoingAudit → List ℕ
+kept_bytes o = o.piece.items
+
 -- it read these lines, and keeps bytes that have no LF (10)
 pub record HasReadPart (lines : List (List ℕ)) (o : OngoingAudit) (r : Records) : Type 0 where
   pub read : HasReadLines lines o.stage r

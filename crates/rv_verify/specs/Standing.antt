@@ -13,6 +13,8 @@ use Rattle.rv_machine.specs.Machines.{state_in}
 use Rattle.rv_machine.specs.declared.machine.Machine.{Machine}
 use Rattle.rv_follow.specs.Outcomes.{PassesRoom}
 use Rattle.rv_follow.specs.state_rules.Ruling.{IsFirstBroken, NamesClosed}
+use Rattle.rv_replies.specs.declared.findings.verdict.AccountVerdict.{AccountVerdict}
+use Rattle.rv_replies.specs.declared.findings.verdict.AccountVerdict.TheVariants as verdict
 use Rattle.rv_verify.specs.Verdicts.{ReadsLong}
 use Rattle.rv_verify.specs.declared.verifier.StopReason.{StopReason}
 use Rattle.rv_verify.specs.declared.verifier.StopReason.TheVariants as stop
@@ -52,6 +54,19 @@ pub record HasRead (lines : List (List ℕ)) (v : Verifier) : Type 0 where
   pub read : ReadsLong lines account
   pub counted : v.entries ≡ length account.entries
   pub stands : StandsAt passed account v.stop
+
+-- the verdict that a reason to stop at a place is
+abbrev pub verdict_by : StopReason → ℕ → AccountVerdict
+verdict_by (stop.Breaks rule) place = verdict.Fault place rule
+verdict_by (stop.NotOpen entry) place = verdict.NotOpen place entry
+verdict_by stop.BeyondLimits place = verdict.BeyondLimits place
+
+-- the lines are read as a legal account, whose state has had room after each entry, and the machine holds its
+-- state
+pub record HoldsAccountOf (lines : List (List ℕ)) (m : Machine) : Type 0 where
+  pub account : Account
+  pub read : ReadsLong lines account
+  pub holds : HoldsPassed m account
 
 -- the verifier can go on
 pub record CanReadOn (v : Verifier) : Type 0 where

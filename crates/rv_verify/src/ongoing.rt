@@ -1,5 +1,5 @@
 //! Audits an account as it comes, even while it still grows.
-ghost use Rattle.std.specs.Prelude.{◌≡◌, ◌≢◌, ◌↔◌, ◌∷◌, ◌++◌, [], ℕ, List, Some, IfOk, IsTrue, OnOk};
+ghost use Rattle.std.specs.Prelude.{◌≡◌, ◌≢◌, ◌↔◌, ◌∷◌, ◌++◌, [], ℕ, List, Some, IfErr, IfOk, IsTrue, OnOk};
 ghost use Rattle.rv_replies.specs.declared.findings.verdict.AccountVerdict.TheVariants as verdict;
 ghost use Rattle.rv_replies.specs.declared.records.Records as records;
 ghost use Rattle.rv_lines.specs.Lines.{lines};
@@ -9,11 +9,15 @@ ghost use Rattle.rv_verify.specs.Verdicts.{IsVerdictOn};
 ghost use Rattle.rv_verify.specs.Ongoing.{CanGoOn, HasGoneOn, HasReadOn, HasReadPart, IsFoundOfBytes};
 ghost use Rattle.rv_verify.specs.Ongoing.{IsFoundOfLines};
 ghost use Rattle.rv_verify.specs.Stages.{AreNew, HasFault, HasReadLines, entries_of};
+ghost use Rattle.rv_verify.specs.Standing.{HoldsAccountOf};
+ghost use Rattle.rv_machine.specs.Machines.{state_in};
+ghost use Rattle.rv_state.specs.resume.Resuming.{CanResume};
 
 use crate::fault::VerifyFault;
 use crate::parts::{NextPart, more_of_line};
 use crate::reading::is_torn;
 use crate::stage::Stage;
+use rv_machine::Machine;
 use rv_replies::Records;
 use rv_replies::findings::AccountFinding;
 use std::alloc::Global;
@@ -190,6 +194,31 @@ impl OngoingAudit {
         let mut audit = self;
         let torn = !audit.piece.is_empty();
         finding_on(&mut audit.stage, torn)
+    }
+
+    /// The machine that goes on from the whole lines that were read, if they are a legal account whose state
+    /// has had room after each entry; else what is found of them, as [`OngoingAudit::break_off`] gives it.
+    /// Its moment is the last entry's, below which no step may be.
+    pub fn into_machine(self) -> Result<Machine, AccountFinding>
+        ensures ready { CanGoOn self → IfOk result (λ machine. CanResume (state_in machine)) }
+        ensures holds { (read : List (List ℕ)) (r : records.Records) → HasReadLines read self.stage r
+            → IfOk result (HoldsAccountOf read) }
+        ensures found { (read : List (List ℕ)) (r : records.Records) → HasReadLines read self.stage r
+            → IfErr result (IsFoundOfLines read r) }
+        ensures fault { IfErr result (λ found. found.verdict ≢ verdict.Legal) }
+        ensures torn { IfErr result (λ found. IsTrue found.torn ↔ (self.piece.items ≢ [])) }
+    {
+        let OngoingAudit { stage, piece } = self;
+        let epoch = stage.epoch();
+        let torn = !piece.is_empty();
+        match stage.into_machine() {
+            Ok(machine) => Ok(machine),
+            Err(verdict) => Err(AccountFinding {
+                epoch,
+                verdict,
+                torn,
+            }),
+        }
     }
 }
 

@@ -1,16 +1,20 @@
 //! How far the lines of an account were read, from the first one on.
-ghost use Rattle.std.specs.Prelude.{◌≡◌, ◌≢◌, ◌↔◌, ◌∷◌, ◌++◌, [], ℕ, List, None, Some, IfOk, IsTrue, OnOk};
+ghost use Rattle.std.specs.Prelude.{◌≡◌, ◌≢◌, ◌↔◌, ◌∷◌, ◌++◌, [], ℕ, List, None, Some};
+ghost use Rattle.std.specs.Prelude.{IfErr, IfOk, IsTrue, OnOk};
 ghost use Rattle.rv_replies.specs.declared.findings.verdict.AccountVerdict.TheVariants as verdict;
 ghost use Rattle.rv_replies.specs.declared.records.Records as records;
 ghost use Rattle.rv_verify.specs.Noting.{HasNotedOf};
 ghost use Rattle.rv_verify.specs.Stages.{AreNew, CanTakeLine, HasFault, HasReadLines, HasReadNoting};
 ghost use Rattle.rv_verify.specs.Stages.{IsAtHead, StandsBehind, entries_of, epoch_of};
-ghost use Rattle.rv_verify.specs.Standing.{CanReadOn};
+ghost use Rattle.rv_verify.specs.Standing.{CanReadOn, HoldsAccountOf};
+ghost use Rattle.rv_machine.specs.Machines.{state_in};
+ghost use Rattle.rv_state.specs.resume.Resuming.{CanResume};
 ghost use Rattle.rv_verify.specs.Verdicts.{IsVerdictOn};
 
 use crate::fault::VerifyFault;
 use crate::verifier::Verifier;
 use rv_lines::{LineFault, read_head};
+use rv_machine::Machine;
 use rv_replies::Records;
 use rv_replies::findings::AccountVerdict;
 use std::alloc::Global;
@@ -106,6 +110,26 @@ impl Stage {
         match &mut self.verifier {
             Some(verifier) => verifier.verdict(),
             None => AccountVerdict::BadLine(1),
+        }
+    }
+
+    /// The machine, which goes on from the account that the lines are, if it is legal and had room; else the
+    /// verdict on them.
+    pub(crate) fn into_machine(self) -> Result<Machine, AccountVerdict>
+        ensures ready { CanTakeLine self → IfOk result (λ machine. CanResume (state_in machine)) }
+        ensures holds { (lines : List (List ℕ)) (r : records.Records) → HasReadLines lines self r
+            → IfOk result (HoldsAccountOf lines) }
+        ensures told { (lines : List (List ℕ)) (r : records.Records) → HasReadLines lines self r
+            → IfErr result (IsVerdictOn lines) }
+        ensures fault { IfErr result (λ told. told ≢ verdict.Legal) }
+    {
+        let Stage { verifier, bad } = self;
+        if let Some(number) = bad {
+            return Err(AccountVerdict::BadLine(number));
+        }
+        match verifier {
+            Some(verifier) => verifier.into_machine(),
+            None => Err(AccountVerdict::BadLine(1)),
         }
     }
 

@@ -1,6 +1,6 @@
 //! An account that is followed line by line, as far as it is legal and has room.
 ghost use Rattle.std.specs.Prelude.{◌≡◌, ◌≢◌, ◌<◌, ◌≤◌, ◌∷◌, ◌++◌, [], ℕ, List, None, Err};
-ghost use Rattle.std.specs.Prelude.{IfOk, IsSome, OnOk};
+ghost use Rattle.std.specs.Prelude.{IfErr, IfOk, IsSome, OnOk};
 ghost use Rattle.rv_text.specs.Limits.{FitsIdentifier};
 ghost use Rattle.rv_text.specs.Members.{max_identifier};
 ghost use Rattle.rv_account.specs.Limits.{max_moment};
@@ -15,7 +15,7 @@ ghost use Rattle.rv_account.specs.Account.{Account, with_entry};
 ghost use Rattle.rv_replies.specs.Known.{HasPassedBy};
 ghost use Rattle.rv_replies.specs.Standing.{HasNoted};
 ghost use Rattle.rv_replies.specs.declared.records.Records as records;
-ghost use Rattle.rv_verify.specs.Standing.{HasRead, CanReadOn, entries_read};
+ghost use Rattle.rv_verify.specs.Standing.{CanReadOn, HasRead, HoldsAccountOf, entries_read, verdict_by};
 ghost use Rattle.rv_verify.specs.Reading.{IsStopped, NotesOneMore, NotesUnlessStopped, ReadsOneMore};
 ghost use Rattle.rv_verify.specs.Stages.{AreNew, HasReadNoting};
 
@@ -39,6 +39,19 @@ pub(crate) enum StopReason {
     NotOpen(Entry),
     /// The state after an entry has no room.
     BeyondLimits,
+}
+
+impl StopReason {
+    // The verdict on an account that stops at this place.
+    fn verdict(self, place: usize) -> AccountVerdict
+        ensures { result ≡ verdict_by self place }
+    {
+        match self {
+            StopReason::Breaks(rule) => AccountVerdict::Fault { place, rule },
+            StopReason::NotOpen(entry) => AccountVerdict::NotOpen { place, entry },
+            StopReason::BeyondLimits => AccountVerdict::BeyondLimits(place),
+        }
+    }
 }
 
 /// The part of an account that was read so far. It keeps what is open and the clients, and nothing of the
@@ -152,12 +165,27 @@ impl Verifier {
         ensures told { (lines : List (List ℕ)) → HasRead lines self.old → IsVerdictOn lines result }
         ensures fault { IsSome self.old.stop → result ≢ verdict.Legal }
     {
-        let place = self.machine.length();
         match self.stop.take() {
             None => AccountVerdict::Legal,
-            Some(StopReason::Breaks(rule)) => AccountVerdict::Fault { place, rule },
-            Some(StopReason::NotOpen(entry)) => AccountVerdict::NotOpen { place, entry },
-            Some(StopReason::BeyondLimits) => AccountVerdict::BeyondLimits(place),
+            Some(reason) => reason.verdict(self.machine.length()),
+        }
+    }
+
+    /// The machine, which goes on from the account, if all entries passed; else the verdict.
+    pub(crate) fn into_machine(self) -> Result<Machine, AccountVerdict>
+        ensures ready { CanReadOn self → IfOk result (λ machine. CanResume (state_in machine)) }
+        ensures holds { (lines : List (List ℕ)) → HasRead lines self → IfOk result (HoldsAccountOf lines) }
+        ensures told { (lines : List (List ℕ)) → HasRead lines self → IfErr result (IsVerdictOn lines) }
+        ensures fault { IfErr result (λ told. told ≢ verdict.Legal) }
+    {
+        let Verifier {
+            machine,
+            entries: _,
+            stop,
+        } = self;
+        match stop {
+            None => Ok(machine),
+            Some(reason) => Err(reason.verdict(machine.length())),
         }
     }
 }
