@@ -3,7 +3,7 @@ mod Mixing
 mod Holding
 mod Causes
 mod Texts
-mod Lines
+pub mod Lines
 mod Appended
 mod Scan
 mod Zeros

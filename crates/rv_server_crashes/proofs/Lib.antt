@@ -1,4 +1,4 @@
-mod Room
+pub mod Room
 mod Pairs
 mod Servers
 mod Serving

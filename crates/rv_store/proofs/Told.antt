@@ -1,0 +1,203 @@
+-- What was told is found: a crash leaves the lines of a front of the account that has all that was told.
+use Rattle.std.proofs.Common.{◌≡◌, ◌≤◌, ◌<◌, ◌+◌, ◌-◌, ◌++◌, ◌∷◌, ◌∙◌, ℕ, List, [], true, ap}
+use Rattle.std.proofs.Common.{append_assoc, arith, drop, length, length-append, map, refl, subst, suc, sym}
+use Rattle.std.proofs.Common.{take, zero}
+use Rattle.std.proofs.Math.Seq.{take-append-add}
+use Rattle.std.proofs.lemmas.List.{length-map, length-take-le, take-append-drop}
+use Rattle.rv_account.specs.Account.{Account}
+use Rattle.rv_account.specs.declared.entry.Entry.{Entry}
+use Rattle.rv_engine.specs.EngineRuns.{answers_in, bytes_written}
+use Rattle.rv_engine.specs.Handing.{entry_lines, unwritten}
+use Rattle.rv_engine.proofs.Gathered.{lines_append}
+use Rattle.rv_engine.proofs.Running.{accounts_are_kept, engines_are_runs}
+use Rattle.rv_engine.proofs.Stored.{told_is_stored}
+use Rattle.rv_hub.specs.HubRuns.{AddsEntries, made_in, run_effects}
+use Rattle.rv_hub.specs.Turns.{made_by}
+use Rattle.rv_hub.proofs.OneRun.{hubs_are_runs}
+use Rattle.rv_lines.specs.Lines.{lines, printed_lines}
+use Rattle.rv_lines.specs.Written.{FitsLinesUnder, account_lines, entry_text, head_text}
+use Rattle.rv_lines.proofs.ReadBack.{all_in_lines, lines_again}
+use Rattle.rv_rules.specs.Legal.{Legal, before}
+use Rattle.rv_rules.proofs.Places.{within}
+use Rattle.rv_server_crashes.proofs.Room.{events_keep_room, fronts_go_on}
+use Rattle.rv_state.specs.After.{state_of}
+use Rattle.rv_state.specs.resume.Laws.{HadRoom}
+use Rattle.rv_state.proofs.Agreed.{agreed}
+use Rattle.rv_text.specs.Members.{max_identifier}
+use Rattle.rv_verify.specs.Verdicts.{ReadsLong, long_limits}
+use Rattle.rv_store.specs.Found.{FindsTold, ToldIsFound}
+use Rattle.rv_store.proofs.Fronts.{HasWholeLines, fronts}
+
+-- ---- the lines of a legal account whose state has had room
+
+take_all : (xs : List Entry) → take (length xs) xs ≡ xs
+take_all [] = refl
+take_all (x ∷ xs) = ap (λ (l : List Entry). x ∷ l) (take_all xs)
+
+few_entries : (a : Account) → Legal a → HadRoom a → length a.entries ≤ max_identifier
+few_entries a legal had =
+    let whole : before a (length a.entries) ≡ a =
+    λ i. record { epoch = a.epoch; opened = a.opened; entries = take_all a.entries i } in
+    let count : (state_of (before a (length a.entries))).length ≡ length a.entries =
+    ap (λ (x : Account). (state_of x).length) whole ∙ (agreed a legal).length in
+    omega (arith, count, (had.room (length a.entries)).space)
+
+-- they can be written, and are read again
+fits_long : (a : Account) → Legal a → HadRoom a → FitsLinesUnder long_limits a
+fits_long a legal had = record {
+  epoch = had.epoch;
+  opened = had.opened;
+  entries = had.entries;
+  places = λ r e there p named. omega (
+    arith,
+    ((legal r e there).pairs.names_free_partners.free p named).earlier,
+    length-take-le-any r a.entries,
+    within a.entries r e there,
+    few_entries a legal had,
+  );
+  few = few_entries a legal had;
+}
+  where
+    length-take-le-any : (n : ℕ) (xs : List Entry) → length (take n xs) ≤ n
+    length-take-le-any zero xs = omega arith
+    length-take-le-any (suc n) [] = omega arith
+    length-take-le-any (suc n) (x ∷ xs) = omega (arith, length-take-le-any n xs)
+
+read_again : (a : Account) → Legal a → HadRoom a → ReadsLong (lines (printed_lines (account_lines a))) a
+read_again a legal had = lines_again long_limits a (omega arith) (fits_long a legal had)
+
+-- ---- the first of them are those of a front of the account
+
+take_map : (n : ℕ) (xs : List Entry) → take n (map entry_text xs) ≡ map entry_text (take n xs)
+take_map zero xs = refl
+take_map (suc n) [] = refl
+take_map (suc n) (x ∷ xs) = ap (λ (l : List (List ℕ)). entry_text x ∷ l) (take_map n xs)
+
+lines_to : (a : Account) (n : ℕ) → take (suc n) (account_lines a) ≡ account_lines (before a n)
+lines_to a n = ap (λ (l : List (List ℕ)). head_text a.epoch a.opened ∷ l) (take_map n a.entries)
+
+-- and of an account that has these entries more
+module _ (was after : Account) (made front behind : List Entry) (adds : AddsEntries was made after)
+    (parts : made ≡ front ++ behind) where
+  entries_are : after.entries ≡ (was.entries ++ front) ++ behind
+  entries_are = adds.entries ∙ ap (λ (l : List Entry). was.entries ++ l) parts
+      ∙ sym (append_assoc was.entries front behind)
+
+  take_front : (xs ys : List Entry) → take (length xs) (xs ++ ys) ≡ xs
+  take_front [] ys = take_zero ys
+    where
+      take_zero : (l : List Entry) → take 0 l ≡ []
+      take_zero l = refl
+  take_front (x ∷ xs) ys = ap (λ (l : List Entry). x ∷ l) (take_front xs ys)
+
+  first_entries : take (length (was.entries ++ front)) after.entries ≡ was.entries ++ front
+  first_entries =
+      ap (take (length (was.entries ++ front))) entries_are ∙ take_front (was.entries ++ front) behind
+
+  -- the lines that were written
+  first_lines : printed_lines (take (suc (length (was.entries ++ front))) (account_lines after))
+      ≡ printed_lines (account_lines was) ++ entry_lines front
+  first_lines =
+      ap printed_lines (lines_to after (length (was.entries ++ front)))
+      ∙ ap (λ (l : List Entry). head_text after.epoch after.opened ++ 10 ∷ entry_lines l) first_entries
+      ∙ ap (λ (n : ℕ). head_text n after.opened ++ 10 ∷ entry_lines (was.entries ++ front)) adds.epoch
+      ∙ ap (λ (n : ℕ). head_text was.epoch n ++ 10 ∷ entry_lines (was.entries ++ front)) adds.opened
+      ∙ ap (λ (l : List ℕ). head_text was.epoch was.opened ++ 10 ∷ l) (lines_append was.entries front)
+      ∙ sym (append_assoc (head_text was.epoch was.opened) (10 ∷ entry_lines was.entries) (entry_lines front))
+
+-- ---- the law
+
+module _ (was after : Account) (made front behind : List Entry) (told stored : ℕ) (left held more : List ℕ)
+    (n : ℕ) (adds : AddsEntries was made after) (parts : made ≡ front ++ behind) (legal : Legal after)
+    (had : HadRoom after) (holds : held ≡ printed_lines (account_lines was) ++ entry_lines front)
+    (text : printed_lines (account_lines after) ≡ held ++ more) (left_is : left ≡ held ++ take n more)
+    (count : stored ≡ length was.entries + length front) (within_stored : told ≤ stored) where
+  is_front : left ≡ take (length held + n) (printed_lines (account_lines after))
+  is_front = left_is ∙ sym (take-append-add held more n) ∙ ap (take (length held + n)) (sym text)
+
+  cut : HasWholeLines (account_lines after) left
+  cut = subst (HasWholeLines (account_lines after)) (sym is_front)
+      (fronts (account_lines after) (all_in_lines long_limits (omega arith) after (fits_long after legal had))
+      (length held + n))
+
+  at_least : suc (length (was.entries ++ front)) ≤ cut.count
+  at_least = cut.at_least (suc (length (was.entries ++ front)))
+      (omega (
+        arith,
+        length-map after.entries entry_text,
+        ap length (entries_are was after made front behind adds
+            parts),
+        length-append (was.entries ++ front) behind,
+      ))
+      (omega (
+        arith,
+        ap length (first_lines was after made front behind adds parts ∙ sym holds),
+        ap length left_is,
+        length-append held (take n more),
+      ))
+
+  found_by : (m : ℕ) → cut.count ≡ suc m → FindsTold was made told left
+  found_by m is =
+      let found : Account = before after m in
+      let extra : ℕ = m - length was.entries in
+      let split : m ≡ length was.entries + extra =
+      omega (arith, at_least, is, length-append was.entries front) in
+      let goes = fronts_go_on after m legal had in
+      let low : m ≤ length after.entries =
+      omega (arith, is, cut.within, length-map after.entries entry_text) in
+      record {
+        found = found;
+        is = record {
+          front = take extra made;
+          more = drop extra made;
+          parts = sym (take-append-drop extra made);
+          adds = record {
+            epoch = adds.epoch;
+            opened = adds.opened;
+            entries = ap (λ (k : ℕ). take k after.entries) split
+                ∙ ap (take (length was.entries + extra)) adds.entries
+                ∙ take-append-add was.entries made extra;
+          };
+          goes_on = goes;
+          all_told = omega (
+            arith,
+            within_stored,
+            count,
+            at_least,
+            is,
+            length-append was.entries front,
+            length-take-le m after.entries low,
+          );
+        };
+        read = subst (λ (l : List ℕ). ReadsLong (lines l) found)
+            (sym (cut.whole ∙ ap (λ (k : ℕ). printed_lines (take k (account_lines after))) is
+            ∙ ap printed_lines (lines_to after m)))
+            (read_again found goes.legal goes.had_room);
+      }
+
+  some : (k : ℕ) → 0 < k → (m : ℕ) × (k ≡ suc m)
+  some zero low = absurd (omega (arith, low))
+  some (suc m) low = (m, refl)
+
+  pub found : FindsTold was made told left
+  found = let one = some cut.count (omega (arith, at_least)) in found_by one.0 one.1
+
+pub told_is_found : ToldIsFound
+told_is_found terms effects s t a left limits runs begins moment is had has =
+    let kept = accounts_are_kept terms effects s t a limits runs begins.all moment is in
+    let run = engines_are_runs true terms effects s t runs in
+    let hub = hubs_are_runs true terms (answers_in effects) s.hub t.hub run.hub in
+    let events = run_effects true terms (answers_in effects) s.hub t.hub run.hub in
+    let by_events : AddsEntries a (made_by events) kept.after =
+    subst (λ (es : List Entry). AddsEntries a es kept.after) hub.made_is kept.adds in
+    let room =
+    events_keep_room terms events s.hub t.hub a kept.after limits hub.does moment is by_events had in
+    let stored = told_is_stored terms effects s t runs begins in
+    let held : List ℕ = printed_lines (account_lines a) ++ bytes_written effects in
+    let length_is : s.hub.book.length ≡ length a.entries =
+    ap (λ x. x.length) (sym is.state) ∙ (agreed a is.legal).length in
+    found a kept.after (made_in (answers_in effects)) stored.front stored.behind t.hub.open_wires.written
+    t.stored left held (unwritten t) has.0 kept.adds stored.parts kept.is.legal room
+    (ap (λ (l : List ℕ). printed_lines (account_lines a) ++ l) stored.lines)
+    (kept.text ∙ sym (append_assoc (printed_lines (account_lines a)) (bytes_written effects) (unwritten t)))
+    has.1 (omega (arith, stored.count, length_is)) stored.told

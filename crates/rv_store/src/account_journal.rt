@@ -1,0 +1,64 @@
+//! The journal of an account, as an engine writes to it.
+ghost use Rattle.std.specs.Prelude.{◌≡◌, None};
+ghost use Rattle.rv_store.specs.Lasting.{fault_of, journal_of};
+
+use rv_frame::{Lasting, WriteFault};
+use rv_journal::{Device, DiskJournal, JournalFault};
+
+// What is told of a piece that wasn't taken.
+const NONE_SENT: WriteFault = WriteFault { sent: 0 };
+
+/// The journal of an account: an engine's lines go there. Once it didn't take some, it takes nothing more.
+#[derive(Drop)]
+pub struct AccountJournal<D: Device> {
+    journal: DiskJournal<D>,
+    fault: Option<JournalFault>,
+}
+
+impl<D: Device> AccountJournal<D> {
+    /// A journal that has taken all so far.
+    pub(crate) fn new(journal: DiskJournal<D>) -> AccountJournal<D>
+        ensures journal { journal_of result ≡ journal }
+        ensures fault { fault_of result ≡ None }
+    {
+        AccountJournal {
+            journal,
+            fault: None,
+        }
+    }
+
+    /// Why it took nothing at the last call, and takes nothing more.
+    pub fn fault(&self) -> Option<JournalFault>
+        ensures { result ≡ fault_of self.now }
+    {
+        self.fault
+    }
+
+    /// Its device, as the last call left it.
+    pub fn into_device(self) -> D
+        ensures { result ≡ (journal_of self).device }
+    {
+        let AccountJournal { journal, fault: _ } = self;
+        journal.into_device()
+    }
+}
+
+/// What it took is stored: a crash leaves it.
+impl<D: Device> Lasting for AccountJournal<D> {
+    ghost use Rattle.rv_store.specs.Lasting.{journal_lasts};
+
+    ghost lasts = { journal_lasts D.disk };
+
+    fn store(&mut self, bytes: &[u8]) -> Result<(), WriteFault> {
+        if self.fault.is_some() {
+            return Err(NONE_SENT);
+        }
+        match self.journal.append(bytes) {
+            Ok(()) => Ok(()),
+            Err(fault) => {
+                self.fault = Some(fault);
+                Err(NONE_SENT)
+            }
+        }
+    }
+}

@@ -1,0 +1,8 @@
+//! Laws of what is found after a crash: each contract is one, and no body does anything.
+ghost use Rattle.rv_store.specs.Found.{ToldIsFound};
+
+/// At whatever moment of an engine's run a crash comes, its journal is read as the account of all entries
+/// that the hub was told are written, and a front of those after them; and a machine goes on from that.
+pub fn told_is_found()
+    ensures { ToldIsFound }
+{}

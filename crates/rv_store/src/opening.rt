@@ -1,0 +1,75 @@
+//! Opens the journal of an account, and gives the machine that goes on from it.
+ghost use Rattle.std.specs.Prelude.{◌≡◌, None, true, IfErr, IfOk};
+ghost use Rattle.rv_journal.specs.Device.{LeavesOnly, WhereTold};
+ghost use Rattle.rv_journal.specs.Faults.{IfRefused, open_failed};
+ghost use Rattle.rv_journal.specs.Journal.{IsDurable, journal_text};
+ghost use Rattle.rv_journal.specs.Opened.{HasLines, HasLinesOf, IsLeftUnfilled, file_lines};
+ghost use Rattle.rv_journal.specs.declared.fault.OpenFault.TheVariants.{NotFilled};
+ghost use Rattle.rv_machine.specs.Machines.{state_in};
+ghost use Rattle.rv_state.specs.resume.Resuming.{CanResume};
+ghost use Rattle.rv_verify.specs.Standing.{HoldsAccountOf};
+ghost use Rattle.rv_store.specs.Lasting.{fault_of, journal_of};
+ghost use Rattle.rv_store.specs.Reading.{IsFaultOfLines};
+ghost use Rattle.rv_lines.specs.Lines.{lines};
+
+use crate::account_journal::AccountJournal;
+use crate::reader::{AccountReader, RecoveryFault};
+use rv_journal::{Device, DiskJournal, OpenFault};
+use rv_machine::Machine;
+use std::alloc::Global;
+
+/// The journal of an account, and the machine that goes on from it.
+#[derive(Drop)]
+pub struct StoredAccount<D: Device> {
+    /// Its text is the account's lines, all of them stored.
+    pub journal: AccountJournal<D>,
+    /// It holds the account's state. No step of it may be at a moment before its own.
+    pub machine: Machine,
+}
+
+/// Opens a file that a crash may have left as the journal of an account: its whole lines before its first
+/// zero. What stands after them is cleared once they were read as a legal account. It may crash too, and
+/// leaves the same lines.
+///
+/// The file is read once, in memory of what is open, of the clients, and of about 1 MiB and the longest
+/// line. At `Err` the device is handed back with the same lines: a file whose lines are refused is as it was.
+pub fn open_account<D: Device>(
+    alloc: Global,
+    device: D,
+) -> Result<StoredAccount<D>, (OpenFault<RecoveryFault>, D)>
+    ensures holds { IfOk result (λ stored. WhereTold D.disk device
+        (HoldsAccountOf (lines (file_lines D.disk device)) stored.machine)) }
+    ensures resumes { IfOk result (λ stored. CanResume (state_in stored.machine)) }
+    ensures text { IfOk result (λ stored. WhereTold D.disk device
+        (journal_text D.disk (journal_of stored.journal) ≡ file_lines D.disk device)) }
+    ensures tells { IfOk result (λ stored.
+        D.disk.tells (journal_of stored.journal).device ≡ D.disk.tells device) }
+    ensures works { IfOk result (λ stored. fault_of stored.journal ≡ None) }
+    ensures durable { IfOk result (λ stored. WhereTold D.disk device
+        (IsDurable D.disk (journal_of stored.journal))) }
+    ensures any_moment { IfOk result (λ stored. WhereTold D.disk device
+        (LeavesOnly D.disk device (journal_of stored.journal).device (HasLinesOf D.disk device))) }
+    ensures lines_err { IfErr result (λ failed. WhereTold D.disk device
+        (HasLines (file_lines D.disk device) (D.disk.seen failed.1))) }
+    ensures tells_err { IfErr result (λ failed. D.disk.tells failed.1 ≡ D.disk.tells device) }
+    ensures any_moment_err { IfErr result (λ failed. WhereTold D.disk device
+        (LeavesOnly D.disk device failed.1 (HasLinesOf D.disk device))) }
+    ensures not_filled { IfErr result (λ failed. failed.0 ≡ NotFilled →
+        IsLeftUnfilled D.disk device failed.1) }
+    ensures refused { IfErr result (λ failed. IfRefused failed.0 (λ why. WhereTold D.disk device
+        (IsFaultOfLines (lines (file_lines D.disk device)) why))) }
+    ensures cause { IfErr result (λ failed. failed.0 ≡ open_failed → D.disk.failed failed.1 ≡ true) }
+{
+    let mut reader = AccountReader::new(alloc);
+    let journal = DiskJournal::open(alloc, device, &mut reader)?;
+    match reader.into_machine() {
+        Ok(machine) => Ok(StoredAccount {
+            journal: AccountJournal::new(journal),
+            machine,
+        }),
+        Err(found) => Err((
+            OpenFault::Refused(RecoveryFault::NoAccount(found)),
+            journal.into_device(),
+        )),
+    }
+}
