@@ -3,6 +3,7 @@ use Rattle.std.proofs.Common.{◌≡◌, ◌≢◌, ◌⊎◌, ◌≤◌, ◌++�
 use Rattle.std.proofs.Common.{ap, append_assoc, arith, inl, inr, length, length-append, refl, suc, sym, take}
 use Rattle.std.proofs.Common.{zero}
 use Rattle.std.proofs.lemmas.Bool.Decides.{nat_tests}
+use Rattle.std.proofs.lemmas.List.{length-take}
 use Rattle.std.specs.Prelude.{◌==◌, ◌||◌}
 use Rattle.rv_journal.specs.Text.{whole_lines}
 use Rattle.rv_journal.proofs.Lines.{has_lf, none, whole_lines-append, whole_lines-lf}
@@ -44,11 +45,6 @@ line_cut (x ∷ line) rest (suc n) lacks =
       | inr long ↦ inr (long.0, ap (λ (l : List ℕ). x ∷ l) long.1)
     ]
 
-length_take_le : (n : ℕ) (xs : List ℕ) → length (take n xs) ≤ n
-length_take_le zero xs = omega arith
-length_take_le (suc n) [] = omega arith
-length_take_le (suc n) (x ∷ xs) = omega (arith, length_take_le n xs)
-
 pub fronts : (lines : List (List ℕ)) → AllLines lines → (n : ℕ)
     → HasWholeLines lines (take n (printed_lines lines))
 fronts [] all n = record {
@@ -87,7 +83,7 @@ fronts (line ∷ lines) all n = elim (line_cut line (printed_lines lines) n all.
           arith,
           long,
           low,
-          length_take_le n (line ++ 10 ∷ printed_lines lines),
+          length-take n (line ++ 10 ∷ printed_lines lines),
           length-append line (10 ∷ printed_lines (take j lines)),
         ))
 

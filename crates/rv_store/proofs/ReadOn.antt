@@ -11,6 +11,7 @@ use Rattle.rv_replies.specs.declared.records.Records.{Records}
 use Rattle.rv_verify.specs.Ongoing.{HasReadOn, IsFoundOfLines}
 use Rattle.rv_verify.specs.Stages.{HasFault, HasReadLines}
 use Rattle.rv_verify.specs.declared.ongoing.OngoingAudit.{OngoingAudit}
+use Rattle.rv_verify.specs.declared.ongoing.Pause.{Pause}
 use Rattle.rv_verify.specs.declared.ongoing.Pause.TheVariants as pause
 use Rattle.rv_verify.proofs.Joining.{lines_more}
 use Rattle.rv_store.specs.Reading.{HasReadWhole, IsNoAccount}
@@ -18,6 +19,13 @@ use Rattle.rv_store.specs.WholeLines.{none_left}
 
 module _ (read : List (List ℕ)) (text : List ℕ) (later : OngoingAudit) (r : Records)
     (left : Option (List ℕ)) where
+  -- an audit that kept nothing reads this text alone, and pauses so
+  pub reads_text : (kept : List ℕ) (why same : Pause) → kept ≡ [] → why ≡ same
+      → HasReadOn read (kept ++ text) later r left why → HasReadOn read text later r left same
+  reads_text kept why same none is on =
+      subst (λ (p : Pause). HasReadOn read text later r left p) is
+      (subst (λ (l : List ℕ). HasReadOn read (l ++ text) later r left why) none on)
+
   -- to their end
   pub ends_whole : IsLines text → HasReadOn read text later r left pause.End
       → HasReadWhole (read ++ lines text) later r

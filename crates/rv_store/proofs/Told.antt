@@ -1,9 +1,9 @@
 -- What was told is found: a crash leaves the lines of a front of the account that has all that was told.
-use Rattle.std.proofs.Common.{◌≡◌, ◌≤◌, ◌<◌, ◌+◌, ◌-◌, ◌++◌, ◌∷◌, ◌∙◌, ℕ, List, [], true, ap}
-use Rattle.std.proofs.Common.{append_assoc, arith, drop, length, length-append, map, refl, subst, suc, sym}
+use Rattle.std.proofs.Common.{◌≡◌, ◌≤◌, ◌<◌, ◌+◌, ◌-◌, ◌++◌, ◌∷◌, ◌∙◌, ℕ, List, true, ap}
+use Rattle.std.proofs.Common.{append_assoc, arith, drop, length, length-append, refl, subst, suc, sym}
 use Rattle.std.proofs.Common.{take, zero}
-use Rattle.std.proofs.Math.Seq.{take-append-add}
-use Rattle.std.proofs.lemmas.List.{length-map, length-take-le, take-append-drop}
+use Rattle.std.proofs.Math.Seq.{take-append_seam, take-append-add, take-length}
+use Rattle.std.proofs.lemmas.List.{length-map, length-take, length-take-le, take-append-drop, take-map}
 use Rattle.rv_account.specs.Account.{Account}
 use Rattle.rv_account.specs.declared.entry.Entry.{Entry}
 use Rattle.rv_engine.specs.EngineRuns.{answers_in, bytes_written}
@@ -30,14 +30,10 @@ use Rattle.rv_store.proofs.Fronts.{HasWholeLines, fronts}
 
 -- ---- the lines of a legal account whose state has had room
 
-take_all : (xs : List Entry) → take (length xs) xs ≡ xs
-take_all [] = refl
-take_all (x ∷ xs) = ap (λ (l : List Entry). x ∷ l) (take_all xs)
-
 few_entries : (a : Account) → Legal a → HadRoom a → length a.entries ≤ max_identifier
 few_entries a legal had =
     let whole : before a (length a.entries) ≡ a =
-    λ i. record { epoch = a.epoch; opened = a.opened; entries = take_all a.entries i } in
+    λ i. record { epoch = a.epoch; opened = a.opened; entries = take-length a.entries i } in
     let count : (state_of (before a (length a.entries))).length ≡ length a.entries =
     ap (λ (x : Account). (state_of x).length) whole ∙ (agreed a legal).length in
     omega (arith, count, (had.room (length a.entries)).space)
@@ -51,30 +47,20 @@ fits_long a legal had = record {
   places = λ r e there p named. omega (
     arith,
     ((legal r e there).pairs.names_free_partners.free p named).earlier,
-    length-take-le-any r a.entries,
+    length-take r a.entries,
     within a.entries r e there,
     few_entries a legal had,
   );
   few = few_entries a legal had;
 }
-  where
-    length-take-le-any : (n : ℕ) (xs : List Entry) → length (take n xs) ≤ n
-    length-take-le-any zero xs = omega arith
-    length-take-le-any (suc n) [] = omega arith
-    length-take-le-any (suc n) (x ∷ xs) = omega (arith, length-take-le-any n xs)
 
 read_again : (a : Account) → Legal a → HadRoom a → ReadsLong (lines (printed_lines (account_lines a))) a
 read_again a legal had = lines_again long_limits a (omega arith) (fits_long a legal had)
 
 -- ---- the first of them are those of a front of the account
 
-take_map : (n : ℕ) (xs : List Entry) → take n (map entry_text xs) ≡ map entry_text (take n xs)
-take_map zero xs = refl
-take_map (suc n) [] = refl
-take_map (suc n) (x ∷ xs) = ap (λ (l : List (List ℕ)). entry_text x ∷ l) (take_map n xs)
-
 lines_to : (a : Account) (n : ℕ) → take (suc n) (account_lines a) ≡ account_lines (before a n)
-lines_to a n = ap (λ (l : List (List ℕ)). head_text a.epoch a.opened ∷ l) (take_map n a.entries)
+lines_to a n = ap (λ (l : List (List ℕ)). head_text a.epoch a.opened ∷ l) (take-map entry_text n a.entries)
 
 -- and of an account that has these entries more
 module _ (was after : Account) (made front behind : List Entry) (adds : AddsEntries was made after)
@@ -83,16 +69,9 @@ module _ (was after : Account) (made front behind : List Entry) (adds : AddsEntr
   entries_are = adds.entries ∙ ap (λ (l : List Entry). was.entries ++ l) parts
       ∙ sym (append_assoc was.entries front behind)
 
-  take_front : (xs ys : List Entry) → take (length xs) (xs ++ ys) ≡ xs
-  take_front [] ys = take_zero ys
-    where
-      take_zero : (l : List Entry) → take 0 l ≡ []
-      take_zero l = refl
-  take_front (x ∷ xs) ys = ap (λ (l : List Entry). x ∷ l) (take_front xs ys)
-
   first_entries : take (length (was.entries ++ front)) after.entries ≡ was.entries ++ front
   first_entries =
-      ap (take (length (was.entries ++ front))) entries_are ∙ take_front (was.entries ++ front) behind
+      ap (take (length (was.entries ++ front))) entries_are ∙ take-append_seam (was.entries ++ front) behind
 
   -- the lines that were written
   first_lines : printed_lines (take (suc (length (was.entries ++ front))) (account_lines after))

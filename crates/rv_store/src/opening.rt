@@ -32,7 +32,8 @@ pub struct StoredAccount<D: Device> {
 /// leaves the same lines.
 ///
 /// The file is read once, in memory of what is open, of the clients, and of about 1 MiB and the longest
-/// line. At `Err` the device is handed back with the same lines: a file whose lines are refused is as it was.
+/// line. At `Err` the device is handed back with the same lines. One that has none is refused too, after what
+/// stands there was cleared.
 pub fn open_account<D: Device>(
     alloc: Global,
     device: D,
