@@ -85,6 +85,7 @@ module _ (old new : MemoryState) (call : DeviceCall) (is : IsCalled call old new
 
   pub elapses_to : Elapses memory_disk old new
   elapses_to = record {
+    same = is.number;
     later = omega (arith, longer, length-append old.calls (call ∷ []));
     nothing_else = λ t c le left. ⊎_elim (λ (after : length old.calls < left.0). inr
         (subst (λ (l : List DeviceCall). LeavesOf new.first l c) (take_all left.0 new.calls

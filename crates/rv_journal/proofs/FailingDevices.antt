@@ -21,7 +21,12 @@ either_on false q r s first last is = either_last r s (last is)
 
 module _ {D : Type 0} (disk : Disk D) (old new : FailingDevice D) where
   elapsed : Elapses disk old.device new.device → Elapses (failing_disk disk) old new
-  elapsed time = record { later = time.later; nothing_else = time.nothing_else; keeps = time.keeps }
+  elapsed time = record {
+    same = time.same;
+    later = time.later;
+    nothing_else = time.nothing_else;
+    keeps = time.keeps;
+  }
 
   pub failing_kept : KeepsFile disk old.device new.device → KeepsFile (failing_disk disk) old new
   failing_kept keeps = record {

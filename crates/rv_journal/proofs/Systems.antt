@@ -11,5 +11,10 @@ system_writes at bytes old new = record {
   tells = refl;
   others = λ told. absurd (false≢true told);
   crash = λ c left. (c, tt, mixed_same at bytes c);
-  time = record { later = omega arith; nothing_else = λ t c le left. inl tt; keeps = λ t c le left. tt };
+  time = record {
+    same = refl;
+    later = omega arith;
+    nothing_else = λ t c le left. inl tt;
+    keeps = λ t c le left. tt;
+  };
 }

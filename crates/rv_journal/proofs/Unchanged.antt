@@ -10,6 +10,7 @@ module _ {D : Type 0} (disk : Disk D) (file : D) where
     seen = λ told. refl;
     crash = λ c left. left;
     time = record {
+      same = refl;
       later = omega arith;
       nothing_else = λ t c le left. inl left;
       keeps = λ t c le left. left;

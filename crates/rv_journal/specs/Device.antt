@@ -19,6 +19,8 @@ pub record Disk (D : Type 0) : Type 1 where
   pub left_since : D → ℕ → List ℕ → Type 0
   -- whether it has failed
   pub failed : D → Bool
+  -- which file it is, by a number
+  pub number : D → ℕ
   -- a crash may leave what a read returns
   pub leaves_seen : (file : D) → IsTrue (tells file) → may_leave file (seen file)
   -- now is one of the moments since an earlier one
@@ -55,15 +57,18 @@ Follows step old new = (c : List ℕ) → new c → (d : List ℕ) × old d × s
 abbrev pub Only : List ℕ → (List ℕ → Type 0) → Type 0
 Only file outcomes = (c : List ℕ) → outcomes c → c ≡ file
 
--- Time goes on: a crash since t might have left what it might have left before, or what it may leave now.
+-- Time goes on for a file: a crash since t might have left what it might have left before, or what it may leave
+-- now.
 pub record Elapses {D : Type 0} (disk : Disk D) (old new : D) : Type 0 where
+  pub same : disk.number new ≡ disk.number old
   pub later : disk.moment old ≤ disk.moment new
   pub nothing_else : (t : ℕ) (c : List ℕ) → t ≤ disk.moment old → disk.left_since new t c
       → disk.left_since old t c ⊎ disk.may_leave new c
   pub keeps : (t : ℕ) (c : List ℕ) → t ≤ disk.moment old → disk.left_since old t c → disk.left_since new t c
 
--- A crash at any moment since old leaves a file that has P.
+-- It is the same file, and a crash at any moment since old leaves one that has P.
 pub record LeavesOnly {D : Type 0} (disk : Disk D) (old new : D) (P : List ℕ → Type 0) : Type 0 where
+  pub same : disk.number new ≡ disk.number old
   pub later : disk.moment old ≤ disk.moment new
   pub each : (c : List ℕ) → disk.left_since new (disk.moment old) c → P c
   -- for a run that began earlier

@@ -24,6 +24,7 @@ failing_disk disk = record {
   moment = λ f. disk.moment f.device;
   left_since = λ f. disk.left_since f.device;
   failed = λ f. f.fuse.frozen || disk.failed f.device;
+  number = λ f. disk.number f.device;
   leaves_seen = λ f. disk.leaves_seen f.device;
   counts_now = λ f. disk.counts_now f.device;
   only_now = λ f. disk.only_now f.device;

@@ -9,13 +9,14 @@ use Rattle.rv_journal.specs.declared.testing.memory.DeviceCall.{DeviceCall}
 use Rattle.rv_journal.specs.declared.testing.memory.DeviceCall.TheVariants.{Write, Sync}
 use Rattle.rv_journal.specs.declared.testing.memory.KeptCalls.{KeptCalls}
 
--- what it had at first, and the calls since
+-- which file it is, what it had at first, and the calls since
 pub record MemoryState : Type 0 where
+  pub number : ℕ
   pub first : List ℕ
   pub calls : List DeviceCall
 
 abbrev pub memory_state : KeptCalls → MemoryState
-memory_state kept = record { first = kept.first.items; calls = kept.calls.items }
+memory_state kept = record { number = kept.number; first = kept.first.items; calls = kept.calls.items }
 
 -- a file after a call
 abbrev pub after_call : List ℕ → DeviceCall → List ℕ
@@ -33,6 +34,7 @@ has_bytes kept = kept.bytes.items ≡ after_calls kept.first.items kept.calls.it
 
 -- one call more
 pub record IsCalled (call : DeviceCall) (old new : MemoryState) : Type 0 where
+  pub number : new.number ≡ old.number
   pub first : new.first ≡ old.first
   pub calls : new.calls ≡ old.calls ++ call ∷ []
 
@@ -92,6 +94,7 @@ memory_disk = record {
   moment = λ m. length m.calls;
   left_since = λ m. LeftSince m.first m.calls;
   failed = λ m. false;
+  number = λ m. m.number;
   leaves_seen = λ m told. whole_left (λ c. c ≡ m.first) m.first m.calls refl;
   counts_now = λ m. left_now m.first m.calls;
   only_now = λ m. only_left m.first m.calls;

@@ -4,6 +4,20 @@ use Rattle.rv_journal.specs.Cutter.{RefusesFront}
 use Rattle.rv_journal.specs.Device.{Disk, LeavesOnly, Only, WhereTold}
 use Rattle.rv_journal.specs.Text.{before_zero, stored_lines, HasZero, IsBlankFrom}
 
+-- A reader in this state takes these lines, and makes this of them.
+pub record MakesOf {R T : Type 0} (takes : R → List ℕ → R → Type 0) (makes : R → T → Type 0) (reader : R)
+    (lines : List ℕ) (output : T) : Type 0 where
+  pub last : R
+  pub taken : takes reader lines last
+  pub made : makes last output
+
+-- It takes them, and makes nothing of them for this reason.
+pub record LacksOf {R F : Type 0} (takes : R → List ℕ → R → Type 0) (lacks : R → F → Type 0) (reader : R)
+    (lines : List ℕ) (why : F) : Type 0 where
+  pub last : R
+  pub taken : takes reader lines last
+  pub lacking : lacks last why
+
 -- the lines that a file stands for
 abbrev pub file_lines : {D : Type 0} → Disk D → D → List ℕ
 file_lines disk file = stored_lines (disk.seen file)
@@ -48,8 +62,10 @@ pub record IsLeftUnfilled {D : Type 0} (disk : Disk D) (old new : D) : Type 0 wh
   pub looks : Looks disk old new
   pub no_zero : WhereTold disk old (HasZero (disk.seen old) → ⊥)
 
--- A file whose lines a reader refused is as it was, and what it refused was a front of them.
-pub record IsLeftRefused {D R F : Type 0} (disk : Disk D) (refuses : R → List ℕ → F → Type 0) (old new : D)
-    (reader : R) (why : F) : Type 0 where
+-- A file whose lines a reader refused is as it was. It refused a front of them, or it took all of them.
+pub record IsLeftRefused {D R F : Type 0} (disk : Disk D) (takes : R → List ℕ → R → Type 0)
+    (refuses : R → List ℕ → F → Type 0) (lacks : R → F → Type 0) (old new : D) (reader : R) (why : F) :
+    Type 0 where
   pub looks : Looks disk old new
-  pub lines : WhereTold disk old (RefusesFront refuses reader (file_lines disk old) why)
+  pub lines : WhereTold disk old (RefusesFront refuses reader (file_lines disk old) why
+      ⊎ LacksOf takes lacks reader (file_lines disk old) why)

@@ -16,6 +16,7 @@ system_disk = record {
   moment = λ f. 0;
   left_since = λ f t c. ⊤;
   failed = λ f. has_fault f;
+  number = λ f. 0;
   leaves_seen = λ f told. tt;
   counts_now = λ f t c le now. tt;
   only_now = λ f c left. tt;

@@ -68,6 +68,13 @@ impl<D: Device> FilledFile<D> {
         }
     }
 
+    // Its device, to be looked at.
+    pub(crate) fn device(&self) -> &D
+        ensures { result.now ≡ self.now.device }
+    {
+        &self.device
+    }
+
     // Its device.
     pub(crate) fn into_device(self) -> D
         ensures { result ≡ self.device }

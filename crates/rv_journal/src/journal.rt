@@ -9,7 +9,7 @@ ghost use Rattle.rv_journal.specs.Device.{LeavesOnly, WhereTold};
 ghost use Rattle.rv_journal.specs.Filled.{ahead};
 ghost use Rattle.rv_journal.specs.Text.{HasFront, HasZero};
 ghost use Rattle.rv_journal.specs.Opened.{HasLines, HasLinesOf, IsLeftRefused, IsLeftUnfilled};
-ghost use Rattle.rv_journal.specs.Opened.{file_lines};
+ghost use Rattle.rv_journal.specs.Opened.{MakesOf, file_lines};
 ghost use Rattle.rv_journal.specs.Journal.{IsDurable, IsLive, KeepsText, Stores};
 ghost use Rattle.rv_journal.specs.Journal.{journal_text, journal_state};
 ghost use Rattle.rv_journal.specs.Faults.{IfRefused, append_failed, create_failed, ends_journal, open_failed};
@@ -54,36 +54,37 @@ impl<D: Device> Model for DiskJournal<D> {
 }
 
 impl<D: Device> DiskJournal<D> {
-    /// The journal of a file that a crash may have left. A reader takes its lines, some at a time: those
-    /// before its first zero, up to the last line feed. Once it has taken all of them, what stands after them
-    /// is cleared. It may crash too.
+    /// The journal of a file that a crash may have left, and what a reader makes of its lines. It takes them
+    /// some at a time: those before the first zero, up to the last line feed. Once it has made something of
+    /// all of them, what stands after them is cleared. It may crash too.
     ///
     /// The file is read once, in memory for about 1 MiB and its longest line. At `Err` the device is handed
-    /// back with the same lines, and the reader is of no use; [`OpenFault`] says what changed in the file.
+    /// back with the same lines; [`OpenFault`] says what changed in the file.
     pub fn open<R: JournalReader>(
         alloc: Global,
         device: D,
-        reader: &mut R,
-    ) -> Result<DiskJournal<D>, (OpenFault<R::Fault>, D)>
-        ensures lines { OnOk result (WhereTold D.disk device
-            (R.takes reader.old (file_lines D.disk device) reader.new)) }
+        reader: R,
+    ) -> Result<(DiskJournal<D>, R::Output), (OpenFault<R::Fault>, D)>
+        ensures lines { IfOk result (λ opened. WhereTold D.disk device
+            (MakesOf R.takes R.makes reader (file_lines D.disk device) opened.1)) }
+        ensures maker { IfOk result (λ opened. (last : R) × R.makes last opened.1) }
         ensures filled { OnOk result (WhereTold D.disk device (HasZero (D.disk.seen device))) }
         ensures text { IfOk result (λ opened. WhereTold D.disk device
-            (journal_text D.disk opened ≡ file_lines D.disk device)) }
+            (journal_text D.disk opened.0 ≡ file_lines D.disk device)) }
         ensures lines_err { IfErr result (λ failed. WhereTold D.disk device
             (HasLines (file_lines D.disk device) (D.disk.seen failed.1))) }
-        ensures tells { IfOk result (λ opened. D.disk.tells opened.device ≡ D.disk.tells device) }
+        ensures tells { IfOk result (λ opened. D.disk.tells opened.0.device ≡ D.disk.tells device) }
         ensures tells_err { IfErr result (λ failed. D.disk.tells failed.1 ≡ D.disk.tells device) }
-        ensures works { IfOk result (λ opened. opened.failed ≡ false) }
-        ensures durable { IfOk result (λ opened. WhereTold D.disk device (IsDurable D.disk opened)) }
+        ensures works { IfOk result (λ opened. opened.0.failed ≡ false) }
+        ensures durable { IfOk result (λ opened. WhereTold D.disk device (IsDurable D.disk opened.0)) }
         ensures any_moment { IfOk result (λ opened. WhereTold D.disk device
-            (LeavesOnly D.disk device opened.device (HasLinesOf D.disk device))) }
+            (LeavesOnly D.disk device opened.0.device (HasLinesOf D.disk device))) }
         ensures any_moment_err { IfErr result (λ failed. WhereTold D.disk device
             (LeavesOnly D.disk device failed.1 (HasLinesOf D.disk device))) }
         ensures not_filled { IfErr result (λ failed. failed.0 ≡ NotFilled →
             IsLeftUnfilled D.disk device failed.1) }
         ensures refused { IfErr result (λ failed. IfRefused failed.0 (λ why.
-            IsLeftRefused D.disk R.refuses device failed.1 reader.old why)) }
+            IsLeftRefused D.disk R.takes R.refuses R.lacks device failed.1 reader why)) }
         ensures cause { IfErr result (λ failed. failed.0 ≡ open_failed →
             D.disk.failed failed.1 ≡ true) }
     {
@@ -93,11 +94,11 @@ impl<D: Device> DiskJournal<D> {
             Err(_) => return Err((OpenFault::Device(DeviceFault::NoMemory), device)),
         };
         match reopen(alloc, &mut device, &zeros, reader) {
-            Ok(ends) => {
+            Ok((ends, made)) => {
                 let file = FilledFile::new(device, zeros, ends.lines, ends.file);
                 let failed = false;
                 let parts = Parts { file, failed };
-                Ok(DiskJournal { parts })
+                Ok((DiskJournal { parts }, made))
             }
             Err(fault) => Err((fault, device)),
         }
@@ -166,6 +167,13 @@ impl<D: Device> DiskJournal<D> {
         ensures cause { IsErrOf result append_failed → D.disk.failed self.new.device ≡ true }
     {
         self.parts.add(piece)
+    }
+
+    /// Its device, to be looked at.
+    pub fn device(&self) -> &D
+        ensures { result.now ≡ self.now.device }
+    {
+        self.parts.file.device()
     }
 
     /// Its device, as the last call left it.

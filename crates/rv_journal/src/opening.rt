@@ -3,7 +3,7 @@ ghost use Rattle.std.specs.Prelude.{◌≡◌, ◌<◌, ◌≤◌, length, repli
 ghost use Rattle.rv_journal.specs.Device.{HasCause, LeavesOnly, WhereTold};
 ghost use Rattle.rv_journal.specs.Faults.{IfRefused, open_failed};
 ghost use Rattle.rv_journal.specs.Opened.{HasLines, HasLinesOf, IsCleared, IsClearedTo, IsLeftRefused};
-ghost use Rattle.rv_journal.specs.Opened.{IsLeftUnfilled, KeepsLines, file_lines};
+ghost use Rattle.rv_journal.specs.Opened.{IsLeftUnfilled, KeepsLines, MakesOf, file_lines};
 ghost use Rattle.rv_journal.specs.Text.{HasZero};
 ghost use Rattle.rv_journal.specs.declared.fault.OpenFault.TheVariants.{NotFilled};
 
@@ -63,23 +63,24 @@ fn clear_after<D: Device>(
     Ok(())
 }
 
-// Hands on the lines of a file, and clears it after them once all of them were taken.
+// Hands on the lines of a file, and clears it after them once a reader has made something of them.
 pub(crate) fn reopen<D: Device, R: JournalReader>(
     alloc: Global,
     device: &mut D,
     zeros: &[u8],
-    reader: &mut R,
-) -> Result<FileEnds, OpenFault<R::Fault>>
+    reader: R,
+) -> Result<(FileEnds, R::Output), OpenFault<R::Fault>>
     requires zeros { zeros.now ≡ replicate (length zeros.now) 0 }
     requires some { 0 < length zeros.now }
     ensures tells { D.disk.tells device.new ≡ D.disk.tells device.old }
-    ensures taken { OnOk result (WhereTold D.disk device.old
-        (R.takes reader.old (file_lines D.disk device.old) reader.new)) }
-    ensures end { IfOk result (λ ends. WhereTold D.disk device.old
-        (ends.lines ≡ length (file_lines D.disk device.old))) }
-    ensures room { IfOk result (λ ends. ends.lines < ends.file) }
-    ensures cleared { IfOk result (λ ends. WhereTold D.disk device.old
-        (IsCleared D.disk (file_lines D.disk device.old) ends.file device.new)) }
+    ensures made { IfOk result (λ opened. WhereTold D.disk device.old
+        (MakesOf R.takes R.makes reader (file_lines D.disk device.old) opened.1)) }
+    ensures maker { IfOk result (λ opened. (last : R) × R.makes last opened.1) }
+    ensures end { IfOk result (λ opened. WhereTold D.disk device.old
+        (opened.0.lines ≡ length (file_lines D.disk device.old))) }
+    ensures room { IfOk result (λ opened. opened.0.lines < opened.0.file) }
+    ensures cleared { IfOk result (λ opened. WhereTold D.disk device.old
+        (IsCleared D.disk (file_lines D.disk device.old) opened.0.file device.new)) }
     ensures lines { WhereTold D.disk device.old
         (HasLines (file_lines D.disk device.old) (D.disk.seen device.new)) }
     ensures any_moment { WhereTold D.disk device.old
@@ -87,13 +88,18 @@ pub(crate) fn reopen<D: Device, R: JournalReader>(
     ensures filled { OnOk result (WhereTold D.disk device.old (HasZero (D.disk.seen device.old))) }
     ensures not_filled { IsErrOf result NotFilled → IsLeftUnfilled D.disk device.old device.new }
     ensures refused { IfErr result (λ fault. IfRefused fault (λ why.
-        IsLeftRefused D.disk R.refuses device.old device.new reader.old why)) }
+        IsLeftRefused D.disk R.takes R.refuses R.lacks device.old device.new reader why)) }
     ensures cause { IsErrOf result open_failed → D.disk.failed device.new ≡ true }
 {
-    let ends = read_lines(alloc, device, reader)?;
+    let mut reader = reader;
+    let ends = read_lines(alloc, device, &mut reader)?;
     if !ends.has_zero {
         return Err(OpenFault::NotFilled);
     }
+    let made = match reader.finish() {
+        Ok(made) => made,
+        Err(why) => return Err(OpenFault::Refused(why)),
+    };
     clear_after(device, zeros, ends.lines, ends.file)?;
-    Ok(ends)
+    Ok((ends, made))
 }

@@ -1,15 +1,18 @@
 //! Who takes the lines of a journal that is opened.
-ghost use Rattle.std.specs.Prelude.{◌≡◌, [], ◌++◌, ⊤, List, ℕ, IfErr, OnOk};
+ghost use Rattle.std.specs.Prelude.{◌≡◌, [], ◌++◌, ⊤, List, ℕ, IfErr, IfOk, OnOk};
 ghost use Rattle.std.proofs.Common.{◌∙◌, ap, sym, append_assoc};
 ghost use Rattle.std.proofs.lemmas.List.{append-nil};
 ghost use Rattle.rv_journal.specs.Text.{IsLines};
 
 use std::alloc::AllocError;
 
-/// Who takes the lines of a journal that is opened, in order, some at a time.
-pub trait JournalReader {
+/// Who takes the lines of a journal that is opened, in order, some at a time, and makes something of them.
+pub trait JournalReader: Drop {
     /// Why it refuses lines.
     type Fault;
+
+    /// What it makes of all lines.
+    type Output: Drop;
 
     /// From the first state these lines lead to the second.
     ghost takes: { Self → List ℕ → Self → Type 0 };
@@ -17,11 +20,22 @@ pub trait JournalReader {
     /// In this state it refuses these lines for this reason.
     ghost refuses: { Self → List ℕ → Self.Fault → Type 0 };
 
+    /// If no more lines come, it makes this of those that led to this state.
+    ghost makes: { Self → Self.Output → Type 0 };
+
+    /// And if it makes nothing of them, then for this reason.
+    ghost lacks: { Self → Self.Fault → Type 0 };
+
     /// Takes whole lines, or none: those after what it took before.
     fn take(&mut self, lines: &[u8]) -> Result<(), Self::Fault>
         requires { IsLines lines.now }
         ensures taken { OnOk result (takes self.old lines.now self.new) }
         ensures refused { IfErr result (λ why. refuses self.old lines.now why) };
+
+    /// What it makes of the lines that it took. It may refuse them, as too few.
+    fn finish(self) -> Result<Self::Output, Self::Fault>
+        ensures made { IfOk result (makes self) }
+        ensures lacking { IfErr result (lacks self) };
 
     /// No lines lead nowhere.
     ghost none: { (reader : Self) → takes reader [] reader };
@@ -39,12 +53,22 @@ pub trait JournalReader {
 impl JournalReader for Vec<u8> {
     type Fault = AllocError;
 
+    type Output = Vec<u8>;
+
     ghost takes = { λ old lines new. new.items ≡ old.items ++ lines };
 
     ghost refuses = { λ _ _ _. ⊤ };
 
+    ghost makes = { λ reader lines. lines ≡ reader };
+
+    ghost lacks = { λ _ _. ⊥ };
+
     fn take(&mut self, lines: &[u8]) -> Result<(), AllocError> {
         self.extend_from_slice(lines)
+    }
+
+    fn finish(self) -> Result<Vec<u8>, AllocError> {
+        Ok(self)
     }
 
     ghost none = { λ reader. sym (append-nil reader.items) };

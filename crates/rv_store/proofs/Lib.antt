@@ -1,5 +1,8 @@
 -- The lemmas that the proofs of this crate share.
+mod Begun
+mod Formats
 mod Fronts
 mod ReadOn
+mod Refused
 mod Reopened
 mod Told

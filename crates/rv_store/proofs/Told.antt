@@ -1,19 +1,27 @@
 -- What was told is found: a crash leaves the lines of a front of the account that has all that was told.
-use Rattle.std.proofs.Common.{◌≡◌, ◌≤◌, ◌<◌, ◌+◌, ◌-◌, ◌++◌, ◌∷◌, ◌∙◌, ℕ, List, true, ap}
+use Rattle.std.proofs.Common.{◌≡◌, ◌≤◌, ◌<◌, ◌+◌, ◌-◌, ◌++◌, ◌∷◌, ◌∙◌, ℕ, List, [], true, ap}
+use Rattle.std.proofs.Common.{map}
 use Rattle.std.proofs.Common.{append_assoc, arith, drop, length, length-append, refl, subst, suc, sym}
 use Rattle.std.proofs.Common.{take, zero}
 use Rattle.std.proofs.Math.Seq.{take-append_seam, take-append-add, take-length}
 use Rattle.std.proofs.lemmas.List.{length-map, length-take, length-take-le, take-append-drop, take-map}
 use Rattle.rv_account.specs.Account.{Account}
 use Rattle.rv_account.specs.declared.entry.Entry.{Entry}
-use Rattle.rv_engine.specs.EngineRuns.{answers_in, bytes_written}
+use Rattle.rv_account.specs.Limits.{max_moment}
+use Rattle.rv_engine.specs.EngineRuns.{BeginsStored, EngineEffect, RunsEngine, answers_in, bytes_written}
+use Rattle.rv_engine.specs.Engines.{EngineState}
 use Rattle.rv_engine.specs.Handing.{entry_lines, unwritten}
 use Rattle.rv_engine.proofs.Gathered.{lines_append}
 use Rattle.rv_engine.proofs.Running.{accounts_are_kept, engines_are_runs}
 use Rattle.rv_engine.proofs.Stored.{told_is_stored}
-use Rattle.rv_hub.specs.HubRuns.{AddsEntries, made_in, run_effects}
+use Rattle.rv_frame.specs.Lasting.{HasFrontAfter}
+use Rattle.rv_hub.specs.HubRuns.{AddsEntries, IsHubAccount, made_in, run_effects}
+use Rattle.rv_hub.specs.dispatcher.View.{DispatcherTerms}
+use Rattle.rv_rules.specs.StepLimits.{AreStepLimits}
 use Rattle.rv_hub.specs.Turns.{made_by}
 use Rattle.rv_hub.proofs.OneRun.{hubs_are_runs}
+use Rattle.rv_journal.specs.Text.{whole_lines}
+use Rattle.rv_journal.proofs.Lines.{whole_lines-append, whole_lines-lf}
 use Rattle.rv_lines.specs.Lines.{lines, printed_lines}
 use Rattle.rv_lines.specs.Written.{FitsLinesUnder, account_lines, entry_text, head_text}
 use Rattle.rv_lines.proofs.ReadBack.{all_in_lines, lines_again}
@@ -25,7 +33,8 @@ use Rattle.rv_state.specs.resume.Laws.{HadRoom}
 use Rattle.rv_state.proofs.Agreed.{agreed}
 use Rattle.rv_text.specs.Members.{max_identifier}
 use Rattle.rv_verify.specs.Verdicts.{ReadsLong, long_limits}
-use Rattle.rv_store.specs.Found.{FindsTold, ToldIsFound}
+use Rattle.rv_store.specs.Format.{format}
+use Rattle.rv_store.specs.Found.{IsFoundAfter, ToldIsFound, journal_lines}
 use Rattle.rv_store.proofs.Fronts.{HasWholeLines, fronts}
 
 -- ---- the lines of a legal account whose state has had room
@@ -86,6 +95,12 @@ module _ (was after : Account) (made front behind : List Entry) (adds : AddsEntr
 
 -- ---- the law
 
+-- The whole lines of this text are read as an account that has all that was told.
+record FindsLines (was : Account) (made : List Entry) (told : ℕ) (text : List ℕ) : Type 0 where
+  pub found : Account
+  pub is : IsFoundAfter was made told found
+  pub read : ReadsLong (lines (whole_lines text)) found
+
 module _ (was after : Account) (made front behind : List Entry) (told stored : ℕ) (left held more : List ℕ)
     (n : ℕ) (adds : AddsEntries was made after) (parts : made ≡ front ++ behind) (legal : Legal after)
     (had : HadRoom after) (holds : held ≡ printed_lines (account_lines was) ++ entry_lines front)
@@ -115,7 +130,7 @@ module _ (was after : Account) (made front behind : List Entry) (told stored : �
         length-append held (take n more),
       ))
 
-  found_by : (m : ℕ) → cut.count ≡ suc m → FindsTold was made told left
+  found_by : (m : ℕ) → cut.count ≡ suc m → FindsLines was made told left
   found_by m is =
       let found : Account = before after m in
       let extra : ℕ = m - length was.entries in
@@ -158,11 +173,15 @@ module _ (was after : Account) (made front behind : List Entry) (told stored : �
   some zero low = absurd (omega (arith, low))
   some (suc m) low = (m, refl)
 
-  pub found : FindsTold was made told left
+  found : FindsLines was made told left
   found = let one = some cut.count (omega (arith, at_least)) in found_by one.0 one.1
 
-pub told_is_found : ToldIsFound
-told_is_found terms effects s t a left limits runs begins moment is had has =
+found_in_lines : (terms : DispatcherTerms) (effects : List EngineEffect) (s t : EngineState) (a : Account)
+    (left : List ℕ) → AreStepLimits terms.limits → RunsEngine true terms s effects t → BeginsStored s
+    → t.hub.now ≤ max_moment → IsHubAccount a s.hub → HadRoom a
+    → HasFrontAfter (printed_lines (account_lines a) ++ bytes_written effects) (unwritten t) left
+    → FindsLines a (made_in (answers_in effects)) t.hub.open_wires.written left
+found_in_lines terms effects s t a left limits runs begins moment is had has =
     let kept = accounts_are_kept terms effects s t a limits runs begins.all moment is in
     let run = engines_are_runs true terms effects s t runs in
     let hub = hubs_are_runs true terms (answers_in effects) s.hub t.hub run.hub in
@@ -180,3 +199,56 @@ told_is_found terms effects s t a left limits runs begins moment is had has =
     (ap (λ (l : List ℕ). printed_lines (account_lines a) ++ l) stored.lines)
     (kept.text ∙ sym (append_assoc (printed_lines (account_lines a)) (bytes_written effects) (unwritten t)))
     has.1 (omega (arith, stored.count, length_is)) stored.told
+
+-- ---- and in a journal
+
+-- lines after other bytes
+whole_behind : (text line rest : List ℕ)
+    → whole_lines (text ++ (line ++ 10 ∷ rest)) ≡ text ++ whole_lines (line ++ 10 ∷ rest)
+whole_behind text line rest =
+    ap whole_lines (sym (append_assoc text line (10 ∷ rest)) ∙ sym (append_assoc (text ++ line) (10 ∷ []) rest))
+    ∙ whole_lines-append ((text ++ line) ++ 10 ∷ []) rest (whole_lines-lf (text ++ line))
+    ∙ append_assoc (text ++ line) (10 ∷ []) (whole_lines rest)
+    ∙ append_assoc text line (10 ∷ whole_lines rest)
+    ∙ ap (λ (l : List ℕ). text ++ l) (sym (append_assoc line (10 ∷ []) (whole_lines rest)))
+    ∙ ap (λ (l : List ℕ). text ++ l) (sym (whole_lines-append (line ++ 10 ∷ []) rest (whole_lines-lf line)))
+    ∙ ap (λ (l : List ℕ). text ++ whole_lines l) (append_assoc line (10 ∷ []) rest)
+
+module _ (a : Account) (written more : List ℕ) where
+  abbrev account_left : List ℕ
+  account_left = (printed_lines (account_lines a) ++ written) ++ more
+
+  journal_left : (journal_lines a ++ written) ++ more ≡ format ++ account_left
+  journal_left =
+      ap (λ (l : List ℕ). l ++ more) (append_assoc format (printed_lines (account_lines a)) written)
+      ∙ append_assoc format (printed_lines (account_lines a) ++ written) more
+
+  -- what stands after its first line
+  abbrev later : List ℕ
+  later = (printed_lines (map entry_text a.entries) ++ written) ++ more
+
+  begins_with_line : account_left ≡ head_text a.epoch a.opened ++ 10 ∷ later
+  begins_with_line =
+      ap (λ (l : List ℕ). l ++ more)
+      (append_assoc (head_text a.epoch a.opened) (10 ∷ printed_lines (map entry_text a.entries)) written)
+      ∙ append_assoc (head_text a.epoch a.opened) (10 ∷ printed_lines (map entry_text a.entries) ++ written) more
+
+  lines_left : whole_lines (format ++ account_left) ≡ format ++ whole_lines account_left
+  lines_left =
+      ap (λ (l : List ℕ). whole_lines (format ++ l)) begins_with_line
+      ∙ whole_behind format (head_text a.epoch a.opened) later
+      ∙ ap (λ (l : List ℕ). format ++ whole_lines l) (sym begins_with_line)
+
+pub told_is_found : ToldIsFound
+told_is_found terms effects s t a left limits runs begins moment is had has =
+    let written : List ℕ = bytes_written effects in
+    let more : List ℕ = take has.0 (unwritten t) in
+    let found = found_in_lines terms effects s t a (account_left a written more) limits runs begins moment is had
+    (has.0, refl) in
+    record {
+      found = found.found;
+      is = found.is;
+      account = whole_lines (account_left a written more);
+      journal = ap whole_lines (has.1 ∙ journal_left a written more) ∙ lines_left a written more;
+      read = found.read;
+    }

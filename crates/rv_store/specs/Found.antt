@@ -16,6 +16,11 @@ use Rattle.rv_rules.specs.StepLimits.{AreStepLimits}
 use Rattle.rv_server_crashes.specs.Room.{LetsGoOn}
 use Rattle.rv_state.specs.resume.Laws.{HadRoom}
 use Rattle.rv_verify.specs.Verdicts.{ReadsLong}
+use Rattle.rv_store.specs.Format.{IsJournalOf, format}
+
+-- what the journal of an account has
+abbrev pub journal_lines : Account → List ℕ
+journal_lines a = format ++ printed_lines (account_lines a)
 
 -- The account that was, with a front of the entries that were made since, among them all that the hub was
 -- told are written. A machine goes on from it.
@@ -27,18 +32,20 @@ pub record IsFoundAfter (was : Account) (made : List Entry) (told : ℕ) (found 
   pub goes_on : LetsGoOn found
   pub all_told : told ≤ length found.entries
 
--- the whole lines of this text are read as such an account
+-- The whole lines of this text are a journal, whose account is read as such a one.
 pub record FindsTold (was : Account) (made : List Entry) (told : ℕ) (text : List ℕ) : Type 0 where
   pub found : Account
   pub is : IsFoundAfter was made told found
-  pub read : ReadsLong (lines (whole_lines text)) found
+  pub account : List ℕ
+  pub journal : IsJournalOf (whole_lines text) account
+  pub read : ReadsLong (lines account) found
 
--- An engine begins with an account's lines written, and runs. A crash, then or while it writes lines, leaves
--- the lines that were written and a front of those that weren't: what was told is found.
+-- An engine begins with an account's lines written in its journal, and runs. A crash, then or while it writes
+-- lines, leaves the lines that were written and a front of those that weren't: what was told is found.
 abbrev pub ToldIsFound : Type 0
 ToldIsFound = (terms : DispatcherTerms) (effects : List EngineEffect) (s t : EngineState) (a : Account)
     (left : List ℕ)
     → AreStepLimits terms.limits → RunsEngine true terms s effects t → BeginsStored s
     → t.hub.now ≤ max_moment → IsHubAccount a s.hub → HadRoom a
-    → HasFrontAfter (printed_lines (account_lines a) ++ bytes_written effects) (unwritten t) left
+    → HasFrontAfter (journal_lines a ++ bytes_written effects) (unwritten t) left
     → FindsTold a (made_in (answers_in effects)) t.hub.open_wires.written left

@@ -1,30 +1,30 @@
 -- Lines that are read one after the other are read as one text.
-use Rattle.std.proofs.Common.{◌≡◌, ◌++◌, ◌∙◌, ℕ, List, [], ap, append-nil, append_assoc, subst, sym}
+use Rattle.std.proofs.Common.{◌≡◌, ◌++◌, ◌∙◌, ℕ, List, [], ap, append-nil, append_assoc, refl, subst, sym}
 use Rattle.rv_journal.specs.Text.{IsLines}
-use Rattle.rv_lines.specs.Lines.{lines}
-use Rattle.rv_store.specs.Reading.{HasReadJournal, IsFaultOfLines, RefusesTextOn, ReadsTextOn}
+use Rattle.rv_journal.proofs.Lines.{whole_lines-append}
+use Rattle.rv_store.specs.Reading.{HasReadJournal, IsFaultOfFront, RefusesTextOn, ReadsTextOn}
 use Rattle.rv_store.specs.declared.reader.ReaderParts.{ReaderParts}
 use Rattle.rv_store.specs.declared.reader.RecoveryFault.{RecoveryFault}
-use Rattle.rv_store.specs.WholeLines.{lines_on}
 
-as_one : (read : List (List ℕ)) (text more : List ℕ) → IsLines text
-    → (read ++ lines text) ++ lines more ≡ read ++ lines (text ++ more)
-as_one read text more is =
-    append_assoc read (lines text) (lines more)
-    ∙ ap (λ (l : List (List ℕ)). read ++ l) (sym (lines_on text more is))
+pub both_lines : (text more : List ℕ) → IsLines text → IsLines more → IsLines (text ++ more)
+both_lines text more is so = whole_lines-append text more is ∙ ap (λ (l : List ℕ). text ++ l) so
 
 pub takes_none : (reader : ReaderParts) → ReadsTextOn reader [] reader
-takes_none reader read has =
-    subst (λ (l : List (List ℕ)). HasReadJournal l reader) (sym (append-nil read)) has
+takes_none reader = (
+  refl,
+  λ before is has. subst (λ (l : List ℕ). HasReadJournal l reader) (sym (append-nil before)) has,
+)
 
 pub takes_on : (old mid new : ReaderParts) (text more : List ℕ) → IsLines text → ReadsTextOn old text mid
     → ReadsTextOn mid more new → ReadsTextOn old (text ++ more) new
-takes_on old mid new text more is first second read has =
-    subst (λ (l : List (List ℕ)). HasReadJournal l new) (as_one read text more is)
-    (second (read ++ lines text) (first read has))
+takes_on old mid new text more is first second = (
+  second.0 ∙ first.0,
+  λ before whole has. subst (λ (l : List ℕ). HasReadJournal l new) (append_assoc before text more)
+      (second.1 (before ++ text) (both_lines before text whole is) (first.1 before whole has)),
+)
 
 pub refuses_on : (old mid : ReaderParts) (text more : List ℕ) (why : RecoveryFault) → IsLines text
     → ReadsTextOn old text mid → RefusesTextOn mid more why → RefusesTextOn old (text ++ more) why
-refuses_on old mid text more why is first second read has =
-    subst (λ (l : List (List ℕ)). IsFaultOfLines l why) (as_one read text more is)
-    (second (read ++ lines text) (first read has))
+refuses_on old mid text more why is first second before whole has =
+    subst (λ (l : List ℕ). IsFaultOfFront l why) (append_assoc before text more)
+    (second (before ++ text) (both_lines before text whole is) (first.1 before whole has))

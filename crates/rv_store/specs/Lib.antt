@@ -1,7 +1,9 @@
 -- What a reader must agree with: all that the public contracts cite.
+pub mod Format
 pub mod Found
 pub mod Lasting
 pub mod Reading
+pub mod Store
 -- What the laws of a reader rest on.
 pub mod Joined
 pub mod WholeLines

@@ -75,6 +75,15 @@ none_after (m ∷ more) (x ∷ rest) [] same lacks =
 none_after (m ∷ more) (x ∷ rest) (f ∷ front) same lacks =
     none_after more (x ∷ rest) front (drop_first m f (more ++ x ∷ rest) (front ++ 10 ∷ []) same) lacks
 
+-- what follows other bytes in whole lines
+pub rest_lines : (text more : List ℕ) → IsLines (text ++ more) → IsLines more
+rest_lines [] more is = is
+rest_lines (b ∷ text) more is = elim (cases_Bool (has_lf (b ∷ text ++ more))) [
+  | inl has ↦ rest_lines text more (drop_first b b (whole_lines (text ++ more)) (text ++ more)
+      (sym (with_lf b (text ++ more) has) ∙ is))
+  | inr none ↦ absurd (omega (arith, ap length (sym (without_lf b (text ++ more) none) ∙ is)))
+]
+
 -- no piece without LF is left of whole lines
 pub none_left : (text more rest : List ℕ) → IsLines text → text ≡ more ++ rest
     → All (λ byte. byte ≢ 10) rest → rest ≡ []

@@ -6,10 +6,14 @@
 #![tactic(auto)]
 
 mod account_journal;
+mod format;
 pub mod laws;
 mod opening;
 mod reader;
+mod store;
 
 pub use account_journal::AccountJournal;
+pub use format::VERSION;
 pub use opening::{StoredAccount, open_account};
 pub use reader::{AccountReader, RecoveryFault};
+pub use store::{StoreFault, begin_account, open_present};

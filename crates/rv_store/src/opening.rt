@@ -7,10 +7,8 @@ ghost use Rattle.rv_journal.specs.Opened.{HasLines, HasLinesOf, IsLeftUnfilled, 
 ghost use Rattle.rv_journal.specs.declared.fault.OpenFault.TheVariants.{NotFilled};
 ghost use Rattle.rv_machine.specs.Machines.{state_in};
 ghost use Rattle.rv_state.specs.resume.Resuming.{CanResume};
-ghost use Rattle.rv_verify.specs.Standing.{HoldsAccountOf};
 ghost use Rattle.rv_store.specs.Lasting.{fault_of, journal_of};
-ghost use Rattle.rv_store.specs.Reading.{IsFaultOfLines};
-ghost use Rattle.rv_lines.specs.Lines.{lines};
+ghost use Rattle.rv_store.specs.Reading.{HoldsJournal, IsLeftAsRefused};
 
 use crate::account_journal::AccountJournal;
 use crate::reader::{AccountReader, RecoveryFault};
@@ -27,19 +25,19 @@ pub struct StoredAccount<D: Device> {
     pub machine: Machine,
 }
 
-/// Opens a file that a crash may have left as the journal of an account: its whole lines before its first
+/// Opens a file that a crash may have left as the journal of this epoch's account: its whole lines before its first
 /// zero. What stands after them is cleared once they were read as a legal account. It may crash too, and
 /// leaves the same lines.
 ///
 /// The file is read once, in memory of what is open, of the clients, and of about 1 MiB and the longest
-/// line. At `Err` the device is handed back with the same lines. One that has none is refused too, after what
-/// stands there was cleared.
+/// line. At `Err` the device is handed back with the same lines.
 pub fn open_account<D: Device>(
     alloc: Global,
     device: D,
+    epoch: u64,
 ) -> Result<StoredAccount<D>, (OpenFault<RecoveryFault>, D)>
     ensures holds { IfOk result (λ stored. WhereTold D.disk device
-        (HoldsAccountOf (lines (file_lines D.disk device)) stored.machine)) }
+        (HoldsJournal epoch (file_lines D.disk device) stored.machine)) }
     ensures resumes { IfOk result (λ stored. CanResume (state_in stored.machine)) }
     ensures text { IfOk result (λ stored. WhereTold D.disk device
         (journal_text D.disk (journal_of stored.journal) ≡ file_lines D.disk device)) }
@@ -57,20 +55,13 @@ pub fn open_account<D: Device>(
         (LeavesOnly D.disk device failed.1 (HasLinesOf D.disk device))) }
     ensures not_filled { IfErr result (λ failed. failed.0 ≡ NotFilled →
         IsLeftUnfilled D.disk device failed.1) }
-    ensures refused { IfErr result (λ failed. IfRefused failed.0 (λ why. WhereTold D.disk device
-        (IsFaultOfLines (lines (file_lines D.disk device)) why))) }
+    ensures refused { IfErr result (λ failed. IfRefused failed.0
+        (IsLeftAsRefused D.disk epoch device failed.1)) }
     ensures cause { IfErr result (λ failed. failed.0 ≡ open_failed → D.disk.failed failed.1 ≡ true) }
 {
-    let mut reader = AccountReader::new(alloc);
-    let journal = DiskJournal::open(alloc, device, &mut reader)?;
-    match reader.into_machine() {
-        Ok(machine) => Ok(StoredAccount {
-            journal: AccountJournal::new(journal),
-            machine,
-        }),
-        Err(found) => Err((
-            OpenFault::Refused(RecoveryFault::NoAccount(found)),
-            journal.into_device(),
-        )),
-    }
+    let (journal, machine) = DiskJournal::open(alloc, device, AccountReader::new(alloc, epoch))?;
+    Ok(StoredAccount {
+        journal: AccountJournal::new(journal),
+        machine,
+    })
 }

@@ -1,12 +1,10 @@
 //! Reads the lines of a journal as those of an account.
-ghost use Rattle.std.specs.Prelude.{◌≡◌, ◌++◌, [], ℕ, List, IfErr, IfOk};
-ghost use Rattle.rv_machine.specs.Machines.{state_in};
-ghost use Rattle.rv_state.specs.resume.Resuming.{CanResume};
+ghost use Rattle.std.specs.Prelude.{◌≡◌, IfErr, IfOk, [], false};
 ghost use Rattle.rv_journal.specs.Text.{IsLines};
 ghost use Rattle.rv_verify.specs.Ongoing.{CanGoOn};
-ghost use Rattle.rv_verify.specs.Standing.{HoldsAccountOf};
-ghost use Rattle.rv_store.specs.Reading.{ReadsWholeOn, RefusesWholeOn};
+ghost use Rattle.rv_store.specs.Reading.{LacksAccount, MakesMachine, ReadsWholeOn, RefusesWholeOn};
 
+use crate::format::account_part;
 use rv_journal::JournalReader;
 use rv_machine::Machine;
 use rv_replies::Records;
@@ -19,6 +17,14 @@ use std::mem;
 /// Why the lines of a journal aren't read as an account.
 #[derive(Drop)]
 pub enum RecoveryFault {
+    /// The first line names this version of the format; [`VERSION`](crate::VERSION) is read.
+    OtherVersion(u64),
+    /// The first line names no format of a journal.
+    NoJournal,
+    /// There is no whole line.
+    NoLines,
+    /// They are an account of this epoch, and not of the one that was asked for.
+    OtherEpoch(u64),
     /// They are no legal account, or one beyond the limits of a state: this was found of the first of them.
     NoAccount(AccountFinding),
     /// Memory was refused.
@@ -32,12 +38,14 @@ pub struct AccountReader {
     parts: ReaderParts,
 }
 
-// What was read, and a record of no replies.
+// The epoch that is asked for, what was read, a record of no replies, and whether the first line was read.
 #[derive(Drop)]
 pub(crate) struct ReaderParts {
     pub(crate) alloc: Global,
+    pub(crate) epoch: u64,
     pub(crate) audit: OngoingAudit,
     pub(crate) records: Records,
+    pub(crate) begun: bool,
 }
 
 impl Model for AccountReader {
@@ -55,36 +63,22 @@ impl Model for AccountReader {
 }
 
 impl AccountReader {
-    ghost use Rattle.rv_store.specs.Reading.{HasReadJournal, IsNoAccount};
+    ghost use Rattle.rv_store.specs.Reading.{HasReadJournal};
 
-    /// A reader that has read no line. It takes no memory yet.
-    pub fn new(alloc: Global) -> AccountReader
-        ensures { HasReadJournal [] result }
+    /// A reader of an account of this epoch that has read no line. It takes no memory yet.
+    pub fn new(alloc: Global, epoch: u64) -> AccountReader
+        ensures read { HasReadJournal [] result }
+        ensures epoch { result.epoch ≡ epoch }
     {
         AccountReader {
             parts: ReaderParts {
                 alloc,
+                epoch,
                 audit: OngoingAudit::new(alloc),
                 records: Records::new(alloc),
+                begun: false,
             },
         }
-    }
-
-    /// The machine that goes on from the account that was read, from its last entry's moment on; or what was
-    /// found of lines that are no legal account.
-    pub fn into_machine(self) -> Result<Machine, AccountFinding>
-        ensures ready { IfOk result (λ machine. CanResume (state_in machine)) }
-        ensures holds { (read : List (List ℕ)) → HasReadJournal read self
-            → IfOk result (HoldsAccountOf read) }
-        ensures refused { (read : List (List ℕ)) → HasReadJournal read self
-            → IfErr result (IsNoAccount read) }
-    {
-        let ReaderParts {
-            alloc: _,
-            audit,
-            records: _,
-        } = self.parts;
-        audit.into_machine()
     }
 }
 
@@ -111,21 +105,52 @@ fn read_lines_on(
     }
 }
 
+// The machine that goes on from what was read, or why there is none.
+fn machine_of(parts: ReaderParts) -> Result<Machine, RecoveryFault>
+    requires { CanGoOn parts.audit }
+    ensures made { IfOk result (MakesMachine parts) }
+    ensures lacking { IfErr result (LacksAccount parts) }
+{
+    if !parts.begun {
+        return Err(RecoveryFault::NoLines);
+    }
+    match parts.audit.into_machine() {
+        Ok(machine) if machine.epoch() == parts.epoch => Ok(machine),
+        Ok(machine) => Err(RecoveryFault::OtherEpoch(machine.epoch())),
+        Err(found) => Err(RecoveryFault::NoAccount(found)),
+    }
+}
+
 impl JournalReader for AccountReader {
-    ghost use Rattle.rv_store.specs.Reading.{ReadsTextOn, RefusesTextOn};
+    ghost use Rattle.rv_store.specs.Reading.{LacksAccount, MakesMachine, ReadsTextOn, RefusesTextOn};
     ghost use Rattle.rv_store.specs.Joined.{refuses_on, takes_none, takes_on};
 
     type Fault = RecoveryFault;
+
+    type Output = Machine;
 
     ghost takes = { ReadsTextOn };
 
     ghost refuses = { RefusesTextOn };
 
+    ghost makes = { MakesMachine };
+
+    ghost lacks = { LacksAccount };
+
     fn take(&mut self, lines: &[u8]) -> Result<(), RecoveryFault> {
+        if lines.is_empty() {
+            return Ok(());
+        }
         let parts = &mut self.parts;
+        let account = account_part(parts.begun, lines)?;
         let audit = mem::replace(&mut parts.audit, OngoingAudit::new(parts.alloc));
-        parts.audit = read_lines_on(parts.alloc, audit, &mut parts.records, lines)?;
+        parts.audit = read_lines_on(parts.alloc, audit, &mut parts.records, account)?;
+        parts.begun = true;
         Ok(())
+    }
+
+    fn finish(self) -> Result<Machine, RecoveryFault> {
+        machine_of(self.parts)
     }
 
     ghost none = { takes_none };

@@ -25,10 +25,11 @@ pub struct Memory {
     kept: KeptCalls,
 }
 
-// What a file had at first, its calls, and what they made of it.
+// Which file it is, what it had at first, its calls, and what they made of it.
 #[derive(Drop)]
 struct KeptCalls {
     alloc: Global,
+    number: u64,
     first: Vec<u8>,
     bytes: Vec<u8>,
     calls: Vec<DeviceCall>,
@@ -45,8 +46,10 @@ impl Model for Memory {
 }
 
 impl Memory {
-    /// A file with these bytes, all of them stored.
-    pub fn new(alloc: Global, bytes: Vec<u8>) -> Result<Memory, AllocError>
+    /// A file with these bytes, all of them stored. A folder knows it by the number.
+    pub fn new(alloc: Global, number: u64, bytes: Vec<u8>) -> Result<Memory, AllocError>
+        ensures number { IfOk result (λ file. memory_disk.number file ≡ number) }
+        ensures began { IfOk result (λ file. memory_disk.moment file ≡ 0) }
         ensures bytes { IfOk result (λ file. memory_disk.seen file ≡ bytes.items) }
         ensures stored { IfOk result (λ file. Only bytes.items (memory_disk.may_leave file)) }
     {
@@ -54,11 +57,26 @@ impl Memory {
         let calls = Vec::new(alloc);
         let kept = KeptCalls {
             alloc,
+            number,
             first,
             bytes,
             calls,
         };
         Ok(Memory { kept })
+    }
+
+    /// Its number.
+    pub fn number(&self) -> u64
+        ensures { result ≡ memory_disk.number self.now }
+    {
+        self.kept.number
+    }
+
+    /// Its moment: how many calls of it were made.
+    pub fn moment(&self) -> usize
+        ensures { result ≡ memory_disk.moment self.now }
+    {
+        self.kept.calls.len()
     }
 
     /// What a read returns.
@@ -74,11 +92,12 @@ impl Memory {
     ///
     /// It copies the file twice for each call that was made.
     pub fn after_crash(&self, alloc: Global, number: u64) -> Result<Memory, AllocError>
+        ensures same { IfOk result (λ file. memory_disk.number file ≡ memory_disk.number self.now) }
         ensures left { IfOk result (λ file. memory_disk.may_leave self.now (memory_disk.seen file)) }
         ensures stored { IfOk result (λ file. Only (memory_disk.seen file) (memory_disk.may_leave file)) }
     {
         let bytes = self.kept.left(alloc, number)?;
-        Memory::new(alloc, bytes)
+        Memory::new(alloc, self.kept.number, bytes)
     }
 }
 

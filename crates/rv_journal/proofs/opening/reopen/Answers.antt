@@ -1,9 +1,9 @@
-use Rattle.std.proofs.Common.{◌≡◌, Err, Bool, true, false, not, List, ℕ, ◌∙◌, ap, arith, subst}
+use Rattle.std.proofs.Common.{◌≡◌, inl, inr, Err, Bool, true, false, not, List, ℕ, ◌∙◌, ap, arith, subst}
 use Rattle.std.proofs.lemmas.Bool.{false≢true}
 use Rattle.std.proofs.lemmas.Result.{err_from_is_err_and}
 use Rattle.rv_journal.specs.Opened.{IsCleared}
 use Rattle.rv_journal.specs.Text.{stored_lines}
-use Rattle.rv_journal.proofs.Causes.{if_refused, open_number, reopen_why}
+use Rattle.rv_journal.proofs.Causes.{if_refused, open_number, opened_as, reopen_why}
 use Rattle.rv_journal.proofs.Looking.{only_looked, then_cleared}
 use Rattle.rv_journal.proofs.opening.reopen.Goals as goal
 
@@ -15,7 +15,7 @@ pub returns-in_err-ends-clause-refused : goal.returns-in_err-ends-clause-refused
 returns-in_err-ends-clause-refused g c =
     let exit = err_from_is_err_and c.from_residual.result c.from_residual.ensures.1 in
     rw (exit.1, exit.2) (if_refused c.in_err-ends.field-0.0 _ _
-    (λ why refused. record { looks = c.read_lines.ensures.reads.looks; lines = refused })
+    (λ why refused. record { looks = c.read_lines.ensures.reads.looks; lines = λ told. inl (refused told) })
     c.in_err-ends.ensures.reads.refused)
 
 pub returns-then-not-ends-clause-any_moment : goal.returns-then-not-ends-clause-any_moment
@@ -70,12 +70,12 @@ returns-in_err-ends-clause-lines g c told = ap stored_lines (c.read_lines.ensure
 pub returns-in_err-ends-clause-not_filled : goal.returns-in_err-ends-clause-not_filled
 returns-in_err-ends-clause-not_filled g c =
     let exit = err_from_is_err_and c.from_residual.result c.from_residual.ensures.1 in
-    rw (exit.1, exit.2) (λ is. absurd (c.in_err-ends.ensures.reads.filled is))
+    rw (exit.1, exit.2) (λ is. absurd (c.in_err-ends.ensures.reads.filled (ap Err (ap opened_as is))))
 
 pub returns-in_err-ends-clause-cause : goal.returns-in_err-ends-clause-cause
 returns-in_err-ends-clause-cause g c =
     let exit = err_from_is_err_and c.from_residual.result c.from_residual.ensures.1 in
-    rw (exit.1, exit.2) (c.in_err-ends.ensures.reads.cause)
+    rw (exit.1, exit.2) (λ is. c.in_err-ends.ensures.reads.cause (ap Err (ap opened_as is)))
 
 pub returns-then-not-ends-clause-tells : goal.returns-then-not-ends-clause-tells
 returns-then-not-ends-clause-tells g c = c.read_lines.ensures.reads.looks.tells
@@ -112,8 +112,41 @@ returns-clause-lines g c told =
     let looks = c.read_lines.ensures.reads.looks in
     c.clear_after.ensures.kept.lines (looks.tells ∙ told) ∙ ap stored_lines (looks.seen told)
 
-pub returns-clause-taken : goal.returns-clause-taken
-returns-clause-taken g c = c.in_ok-ends.ensures.reads.taken
+pub returns-clause-made : goal.returns-clause-made
+returns-clause-made g c told = record {
+  last = c.read_lines.new.reader;
+  taken = c.in_ok-ends.ensures.reads.taken told;
+  made = c.in-Ok.ensures.made;
+}
+
+pub returns-clause-maker : goal.returns-clause-maker
+returns-clause-maker g c = (c.read_lines.new.reader, c.in-Ok.ensures.made)
+
+pub returns-in-Err-clause-refused : goal.returns-in-Err-clause-refused
+returns-in-Err-clause-refused g c = record {
+  looks = c.read_lines.ensures.reads.looks;
+  lines = λ told. inr (record {
+    last = c.read_lines.new.reader;
+    taken = c.in_ok-ends.ensures.reads.taken told;
+    lacking = c.in-Err.ensures.lacking;
+  });
+}
+
+pub returns-in-Err-clause-any_moment : goal.returns-in-Err-clause-any_moment
+returns-in-Err-clause-any_moment g c told = only_looked g.D.Device.disk c.args.device.now
+    c.read_lines.new.device c.read_lines.ensures.reads.looks
+
+pub returns-in-Err-clause-tells : goal.returns-in-Err-clause-tells
+returns-in-Err-clause-tells g c = c.read_lines.ensures.reads.looks.tells
+
+pub returns-in-Err-clause-lines : goal.returns-in-Err-clause-lines
+returns-in-Err-clause-lines g c told = ap stored_lines (c.read_lines.ensures.reads.looks.seen told)
+
+pub returns-in-Err-clause-not_filled : goal.returns-in-Err-clause-not_filled
+returns-in-Err-clause-not_filled g c is = absurd (omega (arith, ap open_number is))
+
+pub returns-in-Err-clause-cause : goal.returns-in-Err-clause-cause
+returns-in-Err-clause-cause g c is = absurd (omega (arith, ap open_number is))
 
 pub returns-clause-end : goal.returns-clause-end
 returns-clause-end g c = c.in_ok-ends.ensures.reads.lines

@@ -42,7 +42,7 @@ invariant_of-result g c _ =
     (λ told_now. c.in-Ok-reopen.ensures.cleared (sym told ∙ told_now))
 
 pub returns-in-Ok-reopen-clause-lines : goal.returns-in-Ok-reopen-clause-lines
-returns-in-Ok-reopen-clause-lines g c = c.in-Ok-reopen.ensures.taken
+returns-in-Ok-reopen-clause-lines g c = c.in-Ok-reopen.ensures.made
 
 pub returns-in-Ok-reopen-clause-text : goal.returns-in-Ok-reopen-clause-text
 returns-in-Ok-reopen-clause-text g c told =

@@ -8,7 +8,7 @@ pub returns-clause-bytes : goal.returns-clause-bytes
 returns-clause-bytes c =
     bytes_written (memory_state c.args.self.now) _ c.args.at c.in_ok-written.written c.args.bytes.now
     c.args.self.now.bytes.items c.in_ok-next.next.items
-    (record { first = refl; calls = c.in_ok-record.ensures.kept })
+    (record { number = refl; first = refl; calls = c.in_ok-record.ensures.kept })
     (c.in_ok-written.ensures.items_if_clones_equal (λ y h is. is)) c.requires.bytes
     (subst (λ (l : List ℕ). Holds l c.args.at c.args.bytes.now c.in_ok-next.next.items) c.deref.ensures.value
     c.in_ok-next.ensures)
@@ -17,5 +17,5 @@ pub returns-clause-written : goal.returns-clause-written
 returns-clause-written c = (
   c.in_ok-written.written,
   c.in_ok-written.ensures.items_if_clones_equal (λ y h is. is),
-  record { first = refl; calls = c.in_ok-record.ensures.kept },
+  record { number = refl; first = refl; calls = c.in_ok-record.ensures.kept },
 )

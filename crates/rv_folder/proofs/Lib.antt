@@ -1,0 +1,5 @@
+mod Changes
+mod EpochBegins
+mod ListedEpochs
+mod MemoryNames
+mod SystemNames

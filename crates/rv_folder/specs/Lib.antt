@@ -1,0 +1,5 @@
+pub mod Begun
+pub mod Folder
+pub mod Memory
+pub mod Present
+pub mod System

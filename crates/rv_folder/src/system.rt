@@ -1,0 +1,172 @@
+//! A folder of the system, which one server at a time has.
+ghost use Rattle.std.specs.Prelude.{◌≡◌, IfOk, IsErrOf, false, option_map, true};
+ghost use Rattle.rv_folder.specs.System.{has_folder_fault, system_directory};
+ghost use Rattle.rv_journal.specs.declared.device.DeviceFault.TheVariants.{Failed};
+
+use crate::folder::{FileName, Folder};
+use rv_journal::{DeviceFault, SystemFile};
+use std::alloc::{AllocError, Global};
+use std::fs::{self, File, OpenOptions, TryLockError};
+use std::io;
+use std::io::ErrorKind;
+
+/// Why a folder of the system wasn't opened. Nothing in it changed, but that its lock's file was made.
+#[derive(Drop)]
+pub enum SystemFolderFault {
+    /// Another server has it.
+    Locked,
+    /// The system refused, or memory was refused.
+    Io(io::Error),
+}
+
+impl From<io::Error> for SystemFolderFault {
+    fn from(why: io::Error) -> SystemFolderFault {
+        SystemFolderFault::Io(why)
+    }
+}
+
+impl From<AllocError> for SystemFolderFault {
+    fn from(refused: AllocError) -> SystemFolderFault {
+        SystemFolderFault::Io(io::Error::from(refused))
+    }
+}
+
+/// A folder of the system. As long as it lives no other one is opened of the same folder, on this machine: a
+/// file of it is locked. Other names than a store's are passed over.
+///
+/// Contracts see whether it failed, and nothing of its names: that the system does as [`Folder`] says is
+/// taken on trust, as of a file.
+#[derive(Drop)]
+pub struct SystemFolder<'a> {
+    rt: &'a HostRuntime,
+    path: String,
+    lock: File,
+    fault: Option<io::Error>,
+}
+
+impl<'a> SystemFolder<'a> {
+    /// Opens a folder, which is made if its parent is there, and locks it.
+    pub fn open(rt: &'a HostRuntime, path: &str) -> Result<SystemFolder<'a>, SystemFolderFault>
+        ensures { IfOk result (λ folder. has_folder_fault folder ≡ false) }
+    {
+        match fs::create_dir(rt, path) {
+            Ok(()) => {}
+            Err(why) if why.kind() == ErrorKind::AlreadyExists => {}
+            Err(why) => return Err(SystemFolderFault::Io(why)),
+        }
+        let lock = locked(rt, path)?;
+        Ok(SystemFolder {
+            rt,
+            path: String::from_str(rt.alloc(), path)?,
+            lock,
+            fault: None,
+        })
+    }
+
+    /// Why its first call failed that did.
+    pub fn fault(&self) -> Option<&io::Error>
+        ensures { option_map (λ why. why.now) result ≡ self.now.fault }
+    {
+        self.fault.as_ref()
+    }
+
+    // What a call gave, or why it failed, which is kept if none failed before.
+    fn kept<T: Drop>(&mut self, given: io::Result<T>) -> Result<T, DeviceFault>
+        ensures failed { IsErrOf result Failed → has_folder_fault self.new ≡ true }
+        ensures lasts { has_folder_fault self.old ≡ true → has_folder_fault self.new ≡ true }
+    {
+        match given {
+            Ok(value) => Ok(value),
+            Err(why) => {
+                if self.fault.is_none() {
+                    self.fault = Some(why);
+                }
+                Err(DeviceFault::Failed)
+            }
+        }
+    }
+}
+
+// The lock of a folder: whoever holds it has the folder.
+fn locked(rt: &HostRuntime, folder: &str) -> Result<File, SystemFolderFault> {
+    let path = format!(in rt.alloc(); "{folder}/lock")?;
+    let file = OpenOptions::new()
+        .write(true)
+        .create(true)
+        .open(rt, path.as_str())?;
+    match file.try_lock() {
+        Ok(()) => Ok(file),
+        Err(TryLockError::WouldBlock) => Err(SystemFolderFault::Locked),
+        Err(TryLockError::Error(why)) => Err(SystemFolderFault::Io(why)),
+    }
+}
+
+// Where a file of a folder lies.
+fn path_of(alloc: Global, folder: &str, name: FileName) -> Result<String, AllocError> {
+    match name {
+        FileName::Account(epoch) => format!(in alloc; "{folder}/epoch-{epoch}.account"),
+        FileName::Unready => format!(in alloc; "{folder}/unready.account"),
+    }
+}
+
+// The epoch whose account a file of this name holds, if its name is one that a store gives.
+fn epoch_of(alloc: Global, name: &str) -> Result<Option<u64>, AllocError> {
+    let digits = name
+        .strip_prefix("epoch-")
+        .and_then(|rest| rest.strip_suffix(".account"));
+    let Some(Ok(epoch)) = digits.map(|digits| digits.parse::<u64>()) else {
+        return Ok(None);
+    };
+    let given = format!(in alloc; "epoch-{epoch}.account")?;
+    Ok((given.as_str() == name).then_some(epoch))
+}
+
+// The epochs whose accounts have a file.
+fn listed(rt: &HostRuntime, alloc: Global, path: &str) -> io::Result<Vec<u64>> {
+    let mut epochs = Vec::new(alloc);
+    for entry in fs::read_dir(rt, path)? {
+        if let Some(epoch) = epoch_of(alloc, entry?.file_name())? {
+            epochs.push(epoch)?;
+        }
+    }
+    Ok(epochs)
+}
+
+// The file of this path, which is made where there is none.
+fn opened(rt: &HostRuntime, path: &str) -> io::Result<SystemFile> {
+    let file = OpenOptions::new()
+        .read(true)
+        .write(true)
+        .create(true)
+        .open(rt, path)?;
+    Ok(SystemFile::new(file))
+}
+
+impl<'a> Folder for SystemFolder<'a> {
+    type File = SystemFile;
+
+    ghost directory = { system_directory };
+
+    fn epochs(&mut self, alloc: Global) -> Result<Vec<u64>, DeviceFault> {
+        let epochs = listed(self.rt, alloc, &self.path);
+        self.kept(epochs)
+    }
+
+    fn open_file(&mut self, name: FileName) -> Result<SystemFile, DeviceFault> {
+        let path = path_of(self.rt.alloc(), &self.path, name)?;
+        let file = opened(self.rt, &path);
+        self.kept(file)
+    }
+
+    fn rename(&mut self, _file: &SystemFile, from: FileName, to: FileName) -> Result<(), DeviceFault> {
+        let old = path_of(self.rt.alloc(), &self.path, from)?;
+        let new = path_of(self.rt.alloc(), &self.path, to)?;
+        let done = fs::rename(self.rt, old.as_str(), new.as_str());
+        self.kept(done)
+    }
+
+    fn sync(&mut self) -> Result<(), DeviceFault> {
+        let done = File::open(self.rt, self.path.as_str()).and_then(|folder| folder.sync_all());
+        self.kept(done)
+    }
+}

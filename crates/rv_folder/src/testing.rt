@@ -1,0 +1,4 @@
+//! A folder for tests.
+mod memory;
+
+pub use memory::MemoryFolder;

@@ -1,0 +1,72 @@
+-- How a journal's format is cut from its first line, and that there is one way.
+use Rattle.std.proofs.Common.{◌≡◌, ◌≢◌, ◌++◌, ◌∷◌, ◌∙◌, ℕ, List, [], Bool, false, true, Option, None, Some, ap, refl, subst, sym}
+use Rattle.std.specs.Prelude.{IfSome, codes}
+use Rattle.std.proofs.lemmas.Bool.{false≢true}
+use Rattle.rv_lines.specs.Number.{WritesIdentifier}
+use Rattle.rv_lines.proofs.Cutting.{Lacks, cut_once, digits_lack_space, not_lacking}
+use Rattle.rv_lines.proofs.OneLine.{greater_lack}
+use Rattle.rv_store.specs.Format.{CutsFormat, HasNoFormat, IsJournalOf, IsVersionIn, format}
+
+-- no space, no format
+pub no_cut : (text digits rest : List ℕ) → Lacks 32 text → CutsFormat text digits rest → ⊥
+no_cut text digits rest lacks cuts =
+    not_lacking 32 (codes "journal") (digits ++ 32 ∷ rest) (subst (λ (l : List ℕ). Lacks 32 l) cuts.parts lacks)
+
+-- what stands before and after the first space
+pub first_word : (text word after digits rest : List ℕ) → text ≡ word ++ 32 ∷ after → Lacks 32 word
+    → CutsFormat text digits rest → (word ≡ codes "journal") × (after ≡ digits ++ 32 ∷ rest)
+first_word text word after digits rest is lacks cuts =
+    cut_once 32 word after (codes "journal") (digits ++ 32 ∷ rest) lacks
+    (greater_lack 32 (codes "journal") refl) (sym is ∙ cuts.parts)
+
+pub no_digits : (after digits rest : List ℕ) → after ≡ digits ++ 32 ∷ rest → Lacks 32 after → ⊥
+no_digits after digits rest is lacks = not_lacking 32 digits rest (subst (λ (l : List ℕ). Lacks 32 l) is lacks)
+
+-- and so the digits, and what comes after them
+pub same_cut : (text digits rest others more : List ℕ) → CutsFormat text digits rest
+    → CutsFormat text others more → (digits ≡ others) × (rest ≡ more)
+same_cut text digits rest others more cuts again =
+    cut_once 32 digits rest others more cuts.no_space again.no_space
+    (first_word text (codes "journal") (digits ++ 32 ∷ rest) others more cuts.parts
+    (greater_lack 32 (codes "journal") refl) again).1
+
+-- this format is cut so
+cuts_this : (text account : List ℕ) → IsJournalOf text account → CutsFormat text (codes "1") account
+cuts_this text account is = record { parts = is; no_space = greater_lack 32 (codes "1") refl }
+
+pub none_cut : (text : List ℕ) → ((digits rest : List ℕ) → CutsFormat text digits rest → ⊥) → text ≢ []
+    → HasNoFormat text
+none_cut text none some = record {
+  some = some;
+  this = λ account is. none (codes "1") account (cuts_this text account is);
+  other = λ version is differs. none is.0 is.1 is.2;
+}
+
+one_number : (digits : List ℕ) (n m : ℕ) → WritesIdentifier digits n → WritesIdentifier digits m → n ≡ m
+one_number digits n m first second = first.0.1 ∙ sym second.0.1
+
+-- digits that aren't this version's, and say no other one
+pub not_this : (text digits rest : List ℕ) → CutsFormat text digits rest → (digits ≡ codes "1" → ⊥)
+    → ((n : ℕ) → WritesIdentifier digits n → n ≢ 1 → ⊥) → text ≢ [] → HasNoFormat text
+not_this text digits rest cuts other none some = record {
+  some = some;
+  this = λ account is. other (same_cut text digits rest (codes "1") account cuts (cuts_this text account is)).0;
+  other = λ version is differs. none version
+      (subst (λ (l : List ℕ). WritesIdentifier l version)
+      (sym (same_cut text digits rest is.0 is.1 cuts is.2).0) is.3) differs;
+}
+
+-- what was read of the digits says that
+pub none_read : (digits : List ℕ) (read : Option ℕ) → IfSome read (WritesIdentifier digits)
+    → (read ≡ None → (n : ℕ) → WritesIdentifier digits n → ⊥) → ((n : ℕ) → read ≡ Some n → n ≡ 1)
+    → (m : ℕ) → WritesIdentifier digits m → m ≢ 1 → ⊥
+none_read digits (Some n) is none one m writes differs =
+    differs (one_number digits m n writes is ∙ one n refl)
+none_read digits None is none one m writes differs = none refl m writes
+
+abbrev number_of : Option ℕ → ℕ
+number_of (Some n) = n
+number_of None = 0
+
+pub same_number : (n m : ℕ) → Some n ≡ Some m → n ≡ m
+same_number n m same = ap number_of same
