@@ -1,12 +1,13 @@
 -- What the changes of a folder in memory come to, one after the other.
-use Rattle.std.proofs.Common.{◌≡◌, ◌<◌, ◌+◌, ℕ, List, [], ◌∷◌, ◌++◌, length, take, get_or, Option, None, refl, sym, ◌∙◌, ap}
+use Rattle.std.proofs.Common.{◌≡◌, ◌<◌, ◌+◌, ℕ, List, [], ◌∷◌, ◌++◌, length, take, get_or, Option, None, refl}
+use Rattle.std.proofs.Common.{sym, ◌∙◌, ap}
 use Rattle.std.proofs.lemmas.List.{take_more}
-use Rattle.rv_folder.specs.Folder.{GivenFile, Names}
+use Rattle.rv_folder.specs.Folder.{GivenFile, FileNames}
 use Rattle.rv_folder.specs.Memory.{after_change, after_changes, names_after}
 use Rattle.rv_folder.specs.declared.folder.FileName.{FileName}
 use Rattle.rv_folder.specs.declared.testing.memory.NameChange.{NameChange}
 
-pub after_last : (changes : List NameChange) (change : NameChange) (names : Names) (name : FileName)
+pub after_last : (changes : List NameChange) (change : NameChange) (names : FileNames) (name : FileName)
     → after_changes (changes ++ change ∷ []) names name
     ≡ after_change change name (after_changes changes names name)
 after_last [] change names name = refl

@@ -5,9 +5,10 @@ use Rattle.std.specs.Prelude.{◌==◌, IsTrue, Option, None, Some}
 use Rattle.std.proofs.lemmas.Bool.Decides.{nat_tests}
 use Rattle.rv_journal.specs.Device.{Disk}
 use Rattle.rv_journal.specs.Text.{before_zero}
-use Rattle.rv_folder.specs.Begun.{Begins, HasTextSince, IsAccountIn, IsOther, LeavesBegun}
-use Rattle.rv_folder.specs.Folder.{ChangesNames, Directory, GivenFile, KeepsNames, Names, given, given_now}
-use Rattle.rv_folder.specs.Folder.{made, or_else, renamed}
+use Rattle.rv_folder.specs.Begun.{BeginsEpoch, HasTextSince, IsAccountIn, IsOtherName, LeavesBegun}
+use Rattle.rv_folder.specs.Folder.{ChangesNames, Directory, GivenFile, KeepsNames, FileNames, given}
+use Rattle.rv_folder.specs.Folder.{given_now}
+use Rattle.rv_folder.specs.Folder.{name_made, or_else, renamed}
 use Rattle.rv_folder.specs.declared.folder.FileName.{FileName}
 use Rattle.rv_folder.specs.declared.folder.FileName.TheVariants.{Account, Unready}
 
@@ -18,19 +19,19 @@ is_other : (a b : ℕ) → a ≢ b → (a == b) ≡ false
 is_other a b other = grind (arith, nat_tests, other)
 
 -- what the account of the new epoch stands for once a file has its name
-pub is_named : (epoch : ℕ) (file : GivenFile) (names : Names)
+pub is_named : (epoch : ℕ) (file : GivenFile) (names : FileNames)
     → renamed Unready (Account epoch) file names (Account epoch) ≡ Some file
 is_named epoch file names =
     ap (λ (b : Bool). cond b (Some file) (given Unready None names (Account epoch))) (is_it epoch)
 
-pub not_named : (epoch : ℕ) (file : GivenFile) (names : Names) (name : FileName) → IsOther epoch name
+pub not_named : (epoch : ℕ) (file : GivenFile) (names : FileNames) (name : FileName) → IsOtherName epoch name
     → renamed Unready (Account epoch) file names name ≡ names name
 not_named epoch file names (Account other) is =
     ap (λ (b : Bool). cond b (Some file) (names (Account other))) (is_other other epoch is)
 not_named epoch file names Unready is = absurd is
 
-pub not_made : (epoch : ℕ) (file : GivenFile) (names : Names) (name : FileName) → IsOther epoch name
-    → made Unready file names name ≡ names name
+pub not_made : (epoch : ℕ) (file : GivenFile) (names : FileNames) (name : FileName) → IsOtherName epoch name
+    → name_made Unready file names name ≡ names name
 not_made epoch file names (Account other) is = refl
 not_made epoch file names Unready is = absurd is
 
@@ -43,23 +44,25 @@ either_same name old new other is same before =
 module _ {F D : Type 0} (directory : Directory F) (disk : Disk D) (text : List ℕ) (epoch : ℕ) (old : F) where
   -- An epoch has begun so far, from an old state of the folder to this one.
   pub record HasBegun (now : F) : Type 0 where
-    pub crash : (names : Names) → directory.may_leave now names
-        → (before : Names) × directory.may_leave old before × Begins disk text epoch before names
+    pub crash : (names : FileNames) → directory.may_leave now names
+        → (before : FileNames) × directory.may_leave old before × BeginsEpoch disk text epoch before names
     pub left : LeavesBegun directory disk text epoch old now
 
-  abbrev BeginsFrom : Names → Type 0
-  BeginsFrom names = (before : Names) × directory.may_leave old before × Begins disk text epoch before names
+  abbrev BeginsFrom : FileNames → Type 0
+  BeginsFrom names = (before : FileNames) × directory.may_leave old before × BeginsEpoch disk text epoch
+      before names
 
   goes_on : (mid new : F) → HasBegun mid
-      → ((names : Names) → directory.left new names → directory.left mid names ⊎ directory.may_leave new names)
-      → ((names : Names) → directory.may_leave new names → BeginsFrom names) → HasBegun new
+      → ((names : FileNames) → directory.left new names → directory.left mid names ⊎ directory.may_leave new
+          names)
+      → ((names : FileNames) → directory.may_leave new names → BeginsFrom names) → HasBegun new
   goes_on mid new so_far time crash = record {
     crash = crash;
     left = λ names left. ⊎_elim (λ (was : directory.left mid names). so_far.left names was)
         (λ (now : directory.may_leave new names). inr (crash names now)) (time names left);
   }
 
-  same_names : (names : Names) → directory.may_leave old names → BeginsFrom names
+  same_names : (names : FileNames) → directory.may_leave old names → BeginsFrom names
   same_names names left = (names, left, record { others = λ name is. refl; account = inl refl })
 
   pub not_begun : (now : F) → KeepsNames directory old now → HasBegun now
@@ -75,18 +78,18 @@ module _ {F D : Type 0} (directory : Directory F) (disk : Disk D) (text : List �
       (λ names left. so_far.crash names (keeps.crash names left))
 
   pub begins_made : (mid new : F) (file : GivenFile) → HasBegun mid
-      → ChangesNames directory (made Unready file) mid new → HasBegun new
+      → ChangesNames directory (name_made Unready file) mid new → HasBegun new
   begins_made mid new file so_far changes = goes_on mid new so_far changes.time (λ names left.
       let mixed = changes.crash names left in
       let was = so_far.crash mixed.0 mixed.1 in (
         was.0,
         was.1,
         record {
-          others = λ name is. either_same (names name) (mixed.0 name) (made Unready file mixed.0 name)
+          others = λ name is. either_same (names name) (mixed.0 name) (name_made Unready file mixed.0 name)
               (was.0 name) (mixed.2 name) (not_made epoch file mixed.0 name is) (was.2.others name is);
           account =
               let same = either_same (names (Account epoch)) (mixed.0 (Account epoch))
-                  (mixed.0 (Account epoch)) (mixed.0 (Account epoch)) (mixed.2 (Account epoch)) refl refl in
+              (mixed.0 (Account epoch)) (mixed.0 (Account epoch)) (mixed.2 (Account epoch)) refl refl in
               ⊎_elim (λ (none : mixed.0 (Account epoch) ≡ was.0 (Account epoch)). inl (same ∙ none))
               (λ (some : (d : D) × IsAccountIn disk text epoch d mixed.0).
               inr (some.0, (some.1.0, same ∙ some.1.1, some.1.2))) was.2.account;
@@ -109,7 +112,8 @@ module _ {F D : Type 0} (directory : Directory F) (disk : Disk D) (text : List �
               ⊎_elim (λ (none : mixed.0 (Account epoch) ≡ was.0 (Account epoch)). inl (same ∙ none))
               (λ (some : (d : D) × IsAccountIn disk text epoch d mixed.0).
               inr (some.0, (some.1.0, same ∙ some.1.1, some.1.2))) was.2.account)
-              (λ (now : names (Account epoch) ≡ renamed Unready (Account epoch) given mixed.0 (Account epoch)).
+              (λ (now : names (Account epoch) ≡ renamed Unready (Account epoch) given mixed.0 (Account
+                  epoch)).
               inr (file, (given, now ∙ is_named epoch given mixed.0, has))) (mixed.2 (Account epoch));
         },
       ))
@@ -130,25 +134,28 @@ number_in None = 0
 
 -- the file that a name stands for once it was opened
 pub opened_number : (before : Option GivenFile) (now file : GivenFile)
-    → or_else before (Some now) ≡ Some file → ((had : GivenFile) → before ≡ Some had → had.number ≡ now.number)
+    → or_else before (Some now) ≡ Some file → ((had : GivenFile) → before ≡ Some had → had.number ≡
+        now.number)
     → file.number ≡ now.number
 opened_number (Some had) now file is same =
     ap (λ (l : Option GivenFile). number_in l) (sym is) ∙ same had refl
 opened_number None now file is same = ap (λ (l : Option GivenFile). number_in l) (sym is)
 
-module _ {F D : Type 0} (directory : Directory F) (disk : Disk D) (text : List ℕ) (epoch : ℕ) (old first second : F)
-    where
-  -- names were looked at, and the file that is being made was opened
-  pub is_opened : KeepsNames directory old first
-      → (file : GivenFile) × ChangesNames directory (made Unready file) first second
-      → HasBegun directory disk text epoch old second
-  is_opened keeps changes = begins_made directory disk text epoch old first second changes.0
-      (not_begun directory disk text epoch old first keeps) changes.1
+module _ {F D : Type 0} (directory : Directory F) (disk : Disk D) (text : List ℕ) (epoch : ℕ) (old first
+    second : F)
+  where
+    -- names were looked at, and the file that is being made was opened
+    pub is_opened : KeepsNames directory old first
+        → (file : GivenFile) × ChangesNames directory (name_made Unready file) first second
+        → HasBegun directory disk text epoch old second
+    is_opened keeps changes = begins_made directory disk text epoch old first second changes.0
+        (not_begun directory disk text epoch old first keeps) changes.1
 
-  -- and once it had all of its text, it was given its name
-  pub is_begun : (third : F) (file : D) (given : GivenFile) → KeepsNames directory old first
-      → (made_file : GivenFile) × ChangesNames directory (made Unready made_file) first second
-      → ChangesNames directory (renamed Unready (Account epoch) given) second third
-      → HasTextSince disk text given file → HasBegun directory disk text epoch old third
-  is_begun third file given keeps changes named has = begins_named directory disk text epoch old second third
-      file given (is_opened keeps changes) named has
+    -- and once it had all of its text, it was given its name
+    pub is_begun : (third : F) (file : D) (given : GivenFile) → KeepsNames directory old first
+        → (made_file : GivenFile) × ChangesNames directory (name_made Unready made_file) first second
+        → ChangesNames directory (renamed Unready (Account epoch) given) second third
+        → HasTextSince disk text given file → HasBegun directory disk text epoch old third
+    is_begun third file given keeps changes named has = begins_named directory disk text epoch old second
+        third
+        file given (is_opened keeps changes) named has

@@ -8,8 +8,9 @@ use Rattle.std.specs.Prelude.{◌==◌, ◌↔◌, IsTrue, is_some}
 use Rattle.std.proofs.lemmas.Bool.{false≢true}
 use Rattle.std.proofs.lemmas.Bool.Decides.{nat_tests}
 use Rattle.std.proofs.lemmas.List.{map_push, take_all, take_more}
-use Rattle.std.proofs.lemmas.List.Elements.{Contains-append_left, Contains-append_right, Contains-push, Contains-push_cases}
-use Rattle.rv_folder.specs.Folder.{GivenFile, Names, is_same_name, or_else}
+use Rattle.std.proofs.lemmas.List.Elements.{Contains-append_left, Contains-append_right, Contains-push}
+use Rattle.std.proofs.lemmas.List.Elements.{Contains-push_cases}
+use Rattle.rv_folder.specs.Folder.{GivenFile, FileNames, is_same_name, or_else}
 use Rattle.rv_folder.specs.Memory.{after_change, after_changes, given_file, name_given, names_after}
 use Rattle.rv_folder.specs.Present.{HasAccount}
 use Rattle.rv_folder.specs.declared.folder.FileName.{FileName}
@@ -85,14 +86,15 @@ not_none false was is = is
 stood : (change : NameChange) (name : FileName) (was : Option GivenFile)
     → IsTrue (is_some (after_change change name was))
     → IsTrue (is_some was) ⊎ (name_given change ≡ name)
-stood (Made made file) name was is = either (is_same_name name made) (or_else was (Some (given_file file))) was was
+stood (Made made file) name was is = either (is_same_name name made) (or_else was (Some (given_file file)))
+    was was
     (made ≡ name) is (same_name name made) (λ is. is)
 stood (Renamed from to file) name was is = either (is_same_name name to) (Some (given_file file))
     (cond (is_same_name name from) None was) was (to ≡ name) is (same_name name to)
     (not_none (is_same_name name from) was)
 
 -- a name that stands for a file was given by a change, or stood for one before all of them
-pub given_once : (changes : List NameChange) (names : Names) (name : FileName)
+pub given_once : (changes : List NameChange) (names : FileNames) (name : FileName)
     → IsTrue (is_some (after_changes changes names name))
     → IsTrue (is_some (names name)) ⊎ Contains (map name_given changes) name
 given_once [] names name is = inl is
@@ -126,7 +128,8 @@ module _ (all : List NameChange) (i : ℕ) (d : NameChange) (epochs : List ℕ) 
   lists_not now none same =
       subst (λ (l : List ℕ). ListsEpochs all (take (i + 1) all) l) (sym same)
       (subst (λ (l : List NameChange). ListsEpochs all l epochs) one_more
-      (lists_same all (take i all) epochs (get_or all i d) had (λ e named e_has. none e (given e named e_has))))
+      (lists_same all (take i all) epochs (get_or all i d) had (λ e named e_has. none e (given e named
+          e_has))))
 
 pub lists_all : (all : List NameChange) (i : ℕ) (epochs : List ℕ) → length all ≤ i
     → ListsEpochs all (take i all) epochs

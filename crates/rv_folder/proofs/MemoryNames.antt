@@ -4,7 +4,8 @@ use Rattle.std.proofs.Common.{Bool, true, false, cond, Option, None, Some, lengt
 use Rattle.std.proofs.Common.{ap, arith, length-append, refl, subst, sym}
 use Rattle.std.proofs.lemmas.List.{take_all, take-append-le}
 use Rattle.std.proofs.lemmas.Bool.{cases_lt, false≢true}
-use Rattle.rv_folder.specs.Folder.{ChangesNames, GivenFile, Names, SameNames, is_same_name, made, or_else}
+use Rattle.rv_folder.specs.Folder.{ChangesNames, GivenFile, FileNames, SameNames, is_same_name, name_made}
+use Rattle.rv_folder.specs.Folder.{or_else}
 use Rattle.rv_folder.specs.Folder.{renamed}
 use Rattle.rv_folder.specs.Memory.{IsChanged, IsMadeAs, MayMake, MemoryNames, after_change, given_file}
 use Rattle.rv_folder.specs.Memory.{memory_directory, names_after}
@@ -14,7 +15,8 @@ use Rattle.rv_folder.specs.declared.testing.memory.NameChange.{NameChange}
 use Rattle.rv_folder.specs.declared.testing.memory.NameChange.TheVariants.{Made, Renamed}
 use Rattle.rv_folder.proofs.Changes.{after_last}
 
-pub not_changed : (step : Names → Names) (names : MemoryNames) → ChangesNames memory_directory step names names
+pub not_changed : (step : FileNames → FileNames) (names : MemoryNames) → ChangesNames memory_directory step
+    names names
 not_changed step names = record {
   tells = refl;
   seen = λ told name. inl refl;
@@ -31,36 +33,38 @@ module _ (change : NameChange) (old new : MemoryNames) (is : IsChanged change ol
   longer : length new.changes ≡ length old.changes + 1
   longer = ap length is.0 ∙ length-append old.changes (change ∷ [])
 
-  sooner : (names : Names) (k : ℕ) → k ≤ length old.changes → SameNames names (names_after (take k new.changes))
+  sooner : (names : FileNames) (k : ℕ) → k ≤ length old.changes → SameNames names (names_after (take k
+      new.changes))
       → SameNames names (names_after (take k old.changes))
   sooner names k le same name =
       same name ∙ ap (λ (l : List NameChange). names_after (take k l) name) is.0
       ∙ ap (λ (l : List NameChange). names_after l name) (take-append-le k old.changes (change ∷ []) le)
 
-  later : (names : Names) (k : ℕ) → length old.changes < k → SameNames names (names_after (take k new.changes))
+  later : (names : FileNames) (k : ℕ) → length old.changes < k → SameNames names (names_after (take k
+      new.changes))
       → SameNames names (names_after new.changes)
   later names k more same name =
       same name ∙ ap (λ (l : List NameChange). names_after l name)
       (take_all k new.changes (omega (arith, more, longer)))
 
-  pub names_changed : (step : Names → Names) → ((names : Names) (name : FileName)
+  pub names_changed : (step : FileNames → FileNames) → ((names : FileNames) (name : FileName)
       → after_change change name (names name) ≡ step names name) → old.stored ≤ length old.changes
       → ChangesNames memory_directory step old new
   names_changed step steps stored = record {
     tells = refl;
     seen = λ told name. inr (seen_changed name ∙ steps (names_after old.changes) name);
     crash = λ names left. ⊎_elim (λ (after : length old.changes < left.0). (
-          names_after old.changes,
-          (
-            length old.changes,
-            stored,
-            omega arith,
-            λ name. ap (λ (l : List NameChange). names_after l name)
-                (sym (take_all (length old.changes) old.changes (omega arith))),
-          ),
-          λ name. inr (later names left.0 after left.3 name ∙ seen_changed name
-              ∙ steps (names_after old.changes) name),
-        ))
+      names_after old.changes,
+      (
+        length old.changes,
+        stored,
+        omega arith,
+        λ name. ap (λ (l : List NameChange). names_after l name)
+            (sym (take_all (length old.changes) old.changes (omega arith))),
+      ),
+      λ name. inr (later names left.0 after left.3 name ∙ seen_changed name
+          ∙ steps (names_after old.changes) name),
+    ))
         (λ (was : left.0 ≤ length old.changes). (
           names,
           (left.0, subst (λ (n : ℕ). n ≤ left.0) is.1 left.1, was, sooner names left.0 was left.3),
@@ -68,33 +72,36 @@ module _ (change : NameChange) (old new : MemoryNames) (is : IsChanged change ol
         ))
         (cases_lt (length old.changes) left.0);
     time = λ names left. ⊎_elim (λ (after : length old.changes < left.0). inr (
-          left.0,
-          omega (arith, is.1, stored, after),
-          left.2,
-          left.3,
-        ))
+      left.0,
+      omega (arith, is.1, stored, after),
+      left.2,
+      left.3,
+    ))
         (λ (was : left.0 ≤ length old.changes). inl (left.0, left.1, was, sooner names left.0 was left.3))
         (cases_lt (length old.changes) left.0);
   }
 
 -- a file whose number and moment are these
 pub same_given : {number since other moment : ℕ} → number ≡ other → since ≡ moment
-    → ◌≡◌ {A = GivenFile} (record { number = number; since = since }) (record { number = other; since = moment })
+    → ◌≡◌ {A = GivenFile} (record { number = number; since = since }) (record { number = other; since = moment
+        })
 same_given same at = λ i. record { number = same i; since = at i }
 
 -- a name that may have been made
 pub may_make : (name : FileName) (old new : MemoryNames) → MayMake name old new
     → old.stored ≤ length old.changes
-    → (file : GivenFile) × ChangesNames memory_directory (made name file) old new
+    → (file : GivenFile) × ChangesNames memory_directory (name_made name file) old new
 may_make name old new is stored = elim is [
   | inl same ↦ (
     record { number = 0; since = 0 },
-    subst (λ (n : MemoryNames). ChangesNames memory_directory (made name (record { number = 0; since = 0 })) old n)
-        (sym same) (not_changed (made name (record { number = 0; since = 0 })) old),
+    subst (λ (n : MemoryNames). ChangesNames memory_directory (name_made name (record { number = 0; since = 0
+        })) old n)
+        (sym same) (not_changed (name_made name (record { number = 0; since = 0 })) old),
   )
   | inr one ↦ (
     given_file one.0,
-    names_changed (Made name one.0) old new one.1 (made name (given_file one.0)) (λ names other. refl) stored,
+    names_changed (Made name one.0) old new one.1 (name_made name (given_file one.0)) (λ names other. refl)
+        stored,
   )
 ]
 
@@ -122,7 +129,8 @@ pub is_made : (name : FileName) (file : FileNumber) (given : GivenFile) (old new
     → IsMadeAs name given old new
 is_made name file given old new is same none = record {
   names = λ other. subst (λ (g : GivenFile). names_after new.changes other
-      ≡ made name g (names_after old.changes) other) same (seen_changed (Made name file) old new is other);
+      ≡ name_made name g (names_after old.changes) other) same (seen_changed (Made name file) old new is
+          other);
   number = λ had stood. absurd (false≢true (ap has_file (sym none ∙ stood)));
 }
 
@@ -132,7 +140,7 @@ module _ (from to : FileName) (number since : ℕ) (given : GivenFile) (view old
   abbrev file_was : FileNumber
   file_was = record { number = number; since = since }
 
-  steps : number ≡ given.number → since ≡ given.since → (names : Names) (name : FileName)
+  steps : number ≡ given.number → since ≡ given.since → (names : FileNames) (name : FileName)
       → after_change (Renamed from to file_was) name (names name) ≡ renamed from to given names name
   steps same at names name = λ i. renamed from to (record { number = same i; since = at i }) names name
 
@@ -143,7 +151,8 @@ module _ (from to : FileName) (number since : ℕ) (given : GivenFile) (view old
       ∙ steps same at (names_after old.changes) name
       ∙ ap (λ (n : MemoryNames). renamed from to given (names_after n.changes) name) is_view
 
-  pub names_renamed : IsChanged (Renamed from to file_was) old new → number ≡ given.number → since ≡ given.since
+  pub names_renamed : IsChanged (Renamed from to file_was) old new → number ≡ given.number → since ≡
+      given.since
       → old.stored ≤ length old.changes → ChangesNames memory_directory (renamed from to given) view new
   names_renamed is same at stored =
       subst (λ (n : MemoryNames). ChangesNames memory_directory (renamed from to given) n new) is_view

@@ -1,11 +1,11 @@
 -- A call of a folder that tells nothing leaves what it may leave.
 use Rattle.std.proofs.Common.{inl, refl}
 use Rattle.std.proofs.lemmas.Bool.{false≢true}
-use Rattle.rv_folder.specs.Folder.{ChangesNames, Names}
+use Rattle.rv_folder.specs.Folder.{ChangesNames, FileNames}
 use Rattle.rv_folder.specs.System.{system_directory}
 use Rattle.rv_folder.specs.declared.system.SystemFolder.{SystemFolder}
 
-pub system_changes : (step : Names → Names) (old new : SystemFolder)
+pub system_changes : (step : FileNames → FileNames) (old new : SystemFolder)
     → ChangesNames system_directory step old new
 system_changes step old new = record {
   tells = refl;

@@ -1,7 +1,9 @@
 -- A folder in memory: what its changes come to, and what a crash leaves of them.
-use Rattle.std.specs.Prelude.{◌≡◌, ◌⊎◌, ◌≤◌, ℕ, List, [], ◌∷◌, ◌++◌, Option, None, Some, false, true, length, take}
+use Rattle.std.specs.Prelude.{◌≡◌, ◌⊎◌, ◌≤◌, ℕ, List, [], ◌∷◌, ◌++◌, Option, None, Some, false, true, length}
+use Rattle.std.specs.Prelude.{take}
 use Rattle.std.specs.Prelude.{if◌then◌else◌}
-use Rattle.rv_folder.specs.Folder.{Directory, GivenFile, Names, SameNames, is_same_name, made, or_else}
+use Rattle.rv_folder.specs.Folder.{Directory, GivenFile, FileNames, SameNames, is_same_name, name_made}
+use Rattle.rv_folder.specs.Folder.{or_else}
 use Rattle.rv_folder.specs.declared.folder.FileName.{FileName}
 use Rattle.rv_folder.specs.declared.testing.memory.FileNumber.{FileNumber}
 use Rattle.rv_folder.specs.declared.testing.memory.KeptNames.{KeptNames}
@@ -31,12 +33,12 @@ abbrev pub name_given : NameChange → FileName
 name_given (Made name file) = name
 name_given (Renamed from to file) = to
 
-abbrev pub after_changes : List NameChange → Names → Names
+abbrev pub after_changes : List NameChange → FileNames → FileNames
 after_changes [] names = names
 after_changes (change ∷ changes) names = after_changes changes (λ name. after_change change name (names name))
 
 -- what names stand for after these changes
-abbrev pub names_after : List NameChange → Names
+abbrev pub names_after : List NameChange → FileNames
 names_after changes = after_changes changes (λ name. None)
 
 -- one change more
@@ -49,11 +51,11 @@ MayMake name old new = (new ≡ old) ⊎ ((file : FileNumber) × IsChanged (Made
 
 -- The name stands for this file: for the one that it stood for, or for it as a new one.
 pub record IsMadeAs (name : FileName) (file : GivenFile) (old new : MemoryNames) : Type 0 where
-  pub names : SameNames (names_after new.changes) (made name file (names_after old.changes))
+  pub names : SameNames (names_after new.changes) (name_made name file (names_after old.changes))
   pub number : (had : GivenFile) → names_after old.changes name ≡ Some had → had.number ≡ file.number
 
 -- what they stood for after some changes, at least so many
-abbrev pub StoodSince : ℕ → List NameChange → Names → Type 0
+abbrev pub StoodSince : ℕ → List NameChange → FileNames → Type 0
 StoodSince least changes names = (k : ℕ) × (least ≤ k) × (k ≤ length changes)
     × SameNames names (names_after (take k changes))
 

@@ -2,7 +2,7 @@
 ghost use Rattle.std.specs.Prelude.{◌≡◌, ◌<◌, ◌≤◌, ℕ, Err, IfOk, OnOk, true};
 ghost use Rattle.rv_journal.specs.Journal.{IsDurable, journal_text};
 ghost use Rattle.rv_folder.specs.Begun.{IsAccountIn, KeepsOthers, LeavesBegun};
-ghost use Rattle.rv_folder.specs.Folder.{KeepsNames, Names, WhereNamed};
+ghost use Rattle.rv_folder.specs.Folder.{KeepsNames, FileNames, WhereNamed};
 ghost use Rattle.rv_folder.specs.Present.{HasAccount};
 ghost use Rattle.rv_journal.specs.declared.device.DeviceFault.TheVariants.{Failed};
 ghost use Rattle.rv_folder.specs.declared.beginning.BeginFault.TheVariants as OfBegin;
@@ -39,7 +39,8 @@ impl From<DeviceFault> for BeginFault {
 /// without zero. It is made under another name, stored, renamed, and the name is stored.
 ///
 /// Whenever a crash comes, the account of that epoch has no file, or one of the whole piece, and those of all
-/// others have theirs. At `Err` too; [`BeginFault`] says what failed. A file that a crash left under the other
+/// others have theirs. At `Err` too; [`BeginFault`] says what failed. A file that a crash left under the
+/// other
 /// name is overwritten.
 pub fn begin_journal<F: Folder>(
     alloc: Global,
@@ -55,16 +56,17 @@ pub fn begin_journal<F: Folder>(
         F.File.disk.tells journal.device ≡ F.directory.tells folder.old) }
     ensures greater { OnOk result (WhereNamed F.directory folder.old ((other : ℕ)
         → HasAccount (F.directory.seen folder.old) other → other < epoch)) }
-    ensures account { IfOk result (λ journal. WhereNamed F.directory folder.old ((names : Names)
+    ensures account { IfOk result (λ journal. WhereNamed F.directory folder.old ((names : FileNames)
         → F.directory.may_leave folder.new names
         → IsAccountIn F.File.disk first.now epoch journal.device names)) }
-    ensures others { OnOk result (WhereNamed F.directory folder.old ((names : Names)
+    ensures others { OnOk result (WhereNamed F.directory folder.old ((names : FileNames)
         → F.directory.may_leave folder.new names
         → KeepsOthers epoch (F.directory.seen folder.old) names)) }
     ensures any_moment { WhereNamed F.directory folder.old
         (LeavesBegun F.directory F.File.disk first.now epoch folder.old folder.new) }
     ensures not_greater { (other : ℕ) → result ≡ Err (OfBegin.NotGreater other)
-        → WhereNamed F.directory folder.old (HasAccount (F.directory.seen folder.old) other × (epoch ≤ other)) }
+        → WhereNamed F.directory folder.old (HasAccount (F.directory.seen folder.old) other × (epoch ≤ other))
+            }
     ensures same { (other : ℕ) → result ≡ Err (OfBegin.NotGreater other)
         → KeepsNames F.directory folder.old folder.new }
     ensures cause { result ≡ Err (OfBegin.Folder Failed) → F.directory.failed folder.new ≡ true }
@@ -79,7 +81,11 @@ pub fn begin_journal<F: Folder>(
         Ok(journal) => journal,
         Err((fault, _)) => return Err(BeginFault::Journal(fault)),
     };
-    folder.rename(journal.device(), FileName::Unready, FileName::Account(epoch))?;
+    folder.rename(
+        journal.device(),
+        FileName::Unready,
+        FileName::Account(epoch),
+    )?;
     folder.sync()?;
     Ok(journal)
 }

@@ -1,8 +1,9 @@
 //! A folder as a store sees it: names, and the file that each of them stands for.
 ghost use Rattle.std.specs.Prelude.{◌≡◌, ◌↔◌, ℕ, IfOk, IsTrue, OnOk, Some, is_some};
 ghost use Rattle.std.specs.List.{Contains};
-ghost use Rattle.rv_folder.specs.Folder.{ChangesNames, Directory, GivenFile, HasCauseIn, KeepsNames, Names};
-ghost use Rattle.rv_folder.specs.Folder.{SameNames, WhereNamed, given_now, made, renamed};
+ghost use Rattle.rv_folder.specs.Folder.{ChangesNames, Directory, GivenFile, HasCauseIn, KeepsNames};
+ghost use Rattle.rv_folder.specs.Folder.{FileNames};
+ghost use Rattle.rv_folder.specs.Folder.{SameNames, WhereNamed, given_now, name_made, renamed};
 ghost use Rattle.rv_folder.specs.declared.folder.FileName.TheVariants.{Account};
 
 use rv_journal::{Device, DeviceFault};
@@ -36,11 +37,12 @@ pub trait Folder {
     fn open_file(&mut self, name: FileName) -> Result<Self::File, DeviceFault>
         ensures tells { IfOk result (λ file. Self.File.disk.tells file ≡ directory.tells self.old) }
         ensures named { IfOk result (λ file. WhereNamed directory self.old
-            (SameNames (directory.seen self.new) (made name (given_now Self.File.disk file)
+            (SameNames (directory.seen self.new) (name_made name (given_now Self.File.disk file)
             (directory.seen self.old)))) }
         ensures number { IfOk result (λ file. WhereNamed directory self.old ((given : GivenFile)
             → directory.seen self.old name ≡ Some given → given.number ≡ Self.File.disk.number file)) }
-        ensures changes { (file : GivenFile) × ChangesNames directory (made name file) self.old self.new }
+        ensures changes { (file : GivenFile) × ChangesNames directory (name_made name file) self.old self.new
+            }
         ensures cause { HasCauseIn directory self.old self.new result };
 
     /// Gives a file its second name in place of the first one. A file that had that name before is lost.
@@ -55,7 +57,7 @@ pub trait Folder {
 
     /// Stores which file each name stands for.
     fn sync(&mut self) -> Result<(), DeviceFault>
-        ensures stored { OnOk result (WhereNamed directory self.old ((names : Names)
+        ensures stored { OnOk result (WhereNamed directory self.old ((names : FileNames)
             → directory.may_leave self.new names → SameNames names (directory.seen self.old))) }
         ensures kept { KeepsNames directory self.old self.new }
         ensures cause { HasCauseIn directory self.old self.new result };

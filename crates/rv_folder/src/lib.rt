@@ -12,7 +12,6 @@ mod present;
 mod system;
 pub mod testing;
 
-
 pub use beginning::{BeginFault, begin_journal};
 pub use folder::{FileName, Folder};
 pub use present::present_epoch;

@@ -158,7 +158,12 @@ impl<'a> Folder for SystemFolder<'a> {
         self.kept(file)
     }
 
-    fn rename(&mut self, _file: &SystemFile, from: FileName, to: FileName) -> Result<(), DeviceFault> {
+    fn rename(
+        &mut self,
+        _file: &SystemFile,
+        from: FileName,
+        to: FileName,
+    ) -> Result<(), DeviceFault> {
         let old = path_of(self.rt.alloc(), &self.path, from)?;
         let new = path_of(self.rt.alloc(), &self.path, to)?;
         let done = fs::rename(self.rt, old.as_str(), new.as_str());

@@ -64,7 +64,7 @@ impl<D: Device> DiskJournal<D> {
         alloc: Global,
         device: D,
         reader: R,
-    ) -> Result<(DiskJournal<D>, R::Output), (OpenFault<R::Fault>, D)>
+    ) -> Result<(DiskJournal<D>, R::Made), (OpenFault<R::Fault>, D)>
         ensures lines { IfOk result (λ opened. WhereTold D.disk device
             (MakesOf R.takes R.makes reader (file_lines D.disk device) opened.1)) }
         ensures maker { IfOk result (λ opened. (last : R) × R.makes last opened.1) }

@@ -69,7 +69,7 @@ pub(crate) fn reopen<D: Device, R: JournalReader>(
     device: &mut D,
     zeros: &[u8],
     reader: R,
-) -> Result<(FileEnds, R::Output), OpenFault<R::Fault>>
+) -> Result<(FileEnds, R::Made), OpenFault<R::Fault>>
     requires zeros { zeros.now ≡ replicate (length zeros.now) 0 }
     requires some { 0 < length zeros.now }
     ensures tells { D.disk.tells device.new ≡ D.disk.tells device.old }

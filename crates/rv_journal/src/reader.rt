@@ -12,7 +12,7 @@ pub trait JournalReader: Drop {
     type Fault;
 
     /// What it makes of all lines.
-    type Output: Drop;
+    type Made: Drop;
 
     /// From the first state these lines lead to the second.
     ghost takes: { Self → List ℕ → Self → Type 0 };
@@ -21,7 +21,7 @@ pub trait JournalReader: Drop {
     ghost refuses: { Self → List ℕ → Self.Fault → Type 0 };
 
     /// If no more lines come, it makes this of those that led to this state.
-    ghost makes: { Self → Self.Output → Type 0 };
+    ghost makes: { Self → Self.Made → Type 0 };
 
     /// And if it makes nothing of them, then for this reason.
     ghost lacks: { Self → Self.Fault → Type 0 };
@@ -33,7 +33,7 @@ pub trait JournalReader: Drop {
         ensures refused { IfErr result (λ why. refuses self.old lines.now why) };
 
     /// What it makes of the lines that it took. It may refuse them, as too few.
-    fn finish(self) -> Result<Self::Output, Self::Fault>
+    fn finish(self) -> Result<Self::Made, Self::Fault>
         ensures made { IfOk result (makes self) }
         ensures lacking { IfErr result (lacks self) };
 
@@ -53,7 +53,7 @@ pub trait JournalReader: Drop {
 impl JournalReader for Vec<u8> {
     type Fault = AllocError;
 
-    type Output = Vec<u8>;
+    type Made = Vec<u8>;
 
     ghost takes = { λ old lines new. new.items ≡ old.items ++ lines };
 

@@ -9,8 +9,7 @@ use std::process::ExitCode;
 /// Opens the journal of a file, or makes one where there is no file, and prints its lines and an empty one.
 /// Then each line of standard input is added, and printed once it is stored.
 pub(crate) fn add_lines(rt: &HostRuntime, path: &str) -> anyhow::Result<ExitCode> {
-    let mut lines = Vec::new(rt.alloc());
-    let mut journal = open_or_make(rt, path, &mut lines)?;
+    let (mut journal, lines) = open_or_make(rt, path)?;
     let mut output = rt.stdout();
     output.write_all(&lines)?;
     output.write_all(b"\n")?;
@@ -38,28 +37,27 @@ fn add_each<J: Write, W: Write>(
     Ok(ExitCode::SUCCESS)
 }
 
-// Opens the journal of a file, and takes its lines; or makes one where there is no file.
+// Opens the journal of a file, with its lines; or makes one where there is no file.
 fn open_or_make(
     rt: &HostRuntime,
     path: &str,
-    lines: &mut Vec<u8>,
-) -> anyhow::Result<DiskJournal<SystemFile>> {
+) -> anyhow::Result<(DiskJournal<SystemFile>, Vec<u8>)> {
     match OpenOptions::new().read(true).write(true).open(rt, path) {
-        Ok(file) => open(rt.alloc(), file, lines),
+        Ok(file) => open(rt.alloc(), file),
         Err(error) if error.kind() == ErrorKind::NotFound => make(rt, path),
         Err(error) => Err(error.into()),
     }
 }
 
-fn open(alloc: Global, file: File, lines: &mut Vec<u8>) -> anyhow::Result<DiskJournal<SystemFile>> {
-    match DiskJournal::open(alloc, SystemFile::new(file), lines) {
-        Ok(journal) => Ok(journal),
+fn open(alloc: Global, file: File) -> anyhow::Result<(DiskJournal<SystemFile>, Vec<u8>)> {
+    match DiskJournal::open(alloc, SystemFile::new(file), Vec::new(alloc)) {
+        Ok(opened) => Ok(opened),
         Err((fault, _file)) => bail!("{fault}"),
     }
 }
 
 // Makes a journal without a line under another name, and renames it.
-fn make(rt: &HostRuntime, path: &str) -> anyhow::Result<DiskJournal<SystemFile>> {
+fn make(rt: &HostRuntime, path: &str) -> anyhow::Result<(DiskJournal<SystemFile>, Vec<u8>)> {
     let name = format!(in rt.alloc(); "{path}.new")?;
     let file = OpenOptions::new()
         .read(true)
@@ -69,7 +67,7 @@ fn make(rt: &HostRuntime, path: &str) -> anyhow::Result<DiskJournal<SystemFile>>
     match DiskJournal::create(rt.alloc(), SystemFile::new(file), b"") {
         Ok(journal) => {
             fs::rename(rt, name.as_str(), path)?;
-            Ok(journal)
+            Ok((journal, Vec::new(rt.alloc())))
         }
         Err((fault, _file)) => bail!("{fault}"),
     }

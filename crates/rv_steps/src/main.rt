@@ -24,6 +24,10 @@
 //!
 //! `journal FILE`: the file is opened as a journal, or made where there is none, and its lines are printed,
 //! and an empty one. Then each line of standard input is added, and printed once it is stored.
+//!
+//! `store FOLDER EPOCH`: the store of the folder goes on with the account of this epoch, or begins it, and how
+//! many entries it has is printed. Then each line of standard input is added as an entry's, and printed once it
+//! is stored.
 #![tactic(auto)]
 
 ghost use Rattle.rv_rules.specs.StepLimits.{AreStepLimits};
@@ -37,6 +41,7 @@ mod hexes;
 mod journals;
 mod json;
 mod steps;
+mod stores;
 mod telling;
 mod turns;
 mod words;
@@ -54,8 +59,9 @@ use std::alloc::Global;
 use std::env;
 use std::io::{BufWriter, Write};
 use std::process::ExitCode;
+use stores::add_entries;
 use turns::take_turns;
-use words::{Beginning, Task, Work, is_bodies, is_json, journal_of, work_of};
+use words::{Beginning, Task, Work, is_bodies, is_json, journal_of, store_of, work_of};
 
 // The epoch of the machine.
 const EPOCH: u64 = 1;
@@ -75,6 +81,9 @@ fn main(rt: HostRuntime) -> anyhow::Result<ExitCode> {
     }
     if is_bodies(&words) {
         return read_bodies(&rt);
+    }
+    if let Some((path, epoch)) = store_of(&words) {
+        return add_entries(&rt, path, epoch);
     }
     if let Some(path) = journal_of(&words) {
         return add_lines(&rt, path);

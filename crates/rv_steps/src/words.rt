@@ -2,7 +2,7 @@
 ghost use Rattle.std.specs.Prelude.{IfSome};
 ghost use Rattle.rv_rules.specs.StepLimits.{AreStepLimits};
 
-use rv_lines::read_number;
+use rv_lines::{read_identifier, read_number};
 use rv_rules::Limits;
 
 /// What is done under limits.
@@ -53,6 +53,15 @@ pub(crate) fn is_bodies(words: &[String]) -> bool {
 /// The file that the words after the program's name name as a journal, if they do.
 pub(crate) fn journal_of(words: &[String]) -> Option<&str> {
     (words.len() == 3 && is_word(&words[1], "journal")).then(|| words[2].as_str())
+}
+
+/// The folder that the words after the program's name name as a store, and the epoch, if they do.
+pub(crate) fn store_of(words: &[String]) -> Option<(&str, u64)> {
+    if words.len() != 4 || !is_word(&words[1], "store") {
+        return None;
+    }
+    let epoch = read_identifier(words[3].as_bytes())?;
+    Some((words[2].as_str(), epoch))
 }
 
 /// What the words after the program's name ask to be done under limits, if they do.

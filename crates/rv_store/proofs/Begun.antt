@@ -1,5 +1,6 @@
 -- The lines of a journal are those of its account, once its first line has begun.
-use Rattle.std.proofs.Common.{◌≡◌, ◌++◌, ◌∙◌, ℕ, Bool, true, false, not, List, [], ap, append_assoc, refl, subst, sym}
+use Rattle.std.proofs.Common.{◌≡◌, ◌++◌, ◌∙◌, ℕ, Bool, true, false, not, List, [], ap, append_assoc, refl}
+use Rattle.std.proofs.Common.{subst, sym}
 use Rattle.std.specs.Prelude.{◌≢◌}
 use Rattle.std.proofs.lemmas.Bool.{false≢true}
 use Rattle.rv_journal.specs.Text.{IsLines}
@@ -101,7 +102,8 @@ module _ (text : List ℕ) (epoch : ℕ) (audit : OngoingAudit) (r : Records) wh
   lacks true found is has so = (has.0, has.1, so (lines has.0) has.2)
   lacks false found is has so = absurd (false≢true (sym is))
 
-  pub of_epoch : (begun : Bool) (machine : Machine) (other : ℕ) → not begun ≡ false → HasReadSo begun text audit r
+  pub of_epoch : (begun : Bool) (machine : Machine) (other : ℕ) → not begun ≡ false → HasReadSo begun text
+      audit r
       → ((read : List (List ℕ)) → HasReadWhole read audit r → HoldsAccountOf read machine)
       → other ≡ (state_in machine).epoch → other ≢ epoch → IsFaultOfText epoch text (fault.OtherEpoch other)
   of_epoch true machine other is has so same differs =

@@ -1,5 +1,6 @@
 -- How a journal's format is cut from its first line, and that there is one way.
-use Rattle.std.proofs.Common.{◌≡◌, ◌≢◌, ◌++◌, ◌∷◌, ◌∙◌, ℕ, List, [], Bool, false, true, Option, None, Some, ap, refl, subst, sym}
+use Rattle.std.proofs.Common.{◌≡◌, ◌≢◌, ◌++◌, ◌∷◌, ◌∙◌, ℕ, List, [], Bool, false, true, Option, None, Some}
+use Rattle.std.proofs.Common.{ap, refl, subst, sym}
 use Rattle.std.specs.Prelude.{IfSome, codes}
 use Rattle.std.proofs.lemmas.Bool.{false≢true}
 use Rattle.rv_lines.specs.Number.{WritesIdentifier}
@@ -10,7 +11,8 @@ use Rattle.rv_store.specs.Format.{CutsFormat, HasNoFormat, IsJournalOf, IsVersio
 -- no space, no format
 pub no_cut : (text digits rest : List ℕ) → Lacks 32 text → CutsFormat text digits rest → ⊥
 no_cut text digits rest lacks cuts =
-    not_lacking 32 (codes "journal") (digits ++ 32 ∷ rest) (subst (λ (l : List ℕ). Lacks 32 l) cuts.parts lacks)
+    not_lacking 32 (codes "journal") (digits ++ 32 ∷ rest) (subst (λ (l : List ℕ). Lacks 32 l) cuts.parts
+        lacks)
 
 -- what stands before and after the first space
 pub first_word : (text word after digits rest : List ℕ) → text ≡ word ++ 32 ∷ after → Lacks 32 word
@@ -20,7 +22,8 @@ first_word text word after digits rest is lacks cuts =
     (greater_lack 32 (codes "journal") refl) (sym is ∙ cuts.parts)
 
 pub no_digits : (after digits rest : List ℕ) → after ≡ digits ++ 32 ∷ rest → Lacks 32 after → ⊥
-no_digits after digits rest is lacks = not_lacking 32 digits rest (subst (λ (l : List ℕ). Lacks 32 l) is lacks)
+no_digits after digits rest is lacks = not_lacking 32 digits rest (subst (λ (l : List ℕ). Lacks 32 l) is
+    lacks)
 
 -- and so the digits, and what comes after them
 pub same_cut : (text digits rest others more : List ℕ) → CutsFormat text digits rest
@@ -50,7 +53,8 @@ pub not_this : (text digits rest : List ℕ) → CutsFormat text digits rest →
     → ((n : ℕ) → WritesIdentifier digits n → n ≢ 1 → ⊥) → text ≢ [] → HasNoFormat text
 not_this text digits rest cuts other none some = record {
   some = some;
-  this = λ account is. other (same_cut text digits rest (codes "1") account cuts (cuts_this text account is)).0;
+  this = λ account is. other (same_cut text digits rest (codes "1") account cuts (cuts_this text account
+      is)).0;
   other = λ version is differs. none version
       (subst (λ (l : List ℕ). WritesIdentifier l version)
       (sym (same_cut text digits rest is.0 is.1 cuts is.2).0) is.3) differs;

@@ -62,7 +62,8 @@ module _ (front more : List ℕ) (is : IsLines front) where
   on_account : (account : List ℕ) → IsJournalOf front account → IsJournalOf (front ++ more) (account ++ more)
   on_account account same = ap (λ (l : List ℕ). l ++ more) same ∙ append_assoc format account more
 
-  on_lines : (account : List ℕ) → IsJournalOf front account → lines account ++ lines more ≡ lines (account ++ more)
+  on_lines : (account : List ℕ) → IsJournalOf front account → lines account ++ lines more ≡ lines (account ++
+      more)
   on_lines account same = sym (lines_on account more (rest_lines format account (subst IsLines same is)))
 
   no_account_on : (account : List ℕ) (found : AccountFinding) → IsNoAccount (lines account) found
@@ -98,7 +99,8 @@ module _ (front more : List ℕ) (is : IsLines front) where
   version_in version some had =
       let before = in_front (codes "journal" ++ 32 ∷ had.0 ++ 32 ∷ []) had.1 some
       (format_lacks had.0 (digits_lack had.0 had.3.0.0.are_digits))
-      (had.2.parts ∙ sym (ap (λ (l : List ℕ). codes "journal" ++ 32 ∷ l) (append_assoc had.0 (32 ∷ []) had.1))) in (
+      (had.2.parts ∙ sym (ap (λ (l : List ℕ). codes "journal" ++ 32 ∷ l) (append_assoc had.0 (32 ∷ [])
+          had.1))) in (
         had.0,
         before.0,
         record {

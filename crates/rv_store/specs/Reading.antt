@@ -53,7 +53,7 @@ IsFaultOfFront text (fault.NoAccount found) =
 IsFaultOfFront text fault.NoMemory = Unit {0}
 
 -- The journal of an account of another epoch.
-pub record IsOfEpoch (text : List ℕ) (epoch : ℕ) : Type 0 where
+pub record IsAccountOfEpoch (text : List ℕ) (epoch : ℕ) : Type 0 where
   pub lines_in : List ℕ
   pub is : IsJournalOf text lines_in
   pub account : Account
@@ -62,7 +62,7 @@ pub record IsOfEpoch (text : List ℕ) (epoch : ℕ) : Type 0 where
 
 -- a journal that has these lines and no more, where this epoch's is asked for
 abbrev pub IsFaultOfText : ℕ → List ℕ → RecoveryFault → Type 0
-IsFaultOfText epoch text (fault.OtherEpoch other) = IsOfEpoch text other × (other ≢ epoch)
+IsFaultOfText epoch text (fault.OtherEpoch other) = IsAccountOfEpoch text other × (other ≢ epoch)
 IsFaultOfText epoch text (fault.OtherVersion version) = IsFaultOfFront text (fault.OtherVersion version)
 IsFaultOfText epoch text fault.NoJournal = IsFaultOfFront text fault.NoJournal
 IsFaultOfText epoch text fault.NoLines = text ≡ []

@@ -16,4 +16,4 @@ pub use account_journal::AccountJournal;
 pub use format::VERSION;
 pub use opening::{StoredAccount, open_account};
 pub use reader::{AccountReader, RecoveryFault};
-pub use store::{StoreFault, begin_account, open_present};
+pub use store::{PresentFault, begin_account, open_present};

@@ -25,7 +25,8 @@ pub struct StoredAccount<D: Device> {
     pub machine: Machine,
 }
 
-/// Opens a file that a crash may have left as the journal of this epoch's account: its whole lines before its first
+/// Opens a file that a crash may have left as the journal of this epoch's account: its whole lines before its
+/// first
 /// zero. What stands after them is cleared once they were read as a legal account. It may crash too, and
 /// leaves the same lines.
 ///

@@ -127,7 +127,7 @@ impl JournalReader for AccountReader {
 
     type Fault = RecoveryFault;
 
-    type Output = Machine;
+    type Made = Machine;
 
     ghost takes = { ReadsTextOn };
 

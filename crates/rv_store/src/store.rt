@@ -1,7 +1,7 @@
 //! A store: a folder with a journal for each epoch's account, of which the greatest epoch is the present one.
 ghost use Rattle.std.specs.Prelude.{◌≡◌, ◌<◌, ◌≤◌, ℕ, Err, IfOk, IfSome, None, Ok, OnOk, true};
 ghost use Rattle.rv_folder.specs.Begun.{IsAccountIn, KeepsOthers, LeavesBegun};
-ghost use Rattle.rv_folder.specs.Folder.{KeepsNames, Names, SameNames, WhereNamed};
+ghost use Rattle.rv_folder.specs.Folder.{KeepsNames, FileNames, SameNames, WhereNamed};
 ghost use Rattle.rv_folder.specs.Present.{HasAccount, IsPresent};
 ghost use Rattle.rv_folder.specs.declared.beginning.BeginFault.TheVariants as OfBegin;
 ghost use Rattle.rv_journal.specs.Journal.{IsDurable, journal_text};
@@ -13,7 +13,7 @@ ghost use Rattle.rv_store.specs.Format.{first_text};
 ghost use Rattle.rv_store.specs.Lasting.{fault_of, journal_of};
 ghost use Rattle.rv_store.specs.Store.{OpensPresent, RefusesPresent};
 ghost use Rattle.rv_store.specs.declared.reader.RecoveryFault.{RecoveryFault};
-ghost use Rattle.rv_store.specs.declared.store.StoreFault.TheVariants as OfStore;
+ghost use Rattle.rv_store.specs.declared.store.PresentFault.TheVariants as OfStore;
 
 use crate::account_journal::AccountJournal;
 use crate::format::first_line_of;
@@ -25,22 +25,23 @@ use std::alloc::Global;
 
 /// Why the present account of a store wasn't opened.
 #[derive(Drop)]
-pub enum StoreFault {
+pub enum PresentFault {
     /// The folder failed, or was refused memory. No file was opened.
     Folder(DeviceFault),
     /// The file of this epoch's account isn't its journal, or its device failed.
     Account(u64, OpenFault<RecoveryFault>),
 }
 
-impl From<DeviceFault> for StoreFault {
+impl From<DeviceFault> for PresentFault {
     ghost from_gives = { λ fault told. told ≡ OfStore.Folder fault };
 
-    fn from(fault: DeviceFault) -> StoreFault {
-        StoreFault::Folder(fault)
+    fn from(fault: DeviceFault) -> PresentFault {
+        PresentFault::Folder(fault)
     }
 }
 
-/// Begins the account of an epoch that is greater than all others of the store, at this moment. Nothing may be
+/// Begins the account of an epoch that is greater than all others of the store, at this moment. Nothing may
+/// be
 /// said in it before that.
 ///
 /// Whenever a crash comes, the account has no file, or one of its whole first line, and those of all others
@@ -60,10 +61,10 @@ pub fn begin_account<F: Folder>(
         F.File.disk.tells (journal_of journal).device ≡ F.directory.tells folder.old) }
     ensures greater { OnOk result (WhereNamed F.directory folder.old ((other : ℕ)
         → HasAccount (F.directory.seen folder.old) other → other < epoch)) }
-    ensures account { IfOk result (λ journal. WhereNamed F.directory folder.old ((names : Names)
+    ensures account { IfOk result (λ journal. WhereNamed F.directory folder.old ((names : FileNames)
         → F.directory.may_leave folder.new names
         → IsAccountIn F.File.disk (first_text epoch opened) epoch (journal_of journal).device names)) }
-    ensures others { OnOk result (WhereNamed F.directory folder.old ((names : Names)
+    ensures others { OnOk result (WhereNamed F.directory folder.old ((names : FileNames)
         → F.directory.may_leave folder.new names
         → KeepsOthers epoch (F.directory.seen folder.old) names)) }
     ensures any_moment { WhereNamed F.directory folder.old
@@ -84,11 +85,11 @@ pub fn begin_account<F: Folder>(
 
 /// Opens the present account of a store, if it has one. Its folder is synced first.
 ///
-/// At `Err` no file has other lines than before; [`StoreFault`] says what failed.
+/// At `Err` no file has other lines than before; [`PresentFault`] says what failed.
 pub fn open_present<F: Folder>(
     alloc: Global,
     folder: &mut F,
-) -> Result<Option<StoredAccount<F::File>>, StoreFault>
+) -> Result<Option<StoredAccount<F::File>>, PresentFault>
     ensures none { result ≡ Ok None
         → WhereNamed F.directory folder.old (IsPresent (F.directory.seen folder.old) None) }
     ensures opened { IfOk result (λ found. IfSome found (λ stored. WhereNamed F.directory folder.old
@@ -97,7 +98,7 @@ pub fn open_present<F: Folder>(
     ensures works { IfOk result (λ found. IfSome found (λ stored. fault_of stored.journal ≡ None)) }
     ensures tells { IfOk result (λ found. IfSome found (λ stored.
         F.File.disk.tells (journal_of stored.journal).device ≡ F.directory.tells folder.old)) }
-    ensures names { OnOk result (WhereNamed F.directory folder.old ((names : Names)
+    ensures names { OnOk result (WhereNamed F.directory folder.old ((names : FileNames)
         → F.directory.may_leave folder.new names → SameNames names (F.directory.seen folder.old))) }
     ensures refused { (epoch : ℕ) (why : RecoveryFault)
         → result ≡ Err (OfStore.Account epoch (OfOpen.Refused why)) → WhereNamed F.directory folder.old
@@ -111,6 +112,6 @@ pub fn open_present<F: Folder>(
     let file = folder.open_file(FileName::Account(epoch))?;
     match open_account(alloc, file, epoch) {
         Ok(stored) => Ok(Some(stored)),
-        Err((fault, _)) => Err(StoreFault::Account(epoch, fault)),
+        Err((fault, _)) => Err(PresentFault::Account(epoch, fault)),
     }
 }

@@ -15,16 +15,15 @@ const TORN: &[u8] = b"A\nB\nC\0D\n\0\0";
 
 fn file(rt: &impl Abort, alloc: Global, bytes: &[u8]) -> Memory {
     let bytes = bytes.to_vec(alloc).expect(rt, "no memory");
-    Memory::new(alloc, bytes).expect(rt, "no memory")
+    Memory::new(alloc, 7, bytes).expect(rt, "no memory")
 }
 
 #[test]
 fn a_lost_piece_is_dropped_and_the_next_one_is_stored(rt: HostRuntime) {
     let torn = file(&rt, rt.alloc(), TORN);
     same(&rt, torn.bytes(), TORN);
-    let mut lines = Vec::new(rt.alloc());
-    match DiskJournal::open(rt.alloc(), torn, &mut lines) {
-        Ok(mut journal) => {
+    match DiskJournal::open(rt.alloc(), torn, Vec::new(rt.alloc())) {
+        Ok((mut journal, lines)) => {
             same(&rt, lines.as_slice(), b"A\nB\n");
             same(&rt, journal.append(b"E\n"), Ok(()));
             same(&rt, journal.append(b"\0"), Err(JournalFault::NotText));
@@ -37,8 +36,7 @@ fn a_lost_piece_is_dropped_and_the_next_one_is_stored(rt: HostRuntime) {
 
 // Tells that this file is no journal, and is left as it is.
 fn is_no_journal(rt: &impl Abort, alloc: Global, bytes: &[u8]) {
-    let mut lines = Vec::new(alloc);
-    match DiskJournal::open(alloc, file(rt, alloc, bytes), &mut lines) {
+    match DiskJournal::open(alloc, file(rt, alloc, bytes), Vec::new(alloc)) {
         Ok(_) => holds(rt, false, "no zero"),
         Err((fault, left)) => {
             same(rt, fault, OpenFault::NotFilled);
@@ -61,12 +59,22 @@ struct Nobody;
 impl JournalReader for Nobody {
     type Fault = u8;
 
+    type Made = ();
+
     ghost takes = { λ _ lines _. lines ≡ [] };
 
     ghost refuses = { λ _ _ _. ⊤ };
 
+    ghost makes = { λ _ _. ⊤ };
+
+    ghost lacks = { λ _ _. ⊤ };
+
     fn take(&mut self, _lines: &[u8]) -> Result<(), u8> {
         Err(7)
+    }
+
+    fn finish(self) -> Result<(), u8> {
+        Err(8)
     }
 
     ghost none = { λ _. refl };
@@ -78,10 +86,53 @@ impl JournalReader for Nobody {
 
 #[test]
 fn a_file_whose_lines_are_refused_is_left(rt: HostRuntime) {
-    match DiskJournal::open(rt.alloc(), file(&rt, rt.alloc(), TORN), &mut Nobody) {
+    match DiskJournal::open(rt.alloc(), file(&rt, rt.alloc(), TORN), Nobody) {
         Ok(_) => holds(&rt, false, "refused"),
         Err((fault, left)) => {
             same(&rt, fault, OpenFault::Refused(7));
+            same(&rt, left.bytes(), TORN);
+        }
+    }
+}
+
+// A reader that makes nothing of any lines.
+#[derive(Drop)]
+struct Nothing;
+
+impl JournalReader for Nothing {
+    type Fault = u8;
+
+    type Made = ();
+
+    ghost takes = { λ _ _ _. ⊤ };
+
+    ghost refuses = { λ _ _ _. ⊤ };
+
+    ghost makes = { λ _ _. ⊤ };
+
+    ghost lacks = { λ _ _. ⊤ };
+
+    fn take(&mut self, _lines: &[u8]) -> Result<(), u8> {
+        Ok(())
+    }
+
+    fn finish(self) -> Result<(), u8> {
+        Err(8)
+    }
+
+    ghost none = { λ _. tt };
+
+    ghost joined = { λ _ _ _ _ _ _ _ _. tt };
+
+    ghost refused_on = { λ _ _ _ _ _ _ _ _. tt };
+}
+
+#[test]
+fn a_file_of_whose_lines_nothing_is_made_is_left(rt: HostRuntime) {
+    match DiskJournal::open(rt.alloc(), file(&rt, rt.alloc(), TORN), Nothing) {
+        Ok(_) => holds(&rt, false, "nothing is made"),
+        Err((fault, left)) => {
+            same(&rt, fault, OpenFault::Refused(8));
             same(&rt, left.bytes(), TORN);
         }
     }
@@ -123,9 +174,8 @@ fn a_long_file_and_a_zero_byte_make_no_journal(rt: HostRuntime) {
 
 // Tells that this file is a journal of these lines.
 fn opens_with(rt: &impl Abort, alloc: Global, left: Memory, want: &[u8]) {
-    let mut lines = Vec::new(alloc);
-    match DiskJournal::open(alloc, left, &mut lines) {
-        Ok(_) => same(rt, lines.as_slice(), want),
+    match DiskJournal::open(alloc, left, Vec::new(alloc)) {
+        Ok((_, lines)) => same(rt, lines.as_slice(), want),
         Err((fault, _)) => holds(rt, false, fault),
     }
 }
@@ -164,8 +214,7 @@ fn opens_after_crashes(rt: &impl Abort, alloc: Global, left: &Memory) {
 // Opens a file that freezes at a call of that, and then what it left.
 fn freezes(rt: &impl Abort, alloc: Global, calls: usize) {
     let torn = FailingDevice::new(file(rt, alloc, SHORT), calls);
-    let mut lines = Vec::new(alloc);
-    match DiskJournal::open(alloc, torn, &mut lines) {
+    match DiskJournal::open(alloc, torn, Vec::new(alloc)) {
         Ok(_) => holds(rt, false, calls),
         Err((fault, left)) => {
             same(rt, fault, OpenFault::Device(DeviceFault::Failed));
@@ -188,9 +237,8 @@ fn a_file_that_froze_at_a_call_has_its_lines(rt: HostRuntime) {
 
 // Tells that this file is a journal of the lines, or of the lines and the piece.
 fn opens_with_or_without(rt: &impl Abort, alloc: Global, left: Memory) {
-    let mut lines = Vec::new(alloc);
-    match DiskJournal::open(alloc, left, &mut lines) {
-        Ok(_) => {
+    match DiskJournal::open(alloc, left, Vec::new(alloc)) {
+        Ok((_, lines)) => {
             let is_whole = lines.as_slice() == b"A\nB\nE\n".as_slice();
             holds(
                 rt,
@@ -205,9 +253,8 @@ fn opens_with_or_without(rt: &impl Abort, alloc: Global, left: Memory) {
 // Adds a piece to a journal that freezes after so many calls, and opens what a crash leaves, in each way.
 fn freezes_adding(rt: &impl Abort, alloc: Global, calls: usize) {
     let torn = FailingDevice::new(file(rt, alloc, SHORT), calls);
-    let mut lines = Vec::new(alloc);
-    match DiskJournal::open(alloc, torn, &mut lines) {
-        Ok(mut journal) => {
+    match DiskJournal::open(alloc, torn, Vec::new(alloc)) {
+        Ok((mut journal, _)) => {
             let failed = Err(JournalFault::Device(DeviceFault::Failed));
             same(rt, journal.append(b"E\n"), failed);
             let (left, _) = journal.into_device().into_inner();
@@ -229,9 +276,12 @@ fn a_crash_while_a_piece_is_added_leaves_no_torn_line(rt: HostRuntime) {
 
 #[test]
 fn a_crash_after_a_piece_leaves_it(rt: HostRuntime) {
-    let mut lines = Vec::new(rt.alloc());
-    match DiskJournal::open(rt.alloc(), file(&rt, rt.alloc(), TORN), &mut lines) {
-        Ok(mut journal) => {
+    match DiskJournal::open(
+        rt.alloc(),
+        file(&rt, rt.alloc(), TORN),
+        Vec::new(rt.alloc()),
+    ) {
+        Ok((mut journal, _)) => {
             same(&rt, journal.append(b"E\n"), Ok(()));
             let crashed = journal.into_device().after_crash(rt.alloc(), 0);
             opens_with(

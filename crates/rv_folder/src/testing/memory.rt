@@ -2,7 +2,7 @@
 ghost use Rattle.std.specs.Prelude.{◌≡◌, ◌++◌, ◌∷◌, ◌↔◌, [], ℕ, IfOk, OnErr, OnOk, Some, false};
 ghost use Rattle.std.specs.Prelude.{option_map};
 ghost use Rattle.std.specs.List.{Contains};
-ghost use Rattle.rv_folder.specs.Folder.{Names, SameNames, given_now, is_same_name};
+ghost use Rattle.rv_folder.specs.Folder.{FileNames, SameNames, given_now, is_same_name};
 ghost use Rattle.rv_folder.specs.Memory.{IsMadeAs, MayMake, after_change, given_file, memory_directory};
 ghost use Rattle.rv_folder.specs.Memory.{memory_names, name_given, names_after};
 ghost use Rattle.rv_folder.specs.Present.{HasAccount};
@@ -63,7 +63,7 @@ impl MemoryFolder {
     /// A folder without a file.
     pub fn new(alloc: Global) -> MemoryFolder
         ensures none { memory_directory.seen result ≡ names_after [] }
-        ensures stored { (names : Names) → memory_directory.may_leave result names
+        ensures stored { (names : FileNames) → memory_directory.may_leave result names
             → SameNames names (names_after []) }
     {
         MemoryFolder {

@@ -1,4 +1,4 @@
-use Rattle.rv_folder.specs.Folder.{GivenFile, made}
+use Rattle.rv_folder.specs.Folder.{GivenFile, name_made}
 use Rattle.rv_folder.proofs.SystemNames.{system_changes}
 use Rattle.rv_folder.proofs.system.SystemFolderFolder.open_file.Goals as goal
 
@@ -6,7 +6,8 @@ any : GivenFile
 any = record { number = 0; since = 0 }
 
 pub returns-in_err-path-clause-changes : goal.returns-in_err-path-clause-changes
-returns-in_err-path-clause-changes c = (any, system_changes (made c.args.name any) c.args.self.now c.args.self.now)
+returns-in_err-path-clause-changes c = (any, system_changes (name_made c.args.name any) c.args.self.now
+    c.args.self.now)
 
 pub returns-clause-changes : goal.returns-clause-changes
-returns-clause-changes c = (any, system_changes (made c.args.name any) c.args.self.now c.kept.new.self)
+returns-clause-changes c = (any, system_changes (name_made c.args.name any) c.args.self.now c.kept.new.self)

@@ -9,7 +9,8 @@ abbrev items_of : Vec ℕ Global → List ℕ
 items_of v = v.items
 
 pub loop-change-init : goal.loop-change-init
-loop-change-init c = subst (λ (l : List ℕ). ListsEpochs c.args.changes.now [] l) (sym c.new-epochs.ensures.items)
+loop-change-init c = subst (λ (l : List ℕ). ListsEpochs c.args.changes.now [] l) (sym
+    c.new-epochs.ensures.items)
     (lists_none c.args.changes.now)
 
 pub loop-change-preserved : goal.loop-change-preserved

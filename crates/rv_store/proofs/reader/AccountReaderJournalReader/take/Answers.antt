@@ -19,10 +19,12 @@ returns-in_err-parts-clause-refused c =
 
 pub returns-clause-taken : goal.returns-clause-taken
 returns-clause-taken c =
-    let parts = c.self.inside.parts in
-    (ap (λ (p : ReaderParts). p.epoch) c.self.view_is, λ before is has. reads_part before c.args.lines.now c.in_ok-account.account.now is parts.audit parts.records parts.begun
-    c.in_ok-parts.field-0 c.read_lines_on.new.records c.in_ok-account.ensures.later
-    c.in_ok-account.ensures.first
-    (subst (λ audit. ReadsWholeOn audit parts.records c.in_ok-account.account.now c.in_ok-parts.field-0
-    c.read_lines_on.new.records) c.replace-audit.ensures.value c.in_ok-parts.ensures.read)
-    (subst (λ (p : ReaderParts). HasReadJournal before p) (sym c.self.view_is) has))
+    let parts = c.self.inside.parts in (
+      ap (λ (p : ReaderParts). p.epoch) c.self.view_is,
+      λ before is has. reads_part before c.args.lines.now c.in_ok-account.account.now is parts.audit parts.records parts.begun
+          c.in_ok-parts.field-0 c.read_lines_on.new.records c.in_ok-account.ensures.later
+          c.in_ok-account.ensures.first
+          (subst (λ audit. ReadsWholeOn audit parts.records c.in_ok-account.account.now c.in_ok-parts.field-0
+          c.read_lines_on.new.records) c.replace-audit.ensures.value c.in_ok-parts.ensures.read)
+          (subst (λ (p : ReaderParts). HasReadJournal before p) (sym c.self.view_is) has),
+    )

@@ -1,5 +1,5 @@
 use Rattle.std.proofs.Common.{subst}
-use Rattle.rv_folder.specs.Folder.{ChangesNames, GivenFile, made}
+use Rattle.rv_folder.specs.Folder.{ChangesNames, GivenFile, name_made}
 use Rattle.rv_folder.specs.Memory.{MemoryNames, memory_directory, memory_names}
 use Rattle.rv_folder.proofs.MemoryNames.{may_make}
 use Rattle.rv_folder.proofs.testing.memory.MemoryFolderFolder.open_file.Goals as goal
@@ -8,12 +8,12 @@ pub returns-in_err-make-clause-changes : goal.returns-in_err-make-clause-changes
 returns-in_err-make-clause-changes c =
     let new = memory_names c.make.new.self in
     subst (λ (old : MemoryNames). (file : GivenFile)
-    × ChangesNames memory_directory (made c.args.name file) old new) c.self.view_is
+    × ChangesNames memory_directory (name_made c.args.name file) old new) c.self.view_is
     (may_make c.args.name (memory_names c.self.inside.kept) new c.make.ensures.changed c.self.invariant)
 
 pub returns-clause-changes : goal.returns-clause-changes
 returns-clause-changes c =
     let new = memory_names c.make.new.self in
     subst (λ (old : MemoryNames). (file : GivenFile)
-    × ChangesNames memory_directory (made c.args.name file) old new) c.self.view_is
+    × ChangesNames memory_directory (name_made c.args.name file) old new) c.self.view_is
     (may_make c.args.name (memory_names c.self.inside.kept) new c.make.ensures.changed c.self.invariant)

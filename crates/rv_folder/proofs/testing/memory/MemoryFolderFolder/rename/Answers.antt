@@ -11,7 +11,8 @@ returns-in_err-change-clause-changes c = not_renamed c.args.from c.args.to
     (memory_names c.change.new.self) c.self.view_is c.in_err-change.ensures.refused c.change.ensures.stored
 
 pub returns-clause-renamed : goal.returns-clause-renamed
-returns-clause-renamed c told name = is_renamed c.args.from c.args.to _ _ (given_now memory_disk c.args.file.now)
+returns-clause-renamed c told name = is_renamed c.args.from c.args.to _ _ (given_now memory_disk
+    c.args.file.now)
     c.args.self.now (memory_names c.self.inside.kept) (memory_names c.change.new.self) c.self.view_is
     (c.in_ok-change.ensures.kept, c.change.ensures.stored) c.number.ensures c.moment.ensures name
 
