@@ -54,7 +54,7 @@ module _ {F D : Type 0} (directory : Directory F) (disk : Disk D) (text : List �
 
   goes_on : (mid new : F) → HasBegun mid
       → ((names : FileNames) → directory.left new names → directory.left mid names ⊎ directory.may_leave new
-          names)
+      names)
       → ((names : FileNames) → directory.may_leave new names → BeginsFrom names) → HasBegun new
   goes_on mid new so_far time crash = record {
     crash = crash;
@@ -113,7 +113,7 @@ module _ {F D : Type 0} (directory : Directory F) (disk : Disk D) (text : List �
               (λ (some : (d : D) × IsAccountIn disk text epoch d mixed.0).
               inr (some.0, (some.1.0, same ∙ some.1.1, some.1.2))) was.2.account)
               (λ (now : names (Account epoch) ≡ renamed Unready (Account epoch) given mixed.0 (Account
-                  epoch)).
+              epoch)).
               inr (file, (given, now ∙ is_named epoch given mixed.0, has))) (mixed.2 (Account epoch));
         },
       ))
@@ -135,7 +135,7 @@ number_in None = 0
 -- the file that a name stands for once it was opened
 pub opened_number : (before : Option GivenFile) (now file : GivenFile)
     → or_else before (Some now) ≡ Some file → ((had : GivenFile) → before ≡ Some had → had.number ≡
-        now.number)
+    now.number)
     → file.number ≡ now.number
 opened_number (Some had) now file is same =
     ap (λ (l : Option GivenFile). number_in l) (sym is) ∙ same had refl

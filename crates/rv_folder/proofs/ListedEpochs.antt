@@ -129,7 +129,7 @@ module _ (all : List NameChange) (i : ℕ) (d : NameChange) (epochs : List ℕ) 
       subst (λ (l : List ℕ). ListsEpochs all (take (i + 1) all) l) (sym same)
       (subst (λ (l : List NameChange). ListsEpochs all l epochs) one_more
       (lists_same all (take i all) epochs (get_or all i d) had (λ e named e_has. none e (given e named
-          e_has))))
+      e_has))))
 
 pub lists_all : (all : List NameChange) (i : ℕ) (epochs : List ℕ) → length all ≤ i
     → ListsEpochs all (take i all) epochs

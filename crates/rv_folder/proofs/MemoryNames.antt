@@ -83,8 +83,10 @@ module _ (change : NameChange) (old new : MemoryNames) (is : IsChanged change ol
 
 -- a file whose number and moment are these
 pub same_given : {number since other moment : ℕ} → number ≡ other → since ≡ moment
-    → ◌≡◌ {A = GivenFile} (record { number = number; since = since }) (record { number = other; since = moment
-        })
+    → ◌≡◌ {A = GivenFile} (record { number = number; since = since }) (record {
+      number = other;
+      since = moment;
+    })
 same_given same at = λ i. record { number = same i; since = at i }
 
 -- a name that may have been made
@@ -94,8 +96,10 @@ pub may_make : (name : FileName) (old new : MemoryNames) → MayMake name old ne
 may_make name old new is stored = elim is [
   | inl same ↦ (
     record { number = 0; since = 0 },
-    subst (λ (n : MemoryNames). ChangesNames memory_directory (name_made name (record { number = 0; since = 0
-        })) old n)
+    subst (λ (n : MemoryNames). ChangesNames memory_directory (name_made name (record {
+      number = 0;
+      since = 0;
+    })) old n)
         (sym same) (not_changed (name_made name (record { number = 0; since = 0 })) old),
   )
   | inr one ↦ (
@@ -130,7 +134,7 @@ pub is_made : (name : FileName) (file : FileNumber) (given : GivenFile) (old new
 is_made name file given old new is same none = record {
   names = λ other. subst (λ (g : GivenFile). names_after new.changes other
       ≡ name_made name g (names_after old.changes) other) same (seen_changed (Made name file) old new is
-          other);
+      other);
   number = λ had stood. absurd (false≢true (ap has_file (sym none ∙ stood)));
 }
 

@@ -1,10 +1,12 @@
 //! Begins the journal of an epoch.
-ghost use Rattle.std.specs.Prelude.{◌≡◌, ◌<◌, ◌≤◌, ℕ, Err, IfOk, OnOk, true};
+ghost use Rattle.std.specs.Prelude.{◌≡◌, ◌<◌, ◌≤◌, ◌^◌, ℕ, Err, IfOk, OnOk, length, true};
+ghost use Rattle.std.specs.List.{All};
 ghost use Rattle.rv_journal.specs.Journal.{IsDurable, journal_text};
 ghost use Rattle.rv_folder.specs.Begun.{IsAccountIn, KeepsOthers, LeavesBegun};
 ghost use Rattle.rv_folder.specs.Folder.{KeepsNames, FileNames, WhereNamed};
 ghost use Rattle.rv_folder.specs.Present.{HasAccount};
 ghost use Rattle.rv_journal.specs.declared.device.DeviceFault.TheVariants.{Failed};
+ghost use Rattle.rv_journal.specs.declared.fault.CreateFault.TheVariants.{Full, NotText};
 ghost use Rattle.rv_folder.specs.declared.beginning.BeginFault.TheVariants as OfBegin;
 
 use crate::folder::{FileName, Folder};
@@ -39,9 +41,8 @@ impl From<DeviceFault> for BeginFault {
 /// without zero. It is made under another name, stored, renamed, and the name is stored.
 ///
 /// Whenever a crash comes, the account of that epoch has no file, or one of the whole piece, and those of all
-/// others have theirs. At `Err` too; [`BeginFault`] says what failed. A file that a crash left under the
-/// other
-/// name is overwritten.
+/// others have theirs; at `Err` too. [`BeginFault`] says what failed. A file that a crash left under the
+/// other name is overwritten.
 pub fn begin_journal<F: Folder>(
     alloc: Global,
     folder: &mut F,
@@ -65,10 +66,12 @@ pub fn begin_journal<F: Folder>(
     ensures any_moment { WhereNamed F.directory folder.old
         (LeavesBegun F.directory F.File.disk first.now epoch folder.old folder.new) }
     ensures not_greater { (other : ℕ) → result ≡ Err (OfBegin.NotGreater other)
-        → WhereNamed F.directory folder.old (HasAccount (F.directory.seen folder.old) other × (epoch ≤ other))
-            }
+        → WhereNamed F.directory folder.old
+        (HasAccount (F.directory.seen folder.old) other × (epoch ≤ other)) }
     ensures same { (other : ℕ) → result ≡ Err (OfBegin.NotGreater other)
         → KeepsNames F.directory folder.old folder.new }
+    ensures not_text { result ≡ Err (OfBegin.Journal NotText) → All (λ byte. 0 < byte) first.now → ⊥ }
+    ensures full { result ≡ Err (OfBegin.Journal Full) → 2 ^ 50 ≤ length first.now }
     ensures cause { result ≡ Err (OfBegin.Folder Failed) → F.directory.failed folder.new ≡ true }
 {
     if let Some(present) = present_epoch(alloc, folder)? {

@@ -12,7 +12,7 @@ use Rattle.rv_store.specs.Format.{CutsFormat, HasNoFormat, IsJournalOf, IsVersio
 pub no_cut : (text digits rest : List ℕ) → Lacks 32 text → CutsFormat text digits rest → ⊥
 no_cut text digits rest lacks cuts =
     not_lacking 32 (codes "journal") (digits ++ 32 ∷ rest) (subst (λ (l : List ℕ). Lacks 32 l) cuts.parts
-        lacks)
+    lacks)
 
 -- what stands before and after the first space
 pub first_word : (text word after digits rest : List ℕ) → text ≡ word ++ 32 ∷ after → Lacks 32 word

@@ -100,7 +100,7 @@ module _ (front more : List ℕ) (is : IsLines front) where
       let before = in_front (codes "journal" ++ 32 ∷ had.0 ++ 32 ∷ []) had.1 some
       (format_lacks had.0 (digits_lack had.0 had.3.0.0.are_digits))
       (had.2.parts ∙ sym (ap (λ (l : List ℕ). codes "journal" ++ 32 ∷ l) (append_assoc had.0 (32 ∷ [])
-          had.1))) in (
+      had.1))) in (
         had.0,
         before.0,
         record {

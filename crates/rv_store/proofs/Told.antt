@@ -207,7 +207,7 @@ whole_behind : (text line rest : List ℕ)
     → whole_lines (text ++ (line ++ 10 ∷ rest)) ≡ text ++ whole_lines (line ++ 10 ∷ rest)
 whole_behind text line rest =
     ap whole_lines (sym (append_assoc text line (10 ∷ rest)) ∙ sym (append_assoc (text ++ line) (10 ∷ [])
-        rest))
+    rest))
     ∙ whole_lines-append ((text ++ line) ++ 10 ∷ []) rest (whole_lines-lf (text ++ line))
     ∙ append_assoc (text ++ line) (10 ∷ []) (whole_lines rest)
     ∙ append_assoc text line (10 ∷ whole_lines rest)
@@ -233,7 +233,7 @@ module _ (a : Account) (written more : List ℕ) where
       ap (λ (l : List ℕ). l ++ more)
       (append_assoc (head_text a.epoch a.opened) (10 ∷ printed_lines (map entry_text a.entries)) written)
       ∙ append_assoc (head_text a.epoch a.opened) (10 ∷ printed_lines (map entry_text a.entries) ++ written)
-          more
+      more
 
   lines_left : whole_lines (format ++ account_left) ≡ format ++ whole_lines account_left
   lines_left =
@@ -246,7 +246,7 @@ told_is_found terms effects s t a left limits runs begins moment is had has =
     let written : List ℕ = bytes_written effects in
     let more : List ℕ = take has.0 (unwritten t) in
     let found = found_in_lines terms effects s t a (account_left a written more) limits runs begins moment is
-        had
+    had
     (has.0, refl) in
     record {
       found = found.found;

@@ -38,7 +38,7 @@ returns-in_err-rename-clause-any_moment g c told =
     (given_now disk c.device.result.now) c.present_epoch.ensures.kept c.open_file.ensures.changes
     c.rename.ensures.changes (has_text disk c.args.first.now c.device.result.now c.in-Ok.journal.device
     c.device.ensures (λ left may. c.in-Ok.ensures.durable file_told left may ∙ c.in-Ok.ensures.text
-        file_told))).left
+    file_told))).left
 
 pub returns-in_err-sync-clause-any_moment : goal.returns-in_err-sync-clause-any_moment
 returns-in_err-sync-clause-any_moment g c told =
@@ -50,7 +50,7 @@ returns-in_err-sync-clause-any_moment g c told =
     (given_now disk c.device.result.now) c.present_epoch.ensures.kept c.open_file.ensures.changes
     c.rename.ensures.changes (has_text disk c.args.first.now c.device.result.now c.in-Ok.journal.device
     c.device.ensures (λ left may. c.in-Ok.ensures.durable file_told left may ∙ c.in-Ok.ensures.text
-        file_told)) in
+    file_told)) in
     (begins_kept directory disk c.args.first.now c.args.epoch c.args.folder.now c.rename.new.self
     c.sync.new.self begun c.sync.ensures.kept).left
 
@@ -64,7 +64,7 @@ returns-clause-any_moment g c told =
     (given_now disk c.device.result.now) c.present_epoch.ensures.kept c.open_file.ensures.changes
     c.rename.ensures.changes (has_text disk c.args.first.now c.device.result.now c.in-Ok.journal.device
     c.device.ensures (λ left may. c.in-Ok.ensures.durable file_told left may ∙ c.in-Ok.ensures.text
-        file_told)) in
+    file_told)) in
     (begins_kept directory disk c.args.first.now c.args.epoch c.args.folder.now c.rename.new.self
     c.sync.new.self begun c.sync.ensures.kept).left
 
@@ -94,8 +94,8 @@ returns-clause-others g c told names left name is =
     c.in_ok-sync.ensures.stored told_named names left name
     ∙ c.in_ok-rename.ensures.renamed told_open name
     ∙ not_named c.args.epoch (given_now disk c.device.result.now) (directory.seen c.open_file.new.self) name
-        is
+    is
     ∙ c.in_ok-file.ensures.named told_first name
     ∙ not_made c.args.epoch (given_now disk c.in_ok-file.file) (directory.seen c.present_epoch.new.folder)
-        name is
+    name is
     ∙ c.present_epoch.ensures.kept.seen told name

@@ -22,5 +22,5 @@ returns-else-eq-clause-none c _ digits rest cuts =
     c.in_ok-word.ensures.parts c.in_ok-word.ensures.first cuts in
     false≢true (sym c.if-eq.false
     ∙ (slice_eq-Decides unsigned_Decides c.in_ok-word.word.now c.as_slice.result.now c.eq.result
-        c.eq.ensures).1
+    c.eq.ensures).1
     (is.0 ∙ sym c.as_slice.ensures))
