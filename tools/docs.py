@@ -66,7 +66,7 @@ NO_WRONG_BODY = (r"\w+::swap::Swap\w*::new", r"\w+::wait_queues::WaitQueues\w*::
 # Names of types and definitions that two crates declare: in each they mean the same. Of `Item` one crate has what a producer
 # hands over, the other what a frame was answered by; of `Clients` one has the sessions, the other the processes. Of `World` one
 # has the definition, the other the type. `Fault` belongs to a trait, and an impl in another crate names it too.
-SHARED = ("Clients", "Fault", "Item", "NoMemory", "Place", "Stamp", "World")
+SHARED = ("Clients", "Fault", "Item", "Made", "NoMemory", "Place", "Stamp", "World")
 # How many lines and words the first page may have.
 README_LINES, README_WORDS = 80, 700
 # How many columns a line of the sources, of the definitions and of the proofs may have.

@@ -57,7 +57,8 @@ Follows step old new = (c : List ℕ) → new c → (d : List ℕ) × old d × s
 abbrev pub Only : List ℕ → (List ℕ → Type 0) → Type 0
 Only file outcomes = (c : List ℕ) → outcomes c → c ≡ file
 
--- Time goes on for a file: a crash since t might have left what it might have left before, or what it may leave
+-- Time goes on for a file: a crash since t might have left what it might have left before, or what it may
+-- leave
 -- now.
 pub record Elapses {D : Type 0} (disk : Disk D) (old new : D) : Type 0 where
   pub same : disk.number new ≡ disk.number old

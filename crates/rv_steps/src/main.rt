@@ -25,8 +25,10 @@
 //! `journal FILE`: the file is opened as a journal, or made where there is none, and its lines are printed,
 //! and an empty one. Then each line of standard input is added, and printed once it is stored.
 //!
-//! `store FOLDER EPOCH`: the store of the folder goes on with the account of this epoch, or begins it, and how
-//! many entries it has is printed. Then each line of standard input is added as an entry's, and printed once it
+//! `store FOLDER EPOCH`: the store of the folder goes on with the account of this epoch, or begins it, and
+//! how
+//! many entries it has is printed. Then each line of standard input is added as an entry's, and printed once
+//! it
 //! is stored.
 #![tactic(auto)]
 

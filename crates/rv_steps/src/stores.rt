@@ -4,13 +4,13 @@ use rv_folder::{SystemFolder, SystemFolderFault};
 use rv_frame::Lasting;
 use rv_journal::{OpenFault, SystemFile};
 use rv_store::{
-    AccountJournal, RecoveryFault, PresentFault, StoredAccount, begin_account, open_present,
+    AccountJournal, PresentFault, RecoveryFault, StoredAccount, begin_account, open_present,
 };
 use std::io::{BufRead, BufReader, Write};
 use std::process::ExitCode;
 
-/// Opens the store of a folder, which is made where there is none, goes on with its present account if that is
-/// of this epoch, or else begins it at moment 0, and prints how many entries it has. Then each line of
+/// Opens the store of a folder, which is made where there is none. It goes on with the present account if that
+/// is of this epoch, or else begins it at moment 0, and prints how many entries it has. Then each line of
 /// standard input is added, as an entry's, and printed once it is stored.
 pub(crate) fn add_entries(rt: &HostRuntime, path: &str, epoch: u64) -> anyhow::Result<ExitCode> {
     let mut folder = match SystemFolder::open(rt, path) {

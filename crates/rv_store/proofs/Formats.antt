@@ -1,7 +1,7 @@
 -- How a journal's format is cut from its first line, and that there is one way.
 use Rattle.std.proofs.Common.{◌≡◌, ◌≢◌, ◌++◌, ◌∷◌, ◌∙◌, ℕ, List, [], Bool, false, true, Option, None, Some}
 use Rattle.std.proofs.Common.{ap, refl, subst, sym}
-use Rattle.std.specs.Prelude.{IfSome, codes}
+use Rattle.std.specs.Prelude.{codes}
 use Rattle.std.proofs.lemmas.Bool.{false≢true}
 use Rattle.rv_lines.specs.Number.{WritesIdentifier}
 use Rattle.rv_lines.proofs.Cutting.{Lacks, cut_once, digits_lack_space, not_lacking}
@@ -45,7 +45,7 @@ none_cut text none some = record {
   other = λ version is differs. none is.0 is.1 is.2;
 }
 
-one_number : (digits : List ℕ) (n m : ℕ) → WritesIdentifier digits n → WritesIdentifier digits m → n ≡ m
+pub one_number : (digits : List ℕ) (n m : ℕ) → WritesIdentifier digits n → WritesIdentifier digits m → n ≡ m
 one_number digits n m first second = first.0.1 ∙ sym second.0.1
 
 -- digits that aren't this version's, and say no other one
@@ -59,18 +59,3 @@ not_this text digits rest cuts other none some = record {
       (subst (λ (l : List ℕ). WritesIdentifier l version)
       (sym (same_cut text digits rest is.0 is.1 cuts is.2).0) is.3) differs;
 }
-
--- what was read of the digits says that
-pub none_read : (digits : List ℕ) (read : Option ℕ) → IfSome read (WritesIdentifier digits)
-    → (read ≡ None → (n : ℕ) → WritesIdentifier digits n → ⊥) → ((n : ℕ) → read ≡ Some n → n ≡ 1)
-    → (m : ℕ) → WritesIdentifier digits m → m ≢ 1 → ⊥
-none_read digits (Some n) is none one m writes differs =
-    differs (one_number digits m n writes is ∙ one n refl)
-none_read digits None is none one m writes differs = none refl m writes
-
-abbrev number_of : Option ℕ → ℕ
-number_of (Some n) = n
-number_of None = 0
-
-pub same_number : (n m : ℕ) → Some n ≡ Some m → n ≡ m
-same_number n m same = ap number_of same

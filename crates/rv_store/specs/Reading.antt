@@ -28,7 +28,8 @@ pub record HasReadWhole (read : List (List ℕ)) (audit : OngoingAudit) (r : Rec
 -- of a text it read the lines of the account whose journal it is; of none, nothing
 abbrev pub HasReadSo : Bool → List ℕ → OngoingAudit → Records → Type 0
 HasReadSo false text audit r = (text ≡ []) × HasReadWhole [] audit r
-HasReadSo true text audit r = (account : List ℕ) × IsJournalOf text account × HasReadWhole (lines account) audit r
+HasReadSo true text audit r = (account : List ℕ) × IsJournalOf text account × HasReadWhole (lines account)
+    audit r
 
 -- so did the reader
 abbrev pub HasReadJournal : List ℕ → ReaderParts → Type 0

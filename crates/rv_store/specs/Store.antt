@@ -21,7 +21,8 @@ pub record IsPresentFile {F D : Type 0} (directory : Directory F) (disk : Disk D
 -- Its journal has that file's lines, stored, and the machine goes on from them.
 pub record OpensPresent {F D : Type 0} (directory : Directory F) (disk : Disk D) (folder : F)
     (stored : StoredAccount D) : Type 0 where
-  pub file : IsPresentFile directory disk folder (state_in stored.machine).epoch (journal_of stored.journal).device
+  pub file : IsPresentFile directory disk folder (state_in stored.machine).epoch (journal_of
+      stored.journal).device
   pub holds : HoldsJournal (state_in stored.machine).epoch (journal_text disk (journal_of stored.journal))
       stored.machine
   pub durable : IsDurable disk (journal_of stored.journal)

@@ -37,10 +37,13 @@ fn account_in(lines: &[u8]) -> Result<&[u8], RecoveryFault>
     if digits == b"1".as_slice() {
         return Ok(account);
     }
-    match read_identifier(digits) {
-        Some(version) if version != VERSION => Err(RecoveryFault::OtherVersion(version)),
-        _ => Err(RecoveryFault::NoJournal),
+    let Some(version) = read_identifier(digits) else {
+        return Err(RecoveryFault::NoJournal);
+    };
+    if version == VERSION {
+        return Err(RecoveryFault::NoJournal);
     }
+    Err(RecoveryFault::OtherVersion(version))
 }
 
 // The account's lines among these, which are a journal's first ones if it hasn't begun.

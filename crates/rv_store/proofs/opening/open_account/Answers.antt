@@ -13,7 +13,8 @@ returns-in_err-journal-clause-refused g c =
     let disk = g.D.Device.disk in
     rw (exit.1, exit.2) (on_refused c.in_err-journal.field-0.0.0 _ _ (λ why left. record {
       looks = left.looks;
-      fault = λ told. refused_lines (file_lines disk c.args.device) c.args.epoch c.new.result why c.new.ensures.read
+      fault = λ told. refused_lines (file_lines disk c.args.device) c.args.epoch c.new.result why
+          c.new.ensures.read
           c.new.ensures.epoch (left.lines told) (lines_only (before_zero (disk.seen c.args.device)));
     }) c.in_err-journal.ensures.refused)
 
@@ -21,4 +22,5 @@ pub returns-clause-holds : goal.returns-clause-holds
 returns-clause-holds g c told =
     let disk = g.D.Device.disk in
     made_lines (file_lines disk c.args.device) c.args.epoch c.new.result c.in_ok-journal.machine
-    c.new.ensures.read c.new.ensures.epoch (c.in_ok-journal.ensures.lines told) (lines_only (before_zero (disk.seen c.args.device)))
+    c.new.ensures.read c.new.ensures.epoch (c.in_ok-journal.ensures.lines told) (lines_only (before_zero
+    (disk.seen c.args.device)))

@@ -8,7 +8,8 @@ use Rattle.rv_store.proofs.reader.AccountReaderJournalReader.take.Goals as goal
 
 pub returns-in_err-parts-clause-refused : goal.returns-in_err-parts-clause-refused
 returns-in_err-parts-clause-refused c =
-    let exit = err_from_is_err_and c.from_residual-in_err-parts.result c.from_residual-in_err-parts.ensures.1 in
+    let exit = err_from_is_err_and c.from_residual-in_err-parts.result c.from_residual-in_err-parts.ensures.1
+    in
     let parts = c.self.inside.parts in
     rw (exit.1, exit.2) (λ before is has. refuses_part before c.args.lines.now c.in_ok-account.account.now is
     parts.audit parts.records parts.begun c.in_err-parts.field-0.0 c.in_ok-account.ensures.later
@@ -21,7 +22,8 @@ pub returns-clause-taken : goal.returns-clause-taken
 returns-clause-taken c =
     let parts = c.self.inside.parts in (
       ap (λ (p : ReaderParts). p.epoch) c.self.view_is,
-      λ before is has. reads_part before c.args.lines.now c.in_ok-account.account.now is parts.audit parts.records parts.begun
+      λ before is has. reads_part before c.args.lines.now c.in_ok-account.account.now is parts.audit
+          parts.records parts.begun
           c.in_ok-parts.field-0 c.read_lines_on.new.records c.in_ok-account.ensures.later
           c.in_ok-account.ensures.first
           (subst (λ audit. ReadsWholeOn audit parts.records c.in_ok-account.account.now c.in_ok-parts.field-0

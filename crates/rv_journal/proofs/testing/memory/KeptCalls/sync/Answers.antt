@@ -15,6 +15,10 @@ returns-clause-bytes c =
     let old = memory_state c.args.self.now in
     either_way c.record.result _ _ _ c.record.ensures.kept c.record.ensures.refused
     (λ kept. c.requires.bytes
-    ∙ sym (seen_after old (record { number = old.number; first = old.first; calls = c.record.new.calls.items }) Sync
+    ∙ sym (seen_after old (record {
+      number = old.number;
+      first = old.first;
+      calls = c.record.new.calls.items;
+    }) Sync
     (record { number = refl; first = refl; calls = kept })))
     (λ same. c.requires.bytes ∙ ap (λ (calls : List DeviceCall). after_calls old.first calls) (sym same))
