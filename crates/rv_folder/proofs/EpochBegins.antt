@@ -1,7 +1,7 @@
 -- What a crash leaves of a folder's names while an epoch begins.
 use Rattle.std.proofs.Common.{◌≡◌, ◌≢◌, ◌⊎◌, ◌∙◌, inl, inr, ⊎_elim, ℕ, Bool, false, true, cond, List, arith}
 use Rattle.std.proofs.Common.{ap, refl, subst, sym}
-use Rattle.std.specs.Prelude.{◌==◌, IsTrue, Option, None, Some}
+use Rattle.std.specs.Prelude.{◌==◌, Option, None, Some}
 use Rattle.std.proofs.lemmas.Bool.Decides.{nat_tests}
 use Rattle.rv_journal.specs.Device.{Disk}
 use Rattle.rv_journal.specs.Text.{before_zero}

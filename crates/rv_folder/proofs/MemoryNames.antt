@@ -1,5 +1,5 @@
 -- What a change of the names of a folder in memory leaves.
-use Rattle.std.proofs.Common.{◌≡◌, ◌≤◌, ◌<◌, ◌+◌, ◌∙◌, inl, inr, ⊎_elim, ℕ, List, [], ◌∷◌, ◌++◌}
+use Rattle.std.proofs.Common.{◌≡◌, ◌≤◌, ◌<◌, ◌+◌, ◌∙◌, inl, inr, ⊎_elim, ℕ, List, [], ◌∷◌}
 use Rattle.std.proofs.Common.{Bool, true, false, cond, Option, None, Some, length, option_map, take}
 use Rattle.std.proofs.Common.{ap, arith, length-append, refl, subst, sym}
 use Rattle.std.proofs.lemmas.List.{take_all, take-append-le}

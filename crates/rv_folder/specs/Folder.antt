@@ -1,6 +1,6 @@
 -- A folder as contracts see it: which file each name stands for, now and after a crash.
 use Rattle.std.specs.Prelude.{◌≡◌, ◌⊎◌, ◌==◌, ℕ, Bool, true, false, if◌then◌else◌, IsErrOf, IsTrue, Option}
-use Rattle.std.specs.Prelude.{None, Some, Result, is_some}
+use Rattle.std.specs.Prelude.{None, Some, Result}
 use Rattle.rv_journal.specs.Device.{Disk}
 use Rattle.rv_journal.specs.declared.device.DeviceFault.{DeviceFault}
 use Rattle.rv_journal.specs.declared.device.DeviceFault.TheVariants.{Failed}

@@ -1,5 +1,5 @@
 -- Which epoch's account is the present one.
-use Rattle.std.specs.Prelude.{◌≡◌, ◌<◌, ℕ, IsTrue, Option, None, Some, is_some}
+use Rattle.std.specs.Prelude.{◌<◌, ℕ, IsTrue, Option, None, Some, is_some}
 use Rattle.rv_folder.specs.Folder.{FileNames}
 use Rattle.rv_folder.specs.declared.folder.FileName.TheVariants.{Account}
 

@@ -41,7 +41,8 @@ pub trait Folder {
             (directory.seen self.old)))) }
         ensures number { IfOk result (λ file. WhereNamed directory self.old ((given : GivenFile)
             → directory.seen self.old name ≡ Some given → given.number ≡ Self.File.disk.number file)) }
-        ensures changes { (file : GivenFile) × ChangesNames directory (name_made name file) self.old self.new }
+        ensures changes { (file : GivenFile) ×
+            ChangesNames directory (name_made name file) self.old self.new }
         ensures cause { HasCauseIn directory self.old self.new result };
 
     /// Gives a file its second name in place of the first one. A file that had that name before is lost.

@@ -9,9 +9,9 @@ use rv_store::{
 use std::io::{BufRead, BufReader, Write};
 use std::process::ExitCode;
 
-/// Opens the store of a folder, which is made where there is none. It goes on with the present account if that
-/// is of this epoch, or else begins it at moment 0, and prints how many entries it has. Then each line of
-/// standard input is added, as an entry's, and printed once it is stored.
+/// Opens the store of a folder, which is made where there is none. It goes on with the present account if
+/// that is of this epoch, or else begins it at moment 0, and prints how many entries it has. Then each line
+/// of standard input is added, as an entry's, and printed once it is stored.
 pub(crate) fn add_entries(rt: &HostRuntime, path: &str, epoch: u64) -> anyhow::Result<ExitCode> {
     let mut folder = match SystemFolder::open(rt, path) {
         Ok(folder) => folder,

@@ -1,12 +1,15 @@
 -- How a journal's format is cut from its first line, and that there is one way.
-use Rattle.std.proofs.Common.{◌≡◌, ◌≢◌, ◌++◌, ◌∷◌, ◌∙◌, ℕ, List, [], Bool, false, true, Option, None, Some}
-use Rattle.std.proofs.Common.{ap, refl, subst, sym}
+use Rattle.std.proofs.Common.{◌≡◌, ◌≢◌, ◌++◌, ◌∷◌, ◌∙◌, ℕ, List, [], Bool, false, nat_eq}
+use Rattle.std.proofs.Common.{refl, subst, sym}
 use Rattle.std.specs.Prelude.{codes}
 use Rattle.std.proofs.lemmas.Bool.{false≢true}
+use Rattle.std.proofs.lemmas.Slice.Eq.{slice_eq-Decides}
+use Rattle.std.specs.Cmp.{unsigned_Decides}
+use Rattle.std.specs.Cmp.Lexicographic.{pointwise}
 use Rattle.rv_lines.specs.Number.{WritesIdentifier}
-use Rattle.rv_lines.proofs.Cutting.{Lacks, cut_once, digits_lack_space, not_lacking}
+use Rattle.rv_lines.proofs.Cutting.{Lacks, cut_once, not_lacking}
 use Rattle.rv_lines.proofs.OneLine.{greater_lack}
-use Rattle.rv_store.specs.Format.{CutsFormat, HasNoFormat, IsJournalOf, IsVersionIn, format}
+use Rattle.rv_store.specs.Format.{CutsFormat, HasNoFormat, IsJournalOf}
 
 -- no space, no format
 pub no_cut : (text digits rest : List ℕ) → Lacks 32 text → CutsFormat text digits rest → ⊥
@@ -59,3 +62,10 @@ not_this text digits rest cuts other none some = record {
       (subst (λ (l : List ℕ). WritesIdentifier l version)
       (sym (same_cut text digits rest is.0 is.1 cuts is.2).0) is.3) differs;
 }
+
+-- digits that were compared with others
+pub other_digits : (digits other : List ℕ) (same : Bool) → same ≡ pointwise nat_eq digits other → same ≡ false
+    → other ≡ codes "1" → digits ≡ codes "1" → ⊥
+other_digits digits other same compared differs is are =
+    false≢true (sym differs
+    ∙ (slice_eq-Decides unsigned_Decides digits other same compared).1 (are ∙ sym is))

@@ -1,6 +1,6 @@
 -- What is said of the front of a journal's lines, where more of them come.
 use Rattle.std.proofs.Common.{◌≡◌, ◌≢◌, ◌⊎◌, ◌++◌, ◌∷◌, ◌∙◌, ℕ, List, [], ap, append_assoc, arith, inl, inr}
-use Rattle.std.proofs.Common.{length, length-append, refl, subst, sym}
+use Rattle.std.proofs.Common.{length, refl, subst, sym}
 use Rattle.std.specs.Int.{IsInRange}
 use Rattle.std.specs.List.{All}
 use Rattle.std.specs.Prelude.{codes}
@@ -11,7 +11,7 @@ use Rattle.rv_journal.specs.Text.{IsLines}
 use Rattle.rv_lines.specs.Lines.{lines}
 use Rattle.rv_lines.proofs.Cutting.{Lacks}
 use Rattle.rv_lines.proofs.OneLine.{greater_lack, line_append}
-use Rattle.rv_store.specs.Format.{CutsFormat, HasNoFormat, IsJournalOf, IsVersionIn, format}
+use Rattle.rv_store.specs.Format.{HasNoFormat, IsJournalOf, IsVersionIn, format}
 use Rattle.rv_replies.specs.declared.findings.verdict.AccountFinding.{AccountFinding}
 use Rattle.rv_store.specs.Reading.{HasReadJournal, HoldsJournal, IsFaultOfFront, IsFaultOfText, IsNoAccount}
 use Rattle.rv_store.specs.Reading.{LacksAccount, MakesMachine, ReadsTextOn, RefusesTextOn}

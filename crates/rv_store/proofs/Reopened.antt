@@ -1,15 +1,7 @@
 -- A file that was opened, or whose lines were refused.
-use Rattle.std.proofs.Common.{◌≡◌, ◌++◌, ◌∙◌, ℕ, List, [], ap, append_assoc, subst, sym}
-use Rattle.rv_journal.specs.Cutter.{RefusesFront}
-use Rattle.rv_journal.specs.Device.{Disk, WhereTold}
 use Rattle.rv_journal.specs.Faults.{IfRefused}
-use Rattle.rv_journal.specs.Journal.{IsDurable, JournalState, journal_text}
-use Rattle.rv_journal.specs.Opened.{HasLines, file_lines}
-use Rattle.rv_journal.specs.Text.{before_zero, whole_lines}
 use Rattle.rv_journal.specs.declared.fault.OpenFault.{OpenFault}
 use Rattle.rv_journal.specs.declared.fault.OpenFault.TheVariants as told
-use Rattle.rv_journal.proofs.Lines.{lines_only}
-use Rattle.rv_lines.specs.Lines.{lines}
 
 pub on_refused : {F : Type 0} (why : OpenFault F) (P Q : F → Type 0) → ((f : F) → P f → Q f) → IfRefused why P
     → IfRefused why Q

@@ -1,5 +1,5 @@
 -- Lines that are read one after the other are read as one text.
-use Rattle.std.proofs.Common.{◌≡◌, ◌++◌, ◌∙◌, ℕ, List, [], ap, append-nil, append_assoc, refl, subst, sym}
+use Rattle.std.proofs.Common.{◌++◌, ◌∙◌, ℕ, List, [], ap, append-nil, append_assoc, refl, subst, sym}
 use Rattle.rv_journal.specs.Text.{IsLines}
 use Rattle.rv_journal.proofs.Lines.{whole_lines-append}
 use Rattle.rv_store.specs.Reading.{HasReadJournal, IsFaultOfFront, RefusesTextOn, ReadsTextOn}

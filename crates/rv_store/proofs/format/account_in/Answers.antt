@@ -1,9 +1,6 @@
 -- A text of another format, or of none.
-use Rattle.std.proofs.Common.{◌∙◌, refl, sym}
-use Rattle.std.proofs.lemmas.Bool.{false≢true}
-use Rattle.std.proofs.lemmas.Slice.Eq.{slice_eq-Decides}
-use Rattle.std.specs.Cmp.{unsigned_Decides}
-use Rattle.rv_store.proofs.Formats.{none_cut, not_this, one_number}
+use Rattle.std.proofs.Common.{◌∙◌, refl}
+use Rattle.rv_store.proofs.Formats.{none_cut, not_this, one_number, other_digits}
 use Rattle.rv_store.proofs.format.account_in.Goals as goal
 
 pub returns-in_default-clause-refused : goal.returns-in_default-clause-refused
@@ -13,16 +10,14 @@ pub returns-in_default-read_identifier-clause-refused :
     goal.returns-in_default-read_identifier-clause-refused
 returns-in_default-read_identifier-clause-refused c some =
     not_this c.args.lines.now c.in-Some.digits.now c.in-Some.account.now c.in-Some.ensures.some
-    (λ same. false≢true (sym c.if-eq.false
-    ∙ (slice_eq-Decides unsigned_Decides c.in-Some.digits.now c.as_slice.result.now c.eq.result c.eq.ensures).1
-    (same ∙ sym c.as_slice.ensures)))
+    (other_digits c.in-Some.digits.now c.as_slice.result.now c.eq.result c.eq.ensures c.if-eq.false
+    c.as_slice.ensures)
     (λ n writes differs. c.in_default-read_identifier.ensures.none refl n writes) some
 
 pub returns-then-version-eq-VERSION-clause-refused : goal.returns-then-version-eq-VERSION-clause-refused
 returns-then-version-eq-VERSION-clause-refused c some =
     not_this c.args.lines.now c.in-Some.digits.now c.in-Some.account.now c.in-Some.ensures.some
-    (λ same. false≢true (sym c.if-eq.false
-    ∙ (slice_eq-Decides unsigned_Decides c.in-Some.digits.now c.as_slice.result.now c.eq.result c.eq.ensures).1
-    (same ∙ sym c.as_slice.ensures)))
+    (other_digits c.in-Some.digits.now c.as_slice.result.now c.eq.result c.eq.ensures c.if-eq.false
+    c.as_slice.ensures)
     (λ n writes differs. differs (one_number c.in-Some.digits.now n c.in-Some-read_identifier.version writes
     c.in-Some-read_identifier.ensures.some ∙ c.if-version-eq-VERSION.true)) some

@@ -1,6 +1,5 @@
-use Rattle.std.proofs.Common.{◌∙◌, ap, sym}
-use Rattle.rv_folder.specs.Folder.{given_now, renamed}
-use Rattle.rv_folder.specs.Memory.{MemoryNames, memory_names, names_after}
+use Rattle.rv_folder.specs.Folder.{given_now}
+use Rattle.rv_folder.specs.Memory.{memory_names}
 use Rattle.rv_journal.specs.Memory.{memory_disk}
 use Rattle.rv_folder.proofs.MemoryNames.{is_renamed, names_renamed, not_renamed}
 use Rattle.rv_folder.proofs.testing.memory.MemoryFolderFolder.rename.Goals as goal
