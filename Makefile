@@ -71,6 +71,7 @@ bench: build
 	@tools/bench/held.py $(STEPS)
 	@tools/bench/hubs.py $(STEPS)
 	@tools/bench/journal.py $(STEPS)
+	@tools/bench/store.py $(STEPS)
 	@tools/bench/verified.py $(PROGRAM)
 	@tools/bench/instructions.py $(PROGRAM) $(STEPS)
 	@tools/bench/bench.py $(PROGRAM) $(STEPS) $(if $(OLD),--old $(OLD))

@@ -24,6 +24,7 @@ MODULES = [
     "commands.steps",
     "commands.decoding",
     "journal.run",
+    "journal.store",
     "model.compare",
     "model.states",
     "model.hubs",
