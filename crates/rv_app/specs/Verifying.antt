@@ -13,7 +13,7 @@ use Rattle.rv_replies.specs.declared.records.Records.{Records}
 use Rattle.rv_run.specs.declared.fault.RunFault.{RunFault}
 use Rattle.rv_verify.specs.Ends.{AreWholeLines}
 use Rattle.rv_verify.specs.Naming.{BeginAlike, IsRuleAt}
-use Rattle.rv_verify.specs.Ongoing.{AreLegalUpTo, IsFoundOfBytes, IsFoundOfLines}
+use Rattle.rv_verify.specs.Ongoing.{AreLegalUpTo, IsFoundOfBytes, IsFoundOfLines, IsFoundOfWholeLines}
 use Rattle.rv_verify.specs.Verdicts.{TellsNotOpen}
 use Rattle.rv_app.specs.declared.verify.Reread.{Reread}
 use Rattle.rv_app.specs.declared.verify.Reread.TheVariants.{Told, Unopened}
@@ -30,10 +30,11 @@ pub record EndsAtFault (bytes : List ℕ) (r : Records) (found : AccountFinding)
   pub broken : found.verdict ≢ verdict.Legal
   pub whole : found.torn ≡ false
 
--- what is found of an input's bytes: of those of a growing file, or of all
-abbrev pub IsFoundIn : Bool → List ℕ → Records → AccountFinding → Type 0
-IsFoundIn true bytes r found = EndsAtFault bytes r found
-IsFoundIn false bytes r found = IsFoundOfBytes bytes r found
+-- what is found of an input's bytes: of those of a growing file, of a journal's whole lines, or of all
+abbrev pub IsFoundIn : Bool → Bool → List ℕ → Records → AccountFinding → Type 0
+IsFoundIn true journal bytes r found = EndsAtFault bytes r found
+IsFoundIn false true bytes r found = IsFoundOfWholeLines bytes r found
+IsFoundIn false false bytes r found = IsFoundOfBytes bytes r found
 
 -- the record, if one is named
 abbrev pub beside : {A : Type 0} → Option A → Records → Option Records

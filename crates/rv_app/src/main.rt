@@ -15,6 +15,7 @@ mod audit;
 mod ends;
 mod fault;
 mod growing;
+mod journal;
 pub mod laws;
 mod opened;
 mod server;

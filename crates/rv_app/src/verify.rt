@@ -7,6 +7,7 @@ ghost use Rattle.rv_lines.specs.Lines.{lines};
 ghost use Rattle.rv_verify.specs.Ends.{IsToldOfBytes};
 ghost use Rattle.rv_verify.specs.Naming.{BeginAlike, IsRuleAt};
 ghost use Rattle.rv_verify.specs.Noting.{IsNotedOfBytes};
+ghost use Rattle.rv_verify.specs.Ongoing.{IsFoundOfWholeLines};
 ghost use Rattle.rv_verify.specs.Recording.{IsRecordOf};
 ghost use Rattle.rv_verify.specs.Stages.{AreNew};
 ghost use Rattle.rv_verify.specs.Verdicts.{TellsNotOpen};
@@ -14,6 +15,7 @@ ghost use Rattle.rv_verify.specs.Verdicts.{TellsNotOpen};
 use crate::again::{Again, RegularFile, size_of};
 use crate::fault::ProgramFault;
 use crate::growing::follow;
+use crate::journal::{JournalFile, JournalText, is_journal};
 use crate::watch::{Watch, Watched};
 use rv_account::{Entry, Place};
 use rv_audit::Rule;
@@ -22,7 +24,7 @@ use rv_replies::Records;
 use rv_replies::findings::{AccountFinding, AccountVerdict};
 use rv_run::RunFault;
 use rv_run::inspect::tell_found;
-use rv_verify::{VerifyFault, read_records, rule_at, verify};
+use rv_verify::{VerifyFault, read_records, rule_at, verify, verify_whole};
 use rv_words::{STANDARD_INPUT, VerifyWords};
 use std::alloc::Global;
 use std::fmt::Display;
@@ -72,15 +74,27 @@ fn verify_beside<T: Wait + time::Clock>(
     if words.file == STANDARD_INPUT {
         let about = About::<RegularFile<'_>> {
             size: 0,
+            is_journal: false,
             again: None,
         };
         let status = verify_bytes(rt, waits, words, &about, rt.stdin(), records, &mut sink)?;
         return Ok(ExitCode::from(status));
     }
     match File::open(rt, words.file) {
+        Ok(file) if is_journal(&file) => {
+            let about = About {
+                size: size_of(&file),
+                is_journal: true,
+                again: Some(JournalFile::at(words.file)),
+            };
+            let text = JournalText::new(file);
+            let status = verify_bytes(rt, waits, words, &about, text, records, &mut sink)?;
+            Ok(ExitCode::from(status))
+        }
         Ok(file) => {
             let about = About {
                 size: size_of(&file),
+                is_journal: false,
                 again: RegularFile::at(words.file, &file),
             };
             let status = verify_bytes(rt, waits, words, &about, file, records, &mut sink)?;
@@ -98,6 +112,8 @@ fn verify_beside<T: Wait + time::Clock>(
 struct About<A> {
     // How many bytes it has, or 0 if that isn't known.
     size: u64,
+    // Whether a line counts with its LF alone.
+    is_journal: bool,
     // From where its bytes may be read once more, if they may be.
     again: Option<A>,
 }
@@ -117,34 +133,37 @@ fn verify_bytes<T: Wait + time::Clock, F: Read + Drop, A: Again + Drop, W: Write
 
     // What went out is the report on the bytes and the record; or none did, since they can't be read again.
     ensures told { IfSome (F.remaining input) (λ bytes. IfOk result (Reports W.contents
-        (IsFoundIn words.now.follow bytes records.new) (option_map A.bytes about.now.again)
-        (beside words.now.replies records.new) sink.old sink.new)) }
+        (IsFoundIn words.now.follow about.now.is_journal bytes records.new)
+        (option_map A.bytes about.now.again) (beside words.now.replies records.new) sink.old sink.new)) }
     ensures stopped { IfSome (F.remaining input) (λ bytes. IfErr result (StopsReporting W.contents
-        (IsFoundIn words.now.follow bytes records.new) (option_map A.bytes about.now.again)
-        (beside words.now.replies records.new) sink.old sink.new)) }
+        (IsFoundIn words.now.follow about.now.is_journal bytes records.new)
+        (option_map A.bytes about.now.again) (beside words.now.replies records.new) sink.old sink.new)) }
 {
-    let found = found_by(rt, waits, words.follow, about.size, input, records)?;
+    let found = found_by(rt, waits, words.follow, about, input, records)?;
     tell_file(rt, words, about, &found, records, sink)
 }
 
 // What is found of an input's bytes: of all, or of those of a growing file.
-fn found_by<T: Wait + time::Clock, F: Read + Drop>(
+fn found_by<T: Wait + time::Clock, F: Read + Drop, A>(
     rt: &HostRuntime,
     waits: &T,
     grows: bool,
-    size: u64,
+    about: &About<A>,
     input: F,
     records: &mut Records,
 ) -> Result<AccountFinding, RunFault>
     requires { AreNew records.old }
-    ensures found { IfSome (F.remaining input) (λ bytes. IfOk result (IsFoundIn grows bytes records.new)) }
+    ensures found { IfSome (F.remaining input) (λ bytes. IfOk result
+        (IsFoundIn grows about.now.is_journal bytes records.new)) }
     ensures lines { records.new.lines ≡ records.old.lines }
 {
     if grows {
-        follow(rt, waits, input, records)
-    } else {
-        found_in(rt, size, input, records)
+        return follow(rt, waits, input, records);
     }
+    if about.is_journal {
+        return found_whole(rt, about.size, input, records);
+    }
+    found_in(rt, about.size, input, records)
 }
 
 // Prints what was found of an input, or nothing if it can't be read once more, as standard error says.
@@ -286,6 +305,43 @@ fn found_watched<F: Read + Drop>(
 {
     let mut reader = buffered(rt.alloc(), Watched::new(watch, input))?;
     match verify(rt.alloc(), &mut reader, records) {
+        Ok(found) => Ok(found),
+        Err(fault) => Err(run_fault(fault)),
+    }
+}
+
+// The same where a line counts with its LF alone.
+fn found_whole<F: Read + Drop>(
+    rt: &HostRuntime,
+    size: u64,
+    input: F,
+    records: &mut Records,
+) -> Result<AccountFinding, RunFault>
+    requires { AreNew records.old }
+    ensures found { IfSome (F.remaining input) (λ bytes. IfOk result
+        (IsFoundOfWholeLines bytes records.new)) }
+    ensures lines { records.new.lines ≡ records.old.lines }
+{
+    let mut watch = Watch::new(rt, size);
+    let found = whole_watched(rt, &mut watch, input, records);
+    watch.erase();
+    found
+}
+
+// The same, watched.
+fn whole_watched<F: Read + Drop>(
+    rt: &HostRuntime,
+    watch: &mut Watch<'_>,
+    input: F,
+    records: &mut Records,
+) -> Result<AccountFinding, RunFault>
+    requires { AreNew records.old }
+    ensures found { IfSome (F.remaining input) (λ bytes. IfOk result
+        (IsFoundOfWholeLines bytes records.new)) }
+    ensures lines { records.new.lines ≡ records.old.lines }
+{
+    let mut reader = buffered(rt.alloc(), Watched::new(watch, input))?;
+    match verify_whole(rt.alloc(), &mut reader, records) {
         Ok(found) => Ok(found),
         Err(fault) => Err(run_fault(fault)),
     }

@@ -7,8 +7,8 @@ use rv_lines::{cut_at, head_line, read_identifier};
 use rv_text::NoMemory;
 use std::alloc::Global;
 
-// What a journal begins with.
-const FORMAT: &[u8] = b"journal 1 ";
+/// What a journal begins with.
+pub const FORMAT: &[u8] = b"journal 1 ";
 
 /// The version of the format in which a journal's first line is written and read.
 pub const VERSION: u64 = 1;

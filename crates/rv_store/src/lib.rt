@@ -13,7 +13,7 @@ mod reader;
 mod store;
 
 pub use account_journal::AccountJournal;
-pub use format::VERSION;
+pub use format::{FORMAT, VERSION};
 pub use opening::{StoredAccount, open_account};
 pub use reader::{AccountReader, RecoveryFault};
 pub use store::{PresentFault, begin_account, open_present};

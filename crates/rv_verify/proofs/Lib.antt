@@ -17,3 +17,4 @@ pub mod Again
 pub mod Recorded
 -- The lemma that a proof of this crate cites.
 pub mod Told
+mod WholeEnds

@@ -1,5 +1,6 @@
 -- How far an audit has got with an account that grows.
-use Rattle.std.specs.Prelude.{◌≡◌, ◌≢◌, ◌<◌, ◌≤◌, ◌-◌, ◌++◌, [], ℕ, List, Option, Some, length, take}
+use Rattle.std.specs.Prelude.{◌≡◌, ◌≢◌, ◌↔◌, ◌<◌, ◌≤◌, ◌-◌, ◌++◌, [], ℕ, IsTrue, List, Option, Some, length}
+use Rattle.std.specs.Prelude.{take}
 use Rattle.std.specs.List.{All}
 use Rattle.rv_lines.specs.Lines.{lines}
 use Rattle.rv_replies.specs.declared.records.Records.{Records}
@@ -79,3 +80,13 @@ IsFoundOfBytes bytes r found = IsToldOfBytes bytes found × IsNotedOfBytes bytes
 pub record IsFoundOfLines (lines : List (List ℕ)) (r : Records) (found : AccountFinding) : Type 0 where
   pub verdict : IsVerdictOn lines found.verdict
   pub noted : HasNotedOf lines found.epoch r
+
+-- What is found of bytes of which whole lines alone count: what comes after them is a torn end.
+pub record IsFoundOfWholeLines (bytes : List ℕ) (r : Records) (found : AccountFinding) : Type 0 where
+  pub whole : List ℕ
+  pub rest : List ℕ
+  pub parts : bytes ≡ whole ++ rest
+  pub are_whole : AreWholeLines whole
+  pub no_lf : All (λ byte. byte ≢ 10) rest
+  pub is : IsFoundOfLines (lines whole) r found
+  pub torn : IsTrue found.torn ↔ (rest ≢ [])

@@ -30,6 +30,6 @@ mod verifier;
 pub use fault::VerifyFault;
 pub use naming::rule_at;
 pub use ongoing::{OngoingAudit, Pause};
-pub use reading::verify;
+pub use reading::{verify, verify_whole};
 pub use recording::read_records;
 pub use torn::is_torn;

@@ -3,11 +3,12 @@ ghost use Rattle.std.specs.Prelude.{◌≡◌, Ok, IfOk, IfSome, true, false};
 ghost use Rattle.rv_account.specs.declared.entry.Entry as entries;
 ghost use Rattle.rv_verify.specs.Ends.{IsToldOfBytes};
 ghost use Rattle.rv_verify.specs.Noting.{IsNotedOfBytes};
+ghost use Rattle.rv_verify.specs.Ongoing.{IsFoundOfWholeLines};
 ghost use Rattle.rv_verify.specs.Stages.{AreNew};
 ghost use Rattle.rv_verify.specs.Verdicts.{ReadsLongEntry};
 
 use crate::fault::VerifyFault;
-use crate::ongoing::OngoingAudit;
+use crate::ongoing::{OngoingAudit, Until};
 use rv_replies::Records;
 use rv_replies::findings::AccountFinding;
 use std::alloc::Global;
@@ -31,6 +32,23 @@ pub fn verify<B: BufRead>(
 {
     let mut audit = OngoingAudit::new(alloc);
     audit.read_to_end(alloc, reader, records)
+}
+
+/// The same of an account in which a line counts with its LF alone, as in a journal: any bytes after the last
+/// LF are a torn end, whatever they say.
+pub fn verify_whole<B: BufRead>(
+    alloc: Global,
+    reader: &mut B,
+    records: &mut Records,
+) -> Result<AccountFinding, VerifyFault>
+    requires { AreNew records.old }
+    ensures found { IfSome (B.remaining reader.old) (λ bytes. IfOk result
+        (IsFoundOfWholeLines bytes records.new)) }
+    ensures lines { records.new.lines ≡ records.old.lines }
+{
+    let mut audit = OngoingAudit::new(alloc);
+    audit.read_until(alloc, reader, records, Until::End)?;
+    Ok(audit.break_off())
 }
 
 /// Whether a last piece, which isn't the first line, isn't read as an entry.

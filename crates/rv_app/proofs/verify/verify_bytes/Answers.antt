@@ -10,12 +10,14 @@ pub returns-clause-told : goal.returns-clause-told
 returns-clause-told g c =
     IfSome_then (g.F.Read.remaining c.args.input) c.in_ok-found.ensures.found
     (λ bytes is. IfOk-weaker c.tell_file.result _ _ (reports_so g.W.Write.contents _ _ c.args.sink.now
-    c.tell_file.new.sink (λ found same. subst (IsFoundIn c.args.words.now.follow bytes c.found_by.new.records)
-    (sym same) is)) c.tell_file.ensures.told)
+    c.tell_file.new.sink (λ found same. subst
+    (IsFoundIn c.args.words.now.follow c.args.about.now.is_journal bytes c.found_by.new.records) (sym same)
+    is)) c.tell_file.ensures.told)
 
 pub returns-clause-stopped : goal.returns-clause-stopped
 returns-clause-stopped g c =
     IfSome_then (g.F.Read.remaining c.args.input) c.in_ok-found.ensures.found
     (λ bytes is. IfErr-weaker c.tell_file.result _ _ (stops_so g.W.Write.contents _ _ c.args.sink.now
-    c.tell_file.new.sink (λ found same. subst (IsFoundIn c.args.words.now.follow bytes c.found_by.new.records)
-    (sym same) is)) c.tell_file.ensures.stopped)
+    c.tell_file.new.sink (λ found same. subst
+    (IsFoundIn c.args.words.now.follow c.args.about.now.is_journal bytes c.found_by.new.records) (sym same)
+    is)) c.tell_file.ensures.stopped)
