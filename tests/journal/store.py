@@ -29,11 +29,14 @@ TORN = 3
 
 
 def entries() -> Iterator[bytes]:
-    """The lines of a legal account's entries, without end: a client that puts items."""
+    """The lines of a legal account's entries, without end: a client that puts an item and takes it, in turn."""
     yield b'0 - {"client":1,"incarnation":1,"kind":"hello"}\n'
-    for number in itertools.count(1):
-        yield (b'%d - {"call":"put","client":1,"epoch":1,"incarnation":1,"item":"%s","kind":"request","number":%d,"queue":3}\n'
-               % (number, b"x" * (number % 500), number))
+    session = b'"client":1,"epoch":1,"incarnation":1'
+    for number in itertools.count(1, 2):
+        yield (b'%d - {"call":"put",%s,"item":"%s","kind":"request","number":%d,"queue":3}\n'
+               % (number, session, b"x" * (number % 500), number))
+        yield (b'%d %d {"call":"take",%s,"kind":"request","number":%d,"queue":3,"wait":"now"}\n'
+               % (number + 1, number, session, number + 1))
 
 
 def text_of(held: bytes) -> bytes:
