@@ -1,13 +1,10 @@
 //! Verifies the account in a file or on standard input, and a record of replies beside it. Of the account,
 //! only what is open and the clients are in memory.
-ghost use Rattle.std.specs.Prelude.{◌≡◌, ℕ, IfErr, IfOk, IfSome, List, Some, option_map};
+ghost use Rattle.std.specs.Prelude.{◌≡◌, ℕ, IfErr, IfOk, IfSome, List, Some, false, option_map};
 ghost use Rattle.std.specs.Io.Buffered.{reader_remaining};
 ghost use Rattle.rv_app.specs.Verifying.{IsFoundIn, IsReread, Reports, StopsReporting, beside};
 ghost use Rattle.rv_lines.specs.Lines.{lines};
-ghost use Rattle.rv_verify.specs.Ends.{IsToldOfBytes};
 ghost use Rattle.rv_verify.specs.Naming.{BeginAlike, IsRuleAt};
-ghost use Rattle.rv_verify.specs.Noting.{IsNotedOfBytes};
-ghost use Rattle.rv_verify.specs.Ongoing.{IsFoundOfWholeLines};
 ghost use Rattle.rv_verify.specs.Recording.{IsRecordOf};
 ghost use Rattle.rv_verify.specs.Stages.{AreNew};
 ghost use Rattle.rv_verify.specs.Verdicts.{TellsNotOpen};
@@ -29,7 +26,7 @@ use rv_words::{STANDARD_INPUT, VerifyWords};
 use std::alloc::Global;
 use std::fmt::Display;
 use std::fs::File;
-use std::io::{BufReader, Read, Write};
+use std::io::{BufRead, BufReader, Read, Write};
 use std::process::ExitCode;
 use std::sync::Wait;
 use std::time;
@@ -158,12 +155,10 @@ fn found_by<T: Wait + time::Clock, F: Read + Drop, A>(
     ensures lines { records.new.lines ≡ records.old.lines }
 {
     if grows {
-        return follow(rt, waits, input, records);
+        follow(rt, waits, input, records)
+    } else {
+        found_in(rt, about.size, about.is_journal, input, records)
     }
-    if about.is_journal {
-        return found_whole(rt, about.size, input, records);
-    }
-    found_in(rt, about.size, input, records)
 }
 
 // Prints what was found of an input, or nothing if it can't be read once more, as standard error says.
@@ -271,21 +266,22 @@ fn records_watched<F: Read + Drop>(
     }
 }
 
-// What the account is whose bytes a reader has: `size` bytes, or 0 if their number isn't known.
+// What the account is whose bytes a reader has, a journal's or another's: `size` bytes, or 0 if their number
+// isn't known.
 fn found_in<F: Read + Drop>(
     rt: &HostRuntime,
     size: u64,
+    is_journal: bool,
     input: F,
     records: &mut Records,
 ) -> Result<AccountFinding, RunFault>
     requires { AreNew records.old }
-    ensures told { IfSome (F.remaining input) (λ bytes. IfOk result (IsToldOfBytes bytes)) }
-    ensures noted { IfSome (F.remaining input) (λ bytes. IfOk result
-        (λ found. IsNotedOfBytes bytes found records.new)) }
+    ensures found { IfSome (F.remaining input) (λ bytes. IfOk result
+        (IsFoundIn false is_journal bytes records.new)) }
     ensures lines { records.new.lines ≡ records.old.lines }
 {
     let mut watch = Watch::new(rt, size);
-    let found = found_watched(rt, &mut watch, input, records);
+    let found = found_watched(rt, &mut watch, is_journal, input, records);
     watch.erase();
     found
 }
@@ -294,56 +290,38 @@ fn found_in<F: Read + Drop>(
 fn found_watched<F: Read + Drop>(
     rt: &HostRuntime,
     watch: &mut Watch<'_>,
+    is_journal: bool,
     input: F,
     records: &mut Records,
 ) -> Result<AccountFinding, RunFault>
     requires { AreNew records.old }
-    ensures told { IfSome (F.remaining input) (λ bytes. IfOk result (IsToldOfBytes bytes)) }
-    ensures noted { IfSome (F.remaining input) (λ bytes. IfOk result
-        (λ found. IsNotedOfBytes bytes found records.new)) }
+    ensures found { IfSome (F.remaining input) (λ bytes. IfOk result
+        (IsFoundIn false is_journal bytes records.new)) }
     ensures lines { records.new.lines ≡ records.old.lines }
 {
     let mut reader = buffered(rt.alloc(), Watched::new(watch, input))?;
-    match verify(rt.alloc(), &mut reader, records) {
+    match found_of(rt.alloc(), is_journal, &mut reader, records) {
         Ok(found) => Ok(found),
         Err(fault) => Err(run_fault(fault)),
     }
 }
 
-// The same where a line counts with its LF alone.
-fn found_whole<F: Read + Drop>(
-    rt: &HostRuntime,
-    size: u64,
-    input: F,
+// The same of a reader's bytes.
+fn found_of<B: BufRead>(
+    alloc: Global,
+    is_journal: bool,
+    reader: &mut B,
     records: &mut Records,
-) -> Result<AccountFinding, RunFault>
+) -> Result<AccountFinding, VerifyFault>
     requires { AreNew records.old }
-    ensures found { IfSome (F.remaining input) (λ bytes. IfOk result
-        (IsFoundOfWholeLines bytes records.new)) }
+    ensures found { IfSome (B.remaining reader.old) (λ bytes. IfOk result
+        (IsFoundIn false is_journal bytes records.new)) }
     ensures lines { records.new.lines ≡ records.old.lines }
 {
-    let mut watch = Watch::new(rt, size);
-    let found = whole_watched(rt, &mut watch, input, records);
-    watch.erase();
-    found
-}
-
-// The same, watched.
-fn whole_watched<F: Read + Drop>(
-    rt: &HostRuntime,
-    watch: &mut Watch<'_>,
-    input: F,
-    records: &mut Records,
-) -> Result<AccountFinding, RunFault>
-    requires { AreNew records.old }
-    ensures found { IfSome (F.remaining input) (λ bytes. IfOk result
-        (IsFoundOfWholeLines bytes records.new)) }
-    ensures lines { records.new.lines ≡ records.old.lines }
-{
-    let mut reader = buffered(rt.alloc(), Watched::new(watch, input))?;
-    match verify_whole(rt.alloc(), &mut reader, records) {
-        Ok(found) => Ok(found),
-        Err(fault) => Err(run_fault(fault)),
+    if is_journal {
+        verify_whole(alloc, reader, records)
+    } else {
+        verify(alloc, reader, records)
     }
 }
 

@@ -17,8 +17,21 @@ pub(crate) fn add_lines(rt: &HostRuntime, path: &str) -> anyhow::Result<ExitCode
     add_each(rt, &mut journal, &mut output)
 }
 
-// Adds each line of standard input, and prints it.
-fn add_each<J: Write, W: Write>(
+/// What takes lines, each of which is stored once it was taken.
+pub(crate) trait TakesLines {
+    /// Takes a line.
+    fn take_line(&mut self, line: &[u8]) -> anyhow::Result<()>;
+}
+
+impl TakesLines for DiskJournal<SystemFile> {
+    fn take_line(&mut self, line: &[u8]) -> anyhow::Result<()> {
+        self.write_all(line)?;
+        Ok(())
+    }
+}
+
+/// Adds each line of standard input, and prints it.
+pub(crate) fn add_each<J: TakesLines, W: Write>(
     rt: &HostRuntime,
     journal: &mut J,
     output: &mut W,
@@ -29,7 +42,7 @@ fn add_each<J: Write, W: Write>(
         if input.read_until(b'\n', &mut line)? == 0 {
             break;
         }
-        journal.write_all(&line)?;
+        journal.take_line(&line)?;
         output.write_all(&line)?;
         output.flush()?;
         line.clear();

@@ -1,4 +1,5 @@
 //! The store of a folder, to whose present account lines are added until the program is killed.
+use crate::journals::{TakesLines, add_each};
 use anyhow::bail;
 use rv_folder::{SystemFolder, SystemFolderFault};
 use rv_frame::Lasting;
@@ -6,7 +7,7 @@ use rv_journal::{OpenFault, SystemFile};
 use rv_store::{
     AccountJournal, PresentFault, RecoveryFault, StoredAccount, begin_account, open_present,
 };
-use std::io::{BufRead, BufReader, Write};
+use std::io::Write;
 use std::process::ExitCode;
 
 /// Opens the store of a folder, which is made where there is none. It goes on with the present account if
@@ -67,24 +68,11 @@ fn told(fault: &OpenFault<RecoveryFault>) -> &'static str {
     }
 }
 
-// Adds each line of standard input, and prints it.
-fn add_each<J: Lasting, W: Write>(
-    rt: &HostRuntime,
-    journal: &mut J,
-    output: &mut W,
-) -> anyhow::Result<ExitCode> {
-    let mut input = BufReader::new(rt.alloc(), rt.stdin())?;
-    let mut line = Vec::new(rt.alloc());
-    for _line in 0..u64::MAX {
-        if input.read_until(b'\n', &mut line)? == 0 {
-            break;
-        }
-        if journal.store(&line).is_err() {
+impl TakesLines for AccountJournal<SystemFile> {
+    fn take_line(&mut self, line: &[u8]) -> anyhow::Result<()> {
+        if self.store(line).is_err() {
             bail!("a line wasn't stored");
         }
-        output.write_all(&line)?;
-        output.flush()?;
-        line.clear();
+        Ok(())
     }
-    Ok(ExitCode::SUCCESS)
 }
