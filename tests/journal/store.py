@@ -15,8 +15,9 @@ from tests.cases import Case
 from tests.model.audits import is_past, random_ones, verdict_or_fault
 from tests.model.lines import BadLine, read_account
 
-# How often a writer is killed in the gate, after how many seconds at most, and how many entries it is sent.
-KILLS, LONGEST, ENTRIES = 50, 0.06, 400
+# How often a writer is killed in the gate, after how many seconds at most, how many entries it is sent, and how often it begins on a
+# new folder.
+KILLS, LONGEST, ENTRIES, NEW_FOLDER = 50, 0.06, 400, 10
 # How many seconds a writer may take to open its folder, or for an input that ends.
 PATIENCE = 60
 # How many accounts are spoilt in the gate.
@@ -80,19 +81,20 @@ class Stores(Case):
 
     def test_kills(self) -> None:
         """Entries that were stored are found after each kill."""
-        random_, made = random.Random(self.seed), list(itertools.islice(entries(), KILLS * ENTRIES * self.fixture.many(1)))
-        stored = sent = 0
+        random_, made = random.Random(self.seed), list(itertools.islice(entries(), NEW_FOLDER * ENTRIES))
+        before = stored = sent = 0
         for kill in range(self.fixture.many(KILLS)):
+            if kill % NEW_FOLDER == 0:
+                self.store, before, stored, sent = self.folder / f"store-{kill}", before + stored, 0, 0
             found, printed = self.write(1, b"".join(made[sent:sent + ENTRIES]), random_.uniform(0, LONGEST))
             with self.subTest(f"kill {kill}"):
-                self.assertIsNotNone(found, "it opened its store")
+                self.assertEqual(found, stored, "what the file had is found")
                 held = text_of(self.account(1).read_bytes())
                 lines = held.removeprefix(FORMAT + HEAD).splitlines(keepends=True)
-                self.assertGreaterEqual(found or 0, stored, "entries were lost")
                 self.assertEqual((held.startswith(FORMAT + HEAD), lines), (True, made[:len(lines)]))
                 self.assertGreaterEqual(len(lines), sent + printed.count(b"\n"), "stored entries are not in the file")
             stored = sent = len(lines)
-        self.told = f"{stored} entries stored"
+        self.told = f"{before + stored} entries stored"
         ran = subprocess.run(self.command(1), input=b"", capture_output=True, timeout=PATIENCE)
         self.check_equal("the last one", (ran.returncode, ran.stdout, ran.stderr), (0, b"entries %d\n" % stored, b""))
 
