@@ -26,9 +26,8 @@ pub struct StoredAccount<D: Device> {
 }
 
 /// Opens a file that a crash may have left as the journal of this epoch's account: its whole lines before its
-/// first
-/// zero. What stands after them is cleared once they were read as a legal account. It may crash too, and
-/// leaves the same lines.
+/// first zero. What stands after them is cleared once they were read as a legal account. It may crash too,
+/// and leaves the same lines.
 ///
 /// The file is read once, in memory of what is open, of the clients, and of about 1 MiB and the longest
 /// line. At `Err` the device is handed back with the same lines.
